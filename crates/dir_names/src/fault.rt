@@ -1,0 +1,37 @@
+use std::alloc::{AllocError, AllocFailed};
+use thiserror::Error;
+
+/// Why a text is no description, value or name.
+#[derive(Clone, Copy, PartialEq, Eq, Debug, Error)]
+pub enum NameFault {
+    /// The text is no attribute description (RFC 4512, section 2.5), or is longer than 512 bytes.
+    #[error("N1 BadDescription")]
+    BadDescription,
+    /// The description is of a type that LDIF reserves: `dn`, `changetype` or `control`.
+    #[error("N2 ReservedName")]
+    ReservedName,
+    /// The value has no comparison key under the rule of its type.
+    #[error("N3 BadValue")]
+    BadValue,
+    /// The text is no distinguished name (RFC 4514), or the name has no key.
+    #[error("N4 BadDn")]
+    BadDn,
+    /// The name has more than 64 RDNs, or one that prints to more than 4,096 bytes.
+    #[error("N5 NameLimit")]
+    NameLimit,
+    /// No memory is left.
+    #[error("N6 Memory")]
+    Memory,
+}
+
+impl From<AllocError> for NameFault {
+    fn from(_error: AllocError) -> NameFault {
+        NameFault::Memory
+    }
+}
+
+impl<T: Drop> From<AllocFailed<T>> for NameFault {
+    fn from(_error: AllocFailed<T>) -> NameFault {
+        NameFault::Memory
+    }
+}

@@ -1,0 +1,28 @@
+//! Names of an LDAP directory: attribute types and descriptions, comparison keys of values,
+//! distinguished names and their keys.
+#![tactic(auto)]
+
+mod attribute;
+mod fault;
+mod folding;
+mod key;
+mod limits;
+mod lists;
+mod name;
+mod printing;
+mod reading;
+mod schema;
+mod table;
+mod value;
+
+pub use attribute::{AttrKey, Description, Lines};
+pub use fault::NameFault;
+pub use key::{DnKey, RdnKey};
+pub use limits::{MAX_DESCRIPTION, MAX_RDNS, MAX_RDN_TEXT};
+pub use lists::{Bytes, Texts};
+pub use name::{Dn, Rdn};
+pub use schema::{Rule, Schema};
+pub use value::ValueKey;
+
+#[cfg(test)]
+mod tests;

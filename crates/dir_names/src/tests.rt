@@ -1,0 +1,158 @@
+use super::*;
+use std::alloc::Global;
+use std::process::Abort;
+use std::test::Fail;
+
+fn described(alloc: Global, schema: &Schema, text: &str) -> Result<Description, NameFault> {
+    Description::read(alloc, schema, text.as_bytes())
+}
+
+fn key_text(rt: &impl Abort, alloc: Global, schema: &Schema, kind: &str, value: &[u8], want: Option<&[u8]>) {
+    let Ok(description) = described(alloc, schema, kind) else {
+        panic!(rt; "no description: {kind}");
+    };
+    match schema.value_key(alloc, description.key(), value) {
+        Ok(key) => assert_eq!(rt; key.text(), want, "{kind}"),
+        Err(fault) => {
+            assert_eq!(rt; fault, NameFault::BadValue, "{kind}");
+            assert_eq!(rt; want, None, "{kind}");
+        }
+    }
+}
+
+#[test]
+fn descriptions_have_keys_of_their_types(rt: HostRuntime) -> Result<(), Fail> {
+    let alloc = rt.alloc();
+    let schema = Schema::builtin(alloc)?;
+    let english = described(alloc, &schema, "CommonName;lang-en")?;
+    let plain = described(alloc, &schema, "cn")?;
+    let number = described(alloc, &schema, "2.5.4.3")?;
+    assert_eq!(rt; english.spelling(), b"CommonName;lang-en".as_slice());
+    assert!(rt; plain.key().covers(english.key()));
+    assert!(rt; !english.key().covers(plain.key()));
+    assert!(rt; number.key() == plain.key());
+    assert_eq!(rt; described(alloc, &schema, "dn").err(), Some(NameFault::ReservedName));
+    assert_eq!(rt; described(alloc, &schema, "1cn").err(), Some(NameFault::BadDescription));
+    assert_eq!(rt; described(alloc, &schema, "cn;").err(), Some(NameFault::BadDescription));
+    Ok(())
+}
+
+#[test]
+fn values_have_keys_by_the_rule_of_their_type(rt: HostRuntime) -> Result<(), Fail> {
+    let alloc = rt.alloc();
+    let schema = Schema::builtin(alloc)?;
+    let rows: [(&str, &[u8], Option<&[u8]>); 12] = [
+        ("cn", b"  A  b ", Some(b"a b")),
+        ("cn", "Stra\u{df}e".as_bytes(), Some(b"strasse")),
+        ("cn", b"", None),
+        ("cn", b" ", Some(b"")),
+        ("telephoneNumber", b"+1 555-01", Some(b"+155501")),
+        ("uidNumber", b"007", None),
+        ("uidNumber", b"-0", None),
+        ("uidNumber", b"-7", Some(b"-7")),
+        ("dc", b"\xc3", None),
+        ("cn", "\u{ff21}\u{fb01}".as_bytes(), Some(b"afi")),
+        ("homeDirectory", b"/home/A", Some(b"/home/A")),
+        ("objectClass", b"inetOrgPerson", Some(b"inetorgperson")),
+    ];
+    for (kind, value, want) in rows {
+        key_text(&rt, alloc, &schema, kind, value, want);
+    }
+    let member = described(alloc, &schema, "member")?;
+    let upper = schema.value_key(alloc, member.key(), b"CN=K, DC=Com")?;
+    let lower = Dn::read(alloc, b"cn=k,dc=com")?.key(alloc, &schema)?;
+    assert!(rt; upper.name() == Some(&lower));
+    let none = schema.value_key(alloc, member.key(), b"")?;
+    let empty = Dn::read(alloc, b"")?.key(alloc, &schema)?;
+    assert!(rt; none.name() == Some(&empty));
+    Ok(())
+}
+
+#[test]
+fn names_print_and_read_back(rt: HostRuntime) -> Result<(), Fail> {
+    let alloc = rt.alloc();
+    let rows: [(&str, &str); 6] = [
+        ("cn=a\\,b , OU = x y", "cn=a\\2Cb,OU=x y"),
+        ("cn=J\u{fc}rgen", "cn=J\\C3\\BCrgen"),
+        ("cn=\\#a", "cn=\\23a"),
+        ("cn=\\ ", "cn=\\20"),
+        ("cn=a = b", "cn=a = b"),
+        ("", ""),
+    ];
+    for (text, want) in rows {
+        let name = Dn::read(alloc, text.as_bytes())?;
+        let printed = name.print(alloc)?;
+        assert_eq!(rt; printed.as_slice(), want.as_bytes());
+        let again = Dn::read_text(alloc, printed.as_slice())?;
+        assert!(rt; again == name);
+    }
+    for text in ["cn", "dn=x", "=a", "cn=a,", "cn=\"a\"", "cn=#04", "cn=a;b=c", " "] {
+        assert_eq!(rt; Dn::read(alloc, text.as_bytes()).err(), Some(NameFault::BadDn), "{text}");
+    }
+    Ok(())
+}
+
+#[test]
+fn names_have_keys_unless_a_pair_has_none(rt: HostRuntime) -> Result<(), Fail> {
+    let alloc = rt.alloc();
+    let schema = Schema::builtin(alloc)?;
+    for text in ["cn=a+commonName=b", "member=x", "uidNumber=x"] {
+        let name = Dn::read(alloc, text.as_bytes())?;
+        assert_eq!(rt; name.key(alloc, &schema).err(), Some(NameFault::BadDn), "{text}");
+    }
+    let rdn = Rdn::read(alloc, b"SN=b+cn=a")?;
+    let printed = rdn.print(alloc)?;
+    assert_eq!(rt; printed.as_slice(), b"SN=b+cn=a".as_slice());
+    let other = Rdn::read(alloc, b"cn=A+sn=B")?;
+    assert!(rt; rdn.key(alloc, &schema)? == other.key(alloc, &schema)?);
+    let com = Dn::read(alloc, b"dc=com")?.key(alloc, &schema)?;
+    let below = com.child(alloc, &Rdn::read(alloc, b"cn=a")?.key(alloc, &schema)?)?;
+    let whole = Dn::read(alloc, b"cn=a,dc=com")?.key(alloc, &schema)?;
+    assert!(rt; below == whole);
+    assert_eq!(rt; below.depth(), 2);
+    assert!(rt; com.is_parent_of(&below) && below.at_or_below(&com) && !com.at_or_below(&below));
+    assert!(rt; below.parent(alloc)? == Some(com.try_clone(alloc)?));
+    Ok(())
+}
+
+#[test]
+fn names_are_made_of_rdns_and_copied(rt: HostRuntime) -> Result<(), Fail> {
+    let alloc = rt.alloc();
+    let schema = Schema::builtin(alloc)?;
+    let mut rdns = Vec::new(alloc);
+    rdns.push(Rdn::read(alloc, b"ou=a")?)?;
+    rdns.push(Rdn::read(alloc, b"dc=com")?)?;
+    let name = Dn::from_rdns(rdns)?;
+    let printed = name.print(alloc)?;
+    assert_eq!(rt; printed.as_slice(), b"ou=a,dc=com".as_slice());
+    let copy = name.try_clone(alloc)?;
+    assert!(rt; copy == name);
+    let key = name.key(alloc, &schema)?;
+    assert!(rt; key.try_clone(alloc)? == key);
+    let description = described(alloc, &schema, "cn;x-a")?;
+    assert!(rt; description.try_clone(alloc)? == description);
+    assert!(rt; description.key().try_clone(alloc)? == *description.key());
+    let value = schema.value_key(alloc, description.key(), b"A")?;
+    assert!(rt; value.try_clone(alloc)? == value);
+    Ok(())
+}
+
+#[test]
+fn limits_of_names_are_exact(rt: HostRuntime) -> Result<(), Fail> {
+    let alloc = rt.alloc();
+    let schema = Schema::builtin(alloc)?;
+    for (letter, count, fits) in [("a", 4093, true), ("a", 4094, false), ("\u{e9}", 682, true), ("\u{e9}", 683, false)] {
+        let mut text = b"cn=".to_vec(alloc)?;
+        for _ in 0..count {
+            text.extend_from_slice(letter.as_bytes())?;
+        }
+        let fault = Rdn::read(alloc, text.as_slice()).err();
+        assert_eq!(rt; fault, if fits { None } else { Some(NameFault::NameLimit) });
+    }
+    for (count, fits) in [(512, true), (513, false)] {
+        let text = vec![in alloc; b'a'; count]?;
+        let fault = Description::read(alloc, &schema, text.as_slice()).err();
+        assert_eq!(rt; fault, if fits { None } else { Some(NameFault::BadDescription) });
+    }
+    Ok(())
+}
