@@ -119,6 +119,10 @@ impl Lines {
     pub fn as_slice(&self) -> &[(Description, Bytes)] {
         self.items.as_slice()
     }
+
+    pub fn into_items(self) -> Vec<(Description, Bytes)> {
+        self.items
+    }
 }
 
 /// Whether the text is an attribute type: a name or a number, without options.
@@ -147,7 +151,9 @@ fn is_decimal(text: &[u8]) -> bool {
     let Some((first, rest)) = text.split_first() else {
         return false;
     };
-    first.is_ascii_digit() && (*first != b'0' || rest.is_empty()) && rest.iter().all(|b| b.is_ascii_digit())
+    first.is_ascii_digit()
+        && (*first != b'0' || rest.is_empty())
+        && rest.iter().all(|b| b.is_ascii_digit())
 }
 
 /// The types that LDIF keeps for its own lines.

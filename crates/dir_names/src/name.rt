@@ -119,6 +119,11 @@ impl Dn {
         self.rdns.as_slice()
     }
 
+    /// The RDNs, leaf first, moved out of the name.
+    pub fn into_rdns(self) -> Vec<Rdn> {
+        self.rdns
+    }
+
     /// The name with these RDNs, leaf first.
     ///
     /// # Errors

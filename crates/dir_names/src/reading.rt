@@ -1,7 +1,7 @@
 ghost use Rattle.std.specs.Prelude.{◌<◌, IfSome};
 
 use crate::attribute::{is_reserved, is_type};
-use crate::limits::{MAX_RDN_TEXT, MAX_RDNS};
+use crate::limits::{MAX_DESCRIPTION, MAX_RDN_TEXT, MAX_RDNS};
 use crate::{Bytes, Dn, NameFault, Rdn};
 use std::alloc::Global;
 
@@ -38,7 +38,11 @@ pub(crate) fn read_one_rdn(alloc: Global, text: &[u8]) -> Result<Rdn, NameFault>
         return Err(NameFault::BadDn);
     }
     let rdn = rdn_of(alloc, piece)?;
-    if is_within_limit(alloc, &rdn)? { Ok(rdn) } else { Err(NameFault::NameLimit) }
+    if is_within_limit(alloc, &rdn)? {
+        Ok(rdn)
+    } else {
+        Err(NameFault::NameLimit)
+    }
 }
 
 fn is_within_limit(alloc: Global, rdn: &Rdn) -> Result<bool, NameFault> {
@@ -79,7 +83,7 @@ fn pair_of(alloc: Global, text: &[u8]) -> Result<(Bytes, Bytes), NameFault> {
         return Err(NameFault::BadDn);
     };
     let kind = trimmed_end(trimmed_front(&text[..at]));
-    if !is_type(kind) || is_reserved(kind) {
+    if !is_type(kind) || is_reserved(kind) || kind.len() > MAX_DESCRIPTION {
         return Err(NameFault::BadDn);
     }
     let value = value_of(alloc, trimmed_front(&text[at + 1..]))?;
@@ -174,7 +178,10 @@ fn is_refused(b: u8) -> bool {
 
 /// Whether a byte may stand behind a `\` for itself.
 fn is_escapable(b: u8) -> bool {
-    matches!(b, b' ' | b'"' | b'#' | b'+' | b',' | b';' | b'<' | b'=' | b'>' | b'\\')
+    matches!(
+        b,
+        b' ' | b'"' | b'#' | b'+' | b',' | b';' | b'<' | b'=' | b'>' | b'\\'
+    )
 }
 
 fn hex_value(b: u8) -> Option<u8>

@@ -77,7 +77,9 @@ impl Schema {
     }
 
     fn row(&self, attr: &AttrKey) -> Option<&TypeRow> {
-        self.rows.iter().find(|row| row.key.as_slice() == attr.kind())
+        self.rows
+            .iter()
+            .find(|row| row.key.as_slice() == attr.kind())
     }
 
     /// The key of the type that a name or a number names: its primary name in lower case, or for a

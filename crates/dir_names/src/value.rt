@@ -40,7 +40,12 @@ impl Schema {
     /// # Errors
     ///
     /// `BadValue` where the value has none under the type's rule.
-    pub fn value_key(&self, alloc: Global, attr: &AttrKey, bytes: &[u8]) -> Result<ValueKey, NameFault> {
+    pub fn value_key(
+        &self,
+        alloc: Global,
+        attr: &AttrKey,
+        bytes: &[u8],
+    ) -> Result<ValueKey, NameFault> {
         match self.rule(attr) {
             Rule::Name => Ok(ValueKey::Name(self.name_value_key(alloc, bytes)?)),
             rule => Ok(ValueKey::Text(text_key(alloc, rule, bytes)?)),
@@ -70,7 +75,10 @@ fn bad_value(fault: NameFault) -> NameFault {
 pub(crate) fn text_key(alloc: Global, rule: Rule, bytes: &[u8]) -> Result<Bytes, NameFault> {
     match rule {
         Rule::Octet => Bytes::copy_of(alloc, bytes),
-        Rule::CaseIgnore if !bytes.is_empty() => Ok(Bytes::new(tidy(alloc, folded(alloc, bytes)?)?)),
+        Rule::CaseIgnore if !bytes.is_empty() => Ok(Bytes::new(tidy(
+            alloc,
+            folded(alloc, bytes)?,
+        )?)),
         Rule::Telephone if !bytes.is_empty() => {
             let text = folded(alloc, bytes)?;
             Ok(Bytes::new(without_spaces_and_hyphens(alloc, text.as_slice())?))
