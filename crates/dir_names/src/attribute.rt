@@ -123,6 +123,14 @@ impl Lines {
     pub fn into_items(self) -> Vec<(Description, Bytes)> {
         self.items
     }
+
+    pub fn try_clone(&self, alloc: Global) -> Result<Lines, NameFault> {
+        let mut items = Vec::with_capacity(alloc, self.items.len())?;
+        for line in self.items.as_slice() {
+            items.push((line.0.try_clone(alloc)?, line.1.try_clone(alloc)?))?;
+        }
+        Ok(Lines { items })
+    }
 }
 
 /// Whether the text is an attribute type: a name or a number, without options.
