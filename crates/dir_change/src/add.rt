@@ -23,10 +23,13 @@ pub(crate) fn add<D: Directory>(
     let spelled = spelled_on_path(alloc, directory, name, key)?;
     let own = own_name(alloc, directory, name, key)?;
     let entry = Entry::make(alloc, schema, own, lines.try_clone(alloc)?)?;
-    let undo = Undo::one(alloc, Change {
-        dn: spelled,
-        kind: ChangeKind::Delete,
-    })?;
+    let undo = Undo::one(
+        alloc,
+        Change {
+            dn: spelled,
+            kind: ChangeKind::Delete,
+        },
+    )?;
     match directory.insert(key, entry) {
         Ok(()) => Ok(undo),
         Err(_) => Err(Refusal::Memory),
@@ -35,7 +38,12 @@ pub(crate) fn add<D: Directory>(
 
 /// The new entry's name: its own RDN and then its parent's name as spelled in the directory; for the
 /// suffix the name as given. 32 where the parent is missing.
-fn spelled_on_path<D: Directory>(alloc: Global, directory: &D, name: &Dn, key: &DnKey) -> Result<Dn, Refusal> {
+fn spelled_on_path<D: Directory>(
+    alloc: Global,
+    directory: &D,
+    name: &Dn,
+    key: &DnKey,
+) -> Result<Dn, Refusal> {
     if key == directory.suffix() {
         return Ok(name.try_clone(alloc)?);
     }
@@ -54,7 +62,12 @@ fn spelled_on_path<D: Directory>(alloc: Global, directory: &D, name: &Dn, key: &
 }
 
 /// What the new entry keeps of its name: all of the suffix, or else the leaf RDN.
-fn own_name<D: Directory>(alloc: Global, directory: &D, name: &Dn, key: &DnKey) -> Result<Vec<Rdn>, Refusal> {
+fn own_name<D: Directory>(
+    alloc: Global,
+    directory: &D,
+    name: &Dn,
+    key: &DnKey,
+) -> Result<Vec<Rdn>, Refusal> {
     if key == directory.suffix() {
         return Ok(name.try_clone(alloc)?.into_rdns());
     }
