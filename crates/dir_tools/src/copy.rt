@@ -3,8 +3,8 @@ use crate::write::write_text;
 use crate::{Cause, Input, Output, ToolFault};
 use dir_change::{Refusal, ResultCode};
 use dir_ldif::{Record, RecordFault, RecordReader, Sink, Source, StreamFault};
-use dir_names::{Dn, DnKey, Lines, NameFault, Rdn, Schema};
-use dir_tree::{Directory, Entry};
+use dir_names::{Dn, DnKey, Lines, Schema};
+use dir_tree::{Directory, Entry, own_rdns};
 use std::alloc::Global;
 use std::collections::BTreeMap;
 
@@ -202,13 +202,4 @@ impl<D: Directory + Drop> Loading<D> {
         }
         Ok(first)
     }
-}
-
-/// What an entry keeps of its name: all of the suffix, or else the leaf RDN.
-fn own_rdns(name: Dn, is_suffix: bool) -> Vec<Rdn> {
-    let mut rdns = name.into_rdns();
-    if !is_suffix {
-        rdns.truncate(1);
-    }
-    rdns
 }

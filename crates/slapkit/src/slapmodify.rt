@@ -27,7 +27,7 @@ pub fn run<'a>(rt: &HostRuntime, words: &ModifyWords<'a>) -> Result<Summary, Fau
 }
 
 /// The first path that is the same text as one given before it.
-fn first_repeated<'a>(words: &ModifyWords<'a>) -> Option<&'a str> {
+pub fn first_repeated<'a>(words: &ModifyWords<'a>) -> Option<&'a str> {
     let data = Some(words.data);
     let out = words.files.map(|files| files.out);
     let undo = words.files.map(|files| files.undo);
