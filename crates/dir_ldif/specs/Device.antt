@@ -1,0 +1,23 @@
+-- What a device's faults are counted by.
+use Rattle.std.specs.Prelude.{◌≡◌, ℕ, ◌+◌, ◌-◌, ◌*◌, ◌^◌, ◌≤◌, min, List, Option, Result, length, take, ⊤, MatchResult}
+use Rattle.std.specs.Io.KnownBytes.{Appends}
+
+-- the greatest count of failures
+abbrev pub most_failures : ℕ
+most_failures = 2 ^ 64 - 1
+
+-- one failure more
+abbrev pub one_more : ℕ → ℕ
+one_more count = min (count + 1) most_failures
+
+-- an answer adds none, and a fault adds one
+abbrev pub Counts : {T E : Type 0} → Result T E → ℕ → ℕ → Type 0
+Counts r old new = MatchResult r (λ _. new ≡ old) (λ _. new ≡ one_more old)
+
+-- the device failed: its count rose, or is the greatest
+abbrev pub HasFailed : ℕ → ℕ → Type 0
+HasFailed old new = one_more old ≤ new
+
+-- the sink took the first n bytes of the text, and nothing else
+abbrev pub AppendsFront : Option (List ℕ) → Option (List ℕ) → List ℕ → ℕ → Type 0
+AppendsFront old new text n = (n ≤ length text) × Appends old new (take n text)

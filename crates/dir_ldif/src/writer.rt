@@ -1,0 +1,179 @@
+ghost use Rattle.std.specs.Prelude.{◌≤◌, IfOk};
+
+use crate::records::{Change, ChangeKind, Mod, ModOp, Record};
+use base64::engine::general_purpose::STANDARD;
+use dir_names::{Bytes, Description, Dn, Memory, NameFault, Rdn};
+use std::alloc::Global;
+
+/// The greatest length of a written line without its LF, in bytes.
+const COLUMNS: usize = 76;
+
+/// The text of a record: its `dn` line, its further lines and an empty line (RFC 2849).
+pub fn record_text(alloc: Global, record: &Record) -> Result<Vec<u8>, Memory> {
+    let mut out = Vec::new(alloc);
+    push_record(&mut out, record)?;
+    Ok(out)
+}
+
+/// Appends the text of a record.
+pub fn push_record(out: &mut Vec<u8>, record: &Record) -> Result<(), Memory> {
+    match record {
+        Record::Content { dn, lines } => {
+            push_name(out, b"dn", dn)?;
+            push_values(out, lines.as_slice())?;
+            push_end(out)
+        }
+        Record::Change(change) => push_change(out, change),
+    }
+}
+
+/// Appends the text of a change record.
+pub fn push_change(out: &mut Vec<u8>, change: &Change) -> Result<(), Memory> {
+    push_name(out, b"dn", &change.dn)?;
+    push_line(out, b"changetype", change_word(&change.kind))?;
+    push_kind(out, &change.kind)?;
+    push_end(out)
+}
+
+/// Appends one line of a name and a value: plain where the value can stand so, else in base64; folded at
+/// 76 bytes; with its LF (RFC 2849, notes 2, 4 and 8).
+pub fn push_line(out: &mut Vec<u8>, name: &[u8], value: &[u8]) -> Result<(), Memory> {
+    let room = push_folded(out, COLUMNS, name)?;
+    if value.is_empty() {
+        let _ = push_folded(out, room, b":")?;
+    } else if is_plain(value) {
+        let room = push_folded(out, room, b": ")?;
+        let _ = push_folded(out, room, value)?;
+    } else {
+        let text = STANDARD.encode(*out.allocator(), value)?;
+        let room = push_folded(out, room, b":: ")?;
+        let _ = push_folded(out, room, text.as_bytes())?;
+    }
+    push_end(out)
+}
+
+/// Appends the LF that ends a line, or the empty line that ends a record.
+pub fn push_end(out: &mut Vec<u8>) -> Result<(), Memory> {
+    out.push(b'\n')?;
+    Ok(())
+}
+
+/// Appends bytes of a line that has room for so many more, and begins a continuation wherever there is
+/// none. Answers the room that is left.
+fn push_folded(out: &mut Vec<u8>, room: usize, text: &[u8]) -> Result<usize, Memory>
+    requires { room ≤ COLUMNS }
+    ensures { IfOk result (λ left. left ≤ COLUMNS) }
+{
+    let mut room = room;
+    let mut rest = text;
+    while rest.len() > room {
+        out.extend_from_slice(&rest[..room])?;
+        out.extend_from_slice(b"\n ")?;
+        rest = &rest[room..];
+        room = COLUMNS - 1;
+    }
+    out.extend_from_slice(rest)?;
+    Ok(room - rest.len())
+}
+
+/// Whether a value stands in a line as it is.
+fn is_plain(value: &[u8]) -> bool {
+    let (Some(first), Some(last)) = (value.first(), value.last()) else {
+        return false;
+    };
+    !matches!(*first, b' ' | b':' | b'<') && *last != b' ' && value.iter().all(|b| is_safe(*b))
+}
+
+/// `SAFE-CHAR`: ASCII without NUL, LF and CR.
+fn is_safe(b: u8) -> bool {
+    b < 128 && !matches!(b, 0 | b'\n' | b'\r')
+}
+
+/// Appends the line of a keyword whose value is a name, as the `dn` line of a record.
+pub fn push_name(out: &mut Vec<u8>, word: &[u8], dn: &Dn) -> Result<(), Memory> {
+    let text = printed(dn.print(*out.allocator()))?;
+    push_line(out, word, text.as_slice())
+}
+
+fn push_rdn(out: &mut Vec<u8>, rdn: &Rdn) -> Result<(), Memory> {
+    let text = printed(rdn.print(*out.allocator()))?;
+    push_line(out, b"newrdn", text.as_slice())
+}
+
+/// A printed name, which can only want memory.
+fn printed(text: Result<Vec<u8>, NameFault>) -> Result<Vec<u8>, Memory> {
+    match text {
+        Ok(text) => Ok(text),
+        Err(_) => Err(Memory),
+    }
+}
+
+fn push_values(out: &mut Vec<u8>, lines: &[(Description, Bytes)]) -> Result<(), Memory> {
+    for (description, value) in lines {
+        push_line(out, description.spelling(), value.as_slice())?;
+    }
+    Ok(())
+}
+
+fn change_word(kind: &ChangeKind) -> &'static [u8] {
+    match kind {
+        ChangeKind::Add(_) => b"add",
+        ChangeKind::Delete => b"delete",
+        ChangeKind::Modify(_) => b"modify",
+        ChangeKind::Rename { .. } => b"modrdn",
+    }
+}
+
+/// Appends the lines behind the changetype.
+fn push_kind(out: &mut Vec<u8>, kind: &ChangeKind) -> Result<(), Memory> {
+    match kind {
+        ChangeKind::Add(lines) => push_values(out, lines.as_slice()),
+        ChangeKind::Delete => Ok(()),
+        ChangeKind::Modify(mods) => push_mods(out, mods.as_slice()),
+        ChangeKind::Rename {
+            newrdn,
+            delete_old,
+            newsuperior,
+        } => {
+            push_rdn(out, newrdn)?;
+            push_flag(out, *delete_old)?;
+            match newsuperior {
+                Some(dn) => push_name(out, b"newsuperior", dn),
+                None => Ok(()),
+            }
+        }
+    }
+}
+
+fn push_flag(out: &mut Vec<u8>, delete_old: bool) -> Result<(), Memory> {
+    if delete_old {
+        push_line(out, b"deleteoldrdn", b"1")
+    } else {
+        push_line(out, b"deleteoldrdn", b"0")
+    }
+}
+
+fn push_mods(out: &mut Vec<u8>, mods: &[Mod]) -> Result<(), Memory> {
+    for m in mods {
+        push_mod(out, m)?;
+    }
+    Ok(())
+}
+
+fn push_mod(out: &mut Vec<u8>, m: &Mod) -> Result<(), Memory> {
+    let spelling = m.description.spelling();
+    push_line(out, op_word(m.op), spelling)?;
+    for value in m.values.as_slice() {
+        push_line(out, spelling, value.as_slice())?;
+    }
+    out.extend_from_slice(b"-\n")?;
+    Ok(())
+}
+
+fn op_word(op: ModOp) -> &'static [u8] {
+    match op {
+        ModOp::Add => b"add",
+        ModOp::Delete => b"delete",
+        ModOp::Replace => b"replace",
+    }
+}
