@@ -1,5 +1,5 @@
 use crate::Undo;
-use dir_ldif::push_change_text;
+use dir_ldif::push_change;
 use dir_names::Memory;
 use std::alloc::Global;
 
@@ -34,7 +34,7 @@ impl History {
         let mut text = b"version: 1\n\n".to_vec(alloc)?;
         for group in self.groups.iter().rev() {
             for change in group.records() {
-                push_change_text(alloc, &mut text, change)?;
+                push_change(&mut text, change)?;
             }
         }
         Ok(text)

@@ -1,7 +1,5 @@
 -- What a device's faults are counted by.
-use Rattle.std.specs.Prelude.{◌≡◌, ℕ, ◌+◌, ◌-◌, ◌*◌, ◌^◌, ◌≤◌, min, List, length, take, ⊤, MatchResult}
-use Rattle.core.specs.declared.result.Result.{Result}
-use Rattle.core.specs.declared.option.Option.{Option}
+use Rattle.std.specs.Prelude.{◌≡◌, ℕ, ◌+◌, ◌-◌, ◌*◌, ◌^◌, ◌≤◌, min, List, Option, Result, length, take, ⊤, MatchResult}
 use Rattle.std.specs.Io.KnownBytes.{Appends}
 
 -- the greatest count of failures

@@ -1,3 +1,5 @@
+ghost use Rattle.std.specs.Prelude.{◌<◌, length};
+
 use crate::faults::{RecordFault, Refusal};
 use crate::lines::Line;
 use crate::part::part_of;
@@ -120,13 +122,15 @@ fn modification(alloc: Global, schema: &Schema, lines: &[Line]) -> Result<Change
 }
 
 /// The lines before the first `-`, and those behind it.
-fn cut_dash(lines: &[Line]) -> (&[Line], &[Line]) {
+fn cut_dash(lines: &[Line]) -> (&[Line], &[Line])
+    ensures { 0 < length lines.now → length result.1.now < length lines.now }
+{
     for (i, line) in lines.iter().enumerate() {
         if line.text() == b"-".as_slice() {
             return (&lines[..i], &lines[i + 1..]);
         }
     }
-    (lines, &[])
+    (lines, &lines[lines.len()..])
 }
 
 /// One modification: its head and its values, all of one attribute.

@@ -2,6 +2,7 @@
 #![tactic(auto)]
 
 mod block;
+mod calls;
 mod checking;
 mod device;
 mod faults;
@@ -25,4 +26,7 @@ pub use standard::{Reader, Writer};
 pub use tape::Tape;
 pub use trial::Script;
 pub use whole::write_whole;
-pub use writer::{push_change_text, push_dn, push_line, push_record_text, record_text};
+pub use writer::{push_change, push_end, push_line, push_name, push_record, record_text};
+
+#[cfg(test)]
+mod tests;

@@ -1,4 +1,4 @@
-ghost use Rattle.std.specs.Prelude.{◌+◌, ◌<◌, ◌^◌, length};
+ghost use Rattle.std.specs.Prelude.{◌≡◌, ◌+◌, ◌<◌, ◌≤◌, ◌^◌, IfOk, IfSome, length};
 
 use crate::faults::StreamFault;
 use crate::part::{cut_colon, without_spaces};
@@ -35,7 +35,9 @@ pub(crate) struct Joiner {
 }
 
 impl Joiner {
-    pub(crate) fn new(alloc: Global) -> Joiner {
+    pub(crate) fn new(alloc: Global) -> Joiner
+        ensures { result.number ≡ 1 }
+    {
         Joiner {
             block: Vec::new(alloc),
             begun: false,
@@ -53,6 +55,10 @@ impl Joiner {
         piece: &'a [u8],
     ) -> Result<Option<&'a [u8]>, StreamFault>
         requires { self.old.number + length piece.now < 2 ^ 63 }
+        ensures number { self.new.number ≤ self.old.number + length piece.now }
+        ensures left { IfOk result (λ o. IfSome o
+            (λ rest. self.new.number + length rest.now ≤ self.old.number + length piece.now)) }
+        ensures shorter { IfOk result (λ o. IfSome o (λ rest. length rest.now < length piece.now)) }
     {
         let mut rest = piece;
         while let Some((text, after)) = cut_line(rest) {
@@ -71,6 +77,7 @@ impl Joiner {
     /// which ends the block.
     fn end_line(&mut self, text: &[u8]) -> Result<bool, StreamFault>
         requires { self.old.number < 2 ^ 63 }
+        ensures { self.new.number ≡ self.old.number + 1 }
     {
         let number = self.number;
         self.number = number + 1;
@@ -83,7 +90,9 @@ impl Joiner {
         self.join_owned(number, line)
     }
 
-    fn join_slice(&mut self, number: u64, text: &[u8]) -> Result<bool, StreamFault> {
+    fn join_slice(&mut self, number: u64, text: &[u8]) -> Result<bool, StreamFault>
+        ensures { self.new.number ≡ self.old.number }
+    {
         match self.last.take() {
             Some(last) if begins_with_space(text) => self.append(last, text),
             last => {
@@ -93,7 +102,9 @@ impl Joiner {
         }
     }
 
-    fn join_owned(&mut self, number: u64, text: Vec<u8>) -> Result<bool, StreamFault> {
+    fn join_owned(&mut self, number: u64, text: Vec<u8>) -> Result<bool, StreamFault>
+        ensures { self.new.number ≡ self.old.number }
+    {
         match self.last.take() {
             Some(last) if begins_with_space(text.as_slice()) => self.append(last, text.as_slice()),
             last => {
@@ -104,7 +115,9 @@ impl Joiner {
     }
 
     /// Continues the last line by a line that begins with a space.
-    fn append(&mut self, mut last: Line, text: &[u8]) -> Result<bool, StreamFault> {
+    fn append(&mut self, mut last: Line, text: &[u8]) -> Result<bool, StreamFault>
+        ensures { self.new.number ≡ self.old.number }
+    {
         if let [_, rest @ ..] = text {
             last.text.extend_from_slice(rest)?;
         }
@@ -112,14 +125,18 @@ impl Joiner {
     }
 
     /// Begins a logical line, unless the line is empty.
-    fn keep(&mut self, number: u64, text: Vec<u8>) -> Result<bool, StreamFault> {
+    fn keep(&mut self, number: u64, text: Vec<u8>) -> Result<bool, StreamFault>
+        ensures { self.new.number ≡ self.old.number }
+    {
         if text.is_empty() {
             return Ok(true);
         }
         self.hold(Line { number, text })
     }
 
-    fn hold(&mut self, line: Line) -> Result<bool, StreamFault> {
+    fn hold(&mut self, line: Line) -> Result<bool, StreamFault>
+        ensures { self.new.number ≡ self.old.number }
+    {
         if line.text.len() > MAX_LINE {
             return Err(StreamFault::LineTooLong);
         }
@@ -129,7 +146,9 @@ impl Joiner {
 
     /// Puts the last line, which is not continued, into the block. Comments and the version line belong to
     /// no block.
-    fn close(&mut self, last: Option<Line>) -> Result<(), StreamFault> {
+    fn close(&mut self, last: Option<Line>) -> Result<(), StreamFault>
+        ensures { self.new.number ≡ self.old.number }
+    {
         let Some(line) = last else {
             return Ok(());
         };
@@ -150,7 +169,9 @@ impl Joiner {
 
     /// Whether the physical line that has not ended is too long already. A CR at its end may be the final
     /// one, and isn't counted.
-    fn check_partial(&mut self) -> Result<(), StreamFault> {
+    fn check_partial(&mut self) -> Result<(), StreamFault>
+        ensures { self.new.number ≡ self.old.number }
+    {
         let text = without_cr(self.partial.as_slice());
         let length = text.len();
         let continues = begins_with_space(text);
@@ -175,6 +196,7 @@ impl Joiner {
     /// Ends the text: what is in hand is its last line.
     pub(crate) fn finish(&mut self) -> Result<(), StreamFault>
         requires { self.old.number < 2 ^ 63 }
+        ensures { self.new.number ≤ self.old.number + 1 }
     {
         if !self.partial.is_empty() {
             let _ = self.end_line(&[])?;
@@ -208,7 +230,9 @@ fn version_of(line: &[u8]) -> Version {
 }
 
 /// The bytes before the first LF, and those behind it.
-fn cut_line(text: &[u8]) -> Option<(&[u8], &[u8])> {
+fn cut_line(text: &[u8]) -> Option<(&[u8], &[u8])>
+    ensures { IfSome result (λ p. length p.0.now + length p.1.now < length text.now) }
+{
     let at = memchr(b'\n', text)?;
     Some((&text[..at], &text[at + 1..]))
 }

@@ -1,3 +1,5 @@
+ghost use Rattle.std.specs.Prelude.{◌≡◌, ◌+◌, ◌-◌, ◌*◌, ◌^◌, ◌<◌, ◌≤◌, vec_len};
+
 use crate::block::record_of;
 use crate::device::Source;
 use crate::faults::{RecordFault, Refusal, StreamFault};
@@ -8,6 +10,9 @@ use std::alloc::Global;
 
 /// The greatest number of read calls of one reader.
 pub const MAX_TURNS: u64 = 1_099_511_627_776;
+
+/// The greatest number of bytes of a text that is read at once.
+pub const MAX_TEXT: usize = 9_007_199_254_732_800;
 
 /// The greatest number of bytes that one read call is asked for.
 const PIECE: usize = 8192;
@@ -80,10 +85,16 @@ struct Core {
     turns: u64,
     place: Place,
     alloc: Global,
+    ghost in_range: { at ≤ end },
+    ghost in_buffer: { end ≤ vec_len buffer },
+    ghost piece: { vec_len buffer ≡ 8192 },
+    ghost room: { joiner.number + (end - at) + 8192 * turns < 2 ^ 62 },
 }
 
 impl Core {
-    fn new(alloc: Global, turns: u64) -> Result<Core, StreamFault> {
+    fn new(alloc: Global, turns: u64) -> Result<Core, StreamFault>
+        requires { turns ≤ MAX_TURNS }
+    {
         Ok(Core {
             joiner: Joiner::new(alloc),
             buffer: vec![in alloc; 0; PIECE]?,
@@ -142,16 +153,22 @@ impl Core {
     }
 
     /// Takes what is in hand. Answers whether a block has ended.
-    fn take_hand(&mut self) -> Result<bool, StreamFault> {
+    fn take_hand(&mut self) -> Result<bool, StreamFault>
+        ensures { self.new.turns ≡ self.old.turns }
+    {
         let piece = &self.buffer[self.at..self.end];
-        match self.joiner.take_piece(piece)? {
-            Some(rest) => {
+        match self.joiner.take_piece(piece) {
+            Ok(Some(rest)) => {
                 self.at = self.end - rest.len();
                 Ok(true)
             }
-            None => {
+            Ok(None) => {
                 self.at = self.end;
                 Ok(false)
+            }
+            Err(fault) => {
+                self.at = self.end;
+                Err(fault)
             }
         }
     }
@@ -162,7 +179,9 @@ fn answer_of(
     alloc: Global,
     schema: &Schema,
     joiner: &mut Joiner,
-) -> Result<Option<Answer>, StreamFault> {
+) -> Result<Option<Answer>, StreamFault>
+    ensures { joiner.new.number ≡ joiner.old.number }
+{
     let Some(first) = joiner.block.first() else {
         return Ok(None);
     };
@@ -176,8 +195,12 @@ fn answer_of(
     Ok(Some((number, answer)))
 }
 
-/// The records of a text, each with the number of its first line, or the text's stream fault alone.
+/// The records of a text, each with the number of its first line, or the text's stream fault alone. A text
+/// of more than 9,007,199,254,732,800 bytes is `TooManyTurns`.
 pub fn read_all(alloc: Global, schema: &Schema, text: &[u8]) -> Result<Vec<Answer>, StreamFault> {
+    if text.len() > MAX_TEXT {
+        return Err(StreamFault::TooManyTurns);
+    }
     let mut joiner = Joiner::new(alloc);
     let mut answers = Vec::new(alloc);
     let mut rest = text;

@@ -1,5 +1,6 @@
 ghost use Rattle.std.specs.Prelude.{◌≡◌, ◌≤◌, ◌⊎◌, Some, length, take};
 
+use crate::calls::Calls;
 use crate::device::{DeviceFault, Sink};
 
 /// A sink over lent bytes, for tests: it takes what it is given in pieces, and fails or stalls where it is
@@ -9,8 +10,7 @@ pub struct Tape<'a> {
     bytes: &'a mut [u8],
     at: usize,
     piece: usize,
-    good_calls: u64,
-    failures: u64,
+    calls: Calls,
     ghost in_range: { at ≤ length bytes.now },
 }
 
@@ -21,8 +21,7 @@ impl<'a> Tape<'a> {
             bytes,
             at: 0,
             piece: usize::MAX,
-            good_calls: u64::MAX,
-            failures: 0,
+            calls: Calls::ALL_GOOD,
         }
     }
 
@@ -34,7 +33,7 @@ impl<'a> Tape<'a> {
 
     /// Fails from this call on; the first call, a write or a flush, is 1.
     pub fn failing_from(mut self, call: u64) -> Tape<'a> {
-        self.good_calls = call.saturating_sub(1);
+        self.calls = Calls::failing_from(call);
         self
     }
 
@@ -42,29 +41,17 @@ impl<'a> Tape<'a> {
     pub fn as_slice(&self) -> &[u8] {
         &self.bytes[..self.at]
     }
-
-    /// Counts a call. Answers whether it fails.
-    fn fails(&mut self) -> bool {
-        if self.good_calls == 0 {
-            self.failures = self.failures.saturating_add(1);
-            return true;
-        }
-        if self.good_calls != u64::MAX {
-            self.good_calls -= 1;
-        }
-        false
-    }
 }
 
 impl Sink for Tape<'_> {
     ghost taken = { λ t. Some (take t.at t.bytes.now) };
 
-    ghost failures = { λ t. t.failures };
+    ghost failures = { λ t. t.calls.failures };
 
     ghost may_stall = { λ t. (t.at ≡ length t.bytes.now) ⊎ (t.piece ≡ 0) };
 
     fn write(&mut self, bytes: &[u8]) -> Result<usize, DeviceFault> {
-        if self.fails() {
+        if self.calls.fails() {
             return Err(DeviceFault);
         }
         let n = self.piece.min(bytes.len()).min(self.bytes.len() - self.at);
@@ -75,7 +62,7 @@ impl Sink for Tape<'_> {
     }
 
     fn flush(&mut self) -> Result<(), DeviceFault> {
-        if self.fails() {
+        if self.calls.fails() {
             return Err(DeviceFault);
         }
         Ok(())

@@ -1,6 +1,6 @@
-ghost use Rattle.std.specs.Prelude.{◌≤◌, ⊤, length};
-ghost use Rattle.dir_ldif.specs.Trial.{script_left};
+ghost use Rattle.std.specs.Prelude.{◌≡◌, ◌++◌, ◌<◌, ◌≤◌, ⊤, [], None, Some, drop, if◌then◌else◌, length, take};
 
+use crate::calls::Calls;
 use crate::device::{DeviceFault, Source};
 
 /// A source over lent bytes, for tests: it gives them in pieces, and fails where it is told to. It takes no
@@ -12,9 +12,10 @@ pub struct Script<'a> {
     first: usize,
     piece: usize,
     endless: bool,
-    good_calls: u64,
-    failures: u64,
+    calls: Calls,
     ghost in_range: { at ≤ length bytes.now },
+    ghost some_first: { 0 < first },
+    ghost some_piece: { 0 < piece },
 }
 
 impl<'a> Script<'a> {
@@ -26,8 +27,7 @@ impl<'a> Script<'a> {
             first: usize::MAX,
             piece: usize::MAX,
             endless: false,
-            good_calls: u64::MAX,
-            failures: 0,
+            calls: Calls::ALL_GOOD,
         }
     }
 
@@ -52,15 +52,30 @@ impl<'a> Script<'a> {
 
     /// Fails from this call on; the first call is 1.
     pub fn failing_from(mut self, call: u64) -> Script<'a> {
-        self.good_calls = call.saturating_sub(1);
+        self.calls = Calls::failing_from(call);
         self
+    }
+
+    /// Gives the next piece. Answers its length.
+    fn give(&mut self, buffer: &mut [u8]) -> usize
+        ensures bound { result ≤ length buffer.new }
+        ensures bytes { drop self.old.at self.old.bytes.now ≡ take result buffer.new ++ drop self.new.at self.new.bytes.now }
+        ensures end { result ≡ 0 → 0 < length buffer.new → drop self.new.at self.new.bytes.now ≡ [] }
+        ensures calls { self.new.calls ≡ self.old.calls }
+        ensures endless { self.new.endless ≡ self.old.endless }
+    {
+        let n = self.first.min(buffer.len()).min(self.bytes.len() - self.at);
+        buffer[..n].copy_from_slice(&self.bytes[self.at..self.at + n]);
+        self.at += n;
+        self.first = self.piece;
+        n
     }
 }
 
 impl Source for Script<'_> {
-    ghost left = { script_left };
+    ghost left = { λ s. if s.endless then None else Some (drop s.at s.bytes.now) };
 
-    ghost failures = { λ s. s.failures };
+    ghost failures = { λ s. s.calls.failures };
 
     ghost is_same = { λ _ _. ⊤ };
 
@@ -69,20 +84,15 @@ impl Source for Script<'_> {
     ghost same_trans = { λ _ _ _ _ _. tt };
 
     fn read(&mut self, buffer: &mut [u8]) -> Result<usize, DeviceFault> {
-        if self.good_calls == 0 {
-            self.failures = self.failures.saturating_add(1);
+        if self.calls.fails() {
             return Err(DeviceFault);
         }
-        if self.good_calls != u64::MAX {
-            self.good_calls -= 1;
+        if self.endless {
+            if self.at == self.bytes.len() {
+                self.at = 0;
+            }
+            return Ok(self.give(buffer));
         }
-        if self.endless && self.at == self.bytes.len() {
-            self.at = 0;
-        }
-        let n = self.first.min(buffer.len()).min(self.bytes.len() - self.at);
-        buffer[..n].copy_from_slice(&self.bytes[self.at..self.at + n]);
-        self.at += n;
-        self.first = self.piece;
-        Ok(n)
+        Ok(self.give(buffer))
     }
 }

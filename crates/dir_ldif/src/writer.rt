@@ -1,3 +1,5 @@
+ghost use Rattle.std.specs.Prelude.{◌≤◌, IfOk};
+
 use crate::records::{Change, ChangeKind, Mod, ModOp, Record};
 use base64::engine::general_purpose::STANDARD;
 use dir_names::{Bytes, Description, Dn, Memory, NameFault, Rdn};
@@ -9,43 +11,33 @@ const COLUMNS: usize = 76;
 /// The text of a record: its `dn` line, its further lines and an empty line (RFC 2849).
 pub fn record_text(alloc: Global, record: &Record) -> Result<Vec<u8>, Memory> {
     let mut out = Vec::new(alloc);
-    push_record_text(alloc, &mut out, record)?;
+    push_record(&mut out, record)?;
     Ok(out)
 }
 
 /// Appends the text of a record.
-pub fn push_record_text(alloc: Global, out: &mut Vec<u8>, record: &Record) -> Result<(), Memory> {
+pub fn push_record(out: &mut Vec<u8>, record: &Record) -> Result<(), Memory> {
     match record {
         Record::Content { dn, lines } => {
-            push_dn(alloc, out, dn)?;
-            push_values(alloc, out, lines.as_slice())?;
+            push_name(out, b"dn", dn)?;
+            push_values(out, lines.as_slice())?;
             push_end(out)
         }
-        Record::Change(change) => push_change_text(alloc, out, change),
+        Record::Change(change) => push_change(out, change),
     }
 }
 
 /// Appends the text of a change record.
-pub fn push_change_text(alloc: Global, out: &mut Vec<u8>, change: &Change) -> Result<(), Memory> {
-    push_dn(alloc, out, &change.dn)?;
-    push_line(alloc, out, b"changetype", change_word(&change.kind))?;
-    push_kind(alloc, out, &change.kind)?;
+pub fn push_change(out: &mut Vec<u8>, change: &Change) -> Result<(), Memory> {
+    push_name(out, b"dn", &change.dn)?;
+    push_line(out, b"changetype", change_word(&change.kind))?;
+    push_kind(out, &change.kind)?;
     push_end(out)
-}
-
-/// Appends the line of a record's name.
-pub fn push_dn(alloc: Global, out: &mut Vec<u8>, dn: &Dn) -> Result<(), Memory> {
-    push_name(alloc, out, b"dn", dn)
 }
 
 /// Appends one line of a name and a value: plain where the value can stand so, else in base64; folded at
 /// 76 bytes; with its LF (RFC 2849, notes 2, 4 and 8).
-pub fn push_line(
-    alloc: Global,
-    out: &mut Vec<u8>,
-    name: &[u8],
-    value: &[u8],
-) -> Result<(), Memory> {
+pub fn push_line(out: &mut Vec<u8>, name: &[u8], value: &[u8]) -> Result<(), Memory> {
     let room = push_folded(out, COLUMNS, name)?;
     if value.is_empty() {
         let _ = push_folded(out, room, b":")?;
@@ -53,22 +45,25 @@ pub fn push_line(
         let room = push_folded(out, room, b": ")?;
         let _ = push_folded(out, room, value)?;
     } else {
-        let text = STANDARD.encode(alloc, value)?;
+        let text = STANDARD.encode(*out.allocator(), value)?;
         let room = push_folded(out, room, b":: ")?;
         let _ = push_folded(out, room, text.as_bytes())?;
     }
     push_end(out)
 }
 
-/// Appends an LF.
-fn push_end(out: &mut Vec<u8>) -> Result<(), Memory> {
+/// Appends the LF that ends a line, or the empty line that ends a record.
+pub fn push_end(out: &mut Vec<u8>) -> Result<(), Memory> {
     out.push(b'\n')?;
     Ok(())
 }
 
 /// Appends bytes of a line that has room for so many more, and begins a continuation wherever there is
 /// none. Answers the room that is left.
-fn push_folded(out: &mut Vec<u8>, room: usize, text: &[u8]) -> Result<usize, Memory> {
+fn push_folded(out: &mut Vec<u8>, room: usize, text: &[u8]) -> Result<usize, Memory>
+    requires { room ≤ COLUMNS }
+    ensures { IfOk result (λ left. left ≤ COLUMNS) }
+{
     let mut room = room;
     let mut rest = text;
     while rest.len() > room {
@@ -94,15 +89,15 @@ fn is_safe(b: u8) -> bool {
     b < 128 && !matches!(b, 0 | b'\n' | b'\r')
 }
 
-/// Appends the line of a keyword whose value is a name.
-fn push_name(alloc: Global, out: &mut Vec<u8>, word: &[u8], dn: &Dn) -> Result<(), Memory> {
-    let text = printed(dn.print(alloc))?;
-    push_line(alloc, out, word, text.as_slice())
+/// Appends the line of a keyword whose value is a name, as the `dn` line of a record.
+pub fn push_name(out: &mut Vec<u8>, word: &[u8], dn: &Dn) -> Result<(), Memory> {
+    let text = printed(dn.print(*out.allocator()))?;
+    push_line(out, word, text.as_slice())
 }
 
-fn push_rdn(alloc: Global, out: &mut Vec<u8>, rdn: &Rdn) -> Result<(), Memory> {
-    let text = printed(rdn.print(alloc))?;
-    push_line(alloc, out, b"newrdn", text.as_slice())
+fn push_rdn(out: &mut Vec<u8>, rdn: &Rdn) -> Result<(), Memory> {
+    let text = printed(rdn.print(*out.allocator()))?;
+    push_line(out, b"newrdn", text.as_slice())
 }
 
 /// A printed name, which can only want memory.
@@ -113,13 +108,9 @@ fn printed(text: Result<Vec<u8>, NameFault>) -> Result<Vec<u8>, Memory> {
     }
 }
 
-fn push_values(
-    alloc: Global,
-    out: &mut Vec<u8>,
-    lines: &[(Description, Bytes)],
-) -> Result<(), Memory> {
+fn push_values(out: &mut Vec<u8>, lines: &[(Description, Bytes)]) -> Result<(), Memory> {
     for (description, value) in lines {
-        push_line(alloc, out, description.spelling(), value.as_slice())?;
+        push_line(out, description.spelling(), value.as_slice())?;
     }
     Ok(())
 }
@@ -134,46 +125,46 @@ fn change_word(kind: &ChangeKind) -> &'static [u8] {
 }
 
 /// Appends the lines behind the changetype.
-fn push_kind(alloc: Global, out: &mut Vec<u8>, kind: &ChangeKind) -> Result<(), Memory> {
+fn push_kind(out: &mut Vec<u8>, kind: &ChangeKind) -> Result<(), Memory> {
     match kind {
-        ChangeKind::Add(lines) => push_values(alloc, out, lines.as_slice()),
+        ChangeKind::Add(lines) => push_values(out, lines.as_slice()),
         ChangeKind::Delete => Ok(()),
-        ChangeKind::Modify(mods) => push_mods(alloc, out, mods.as_slice()),
+        ChangeKind::Modify(mods) => push_mods(out, mods.as_slice()),
         ChangeKind::Rename {
             newrdn,
             delete_old,
             newsuperior,
         } => {
-            push_rdn(alloc, out, newrdn)?;
-            push_flag(alloc, out, *delete_old)?;
+            push_rdn(out, newrdn)?;
+            push_flag(out, *delete_old)?;
             match newsuperior {
-                Some(dn) => push_name(alloc, out, b"newsuperior", dn),
+                Some(dn) => push_name(out, b"newsuperior", dn),
                 None => Ok(()),
             }
         }
     }
 }
 
-fn push_flag(alloc: Global, out: &mut Vec<u8>, delete_old: bool) -> Result<(), Memory> {
+fn push_flag(out: &mut Vec<u8>, delete_old: bool) -> Result<(), Memory> {
     if delete_old {
-        push_line(alloc, out, b"deleteoldrdn", b"1")
+        push_line(out, b"deleteoldrdn", b"1")
     } else {
-        push_line(alloc, out, b"deleteoldrdn", b"0")
+        push_line(out, b"deleteoldrdn", b"0")
     }
 }
 
-fn push_mods(alloc: Global, out: &mut Vec<u8>, mods: &[Mod]) -> Result<(), Memory> {
+fn push_mods(out: &mut Vec<u8>, mods: &[Mod]) -> Result<(), Memory> {
     for m in mods {
-        push_mod(alloc, out, m)?;
+        push_mod(out, m)?;
     }
     Ok(())
 }
 
-fn push_mod(alloc: Global, out: &mut Vec<u8>, m: &Mod) -> Result<(), Memory> {
+fn push_mod(out: &mut Vec<u8>, m: &Mod) -> Result<(), Memory> {
     let spelling = m.description.spelling();
-    push_line(alloc, out, op_word(m.op), spelling)?;
+    push_line(out, op_word(m.op), spelling)?;
     for value in m.values.as_slice() {
-        push_line(alloc, out, spelling, value.as_slice())?;
+        push_line(out, spelling, value.as_slice())?;
     }
     out.extend_from_slice(b"-\n")?;
     Ok(())

@@ -1,4 +1,4 @@
-use dir_ldif::{push_dn, push_line};
+use dir_ldif::{push_end, push_line, push_name};
 use dir_names::{Dn, Memory};
 use dir_tree::{Directory, Entry};
 use std::alloc::Global;
@@ -12,19 +12,18 @@ pub(crate) fn canonical_text<D: Directory>(
 ) -> Result<Vec<u8>, Memory> {
     let mut text = Vec::new(alloc);
     for (name, entry) in directory.walk()? {
-        push_entry(alloc, &mut text, &name, entry)?;
+        push_entry(&mut text, &name, entry)?;
     }
     Ok(text)
 }
 
-fn push_entry(alloc: Global, text: &mut Vec<u8>, name: &Dn, entry: &Entry) -> Result<(), Memory> {
-    push_dn(alloc, text, name)?;
+fn push_entry(text: &mut Vec<u8>, name: &Dn, entry: &Entry) -> Result<(), Memory> {
+    push_name(text, b"dn", name)?;
     for (_, attribute) in entry.attributes() {
         let spelling = attribute.description().spelling();
         for (_, bytes) in attribute.values() {
-            push_line(alloc, text, spelling, bytes.as_slice())?;
+            push_line(text, spelling, bytes.as_slice())?;
         }
     }
-    text.push(b'\n')?;
-    Ok(())
+    push_end(text)
 }
