@@ -1,3 +1,6 @@
+ghost use Rattle.std.specs.Prelude.{length};
+ghost use Rattle.std.specs.List.Sorted.{IsSearchInRange};
+
 use crate::EntryFault;
 use crate::values::{ValueMap, Values};
 use dir_names::{AttrKey, Bytes, Description, Memory, Rdn, Schema, ValueKey};
@@ -132,7 +135,9 @@ impl AttributeMap {
 }
 
 /// Where the attribute with this key stands, or where it would be put.
-fn place(items: &[Attribute], key: &AttrKey) -> Result<usize, usize> {
+fn place(items: &[Attribute], key: &AttrKey) -> Result<usize, usize>
+    ensures { IsSearchInRange result (length items.now) }
+{
     items.binary_search_by(|attribute| attribute.description.key().cmp(key))
 }
 

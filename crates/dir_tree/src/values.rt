@@ -1,3 +1,6 @@
+ghost use Rattle.std.specs.Prelude.{length};
+ghost use Rattle.std.specs.List.Sorted.{IsSearchInRange};
+
 use crate::EntryFault;
 use dir_names::{Bytes, Memory, ValueKey};
 use std::alloc::Global;
@@ -112,7 +115,9 @@ fn has_twice(items: &[(ValueKey, Bytes)]) -> bool {
 }
 
 /// Where the value with this key stands, or where it would be put.
-fn place(items: &[(ValueKey, Bytes)], key: &ValueKey) -> Result<usize, usize> {
+fn place(items: &[(ValueKey, Bytes)], key: &ValueKey) -> Result<usize, usize>
+    ensures { IsSearchInRange result (length items.now) }
+{
     items.binary_search_by(|value| value.0.cmp(key))
 }
 
