@@ -51,7 +51,7 @@ fn is_special(b: u8) -> bool {
 }
 
 /// The upper-case digit of a number.
-fn hex_digit(n: u8) -> u8 
+fn hex_digit(n: u8) -> u8
     requires { n < 16 }
 {
     if n < 10 { b'0' + n } else { b'A' + (n - 10) }

@@ -38,7 +38,11 @@ pub(crate) fn read_one_rdn(alloc: Global, text: &[u8]) -> Result<Rdn, NameFault>
         return Err(NameFault::BadDn);
     }
     let rdn = rdn_of(alloc, piece)?;
-    if is_within_limit(alloc, &rdn)? { Ok(rdn) } else { Err(NameFault::NameLimit) }
+    if is_within_limit(alloc, &rdn)? {
+        Ok(rdn)
+    } else {
+        Err(NameFault::NameLimit)
+    }
 }
 
 fn is_within_limit(alloc: Global, rdn: &Rdn) -> Result<bool, NameFault> {
@@ -174,7 +178,10 @@ fn is_refused(b: u8) -> bool {
 
 /// Whether a byte may stand behind a `\` for itself.
 fn is_escapable(b: u8) -> bool {
-    matches!(b, b' ' | b'"' | b'#' | b'+' | b',' | b';' | b'<' | b'=' | b'>' | b'\\')
+    matches!(
+        b,
+        b' ' | b'"' | b'#' | b'+' | b',' | b';' | b'<' | b'=' | b'>' | b'\\'
+    )
 }
 
 fn hex_value(b: u8) -> Option<u8>

@@ -7,7 +7,14 @@ fn described(alloc: Global, schema: &Schema, text: &str) -> Result<Description, 
     Description::read(alloc, schema, text.as_bytes())
 }
 
-fn key_text(rt: &impl Abort, alloc: Global, schema: &Schema, kind: &str, value: &[u8], want: Option<&[u8]>) {
+fn key_text(
+    rt: &impl Abort,
+    alloc: Global,
+    schema: &Schema,
+    kind: &str,
+    value: &[u8],
+    want: Option<&[u8]>,
+) {
     let Ok(description) = described(alloc, schema, kind) else {
         panic!(rt; "no description: {kind}");
     };
@@ -31,9 +38,18 @@ fn descriptions_have_keys_of_their_types(rt: HostRuntime) -> Result<(), Fail> {
     assert!(rt; plain.key().covers(english.key()));
     assert!(rt; !english.key().covers(plain.key()));
     assert!(rt; number.key() == plain.key());
-    assert_eq!(rt; described(alloc, &schema, "dn").err(), Some(NameFault::ReservedName));
-    assert_eq!(rt; described(alloc, &schema, "1cn").err(), Some(NameFault::BadDescription));
-    assert_eq!(rt; described(alloc, &schema, "cn;").err(), Some(NameFault::BadDescription));
+    assert_eq!(rt;
+        described(alloc, &schema, "dn").err(),
+        Some(NameFault::ReservedName)
+    );
+    assert_eq!(rt;
+        described(alloc, &schema, "1cn").err(),
+        Some(NameFault::BadDescription)
+    );
+    assert_eq!(rt;
+        described(alloc, &schema, "cn;").err(),
+        Some(NameFault::BadDescription)
+    );
     Ok(())
 }
 
@@ -86,8 +102,14 @@ fn names_print_and_read_back(rt: HostRuntime) -> Result<(), Fail> {
         let again = Dn::read_text(alloc, printed.as_slice())?;
         assert!(rt; again == name);
     }
-    for text in ["cn", "dn=x", "=a", "cn=a,", "cn=\"a\"", "cn=#04", "cn=a;b=c", " "] {
-        assert_eq!(rt; Dn::read(alloc, text.as_bytes()).err(), Some(NameFault::BadDn), "{text}");
+    for text in [
+        "cn", "dn=x", "=a", "cn=a,", "cn=\"a\"", "cn=#04", "cn=a;b=c", " ",
+    ] {
+        assert_eq!(rt;
+            Dn::read(alloc, text.as_bytes()).err(),
+            Some(NameFault::BadDn),
+            "{text}"
+        );
     }
     Ok(())
 }
@@ -98,7 +120,11 @@ fn names_have_keys_unless_a_pair_has_none(rt: HostRuntime) -> Result<(), Fail> {
     let schema = Schema::builtin(alloc)?;
     for text in ["cn=a+commonName=b", "member=x", "uidNumber=x"] {
         let name = Dn::read(alloc, text.as_bytes())?;
-        assert_eq!(rt; name.key(alloc, &schema).err(), Some(NameFault::BadDn), "{text}");
+        assert_eq!(rt;
+            name.key(alloc, &schema).err(),
+            Some(NameFault::BadDn),
+            "{text}"
+        );
     }
     let rdn = Rdn::read(alloc, b"SN=b+cn=a")?;
     let printed = rdn.print(alloc)?;
@@ -141,18 +167,37 @@ fn names_are_made_of_rdns_and_copied(rt: HostRuntime) -> Result<(), Fail> {
 fn limits_of_names_are_exact(rt: HostRuntime) -> Result<(), Fail> {
     let alloc = rt.alloc();
     let schema = Schema::builtin(alloc)?;
-    for (letter, count, fits) in [("a", 4093, true), ("a", 4094, false), ("\u{e9}", 682, true), ("\u{e9}", 683, false)] {
+    for (letter, count, fits) in [
+        ("a", 4093, true),
+        ("a", 4094, false),
+        ("\u{e9}", 682, true),
+        ("\u{e9}", 683, false),
+    ] {
         let mut text = b"cn=".to_vec(alloc)?;
         for _ in 0..count {
             text.extend_from_slice(letter.as_bytes())?;
         }
         let fault = Rdn::read(alloc, text.as_slice()).err();
-        assert_eq!(rt; fault, if fits { None } else { Some(NameFault::NameLimit) });
+        assert_eq!(rt;
+            fault,
+            if fits {
+                None
+            } else {
+                Some(NameFault::NameLimit)
+            }
+        );
     }
     for (count, fits) in [(512, true), (513, false)] {
         let text = vec![in alloc; b'a'; count]?;
         let fault = Description::read(alloc, &schema, text.as_slice()).err();
-        assert_eq!(rt; fault, if fits { None } else { Some(NameFault::BadDescription) });
+        assert_eq!(rt;
+            fault,
+            if fits {
+                None
+            } else {
+                Some(NameFault::BadDescription)
+            }
+        );
     }
     Ok(())
 }
