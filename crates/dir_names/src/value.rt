@@ -1,9 +1,17 @@
+ghost use Rattle.std.specs.Prelude.{◌≡◌, Ok, Some, refl, option_copied};
+ghost use Rattle.std.specs.Ordering.{as_partial_cmp};
+ghost use Rattle.std.specs.Cmp.{partial_order_from_agreeing_total};
+ghost use Rattle.dir_names.specs.Values.{value_key_cmp, value_key_eq, value_key_cmp_total, value_key_cmp_ties, text_of, name_of_key};
+ghost use Rattle.dir_names.specs.Orders.{tied_equiv, tied_per};
+ghost use Rattle.dir_names.specs.Outcome.{Gives};
+
 use crate::folding::{folded, is_ascii, is_tidy, tidied, without_spaces_and_hyphens};
 use crate::{AttrKey, Bytes, Dn, DnKey, NameFault, Rule, Schema};
 use std::alloc::Global;
+use std::cmp::Ordering;
 
 /// What a value is compared by: two values with the same key are the same value.
-#[derive(PartialEq, Eq, PartialOrd, Ord, Debug, Drop)]
+#[derive(Debug, Drop)]
 pub enum ValueKey {
     /// The key under every rule but `Name`.
     Text(Bytes),
@@ -12,24 +20,77 @@ pub enum ValueKey {
 }
 
 impl ValueKey {
-    pub fn text(&self) -> Option<&[u8]> {
+    pub fn text(&self) -> Option<&[u8]>
+        ensures { option_copied result ≡ text_of self.now }
+    {
         match self {
             ValueKey::Text(text) => Some(text.as_slice()),
             ValueKey::Name(_) => None,
         }
     }
 
-    pub fn name(&self) -> Option<&DnKey> {
+    pub fn name(&self) -> Option<&DnKey>
+        ensures { option_copied result ≡ name_of_key self.now }
+    {
         match self {
             ValueKey::Text(_) => None,
             ValueKey::Name(key) => Some(key),
         }
     }
 
-    pub fn try_clone(&self, alloc: Global) -> Result<ValueKey, NameFault> {
+    pub fn try_clone(&self, alloc: Global) -> Result<ValueKey, NameFault>
+        ensures { Gives (λ key. key) result (Ok self.now) }
+    {
         match self {
             ValueKey::Text(text) => Ok(ValueKey::Text(text.try_clone(alloc)?)),
             ValueKey::Name(key) => Ok(ValueKey::Name(key.try_clone(alloc)?)),
+        }
+    }
+}
+
+impl PartialEq for ValueKey {
+    ghost eq = { value_key_eq };
+
+    ghost laws = { tied_per value_key_cmp value_key_cmp_total value_key_cmp_ties };
+
+    fn eq(&self, other: &ValueKey) -> bool {
+        match (self, other) {
+            (ValueKey::Text(one), ValueKey::Text(another)) => one == another,
+            (ValueKey::Name(one), ValueKey::Name(another)) => one == another,
+            _ => false,
+        }
+    }
+}
+
+impl Eq for ValueKey {
+    ghost laws = { tied_equiv value_key_cmp value_key_cmp_total value_key_cmp_ties };
+}
+
+impl PartialOrd for ValueKey {
+    ghost partial_cmp = { as_partial_cmp value_key_cmp };
+
+    ghost laws = { partial_order_from_agreeing_total value_key_cmp value_key_cmp_total (λ _ _. refl) value_key_cmp_ties };
+
+    fn partial_cmp(&self, other: &ValueKey) -> Option<Ordering> {
+        Some(self.cmp(other))
+    }
+}
+
+impl Ord for ValueKey {
+    ghost cmp = { value_key_cmp };
+
+    ghost total = { value_key_cmp_total };
+
+    ghost matches_partial_cmp = { λ _ _. refl };
+
+    ghost matches_eq = { value_key_cmp_ties };
+
+    fn cmp(&self, other: &ValueKey) -> Ordering {
+        match (self, other) {
+            (ValueKey::Text(one), ValueKey::Text(another)) => one.cmp(another),
+            (ValueKey::Text(_), ValueKey::Name(_)) => Ordering::Less,
+            (ValueKey::Name(_), ValueKey::Text(_)) => Ordering::Greater,
+            (ValueKey::Name(one), ValueKey::Name(another)) => one.cmp(another),
         }
     }
 }

@@ -1,0 +1,6 @@
+pub mod Compared
+pub mod CutLemmas
+pub mod FindLemmas
+pub mod OptionLemmas
+pub mod Pairs
+pub mod Placed
