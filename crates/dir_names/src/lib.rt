@@ -13,6 +13,7 @@ mod name;
 mod printing;
 mod reading;
 mod schema;
+mod spaces;
 mod table;
 mod value;
 
