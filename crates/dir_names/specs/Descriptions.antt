@@ -4,9 +4,12 @@ use Rattle.std.specs.List.{list_all, list_any}
 use Rattle.std.specs.Str.{str_to_ascii_lowercase, str_eq_ignore_ascii_case}
 use Rattle.dir_names.specs.declared.fault.NameFault.{NameFault}
 use Rattle.dir_names.specs.declared.fault.NameFault.TheVariants.{BadDescription, ReservedName}
+use Rattle.dir_names.specs.declared.schema.TypeRow.{TypeRow}
 use Rattle.dir_names.specs.Cut.{parts_at}
+use Rattle.dir_names.specs.Described.{Described}
 use Rattle.dir_names.specs.Orders.{bytes_cmp}
 use Rattle.dir_names.specs.Sorted.{set_of}
+use Rattle.dir_names.specs.Table.{type_key_of}
 
 -- ALPHA and DIGIT
 abbrev pub is_letter : ℕ → Bool
@@ -48,3 +51,15 @@ is_reserved kind = (str_eq_ignore_ascii_case kind (codes "dn") || str_eq_ignore_
 -- the set of options, in lower case
 abbrev pub options_read : List (List ℕ) → Result (List (List ℕ)) NameFault
 options_read options = cond (list_all is_option options) (Ok (set_of bytes_cmp (map str_to_ascii_lowercase options))) (Err BadDescription)
+
+-- a description, by its type and its options. A text that is none comes before a type that is reserved
+abbrev pub description_from : List TypeRow → List ℕ → List (List ℕ) → Result Described NameFault
+description_from rows text [] = Err BadDescription
+description_from rows text (kind ∷ options) =
+    cond (is_type kind && list_all is_option options)
+    (cond (is_reserved kind) (Err ReservedName) (Ok (record { spelling = text; key = record { kind = type_key_of rows kind; options = set_of bytes_cmp (map str_to_ascii_lowercase options) } })))
+    (Err BadDescription)
+
+-- the description that a text of at most 512 bytes spells
+abbrev pub description_of : List TypeRow → List ℕ → Result Described NameFault
+description_of rows text = cond (nat_le (length text) 512) (description_from rows text (parts_at 59 text)) (Err BadDescription)

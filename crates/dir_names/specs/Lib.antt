@@ -8,5 +8,7 @@ pub mod Names
 pub mod Orders
 pub mod Outcome
 pub mod Sorted
+pub mod Spaces
 pub mod Table
+pub mod ValueKeys
 pub mod Values

@@ -6,7 +6,7 @@ ghost use Rattle.std.specs.Prelude.{◌==◌, [], ◌∷◌, ◌&&◌, not, map,
 ghost use Rattle.std.specs.List.{before_first};
 ghost use Rattle.std.specs.Str.{str_to_ascii_lowercase};
 ghost use Rattle.dir_names.specs.Cut.{behind_first, parts_at, parts_left};
-ghost use Rattle.dir_names.specs.Descriptions.{is_digit, is_keychar, is_name, is_decimal, is_number, is_type, is_option, is_reserved, options_read};
+ghost use Rattle.dir_names.specs.Descriptions.{is_digit, is_keychar, is_name, is_decimal, is_number, is_type, is_option, is_reserved, options_read, description_of};
 ghost use Rattle.dir_names.specs.Sorted.{rises, with_member};
 ghost use Rattle.std.specs.List.{list_all, list_any};
 ghost use Rattle.dir_names.specs.Orders.{bytes_cmp, bytes_eq, attr_cmp, attr_eq, attr_cmp_total, attr_cmp_ties, tied_equiv, tied_per};
@@ -145,7 +145,9 @@ impl Description {
     /// # Errors
     ///
     /// `BadDescription` where the text is none, `ReservedName` for `dn`, `changetype` and `control`.
-    pub fn read(alloc: Global, schema: &Schema, text: &[u8]) -> Result<Description, NameFault> {
+    pub fn read(alloc: Global, schema: &Schema, text: &[u8]) -> Result<Description, NameFault>
+        ensures { Gives (λ description. description) result (description_of schema.now text.now) }
+    {
         if text.len() > MAX_DESCRIPTION {
             return Err(NameFault::BadDescription);
         }
@@ -248,7 +250,7 @@ fn is_decimal(text: &[u8]) -> bool
     first.is_ascii_digit() && (*first != b'0' || rest.is_empty()) && are_digits(rest)
 }
 
-fn are_digits(text: &[u8]) -> bool
+pub(crate) fn are_digits(text: &[u8]) -> bool
     ensures { result ≡ list_all is_digit text.now }
 {
     text.iter().all(|b| b.is_ascii_digit())

@@ -1,4 +1,5 @@
 ghost use Rattle.std.specs.Prelude.{◌≡◌, Ok};
+ghost use Rattle.dir_names.specs.Described.{lines_eq, lines_eq_laws, partial_lines_eq_laws};
 ghost use Rattle.dir_names.specs.Outcome.{Gives};
 
 use crate::{Bytes, Description, NameFault};
@@ -49,4 +50,18 @@ impl Lines {
         }
         Ok(Lines { items })
     }
+}
+
+impl PartialEq for Lines {
+    ghost eq = { lines_eq };
+
+    ghost laws = { partial_lines_eq_laws };
+
+    fn eq(&self, other: &Lines) -> bool {
+        self.items == other.items
+    }
+}
+
+impl Eq for Lines {
+    ghost laws = { lines_eq_laws };
 }
