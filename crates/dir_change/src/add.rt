@@ -1,7 +1,7 @@
 use crate::{Refusal, ResultCode, Undo};
 use dir_ldif::{Change, ChangeKind};
-use dir_names::{Dn, DnKey, Lines, Rdn, Schema};
-use dir_tree::{Directory, Entry};
+use dir_names::{Dn, DnKey, Lines, Schema};
+use dir_tree::{Directory, Entry, own_rdns};
 use std::alloc::Global;
 
 /// Adds an entry (RFC 4511, section 4.7): 32 outside the suffix; 68 where the name is taken; 32
@@ -21,12 +21,15 @@ pub(crate) fn add<D: Directory>(
         return Err(Refusal::Code(ResultCode::EntryAlreadyExists));
     }
     let spelled = spelled_on_path(alloc, directory, name, key)?;
-    let own = own_name(alloc, directory, name, key)?;
+    let own = own_rdns(name.try_clone(alloc)?, key == directory.suffix());
     let entry = Entry::make(alloc, schema, own, lines.try_clone(alloc)?)?;
-    let undo = Undo::one(alloc, Change {
-        dn: spelled,
-        kind: ChangeKind::Delete,
-    })?;
+    let undo = Undo::one(
+        alloc,
+        Change {
+            dn: spelled,
+            kind: ChangeKind::Delete,
+        },
+    )?;
     match directory.insert(key, entry) {
         Ok(()) => Ok(undo),
         Err(_) => Err(Refusal::Memory),
@@ -35,7 +38,12 @@ pub(crate) fn add<D: Directory>(
 
 /// The new entry's name: its own RDN and then its parent's name as spelled in the directory; for the
 /// suffix the name as given. 32 where the parent is missing.
-fn spelled_on_path<D: Directory>(alloc: Global, directory: &D, name: &Dn, key: &DnKey) -> Result<Dn, Refusal> {
+fn spelled_on_path<D: Directory>(
+    alloc: Global,
+    directory: &D,
+    name: &Dn,
+    key: &DnKey,
+) -> Result<Dn, Refusal> {
     if key == directory.suffix() {
         return Ok(name.try_clone(alloc)?);
     }
@@ -45,26 +53,9 @@ fn spelled_on_path<D: Directory>(alloc: Global, directory: &D, name: &Dn, key: &
     if directory.get(&parent).is_none() {
         return Err(Refusal::Code(ResultCode::NoSuchObject));
     }
-    let above = directory.spelled(&parent)?;
-    let mut rdns = leaf_of(alloc, name)?;
-    for rdn in above.into_rdns() {
+    let mut rdns = own_rdns(name.try_clone(alloc)?, false);
+    for rdn in directory.spelled(&parent)?.into_rdns() {
         rdns.push(rdn)?;
     }
     Ok(Dn::from_rdns(rdns)?)
-}
-
-/// What the new entry keeps of its name: all of the suffix, or else the leaf RDN.
-fn own_name<D: Directory>(alloc: Global, directory: &D, name: &Dn, key: &DnKey) -> Result<Vec<Rdn>, Refusal> {
-    if key == directory.suffix() {
-        return Ok(name.try_clone(alloc)?.into_rdns());
-    }
-    leaf_of(alloc, name)
-}
-
-fn leaf_of(alloc: Global, name: &Dn) -> Result<Vec<Rdn>, Refusal> {
-    let mut rdns = Vec::with_capacity(alloc, 1)?;
-    if let Some(leaf) = name.rdns().first() {
-        rdns.push(leaf.try_clone(alloc)?)?;
-    }
-    Ok(rdns)
 }

@@ -33,7 +33,9 @@ pub fn apply<D: Directory>(
     match &change.kind {
         ChangeKind::Add(lines) => add(alloc, schema, directory, &change.dn, &key, lines),
         ChangeKind::Delete => delete(alloc, directory, &key),
-        ChangeKind::Modify(_) | ChangeKind::Rename { .. } => Err(Refusal::Code(ResultCode::UnwillingToPerform)),
+        ChangeKind::Modify(_) | ChangeKind::Rename { .. } => Err(Refusal::Code(
+            ResultCode::UnwillingToPerform,
+        )),
     }
 }
 

@@ -6,17 +6,24 @@ use std::alloc::Global;
 
 /// Deletes an entry (RFC 4511, section 4.8): 32 where it is missing, 66 where it has a child. An add
 /// of all its attributes and values, as stored, takes it back.
-pub(crate) fn delete<D: Directory>(alloc: Global, directory: &mut D, key: &DnKey) -> Result<Undo, Refusal> {
+pub(crate) fn delete<D: Directory>(
+    alloc: Global,
+    directory: &mut D,
+    key: &DnKey,
+) -> Result<Undo, Refusal> {
     let Some(entry) = directory.get(key) else {
         return Err(Refusal::Code(ResultCode::NoSuchObject));
     };
     if directory.has_child(key) {
         return Err(Refusal::Code(ResultCode::NotAllowedOnNonLeaf));
     }
-    let undo = Undo::one(alloc, Change {
-        dn: directory.spelled(key)?,
-        kind: ChangeKind::Add(all_lines(alloc, entry)?),
-    })?;
+    let undo = Undo::one(
+        alloc,
+        Change {
+            dn: directory.spelled(key)?,
+            kind: ChangeKind::Add(all_lines(alloc, entry)?),
+        },
+    )?;
     let _ = directory.remove_leaf(key);
     Ok(undo)
 }
@@ -26,7 +33,10 @@ fn all_lines(alloc: Global, entry: &Entry) -> Result<Lines, Refusal> {
     let mut lines = Vec::new(alloc);
     for (_, attribute) in entry.attributes() {
         for (_, bytes) in attribute.values() {
-            lines.push((attribute.description().try_clone(alloc)?, bytes.try_clone(alloc)?))?;
+            lines.push((
+                attribute.description().try_clone(alloc)?,
+                bytes.try_clone(alloc)?,
+            ))?;
         }
     }
     Ok(Lines::new(lines))

@@ -1,7 +1,6 @@
 use crate::limits::MAX_DESCRIPTION;
 use crate::{Bytes, NameFault, Schema, Texts};
 use std::alloc::Global;
-use std::cmp::Ordering;
 
 /// What an attribute description means: the key of its type and the set of its options, in lower
 /// case (RFC 4512, section 2.5).
@@ -179,17 +178,8 @@ pub(crate) fn lower(alloc: Global, text: &[u8]) -> Result<Bytes, NameFault> {
 
 /// Puts an option into an ordered list without duplicates.
 fn put_option(options: &mut Vec<Bytes>, option: Bytes) -> Result<(), NameFault> {
-    let mut at = options.len();
-    for (i, other) in options.iter().enumerate() {
-        match option.cmp(other) {
-            Ordering::Less => {
-                at = i;
-                break;
-            }
-            Ordering::Equal => return Ok(()),
-            Ordering::Greater => {}
-        }
+    if let Err(at) = options.binary_search(&option) {
+        options.insert(at, option)?;
     }
-    options.insert(at, option)?;
     Ok(())
 }

@@ -1,6 +1,5 @@
 use crate::{AttrKey, Bytes, NameFault};
 use std::alloc::Global;
-use std::cmp::Ordering;
 
 /// What an RDN is compared by: the set of its pairs of type key and value key, in order.
 #[derive(PartialEq, Eq, PartialOrd, Ord, Debug, Drop)]
@@ -30,19 +29,13 @@ impl RdnKey {
 
     /// Puts a pair in its place, unless its type is there.
     pub(crate) fn put(&mut self, attr: AttrKey, value: Bytes) -> Result<(), NameFault> {
-        let mut at = self.pairs.len();
-        for (i, pair) in self.pairs.iter().enumerate() {
-            match attr.cmp(&pair.0) {
-                Ordering::Less => {
-                    at = i;
-                    break;
-                }
-                Ordering::Equal => return Err(NameFault::BadDn),
-                Ordering::Greater => {}
+        match self.pairs.binary_search_by(|pair| pair.0.cmp(&attr)) {
+            Ok(_) => Err(NameFault::BadDn),
+            Err(at) => {
+                self.pairs.insert(at, (attr, value))?;
+                Ok(())
             }
         }
-        self.pairs.insert(at, (attr, value))?;
-        Ok(())
     }
 }
 

@@ -2,7 +2,6 @@ use crate::EntryFault;
 use crate::values::{ValueMap, Values};
 use dir_names::{AttrKey, Bytes, Description, Memory, Rdn, Schema, ValueKey};
 use std::alloc::Global;
-use std::cmp::Ordering;
 use std::slice;
 
 /// An attribute of an entry: its description as spelled, and its values.
@@ -134,17 +133,7 @@ impl AttributeMap {
 
 /// Where the attribute with this key stands, or where it would be put.
 fn place(items: &[Attribute], key: &AttrKey) -> Result<usize, usize> {
-    let mut low = 0;
-    let mut high = items.len();
-    while low < high {
-        let middle = low + (high - low) / 2;
-        match items[middle].description.key().cmp(key) {
-            Ordering::Less => low = middle + 1,
-            Ordering::Equal => return Ok(middle),
-            Ordering::Greater => high = middle,
-        }
-    }
-    Err(low)
+    items.binary_search_by(|attribute| attribute.description.key().cmp(key))
 }
 
 /// The attributes of an entry, in order of their keys.

@@ -1,7 +1,7 @@
 use crate::EntryFault;
 use crate::attributes::{Attribute, AttributeMap, Attributes};
 use crate::lines::attributes_of;
-use dir_names::{AttrKey, Lines, Memory, Rdn, RdnKey, Schema, ValueKey};
+use dir_names::{AttrKey, Dn, Lines, Memory, Rdn, RdnKey, Schema, ValueKey};
 use std::alloc::Global;
 
 /// An entry: its own name as spelled, and its attributes (RFC 4512, section 2.2). The own name is one
@@ -83,4 +83,13 @@ impl Entry {
             attributes: self.attributes.try_clone(alloc)?,
         })
     }
+}
+
+/// What an entry keeps of its name: all of the suffix, or else the leaf RDN.
+pub fn own_rdns(name: Dn, is_suffix: bool) -> Vec<Rdn> {
+    let mut rdns = name.into_rdns();
+    if !is_suffix {
+        rdns.truncate(1);
+    }
+    rdns
 }

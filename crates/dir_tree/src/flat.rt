@@ -35,7 +35,7 @@ impl Directory for FlatDirectory {
 
     fn has_child(&self, key: &DnKey) -> bool {
         match first_after(&self.entries, key) {
-            Some(next) => next.at_or_below(key),
+            Some(next) => key.is_parent_of(next),
             None => false,
         }
     }

@@ -11,7 +11,7 @@ mod values;
 
 pub use attributes::{Attribute, AttributeMap, Attributes};
 pub use directory::Directory;
-pub use entry::Entry;
+pub use entry::{Entry, own_rdns};
 pub use fault::EntryFault;
 pub use flat::FlatDirectory;
 pub use values::{ValueMap, Values};

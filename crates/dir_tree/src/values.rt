@@ -1,27 +1,19 @@
 use crate::EntryFault;
 use dir_names::{Bytes, Memory, ValueKey};
 use std::alloc::Global;
-use std::cmp::Ordering;
 use std::slice;
-
-/// A value's key and its bytes as stored.
-#[derive(Debug, Drop)]
-struct Value {
-    key: ValueKey,
-    bytes: Bytes,
-}
 
 /// The values of an attribute: an ordered map from value keys to stored bytes.
 #[derive(Debug, Drop)]
 pub struct ValueMap {
-    items: Vec<Value>,
+    items: Vec<(ValueKey, Bytes)>,
 }
 
 impl ValueMap {
     /// The map with this one value.
     pub(crate) fn one(alloc: Global, key: ValueKey, bytes: Bytes) -> Result<ValueMap, Memory> {
         let mut items = Vec::with_capacity(alloc, 1)?;
-        items.push(Value { key, bytes })?;
+        items.push((key, bytes))?;
         Ok(ValueMap { items })
     }
 
@@ -36,7 +28,7 @@ impl ValueMap {
     /// The stored bytes of the value with this key.
     pub fn get(&self, key: &ValueKey) -> Option<&Bytes> {
         match place(self.items.as_slice(), key) {
-            Ok(at) => self.items.get(at).map(|value| &value.bytes),
+            Ok(at) => self.items.get(at).map(|value| &value.1),
             Err(_) => None,
         }
     }
@@ -55,7 +47,7 @@ impl ValueMap {
     pub fn try_clone(&self, alloc: Global) -> Result<ValueMap, Memory> {
         let mut items = Vec::with_capacity(alloc, self.items.len())?;
         for value in self.items.as_slice() {
-            items.push(value.try_clone(alloc)?)?;
+            items.push(value_clone(alloc, value)?)?;
         }
         Ok(ValueMap { items })
     }
@@ -65,37 +57,35 @@ impl ValueMap {
         match place(self.items.as_slice(), &key) {
             Ok(_) => Err(EntryFault::Twice),
             Err(at) => {
-                self.items.insert(at, Value { key, bytes })?;
+                self.items.insert(at, (key, bytes))?;
                 Ok(())
             }
         }
     }
 }
 
-impl Value {
-    fn try_clone(&self, alloc: Global) -> Result<Value, Memory> {
-        match (self.key.try_clone(alloc), self.bytes.try_clone(alloc)) {
-            (Ok(key), Ok(bytes)) => Ok(Value { key, bytes }),
-            _ => Err(Memory),
-        }
+fn value_clone(alloc: Global, value: &(ValueKey, Bytes)) -> Result<(ValueKey, Bytes), Memory> {
+    match (value.0.try_clone(alloc), value.1.try_clone(alloc)) {
+        (Ok(key), Ok(bytes)) => Ok((key, bytes)),
+        _ => Err(Memory),
     }
 }
 
 /// Values of one attribute in the order in which they were given, before they become a map.
 #[derive(Debug, Drop)]
 pub(crate) struct Unsorted {
-    items: Vec<Value>,
+    items: Vec<(ValueKey, Bytes)>,
 }
 
 impl Unsorted {
     pub(crate) fn one(alloc: Global, key: ValueKey, bytes: Bytes) -> Result<Unsorted, EntryFault> {
         let mut items = Vec::with_capacity(alloc, 1)?;
-        items.push(Value { key, bytes })?;
+        items.push((key, bytes))?;
         Ok(Unsorted { items })
     }
 
     pub(crate) fn push(&mut self, key: ValueKey, bytes: Bytes) -> Result<(), EntryFault> {
-        self.items.push(Value { key, bytes })?;
+        self.items.push((key, bytes))?;
         Ok(())
     }
 
@@ -103,7 +93,7 @@ impl Unsorted {
     pub(crate) fn sorted(self) -> Result<ValueMap, EntryFault> {
         let Unsorted { mut items } = self;
         if items.len() > 1 {
-            items.sort_by(|a, b| a.key.cmp(&b.key))?;
+            items.sort_by(|a, b| a.0.cmp(&b.0))?;
             if has_twice(items.as_slice()) {
                 return Err(EntryFault::Twice);
             }
@@ -114,32 +104,22 @@ impl Unsorted {
 }
 
 /// Whether two neighbours have the same key.
-fn has_twice(items: &[Value]) -> bool {
+fn has_twice(items: &[(ValueKey, Bytes)]) -> bool {
     items.windows(2).any(|pair| match pair {
-        [a, b] => a.key == b.key,
+        [a, b] => a.0 == b.0,
         _ => false,
     })
 }
 
 /// Where the value with this key stands, or where it would be put.
-fn place(items: &[Value], key: &ValueKey) -> Result<usize, usize> {
-    let mut low = 0;
-    let mut high = items.len();
-    while low < high {
-        let middle = low + (high - low) / 2;
-        match items[middle].key.cmp(key) {
-            Ordering::Less => low = middle + 1,
-            Ordering::Equal => return Ok(middle),
-            Ordering::Greater => high = middle,
-        }
-    }
-    Err(low)
+fn place(items: &[(ValueKey, Bytes)], key: &ValueKey) -> Result<usize, usize> {
+    items.binary_search_by(|value| value.0.cmp(key))
 }
 
 /// The values of an attribute, in order of their keys.
 #[derive(Drop)]
 pub struct Values<'a> {
-    rest: slice::Iter<'a, Value>,
+    rest: slice::Iter<'a, (ValueKey, Bytes)>,
 }
 
 impl<'a> Iterator for Values<'a> {
@@ -147,6 +127,6 @@ impl<'a> Iterator for Values<'a> {
 
     fn next(&mut self) -> Option<(&'a ValueKey, &'a Bytes)> {
         let value = self.rest.next()?;
-        Some((&value.key, &value.bytes))
+        Some((&value.0, &value.1))
     }
 }
