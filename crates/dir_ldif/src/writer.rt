@@ -1,4 +1,7 @@
-ghost use Rattle.std.specs.Prelude.{◌≤◌, IfOk};
+ghost use Rattle.std.specs.Prelude.{◌≡◌, ◌++◌, ◌∷◌, ◌≤◌, ℕ, List, [], IfOk, OnOk};
+ghost use Rattle.std.specs.List.{list_all};
+ghost use Rattle.dir_ldif.specs.Bytes.{ends_in};
+ghost use Rattle.dir_ldif.specs.Text.{base64_of, fold_from, is_plain, is_safe, is_safe_first, written, written_line};
 
 use crate::records::{Change, ChangeKind, Mod, ModOp, Record};
 use base64::engine::general_purpose::STANDARD;
@@ -37,23 +40,43 @@ pub fn push_change(out: &mut Vec<u8>, change: &Change) -> Result<(), Memory> {
 
 /// Appends one line of a name and a value: plain where the value can stand so, else in base64; folded at
 /// 76 bytes; with its LF (RFC 2849, notes 2, 4 and 8).
-pub fn push_line(out: &mut Vec<u8>, name: &[u8], value: &[u8]) -> Result<(), Memory> {
+pub fn push_line(out: &mut Vec<u8>, name: &[u8], value: &[u8]) -> Result<(), Memory>
+    ensures { OnOk result (out.new.items ≡ out.old.items ++ written_line name.now value.now) }
+{
     let room = push_folded(out, COLUMNS, name)?;
-    if value.is_empty() {
-        let _ = push_folded(out, room, b":")?;
-    } else if is_plain(value) {
-        let room = push_folded(out, room, b": ")?;
-        let _ = push_folded(out, room, value)?;
-    } else {
-        let text = STANDARD.encode(*out.allocator(), value)?;
-        let room = push_folded(out, room, b":: ")?;
-        let _ = push_folded(out, room, text.as_bytes())?;
-    }
+    let _ = push_value(out, room, value)?;
     push_end(out)
 }
 
+/// Appends what stands behind a line's name.
+fn push_value(out: &mut Vec<u8>, room: usize, value: &[u8]) -> Result<usize, Memory>
+    requires { room ≤ COLUMNS }
+    ensures { IfOk result (λ left. (rest : List ℕ)
+        → out.new.items ++ fold_from left rest ≡ out.old.items ++ fold_from room (written value.now ++ rest)) }
+{
+    if value.is_empty() {
+        push_folded(out, room, b":")
+    } else if is_plain(value) {
+        let room = push_folded(out, room, b": ")?;
+        push_folded(out, room, value)
+    } else {
+        let text = encoded(*out.allocator(), value)?;
+        let room = push_folded(out, room, b":: ")?;
+        push_folded(out, room, text.as_slice())
+    }
+}
+
+/// The base64 text of a value.
+fn encoded(alloc: Global, value: &[u8]) -> Result<Vec<u8>, Memory>
+    ensures { IfOk result (λ v. v.items ≡ base64_of value.now) }
+{
+    Ok(STANDARD.encode(alloc, value)?.into_bytes())
+}
+
 /// Appends the LF that ends a line, or the empty line that ends a record.
-pub fn push_end(out: &mut Vec<u8>) -> Result<(), Memory> {
+pub fn push_end(out: &mut Vec<u8>) -> Result<(), Memory>
+    ensures { OnOk result (out.new.items ≡ out.old.items ++ 10 ∷ []) }
+{
     out.push(b'\n')?;
     Ok(())
 }
@@ -62,14 +85,17 @@ pub fn push_end(out: &mut Vec<u8>) -> Result<(), Memory> {
 /// none. Answers the room that is left.
 fn push_folded(out: &mut Vec<u8>, room: usize, text: &[u8]) -> Result<usize, Memory>
     requires { room ≤ COLUMNS }
-    ensures { IfOk result (λ left. left ≤ COLUMNS) }
+    ensures room { IfOk result (λ left. left ≤ COLUMNS) }
+    ensures text { IfOk result (λ left. (rest : List ℕ)
+        → out.new.items ++ fold_from left rest ≡ out.old.items ++ fold_from room (text.now ++ rest)) }
 {
     let mut room = room;
     let mut rest = text;
     while rest.len() > room {
-        out.extend_from_slice(&rest[..room])?;
+        let (front, behind) = rest.split_at(room);
+        out.extend_from_slice(front)?;
         out.extend_from_slice(b"\n ")?;
-        rest = &rest[room..];
+        rest = behind;
         room = COLUMNS - 1;
     }
     out.extend_from_slice(rest)?;
@@ -77,16 +103,42 @@ fn push_folded(out: &mut Vec<u8>, room: usize, text: &[u8]) -> Result<usize, Mem
 }
 
 /// Whether a value stands in a line as it is.
-fn is_plain(value: &[u8]) -> bool {
-    let (Some(first), Some(last)) = (value.first(), value.last()) else {
-        return false;
-    };
-    !matches!(*first, b' ' | b':' | b'<') && *last != b' ' && value.iter().all(|b| is_safe(*b))
+fn is_plain(value: &[u8]) -> bool
+    ensures { result ≡ is_plain value.now }
+{
+    match value {
+        [first, rest @ ..] => is_safe_first(*first) && all_safe(rest) && !ends_in_space(value),
+        [] => false,
+    }
+}
+
+fn all_safe(text: &[u8]) -> bool
+    ensures { result ≡ list_all is_safe text.now }
+{
+    text.iter().all(|b| is_safe(*b))
 }
 
 /// `SAFE-CHAR`: ASCII without NUL, LF and CR.
-fn is_safe(b: u8) -> bool {
-    b < 128 && !matches!(b, 0 | b'\n' | b'\r')
+fn is_safe(b: u8) -> bool
+    ensures { result ≡ is_safe b }
+{
+    b < 128 && b != 0 && b != b'\n' && b != b'\r'
+}
+
+/// `SAFE-INIT-CHAR`: no space, colon or less-than sign either.
+fn is_safe_first(b: u8) -> bool
+    ensures { result ≡ is_safe_first b }
+{
+    is_safe(b) && b != b' ' && b != b':' && b != b'<'
+}
+
+fn ends_in_space(text: &[u8]) -> bool
+    ensures { result ≡ ends_in 32 text.now }
+{
+    match text.split_last() {
+        Some((last, _)) => *last == b' ',
+        None => false,
+    }
 }
 
 /// Appends the line of a keyword whose value is a name, as the `dn` line of a record.
