@@ -58,6 +58,9 @@ module _ {I K X : Type 0} {R : K → K → Ordering} (o : IsTotalOrder R) (pair 
       pub still_rises : r ≡ Err i → (item : I) → (pair item).0 ≡ k → IsTrue (rises R (keys_in (insert items i item)))
       still_rises is item same = truth (sorted_put_err o pair items (so _ in_order) k i item (sym at ∙ is) same)
 
+  pub one_in : IsAntisymmetric R → (item : I) → map_in (item ∷ []) ≡ fin.insert fin.empty (pair item).0 (pair item).1
+  one_in exact item = sym (put [] refl (pair item).0 (Err 0) refl 0 refl item refl) ∙ ap (λ m. fin.insert m (pair item).0 (pair item).1) (map_in_none exact)
+
   keys_map : (items : List I) → keys_of R (map pair items) ≡ keys_in items
   keys_map [] = refl
   keys_map (item ∷ items) = ap (λ z. (pair item).0 ∷ z) (keys_map items)

@@ -198,6 +198,13 @@ impl AttributeMap {
         Ok(())
     }
 
+    /// Gives back memory that no attribute needs.
+    pub(crate) fn shrink(&mut self)
+        ensures { self.new ≡ self.old }
+    {
+        self.items.shrink_to_fit();
+    }
+
     /// Whether the attribute has the value.
     pub(crate) fn has(&self, attr: &AttrKey, value: &ValueKey) -> bool
         ensures { result ≡ has_value self.now attr.now value.now }

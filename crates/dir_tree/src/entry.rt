@@ -49,6 +49,7 @@ impl Entry {
         let key = leaf.key(alloc, schema)?;
         let mut attributes = attributes_of(alloc, schema, values)?;
         attributes.gain(alloc, schema, leaf)?;
+        attributes.shrink();
         if attributes.is_crowded(schema) {
             return Err(EntryFault::Single);
         }

@@ -1,8 +1,16 @@
+ghost use Rattle.std.specs.Prelude.{◌≡◌, IfNone, IfSome, IsSome, None, false};
+ghost use Rattle.std.specs.BTreeMap.{get};
+ghost use Rattle.std.specs.Ordering.{is_gt};
+ghost use Rattle.std.specs.declared.cmp.Ordering.TheVariants.{Less};
+ghost use Rattle.dir_names.specs.Keys.{DnKeys};
+ghost use Rattle.dir_names.specs.Orders.{dn_key_cmp};
+ghost use Rattle.std.specs.FinMap as fin;
+
 use crate::{Directory, Entry};
 use dir_names::{Dn, DnKey, Memory, Rdn};
 use std::alloc::Global;
 use std::collections::BTreeMap;
-use std::mem;
+use std::marker::Model;
 use std::ops::Bound;
 
 /// A directory in one ordered map from the keys of names to entries.
@@ -13,9 +21,24 @@ pub struct FlatDirectory {
     entries: BTreeMap<DnKey, Entry>,
 }
 
+impl Model for FlatDirectory {
+    ghost use Rattle.std.specs.FinMap as fin;
+    ghost use Rattle.dir_tree.specs.Dir.{Dir, IsClosed, dir_code};
+
+    ghost Value = { Dir };
+
+    ghost coded = { dir_code };
+
+    ghost view = { λ d. record { suffix = d.suffix; entries = fin.from_entries d.entries.entries } };
+
+    ghost invariant = { λ d. IsClosed (record { suffix = d.suffix; entries = fin.from_entries d.entries.entries }) };
+}
+
 impl FlatDirectory {
     /// The directory of this suffix without entries.
-    pub fn new(alloc: Global, suffix: DnKey) -> FlatDirectory {
+    pub fn new(alloc: Global, suffix: DnKey) -> FlatDirectory
+        ensures { result ≡ record { suffix = suffix; entries = fin.empty } }
+    {
         FlatDirectory {
             alloc,
             suffix,
@@ -25,6 +48,8 @@ impl FlatDirectory {
 }
 
 impl Directory for FlatDirectory {
+    ghost state = { λ d. d };
+
     fn suffix(&self) -> &DnKey {
         &self.suffix
     }
@@ -40,15 +65,8 @@ impl Directory for FlatDirectory {
         }
     }
 
-    fn replace(&mut self, key: &DnKey, entry: Entry) -> Entry {
-        match self.entries.get_mut(key) {
-            Some(place) => mem::replace(place, entry),
-            None => entry,
-        }
-    }
-
-    fn remove_leaf(&mut self, key: &DnKey) -> Option<Entry> {
-        self.entries.remove(key)
+    fn remove_leaf(&mut self, key: &DnKey) -> Entry {
+        self.entries.remove(key).unwrap()
     }
 
     fn insert(&mut self, key: &DnKey, entry: Entry) -> Result<(), Entry> {
@@ -98,11 +116,17 @@ impl Directory for FlatDirectory {
 }
 
 /// The first key of the map that is greater than this one.
-fn first_after<'m>(entries: &'m BTreeMap<DnKey, Entry>, key: &DnKey) -> Option<&'m DnKey> {
-    entries
+fn first_after<'m>(entries: &'m BTreeMap<DnKey, Entry>, key: &DnKey) -> Option<&'m DnKey>
+    ensures after { IfSome result (λ next. dn_key_cmp key.now next.now ≡ Less) }
+    ensures there { IfSome result (λ next. IsSome (get dn_key_cmp entries.now next.now)) }
+    ensures first { IfSome result (λ next. (q : DnKeys) → dn_key_cmp key.now q ≡ Less →
+        IsSome (get dn_key_cmp entries.now q) → is_gt (dn_key_cmp next.now q) ≡ false) }
+    ensures none { IfNone result ((q : DnKeys) → dn_key_cmp key.now q ≡ Less → get dn_key_cmp entries.now q ≡ None) }
+{
+    let (next, _) = entries
         .range((Bound::Excluded(key), Bound::Unbounded))
-        .next()
-        .map(|found| found.0)
+        .next()?;
+    Some(next)
 }
 
 fn push_clones(rdns: &mut Vec<Rdn>, more: &[Rdn], alloc: Global) -> Result<(), Memory> {

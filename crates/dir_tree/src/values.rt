@@ -40,6 +40,15 @@ impl ValueMap {
         }
     }
 
+    /// The map with one value, in just as much memory as it needs.
+    pub(crate) fn one(alloc: Global, key: ValueKey, bytes: Bytes) -> Result<ValueMap, Memory>
+        ensures { IfOk result (λ m. m ≡ fin.insert fin.empty key bytes) }
+    {
+        let mut items = Vec::with_capacity(alloc, 1)?;
+        items.push((key, bytes))?;
+        Ok(ValueMap { items })
+    }
+
     pub fn len(&self) -> usize
         ensures { result ≡ fin.len self.now }
     {
