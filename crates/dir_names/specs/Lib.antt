@@ -4,9 +4,12 @@ pub mod Cut
 pub mod Described
 pub mod Descriptions
 pub mod Keys
+pub mod NameKeys
 pub mod Names
 pub mod Orders
 pub mod Outcome
+pub mod Printing
+pub mod Reading
 pub mod Sorted
 pub mod Spaces
 pub mod Table
