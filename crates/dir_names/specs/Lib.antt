@@ -1,4 +1,5 @@
 pub mod Attr
+pub mod Builtin
 pub mod Covers
 pub mod Cut
 pub mod Described
@@ -10,6 +11,7 @@ pub mod Orders
 pub mod Outcome
 pub mod Printing
 pub mod Reading
+pub mod Rows
 pub mod Sorted
 pub mod Spaces
 pub mod Table
