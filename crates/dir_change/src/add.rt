@@ -1,6 +1,9 @@
+ghost use Rattle.std.specs.Prelude.{◌≡◌, IfOk, is_some};
+ghost use Rattle.dir_tree.specs.Dir.{has_parent};
+
 use crate::{Refusal, ResultCode, Undo};
 use dir_ldif::{Change, ChangeKind};
-use dir_names::{Dn, DnKey, Lines, Schema};
+use dir_names::{Dn, DnKey, Lines, Rdn, Schema};
 use dir_tree::{Directory, Entry, own_rdns};
 use std::alloc::Global;
 
@@ -20,8 +23,11 @@ pub(crate) fn add<D: Directory>(
     if directory.get(key).is_some() {
         return Err(Refusal::Code(ResultCode::EntryAlreadyExists));
     }
-    let spelled = spelled_on_path(alloc, directory, name, key)?;
+    let Some(above) = name_above(alloc, directory, key)? else {
+        return Err(Refusal::Code(ResultCode::NoSuchObject));
+    };
     let own = own_rdns(name.try_clone(alloc)?, key == directory.suffix());
+    let spelled = joined(alloc, own.as_slice(), above)?;
     let entry = Entry::make(alloc, schema, own, lines.try_clone(alloc)?)?;
     let undo = Undo::one(
         alloc,
@@ -36,25 +42,30 @@ pub(crate) fn add<D: Directory>(
     }
 }
 
-/// The new entry's name: its own RDN and then its parent's name as spelled in the directory; for the
-/// suffix the name as given. 32 where the parent is missing.
-fn spelled_on_path<D: Directory>(
-    alloc: Global,
-    directory: &D,
-    name: &Dn,
-    key: &DnKey,
-) -> Result<Dn, Refusal> {
+/// What stands above a new entry in its name: its parent's name as spelled in the directory, or
+/// nothing for the suffix. None where the parent is missing.
+fn name_above<D: Directory>(alloc: Global, directory: &D, key: &DnKey) -> Result<Option<Dn>, Refusal>
+    ensures { IfOk result (λ above. is_some above ≡ has_parent (D.state directory.now) key.now) }
+{
     if key == directory.suffix() {
-        return Ok(name.try_clone(alloc)?);
+        return Ok(Some(Dn::from_rdns(Vec::new(alloc))?));
     }
     let Some(parent) = key.parent(alloc)? else {
-        return Err(Refusal::Code(ResultCode::NoSuchObject));
+        return Ok(None);
     };
     if directory.get(&parent).is_none() {
-        return Err(Refusal::Code(ResultCode::NoSuchObject));
+        return Ok(None);
     }
-    let mut rdns = own_rdns(name.try_clone(alloc)?, false);
-    for rdn in directory.spelled(&parent)?.into_rdns() {
+    Ok(Some(directory.spelled(&parent)?))
+}
+
+/// The own name and then what stands above it.
+fn joined(alloc: Global, own: &[Rdn], above: Dn) -> Result<Dn, Refusal> {
+    let mut rdns = Vec::with_capacity(alloc, own.len())?;
+    for rdn in own {
+        rdns.push(rdn.try_clone(alloc)?)?;
+    }
+    for rdn in above.into_rdns() {
         rdns.push(rdn)?;
     }
     Ok(Dn::from_rdns(rdns)?)

@@ -1,9 +1,14 @@
 pub mod Compared
 pub mod CutLemmas
 pub mod FindLemmas
+pub mod AllLemmas
 pub mod AsciiFolding
+pub mod KeyLemmas
 pub mod Maps
 pub mod OptionLemmas
 pub mod Pairs
+pub mod PieceLemmas
 pub mod Placed
+pub mod PrintLemmas
 pub mod Tidy
+pub mod ValueSteps

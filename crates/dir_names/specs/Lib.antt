@@ -1,12 +1,17 @@
 pub mod Attr
+pub mod Builtin
 pub mod Covers
 pub mod Cut
 pub mod Described
 pub mod Descriptions
 pub mod Keys
+pub mod NameKeys
 pub mod Names
 pub mod Orders
 pub mod Outcome
+pub mod Printing
+pub mod Reading
+pub mod Rows
 pub mod Sorted
 pub mod Spaces
 pub mod Table

@@ -17,3 +17,12 @@ module _ {A : Type 0} where
   abbrev pub Gives : {T : Type 0} → (T → A) → Result T NameFault → Result A NameFault → Type 0
   Gives view (Ok x) wanted = wanted ≡ Ok (view x)
   Gives view (Err e) wanted = Fails e wanted
+
+-- any fault but want of memory, as one of names
+abbrev pub as_bad_dn : NameFault → NameFault
+as_bad_dn BadDescription = BadDn
+as_bad_dn ReservedName = BadDn
+as_bad_dn BadValue = BadDn
+as_bad_dn BadDn = BadDn
+as_bad_dn NameLimit = BadDn
+as_bad_dn Memory = Memory

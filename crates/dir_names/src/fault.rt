@@ -1,5 +1,6 @@
 ghost use Rattle.std.specs.Prelude.{◌≡◌};
 ghost use Rattle.dir_names.specs.declared.fault.NameFault.TheVariants.{Memory};
+ghost use Rattle.dir_names.specs.Outcome.{as_bad_dn};
 
 use std::alloc::{AllocError, AllocFailed};
 use thiserror::Error;
@@ -40,5 +41,15 @@ impl<T: Drop> From<AllocFailed<T>> for NameFault {
 
     fn from(_error: AllocFailed<T>) -> NameFault {
         NameFault::Memory
+    }
+}
+
+/// The fault of a name in which a part has a fault.
+pub(crate) fn as_bad_dn(fault: NameFault) -> NameFault
+    ensures { result ≡ as_bad_dn fault }
+{
+    match fault {
+        NameFault::Memory => NameFault::Memory,
+        _ => NameFault::BadDn,
     }
 }

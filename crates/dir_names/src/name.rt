@@ -1,14 +1,18 @@
 ghost use Rattle.std.specs.Prelude.{◌≡◌, ◌∷◌, cond, length, nat_le, Ok, Err};
 ghost use Rattle.dir_names.specs.declared.fault.NameFault.TheVariants.{NameLimit};
 ghost use Rattle.dir_names.specs.Names.{name_eq, rdn_eq, name_eq_laws, rdn_eq_laws, partial_name_eq_laws, partial_rdn_eq_laws};
+ghost use Rattle.dir_names.specs.NameKeys.{pair_key, rdn_key, name_key};
 ghost use Rattle.dir_names.specs.Outcome.{Gives};
+ghost use Rattle.dir_names.specs.Printing.{rdn_printed, name_printed};
+ghost use Rattle.dir_names.specs.Reading.{or_bad_dn, name_read, rdn_read};
 
 use crate::attribute::AttrKey;
+use crate::fault::as_bad_dn;
 use crate::limits::MAX_RDNS;
 use crate::printing::{print_name, print_rdn};
 use crate::reading::{read_name, read_one_rdn};
 use crate::value::text_key;
-use crate::{Bytes, DnKey, NameFault, RdnKey, Rule, Schema};
+use crate::{Bytes, DnKey, NameFault, RdnKey, Schema};
 use std::alloc::Global;
 use std::marker::Model;
 
@@ -33,12 +37,16 @@ impl Rdn {
     /// # Errors
     ///
     /// `BadDn` where the text is none, `NameLimit` where it prints to more than 4,096 bytes.
-    pub fn read(alloc: Global, text: &[u8]) -> Result<Rdn, NameFault> {
+    pub fn read(alloc: Global, text: &[u8]) -> Result<Rdn, NameFault>
+        ensures { Gives (λ rdn. rdn) result (rdn_read text.now) }
+    {
         read_one_rdn(alloc, text)
     }
 
     /// The text of the RDN, in ASCII (RFC 4514, section 2).
-    pub fn print(&self, alloc: Global) -> Result<Vec<u8>, NameFault> {
+    pub fn print(&self, alloc: Global) -> Result<Vec<u8>, NameFault>
+        ensures { Gives (λ text. text.items) result (Ok (rdn_printed self.now)) }
+    {
         let mut out = Vec::new(alloc);
         print_rdn(self, &mut out)?;
         Ok(out)
@@ -49,19 +57,12 @@ impl Rdn {
     /// # Errors
     ///
     /// `BadDn` where a type stands twice, has the rule `Name`, or a value has no key.
-    pub fn key(&self, alloc: Global, schema: &Schema) -> Result<RdnKey, NameFault> {
+    pub fn key(&self, alloc: Global, schema: &Schema) -> Result<RdnKey, NameFault>
+        ensures { Gives (λ key. key) result (or_bad_dn (rdn_key schema.now self.now)) }
+    {
         let mut key = RdnKey::empty(alloc);
         for pair in self.pairs.as_slice() {
-            let attr = AttrKey::of_type(alloc, schema.type_key(alloc, pair.0.as_slice())?);
-            let rule = schema.rule(&attr);
-            if rule == Rule::Name {
-                return Err(NameFault::BadDn);
-            }
-            let value = match text_key(alloc, rule, pair.1.as_slice()) {
-                Ok(value) => value,
-                Err(NameFault::Memory) => return Err(NameFault::Memory),
-                Err(_) => return Err(NameFault::BadDn),
-            };
+            let (attr, value) = pair_key(alloc, schema, pair)?;
             key.put(attr, value)?;
         }
         Ok(key)
@@ -105,6 +106,21 @@ impl Eq for Rdn {
     ghost laws = { rdn_eq_laws };
 }
 
+/// The keys of a type and its value.
+fn pair_key(
+    alloc: Global,
+    schema: &Schema,
+    pair: &(Bytes, Bytes),
+) -> Result<(AttrKey, Bytes), NameFault>
+    ensures { Gives (λ key. key) result (or_bad_dn (pair_key schema.now pair.now)) }
+{
+    let attr = AttrKey::of_type(alloc, schema.type_key(alloc, pair.0.as_slice())?);
+    match text_key(alloc, schema.rule(&attr), pair.1.as_slice()) {
+        Ok(value) => Ok((attr, value)),
+        Err(fault) => Err(as_bad_dn(fault)),
+    }
+}
+
 /// A distinguished name as spelled: its RDNs, leaf first. Spaces around separators and the choice of
 /// escapes are no part of it.
 #[derive(Debug, Drop)]
@@ -127,17 +143,23 @@ impl Dn {
     ///
     /// `BadDn` where the text is no name; then `NameLimit` where it has more than 64 RDNs or one that
     /// prints to more than 4,096 bytes.
-    pub fn read(alloc: Global, text: &[u8]) -> Result<Dn, NameFault> {
+    pub fn read(alloc: Global, text: &[u8]) -> Result<Dn, NameFault>
+        ensures { Gives (λ name. name) result (name_read text.now) }
+    {
         read_name(alloc, text)
     }
 
     /// The same as `read`, for stored values.
-    pub fn read_text(alloc: Global, text: &[u8]) -> Result<Dn, NameFault> {
+    pub fn read_text(alloc: Global, text: &[u8]) -> Result<Dn, NameFault>
+        ensures { Gives (λ name. name) result (name_read text.now) }
+    {
         Dn::read(alloc, text)
     }
 
     /// The text of the name, in ASCII (RFC 4514, section 2).
-    pub fn print(&self, alloc: Global) -> Result<Vec<u8>, NameFault> {
+    pub fn print(&self, alloc: Global) -> Result<Vec<u8>, NameFault>
+        ensures { Gives (λ text. text.items) result (Ok (name_printed self.now)) }
+    {
         let mut out = Vec::new(alloc);
         print_name(self.rdns.as_slice(), &mut out)?;
         Ok(out)
@@ -148,10 +170,14 @@ impl Dn {
     /// # Errors
     ///
     /// `BadDn` where an RDN has no key.
-    pub fn key(&self, alloc: Global, schema: &Schema) -> Result<DnKey, NameFault> {
-        let mut parts = Vec::new(alloc);
-        for rdn in self.rdns.iter().rev() {
-            parts.push(rdn.key(alloc, schema)?)?;
+    pub fn key(&self, alloc: Global, schema: &Schema) -> Result<DnKey, NameFault>
+        ensures { Gives (λ key. key) result (or_bad_dn (name_key schema.now self.now)) }
+    {
+        let mut parts = Vec::with_capacity(alloc, self.rdns.len())?;
+        let mut at = self.rdns.len();
+        while at > 0 {
+            at -= 1;
+            parts.push(self.rdns[at].key(alloc, schema)?)?;
         }
         Ok(DnKey::from_parts(parts))
     }

@@ -1,9 +1,13 @@
-ghost use Rattle.std.specs.Prelude.{◌<◌};
+ghost use Rattle.std.specs.Prelude.{◌≡◌, ◌<◌, ◌++◌, Ok, cond, flat_map};
+ghost use Rattle.dir_names.specs.Outcome.{Gives};
+ghost use Rattle.dir_names.specs.Printing.{upper_digit, escaped, is_refused_sign, is_special, shown, rest_printed, value_printed, pair_printed, rdn_printed, name_printed};
 
-use crate::{NameFault, Rdn};
+use crate::{Bytes, NameFault, Rdn};
 
 /// Appends the RDNs, joined by commas.
-pub(crate) fn print_name(rdns: &[Rdn], out: &mut Vec<u8>) -> Result<(), NameFault> {
+pub(crate) fn print_name(rdns: &[Rdn], out: &mut Vec<u8>) -> Result<(), NameFault>
+    ensures { Gives (λ _. out.new.items) result (Ok (out.old.items ++ name_printed rdns.now)) }
+{
     let Some((first, rest)) = rdns.split_first() else {
         return Ok(());
     };
@@ -16,43 +20,89 @@ pub(crate) fn print_name(rdns: &[Rdn], out: &mut Vec<u8>) -> Result<(), NameFaul
 }
 
 /// Appends the pairs, joined by plus signs.
-pub(crate) fn print_rdn(rdn: &Rdn, out: &mut Vec<u8>) -> Result<(), NameFault> {
+pub(crate) fn print_rdn(rdn: &Rdn, out: &mut Vec<u8>) -> Result<(), NameFault>
+    ensures { Gives (λ _. out.new.items) result (Ok (out.old.items ++ rdn_printed rdn.now)) }
+{
     let Some((first, rest)) = rdn.pairs().split_first() else {
         return Ok(());
     };
-    print_pair(first.0.as_slice(), first.1.as_slice(), out)?;
+    print_pair(first, out)?;
     for pair in rest {
         out.push(b'+')?;
-        print_pair(pair.0.as_slice(), pair.1.as_slice(), out)?;
+        print_pair(pair, out)?;
     }
     Ok(())
 }
 
-fn print_pair(kind: &[u8], value: &[u8], out: &mut Vec<u8>) -> Result<(), NameFault> {
-    out.extend_from_slice(kind)?;
+fn print_pair(pair: &(Bytes, Bytes), out: &mut Vec<u8>) -> Result<(), NameFault>
+    ensures { Gives (λ _. out.new.items) result (Ok (out.old.items ++ pair_printed pair.now)) }
+{
+    out.extend_from_slice(pair.0.as_slice())?;
     out.push(b'=')?;
-    let last = value.len();
-    for (i, b) in value.iter().enumerate() {
-        let at_end = i == 0 || last - i == 1;
-        if is_special(*b) || (*b == b' ' && at_end) || (*b == b'#' && i == 0) {
-            out.push(b'\\')?;
-            out.push(hex_digit(*b / 16))?;
-            out.push(hex_digit(*b % 16))?;
-        } else {
-            out.push(*b)?;
-        }
+    print_value(pair.1.as_slice(), out)
+}
+
+fn print_value(value: &[u8], out: &mut Vec<u8>) -> Result<(), NameFault>
+    ensures { Gives (λ _. out.new.items) result (Ok (out.old.items ++ value_printed value.now)) }
+{
+    let Some((first, rest)) = value.split_first() else {
+        return Ok(());
+    };
+    put_byte(*first, matches!(*first, b' ' | b'#'), out)?;
+    print_rest(rest, out)
+}
+
+/// Appends what stands behind a value's first byte.
+fn print_rest(rest: &[u8], out: &mut Vec<u8>) -> Result<(), NameFault>
+    ensures { Gives (λ _. out.new.items) result (Ok (out.old.items ++ rest_printed rest.now)) }
+{
+    let Some((last, middle)) = rest.split_last() else {
+        return Ok(());
+    };
+    put_bytes(middle, out)?;
+    put_byte(*last, *last == b' ', out)?;
+    Ok(())
+}
+
+fn put_bytes(bytes: &[u8], out: &mut Vec<u8>) -> Result<(), NameFault>
+    ensures { Gives (λ _. out.new.items) result (Ok (out.old.items ++ flat_map shown bytes.now)) }
+{
+    for b in bytes {
+        put_byte(*b, false, out)?;
+    }
+    Ok(())
+}
+
+/// Appends a byte, escaped where it is special or asked for.
+fn put_byte(b: u8, is_escaped: bool, out: &mut Vec<u8>) -> Result<(), NameFault>
+    ensures { Gives (λ _. out.new.items) result (Ok (out.old.items ++ cond is_escaped (escaped b) (shown b))) }
+{
+    if is_escaped || is_special(b) {
+        out.extend_from_slice(&[b'\\', upper_digit(b / 16), upper_digit(b % 16)])?;
+    } else {
+        out.push(b)?;
     }
     Ok(())
 }
 
 /// Whether a byte is printed as `\` and two hexadecimal digits wherever it stands.
-fn is_special(b: u8) -> bool {
-    b < 32 || b >= 127 || matches!(b, b'"' | b'+' | b',' | b';' | b'<' | b'>' | b'\\')
+fn is_special(b: u8) -> bool
+    ensures { result ≡ is_special b }
+{
+    b < 32 || b > 126 || is_refused_sign(b)
+}
+
+/// Whether a byte is one of the signs that stand in no value without an escape.
+pub(crate) fn is_refused_sign(b: u8) -> bool
+    ensures { result ≡ is_refused_sign b }
+{
+    matches!(b, b'"' | b'+' | b',' | b';' | b'<' | b'>' | b'\\')
 }
 
 /// The upper-case digit of a number.
-fn hex_digit(n: u8) -> u8
+fn upper_digit(n: u8) -> u8
     requires { n < 16 }
+    ensures { result ≡ upper_digit n }
 {
-    if n < 10 { b'0' + n } else { b'A' + (n - 10) }
+    if n < 10 { n + b'0' } else { n + (b'A' - 10) }
 }

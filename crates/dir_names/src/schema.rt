@@ -1,11 +1,12 @@
-ghost use Rattle.std.specs.Prelude.{◌≡◌, Ok, find, option_copied};
+ghost use Rattle.std.specs.Prelude.{◌≡◌, ◌∷◌, Ok, find, map, option_copied};
+ghost use Rattle.dir_names.specs.Rows.{type_row};
 ghost use Rattle.std.specs.List.{list_any};
 ghost use Rattle.std.specs.Str.{str_eq_ignore_ascii_case};
 ghost use Rattle.dir_names.specs.Orders.{bytes_eq};
 ghost use Rattle.dir_names.specs.Outcome.{Gives};
 
 use crate::attribute::lower;
-use crate::table::ROWS;
+use crate::table::{ROWS, Row};
 use crate::{AttrKey, Bytes, NameFault, Texts};
 use std::alloc::Global;
 use std::marker::Model;
@@ -58,24 +59,16 @@ impl Model for Schema {
 }
 
 impl Schema {
+    ghost use Rattle.dir_names.specs.Builtin.{builtin_rows};
     ghost use Rattle.dir_names.specs.Table.{type_key_of, row_of, rule_of, single_of};
 
     /// The types of RFC 4519, 4524, 2798 and 2307 that this kit knows from the start.
-    pub fn builtin(alloc: Global) -> Result<Schema, NameFault> {
-        let mut rows = Vec::new(alloc);
-        for row in &ROWS {
-            let mut names = Vec::new(alloc);
-            for name in row.names {
-                names.push(lower(alloc, name.as_bytes())?)?;
-            }
-            rows.push(TypeRow {
-                key: lower(alloc, row.name.as_bytes())?,
-                names: Texts::new(names),
-                rule: row.rule,
-                single: row.single,
-            })?;
-        }
-        Ok(Schema { rows })
+    pub fn builtin(alloc: Global) -> Result<Schema, NameFault>
+        ensures { Gives (λ schema. schema) result (Ok builtin_rows) }
+    {
+        Ok(Schema {
+            rows: type_rows(alloc, &ROWS)?,
+        })
     }
 
     /// The rule by which values of this type are compared.
@@ -108,6 +101,38 @@ impl Schema {
             None => lower(alloc, kind),
         }
     }
+}
+
+fn type_rows(alloc: Global, rows: &[Row]) -> Result<Vec<TypeRow>, NameFault>
+    ensures { Gives (λ types. types.items) result (Ok (map type_row rows.now)) }
+{
+    let mut types = Vec::with_capacity(alloc, rows.len())?;
+    for row in rows {
+        types.push(type_row(alloc, row)?)?;
+    }
+    Ok(types)
+}
+
+fn type_row(alloc: Global, row: &Row) -> Result<TypeRow, NameFault>
+    ensures { Gives (λ kind. kind) result (Ok (type_row row.now)) }
+{
+    Ok(TypeRow {
+        key: lower(alloc, row.name.as_bytes())?,
+        names: Texts::new(names_of(alloc, row.name, row.others)?),
+        rule: row.rule,
+        single: row.single,
+    })
+}
+
+fn names_of(alloc: Global, name: &str, others: &[&str]) -> Result<Vec<Bytes>, NameFault>
+    ensures { Gives (λ names. names.items) result (Ok (name.now ∷ map (λ other. other.now) others.now)) }
+{
+    let mut names = Vec::new(alloc);
+    names.push(Bytes::copy_of(alloc, name.as_bytes())?)?;
+    for other in others {
+        names.push(Bytes::copy_of(alloc, other.as_bytes())?)?;
+    }
+    Ok(names)
 }
 
 fn row_of<'a>(rows: &'a [TypeRow], key: &[u8]) -> Option<&'a TypeRow>

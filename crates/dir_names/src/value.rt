@@ -102,6 +102,8 @@ impl Ord for ValueKey {
 }
 
 impl Schema {
+    ghost use Rattle.dir_names.specs.NameKeys.{name_value_key, or_bad_value, value_key_of};
+
     /// The key of a value of this type.
     ///
     /// # Errors
@@ -112,29 +114,27 @@ impl Schema {
         alloc: Global,
         attr: &AttrKey,
         bytes: &[u8],
-    ) -> Result<ValueKey, NameFault> {
+    ) -> Result<ValueKey, NameFault>
+        ensures { Gives (λ key. key) result (value_key_of self.now attr.now bytes.now) }
+    {
         match self.rule(attr) {
             Rule::Name => Ok(ValueKey::Name(self.name_value_key(alloc, bytes)?)),
             rule => Ok(ValueKey::Text(text_key(alloc, rule, bytes)?)),
         }
     }
 
-    fn name_value_key(&self, alloc: Global, bytes: &[u8]) -> Result<DnKey, NameFault> {
+    fn name_value_key(&self, alloc: Global, bytes: &[u8]) -> Result<DnKey, NameFault>
+        ensures { Gives (λ key. key) result (or_bad_value (name_value_key self.now bytes.now)) }
+    {
         match Dn::read(alloc, bytes) {
             Ok(name) => match name.key(alloc, self) {
                 Ok(key) => Ok(key),
-                Err(fault) => Err(bad_value(fault)),
+                Err(NameFault::Memory) => Err(NameFault::Memory),
+                Err(_) => Err(NameFault::BadValue),
             },
-            Err(fault) => Err(bad_value(fault)),
+            Err(NameFault::Memory) => Err(NameFault::Memory),
+            Err(_) => Err(NameFault::BadValue),
         }
-    }
-}
-
-/// A value that is no name has no key, unless only memory ran out.
-fn bad_value(fault: NameFault) -> NameFault {
-    match fault {
-        NameFault::Memory => NameFault::Memory,
-        _ => NameFault::BadValue,
     }
 }
 

@@ -1,0 +1,6 @@
+use Rattle.dir_names.specs.Builtin.{builtin_rows}
+use Rattle.dir_names.proofs.schema.Schema.builtin.Goals as goal
+
+pub returns : goal.returns
+unfolding builtin_rows
+returns c = c.in_ok-type_rows.ensures
