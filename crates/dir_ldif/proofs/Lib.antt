@@ -1,2 +1,4 @@
 pub mod BytesLemmas
+pub mod JoinerLemmas
+pub mod LinesLemmas
 pub mod TextLemmas

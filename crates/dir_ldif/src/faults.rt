@@ -58,12 +58,22 @@ pub enum StreamFault {
 }
 
 impl From<AllocError> for StreamFault {
+    ghost use Rattle.std.specs.Prelude.{◌≡◌};
+    ghost use Rattle.dir_ldif.specs.declared.faults.StreamFault.TheVariants.{Memory};
+
+    ghost from_gives = { λ _ e. e ≡ Memory };
+
     fn from(_error: AllocError) -> StreamFault {
         StreamFault::Memory
     }
 }
 
 impl<T: Drop> From<AllocFailed<T>> for StreamFault {
+    ghost use Rattle.std.specs.Prelude.{◌≡◌};
+    ghost use Rattle.dir_ldif.specs.declared.faults.StreamFault.TheVariants.{Memory};
+
+    ghost from_gives = { λ _ e. e ≡ Memory };
+
     fn from(_error: AllocFailed<T>) -> StreamFault {
         StreamFault::Memory
     }

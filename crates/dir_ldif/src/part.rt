@@ -1,8 +1,9 @@
+use crate::bytes::{cut_at, without_spaces};
 use crate::faults::{RecordFault, Refusal};
 use base64::DecodeAllocError;
 use base64::engine::general_purpose::STANDARD;
 use dir_names::Bytes;
-use memchr::{memchr, memchr2};
+use memchr::memchr2;
 use std::alloc::Global;
 
 /// The greatest length of a value, in bytes, decoded.
@@ -15,7 +16,7 @@ pub const MAX_VALUE: usize = 1_048_576;
 /// `BadLine` for a line without a name or a colon; then `UrlValue`, `BadBase64`, or `BadLine` for a
 /// NUL or a CR in a plain value; then `ValueTooLong`.
 pub(crate) fn part_of(alloc: Global, line: &[u8]) -> Result<(&[u8], Bytes), Refusal> {
-    let Some((name, rest)) = cut_colon(line) else {
+    let Some((name, rest)) = cut_at(b':', line) else {
         return Err(Refusal::Fault(RecordFault::BadLine));
     };
     if name.is_empty() {
@@ -28,12 +29,6 @@ pub(crate) fn part_of(alloc: Global, line: &[u8]) -> Result<(&[u8], Bytes), Refu
     Ok((name, Bytes::new(value)))
 }
 
-/// The bytes before the first colon, and those behind it.
-pub(crate) fn cut_colon(line: &[u8]) -> Option<(&[u8], &[u8])> {
-    let at = memchr(b':', line)?;
-    Some((&line[..at], &line[at + 1..]))
-}
-
 /// The value that stands behind a name and its colon.
 fn value_of(alloc: Global, text: &[u8]) -> Result<Vec<u8>, Refusal> {
     match text.first() {
@@ -41,15 +36,6 @@ fn value_of(alloc: Global, text: &[u8]) -> Result<Vec<u8>, Refusal> {
         Some(b'<') => Err(Refusal::Fault(RecordFault::UrlValue)),
         _ => plain(alloc, without_spaces(text)),
     }
-}
-
-/// The text behind the spaces that it begins with.
-pub(crate) fn without_spaces(text: &[u8]) -> &[u8] {
-    let mut rest = text;
-    while let [b' ', after @ ..] = rest {
-        rest = after;
-    }
-    rest
 }
 
 fn decoded(alloc: Global, text: &[u8]) -> Result<Vec<u8>, Refusal> {

@@ -1,9 +1,9 @@
-ghost use Rattle.std.specs.Prelude.{◌≡◌, ◌+◌, ◌-◌, ◌*◌, ◌^◌, ◌<◌, ◌≤◌, vec_len};
+ghost use Rattle.std.specs.Prelude.{◌≡◌, ◌+◌, ◌-◌, ◌*◌, ◌^◌, ◌<◌, ◌≤◌, length, vec_len};
 
 use crate::block::record_of;
 use crate::device::Source;
 use crate::faults::{RecordFault, Refusal, StreamFault};
-use crate::lines::Joiner;
+use crate::lines::{Joiner, Line};
 use crate::records::Record;
 use dir_names::Schema;
 use std::alloc::Global;
@@ -128,13 +128,19 @@ impl Core {
             Place::AtEnd => return Ok(None),
             Place::Reading => {}
         }
-        self.fill_block(source)?;
-        answer_of(self.alloc, schema, &mut self.joiner)
+        let block = self.next_block(source)?;
+        if block.is_empty() {
+            return Ok(None);
+        }
+        Ok(Some(answer_of(self.alloc, schema, block.as_slice())?))
     }
 
-    /// Reads on to the end of a block that has a line, or to the end of the text.
-    fn fill_block<S: Source>(&mut self, source: &mut S) -> Result<(), StreamFault> {
-        while !self.take_hand()? {
+    /// The next block, which has no line at the end of the text alone.
+    fn next_block<S: Source>(&mut self, source: &mut S) -> Result<Vec<Line>, StreamFault> {
+        loop {
+            if let Some(block) = self.take_hand()? {
+                return Ok(block);
+            }
             if self.turns == 0 {
                 return Err(StreamFault::TooManyTurns);
             }
@@ -149,22 +155,21 @@ impl Core {
                 return self.joiner.finish();
             }
         }
-        Ok(())
     }
 
-    /// Takes what is in hand. Answers whether a block has ended.
-    fn take_hand(&mut self) -> Result<bool, StreamFault>
+    /// Takes what is in hand, up to the end of a block. Answers that block, if there is one.
+    fn take_hand(&mut self) -> Result<Option<Vec<Line>>, StreamFault>
         ensures { self.new.turns ≡ self.old.turns }
     {
         let piece = &self.buffer[self.at..self.end];
         match self.joiner.take_piece(piece) {
-            Ok(Some(rest)) => {
+            Ok(Some((block, rest))) => {
                 self.at = self.end - rest.len();
-                Ok(true)
+                Ok(Some(block))
             }
             Ok(None) => {
                 self.at = self.end;
-                Ok(false)
+                Ok(None)
             }
             Err(fault) => {
                 self.at = self.end;
@@ -174,25 +179,16 @@ impl Core {
     }
 }
 
-/// The answer on the block in hand, if it has a line. The block is empty afterwards.
-fn answer_of(
-    alloc: Global,
-    schema: &Schema,
-    joiner: &mut Joiner,
-) -> Result<Option<Answer>, StreamFault>
-    ensures { joiner.new.number ≡ joiner.old.number }
+/// The answer on a block.
+fn answer_of(alloc: Global, schema: &Schema, block: &[Line]) -> Result<Answer, StreamFault>
+    requires { 0 < length block.now }
 {
-    let Some(first) = joiner.block.first() else {
-        return Ok(None);
-    };
-    let number = first.number;
-    let answer = match record_of(alloc, schema, joiner.block.as_slice()) {
-        Ok(record) => Ok(record),
-        Err(Refusal::Fault(fault)) => Err(fault),
-        Err(Refusal::Memory) => return Err(StreamFault::Memory),
-    };
-    joiner.block.clear();
-    Ok(Some((number, answer)))
+    let number = block[0].number();
+    match record_of(alloc, schema, block) {
+        Ok(record) => Ok((number, Ok(record))),
+        Err(Refusal::Fault(fault)) => Ok((number, Err(fault))),
+        Err(Refusal::Memory) => Err(StreamFault::Memory),
+    }
 }
 
 /// The records of a text, each with the number of its first line, or the text's stream fault alone. A text
@@ -204,15 +200,13 @@ pub fn read_all(alloc: Global, schema: &Schema, text: &[u8]) -> Result<Vec<Answe
     let mut joiner = Joiner::new(alloc);
     let mut answers = Vec::new(alloc);
     let mut rest = text;
-    while let Some(after) = joiner.take_piece(rest)? {
+    while let Some((block, after)) = joiner.take_piece(rest)? {
         rest = after;
-        if let Some(answer) = answer_of(alloc, schema, &mut joiner)? {
-            answers.push(answer)?;
-        }
+        answers.push(answer_of(alloc, schema, block.as_slice())?)?;
     }
-    joiner.finish()?;
-    if let Some(answer) = answer_of(alloc, schema, &mut joiner)? {
-        answers.push(answer)?;
+    let block = joiner.finish()?;
+    if !block.is_empty() {
+        answers.push(answer_of(alloc, schema, block.as_slice())?)?;
     }
     Ok(answers)
 }
