@@ -2,13 +2,13 @@
 #![tactic(auto)]
 
 mod add;
-mod apply;
 mod delete;
 mod history;
+mod operation;
 mod result_code;
 mod undo;
 
-pub use apply::{Refusal, apply};
 pub use history::History;
+pub use operation::{Refusal, apply};
 pub use result_code::ResultCode;
 pub use undo::Undo;

@@ -1,42 +1,119 @@
+ghost use Rattle.std.specs.Prelude.{◌≡◌, ◌↔◌, IsTrue, Ok, Some, refl};
+ghost use Rattle.std.specs.Ordering.{as_partial_cmp};
+ghost use Rattle.std.specs.Cmp.{partial_order_from_agreeing_total};
+ghost use Rattle.dir_names.specs.Covers.{Covers, covers};
+ghost use Rattle.std.specs.Prelude.{◌==◌, [], ◌∷◌, ◌&&◌, not, map, length, option_copied, position};
+ghost use Rattle.std.specs.List.{before_first};
+ghost use Rattle.std.specs.Str.{str_to_ascii_lowercase};
+ghost use Rattle.dir_names.specs.Cut.{behind_first, parts_at, parts_left};
+ghost use Rattle.dir_names.specs.Descriptions.{is_digit, is_keychar, is_name, is_decimal, is_number, is_type, is_option, is_reserved, options_read, description_of};
+ghost use Rattle.dir_names.specs.Sorted.{rises, with_member};
+ghost use Rattle.std.specs.List.{list_all, list_any};
+ghost use Rattle.dir_names.specs.Orders.{bytes_cmp, bytes_eq, attr_cmp, attr_eq, attr_cmp_total, attr_cmp_ties, tied_equiv, tied_per};
+ghost use Rattle.dir_names.specs.Outcome.{Gives};
+
 use crate::limits::MAX_DESCRIPTION;
 use crate::{Bytes, NameFault, Schema, Texts};
 use std::alloc::Global;
+use std::cmp::Ordering;
+use std::marker::Model;
 
 /// What an attribute description means: the key of its type and the set of its options, in lower
 /// case (RFC 4512, section 2.5).
-#[derive(PartialEq, Eq, PartialOrd, Ord, Debug, Drop)]
+#[derive(Debug, Drop)]
 pub struct AttrKey {
     kind: Bytes,
     options: Texts,
 }
 
+impl Model for AttrKey {
+    ghost use Rattle.dir_names.specs.Attr.{Attr};
+
+    ghost Value = { Attr };
+
+    ghost view = { λ a. record { kind = a.kind; options = a.options } };
+
+    ghost inverse = { λ a. record { kind = a.kind; options = a.options } };
+}
+
 impl AttrKey {
     /// Whether each attribute of key `other` is one of this key too: the types are the same, and
     /// all options of this key are among those of `other` (RFC 4512, section 2.5.2.1).
-    pub fn covers(&self, other: &AttrKey) -> bool {
+    pub fn covers(&self, other: &AttrKey) -> bool
+        ensures value { result ≡ covers self.now other.now }
+        ensures meaning { IsTrue result ↔ Covers self.now other.now }
+    {
         self.kind == other.kind && is_subset(self.options.as_slice(), other.options.as_slice())
     }
 
-    pub fn try_clone(&self, alloc: Global) -> Result<AttrKey, NameFault> {
+    pub fn try_clone(&self, alloc: Global) -> Result<AttrKey, NameFault>
+        ensures { Gives (λ key. key) result (Ok self.now) }
+    {
         Ok(AttrKey {
             kind: self.kind.try_clone(alloc)?,
             options: self.options.try_clone(alloc)?,
         })
     }
 
-    pub(crate) fn of_type(alloc: Global, kind: Bytes) -> AttrKey {
+    pub(crate) fn of_type(alloc: Global, kind: Bytes) -> AttrKey
+        ensures { result ≡ record { kind = kind; options = [] } }
+    {
         AttrKey {
             kind,
             options: Texts::new(Vec::new(alloc)),
         }
     }
 
-    pub(crate) fn kind(&self) -> &[u8] {
+    pub(crate) fn kind(&self) -> &[u8]
+        ensures { result.now ≡ self.now.kind }
+    {
         self.kind.as_slice()
     }
 }
 
-fn is_subset(some: &[Bytes], all: &[Bytes]) -> bool {
+impl PartialEq for AttrKey {
+    ghost eq = { attr_eq };
+
+    ghost laws = { tied_per attr_cmp attr_cmp_total attr_cmp_ties };
+
+    fn eq(&self, other: &AttrKey) -> bool {
+        self.kind == other.kind && self.options == other.options
+    }
+}
+
+impl Eq for AttrKey {
+    ghost laws = { tied_equiv attr_cmp attr_cmp_total attr_cmp_ties };
+}
+
+impl PartialOrd for AttrKey {
+    ghost partial_cmp = { as_partial_cmp attr_cmp };
+
+    ghost laws = { partial_order_from_agreeing_total attr_cmp attr_cmp_total (λ _ _. refl) attr_cmp_ties };
+
+    fn partial_cmp(&self, other: &AttrKey) -> Option<Ordering> {
+        Some(self.cmp(other))
+    }
+}
+
+impl Ord for AttrKey {
+    ghost cmp = { attr_cmp };
+
+    ghost total = { attr_cmp_total };
+
+    ghost matches_partial_cmp = { λ _ _. refl };
+
+    ghost matches_eq = { attr_cmp_ties };
+
+    fn cmp(&self, other: &AttrKey) -> Ordering {
+        self.kind
+            .cmp(&other.kind)
+            .then_with(|| self.options.cmp(&other.options))
+    }
+}
+
+fn is_subset(some: &[Bytes], all: &[Bytes]) -> bool
+    ensures { result ≡ list_all (λ option. list_any (λ other. bytes_eq other option) all.now) some.now }
+{
     for option in some {
         if !all.contains(option) {
             return false;
@@ -52,30 +129,33 @@ pub struct Description {
     key: AttrKey,
 }
 
+impl Model for Description {
+    ghost use Rattle.dir_names.specs.Described.{Described};
+
+    ghost Value = { Described };
+
+    ghost view = { λ d. record { spelling = d.spelling; key = d.key } };
+
+    ghost inverse = { λ d. record { spelling = d.spelling; key = d.key } };
+}
+
 impl Description {
     /// Reads a description of at most 512 bytes.
     ///
     /// # Errors
     ///
     /// `BadDescription` where the text is none, `ReservedName` for `dn`, `changetype` and `control`.
-    pub fn read(alloc: Global, schema: &Schema, text: &[u8]) -> Result<Description, NameFault> {
+    pub fn read(alloc: Global, schema: &Schema, text: &[u8]) -> Result<Description, NameFault>
+        ensures { Gives (λ description. description) result (description_of schema.now text.now) }
+    {
         if text.len() > MAX_DESCRIPTION {
             return Err(NameFault::BadDescription);
         }
-        let mut parts = text.split(|b| *b == b';');
-        let Some(kind) = parts.next() else {
-            return Err(NameFault::BadDescription);
-        };
+        let (kind, more) = cut(text, b';');
         if !is_type(kind) {
             return Err(NameFault::BadDescription);
         }
-        let mut options = Vec::new(alloc);
-        for option in parts {
-            if option.is_empty() || !is_keychars(option) {
-                return Err(NameFault::BadDescription);
-            }
-            put_option(&mut options, lower(alloc, option)?)?;
-        }
+        let options = options_of(alloc, more)?;
         if is_reserved(kind) {
             return Err(NameFault::ReservedName);
         }
@@ -83,20 +163,26 @@ impl Description {
             spelling: Bytes::copy_of(alloc, text)?,
             key: AttrKey {
                 kind: schema.type_key(alloc, kind)?,
-                options: Texts::new(options),
+                options,
             },
         })
     }
 
-    pub fn spelling(&self) -> &[u8] {
+    pub fn spelling(&self) -> &[u8]
+        ensures { result.now ≡ self.now.spelling }
+    {
         self.spelling.as_slice()
     }
 
-    pub fn key(&self) -> &AttrKey {
+    pub fn key(&self) -> &AttrKey
+        ensures { result.now ≡ self.now.key }
+    {
         &self.key
     }
 
-    pub fn try_clone(&self, alloc: Global) -> Result<Description, NameFault> {
+    pub fn try_clone(&self, alloc: Global) -> Result<Description, NameFault>
+        ensures { Gives (λ description. description) result (Ok self.now) }
+    {
         Ok(Description {
             spelling: self.spelling.try_clone(alloc)?,
             key: self.key.try_clone(alloc)?,
@@ -104,80 +190,129 @@ impl Description {
     }
 }
 
-/// A list of attribute descriptions, each with a value.
-#[derive(PartialEq, Eq, Debug, Drop)]
-pub struct Lines {
-    items: Vec<(Description, Bytes)>,
-}
-
-impl Lines {
-    pub fn new(items: Vec<(Description, Bytes)>) -> Lines {
-        Lines { items }
-    }
-
-    pub fn as_slice(&self) -> &[(Description, Bytes)] {
-        self.items.as_slice()
-    }
-
-    pub fn into_items(self) -> Vec<(Description, Bytes)> {
-        self.items
-    }
-
-    pub fn try_clone(&self, alloc: Global) -> Result<Lines, NameFault> {
-        let mut items = Vec::with_capacity(alloc, self.items.len())?;
-        for line in self.items.as_slice() {
-            items.push((line.0.try_clone(alloc)?, line.1.try_clone(alloc)?))?;
-        }
-        Ok(Lines { items })
-    }
+/// `option`: one or more letters, digits and hyphens (RFC 4512, section 2.5).
+fn is_option(text: &[u8]) -> bool
+    ensures { result ≡ is_option text.now }
+{
+    !text.is_empty() && is_keychars(text)
 }
 
 /// Whether the text is an attribute type: a name or a number, without options.
-pub(crate) fn is_type(text: &[u8]) -> bool {
+pub(crate) fn is_type(text: &[u8]) -> bool
+    ensures { result ≡ is_type text.now }
+{
     is_name(text) || is_number(text)
 }
 
 /// `descr`: a letter followed by letters, digits and hyphens (RFC 4512, section 1.4).
-fn is_name(text: &[u8]) -> bool {
+fn is_name(text: &[u8]) -> bool
+    ensures { result ≡ is_name text.now }
+{
     let Some((first, rest)) = text.split_first() else {
         return false;
     };
     first.is_ascii_alphabetic() && is_keychars(rest)
 }
 
-fn is_keychars(text: &[u8]) -> bool {
+fn is_keychars(text: &[u8]) -> bool
+    ensures { result ≡ list_all is_keychar text.now }
+{
     text.iter().all(|b| b.is_ascii_alphanumeric() || *b == b'-')
 }
 
 /// `numericoid`: two or more decimal numbers without leading zeros, joined by dots.
-fn is_number(text: &[u8]) -> bool {
-    text.contains(&b'.') && text.split(|b| *b == b'.').all(|part| is_decimal(part))
+fn is_number(text: &[u8]) -> bool
+    ensures { result ≡ is_number text.now }
+{
+    text.contains(&b'.') && are_decimals(Some(text))
 }
 
-fn is_decimal(text: &[u8]) -> bool {
+fn are_decimals(text: Option<&[u8]>) -> bool
+    ensures { result ≡ list_all is_decimal (parts_left 46 (option_copied text.entry)) }
+{
+    let mut rest = text;
+    while let Some(more) = rest {
+        let (part, after) = cut(more, b'.');
+        if !is_decimal(part) {
+            return false;
+        }
+        rest = after;
+    }
+    true
+}
+
+fn is_decimal(text: &[u8]) -> bool
+    ensures { result ≡ is_decimal text.now }
+{
     let Some((first, rest)) = text.split_first() else {
         return false;
     };
-    first.is_ascii_digit()
-        && (*first != b'0' || rest.is_empty())
-        && rest.iter().all(|b| b.is_ascii_digit())
+    first.is_ascii_digit() && (*first != b'0' || rest.is_empty()) && are_digits(rest)
+}
+
+pub(crate) fn are_digits(text: &[u8]) -> bool
+    ensures { result ≡ list_all is_digit text.now }
+{
+    text.iter().all(|b| b.is_ascii_digit())
 }
 
 /// The types that LDIF keeps for its own lines.
-pub(crate) fn is_reserved(kind: &[u8]) -> bool {
+pub(crate) fn is_reserved(kind: &[u8]) -> bool
+    ensures { result ≡ is_reserved kind.now }
+{
     kind.eq_ignore_ascii_case(b"dn")
         || kind.eq_ignore_ascii_case(b"changetype")
         || kind.eq_ignore_ascii_case(b"control")
 }
 
-pub(crate) fn lower(alloc: Global, text: &[u8]) -> Result<Bytes, NameFault> {
+pub(crate) fn lower(alloc: Global, text: &[u8]) -> Result<Bytes, NameFault>
+    ensures { Gives (λ copy. copy) result (Ok (str_to_ascii_lowercase text.now)) }
+{
     let mut copy = text.to_vec(alloc)?;
     copy.as_mut_slice().make_ascii_lowercase();
     Ok(Bytes::new(copy))
 }
 
-/// Puts an option into an ordered list without duplicates.
-fn put_option(options: &mut Vec<Bytes>, option: Bytes) -> Result<(), NameFault> {
+/// The set of the options that stand behind a type, in lower case.
+fn options_of(alloc: Global, text: Option<&[u8]>) -> Result<Texts, NameFault>
+    ensures { Gives (λ options. options) result (options_read (parts_left 59 (option_copied text.entry))) }
+{
+    let mut options = Vec::new(alloc);
+    let mut rest = text;
+    while let Some(more) = rest {
+        let (option, after) = cut(more, b';');
+        if !is_option(option) {
+            return Err(NameFault::BadDescription);
+        }
+        put_option(&mut options, lower(alloc, option)?)?;
+        rest = after;
+    }
+    Ok(Texts::new(options))
+}
+
+/// The text before the first separator, and the text after it if there is one.
+pub(crate) fn cut(text: &[u8], separator: u8) -> (&[u8], Option<&[u8]>)
+    ensures before { result.0.now ≡ before_first (λ b. b == separator) text.now }
+    ensures after { option_copied result.1 ≡ behind_first separator text.now }
+    ensures parts { parts_at separator text.now ≡ result.0.now ∷ parts_left separator (option_copied result.1) }
+{
+    match first_at(text, separator) {
+        Some(at) => (&text[..at], Some(&text[at + 1..])),
+        None => (text, None),
+    }
+}
+
+fn first_at(text: &[u8], separator: u8) -> Option<usize>
+    ensures { result ≡ position (λ b. b == separator) text.now }
+{
+    text.iter().position(|b| *b == separator)
+}
+
+/// Puts an option into a set.
+fn put_option(options: &mut Vec<Bytes>, option: Bytes) -> Result<(), NameFault>
+    requires { IsTrue (rises bytes_cmp options.old.items) }
+    ensures { Gives (λ _. options.new.items) result (Ok (with_member bytes_cmp option options.old.items)) }
+{
     if let Err(at) = options.binary_search(&option) {
         options.insert(at, option)?;
     }

@@ -1,3 +1,6 @@
+ghost use Rattle.std.specs.Prelude.{◌≡◌};
+ghost use Rattle.dir_names.specs.declared.fault.NameFault.TheVariants.{Memory};
+
 use std::alloc::{AllocError, AllocFailed};
 use thiserror::Error;
 
@@ -25,12 +28,16 @@ pub enum NameFault {
 }
 
 impl From<AllocError> for NameFault {
+    ghost from_gives = { λ _ e. e ≡ Memory };
+
     fn from(_error: AllocError) -> NameFault {
         NameFault::Memory
     }
 }
 
 impl<T: Drop> From<AllocFailed<T>> for NameFault {
+    ghost from_gives = { λ _ e. e ≡ Memory };
+
     fn from(_error: AllocFailed<T>) -> NameFault {
         NameFault::Memory
     }

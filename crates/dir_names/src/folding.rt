@@ -1,3 +1,8 @@
+ghost use Rattle.std.specs.Prelude.{◌≡◌, Ok};
+ghost use Rattle.std.specs.Str.{is_utf8, str_to_ascii_lowercase};
+ghost use Rattle.dir_names.specs.Outcome.{Gives};
+ghost use Rattle.dir_names.specs.ValueKeys.{folded, is_ascii, key_if};
+
 use crate::NameFault;
 use caseless::default_case_fold_str;
 use std::alloc::Global;
@@ -5,59 +10,36 @@ use std::str;
 use unicode_normalization::to_nfkc;
 
 /// Default case folding and then NFKC of a text in UTF-8. ASCII takes a short way to the same bytes.
-pub(crate) fn folded(alloc: Global, text: &[u8]) -> Result<Vec<u8>, NameFault> {
+pub(crate) fn folded(alloc: Global, text: &[u8]) -> Result<Vec<u8>, NameFault>
+    ensures { Gives (λ key. key.items) result (key_if (is_utf8 text.now) (folded text.now)) }
+{
     if is_ascii(text) {
-        let mut copy = text.to_vec(alloc)?;
-        copy.as_mut_slice().make_ascii_lowercase();
-        return Ok(copy);
+        return lowered(alloc, text);
     }
-    let Ok(text) = str::from_utf8(text) else {
-        return Err(NameFault::BadValue);
-    };
+    match str::from_utf8(text) {
+        Ok(text) => folded_text(alloc, text),
+        Err(_) => Err(NameFault::BadValue),
+    }
+}
+
+fn folded_text(alloc: Global, text: &str) -> Result<Vec<u8>, NameFault>
+    ensures { Gives (λ key. key.items) result (Ok (folded text.now)) }
+{
     let small = default_case_fold_str(alloc, text)?;
     Ok(to_nfkc(alloc, small.as_str())?.into_bytes())
 }
 
-pub(crate) fn is_ascii(text: &[u8]) -> bool {
+/// The text with A to Z made small.
+pub(crate) fn lowered(alloc: Global, text: &[u8]) -> Result<Vec<u8>, NameFault>
+    ensures { Gives (λ copy. copy.items) result (Ok (str_to_ascii_lowercase text.now)) }
+{
+    let mut copy = text.to_vec(alloc)?;
+    copy.as_mut_slice().make_ascii_lowercase();
+    Ok(copy)
+}
+
+pub(crate) fn is_ascii(text: &[u8]) -> bool
+    ensures { result ≡ is_ascii text.now }
+{
     text.is_ascii()
-}
-
-/// Whether no space stands at an end or beside another one.
-pub(crate) fn is_tidy(text: &[u8]) -> bool {
-    let mut after_space = true;
-    for b in text {
-        if *b == b' ' && after_space {
-            return false;
-        }
-        after_space = *b == b' ';
-    }
-    text.is_empty() || !after_space
-}
-
-/// The text without spaces at its ends, each other run of spaces made one.
-pub(crate) fn tidied(alloc: Global, text: &[u8]) -> Result<Vec<u8>, NameFault> {
-    let mut out = Vec::new(alloc);
-    let mut is_waiting = false;
-    for b in text {
-        if *b == b' ' {
-            is_waiting = !out.is_empty();
-        } else {
-            if is_waiting {
-                out.push(b' ')?;
-            }
-            is_waiting = false;
-            out.push(*b)?;
-        }
-    }
-    Ok(out)
-}
-
-pub(crate) fn without_spaces_and_hyphens(alloc: Global, text: &[u8]) -> Result<Vec<u8>, NameFault> {
-    let mut out = Vec::new(alloc);
-    for b in text {
-        if *b != b' ' && *b != b'-' {
-            out.push(*b)?;
-        }
-    }
-    Ok(out)
 }

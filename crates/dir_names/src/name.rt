@@ -1,3 +1,8 @@
+ghost use Rattle.std.specs.Prelude.{◌≡◌, ◌∷◌, cond, length, nat_le, Ok, Err};
+ghost use Rattle.dir_names.specs.declared.fault.NameFault.TheVariants.{NameLimit};
+ghost use Rattle.dir_names.specs.Names.{name_eq, rdn_eq, name_eq_laws, rdn_eq_laws, partial_name_eq_laws, partial_rdn_eq_laws};
+ghost use Rattle.dir_names.specs.Outcome.{Gives};
+
 use crate::attribute::AttrKey;
 use crate::limits::MAX_RDNS;
 use crate::printing::{print_name, print_rdn};
@@ -5,12 +10,21 @@ use crate::reading::{read_name, read_one_rdn};
 use crate::value::text_key;
 use crate::{Bytes, DnKey, NameFault, RdnKey, Rule, Schema};
 use std::alloc::Global;
+use std::marker::Model;
 
 /// A relative distinguished name as spelled: one or more pairs of type and value (RFC 4512,
 /// section 2.3.1).
-#[derive(PartialEq, Eq, Debug, Drop)]
+#[derive(Debug, Drop)]
 pub struct Rdn {
     pairs: Vec<(Bytes, Bytes)>,
+}
+
+impl Model for Rdn {
+    ghost use Rattle.std.specs.Prelude.{ℕ, List};
+
+    ghost Value = { List (List ℕ × List ℕ) };
+
+    ghost view = { λ rdn. rdn.pairs.items };
 }
 
 impl Rdn {
@@ -54,28 +68,56 @@ impl Rdn {
     }
 
     /// The pairs of type and value, as spelled.
-    pub fn pairs(&self) -> &[(Bytes, Bytes)] {
+    pub fn pairs(&self) -> &[(Bytes, Bytes)]
+        ensures { result.now ≡ self.now }
+    {
         self.pairs.as_slice()
     }
 
-    pub fn try_clone(&self, alloc: Global) -> Result<Rdn, NameFault> {
-        let mut pairs = Vec::new(alloc);
+    pub fn try_clone(&self, alloc: Global) -> Result<Rdn, NameFault>
+        ensures { Gives (λ rdn. rdn) result (Ok self.now) }
+    {
+        let mut pairs = Vec::with_capacity(alloc, self.pairs.len())?;
         for pair in self.pairs.as_slice() {
             pairs.push((pair.0.try_clone(alloc)?, pair.1.try_clone(alloc)?))?;
         }
         Ok(Rdn { pairs })
     }
 
-    pub(crate) fn from_pairs(pairs: Vec<(Bytes, Bytes)>) -> Rdn {
+    pub(crate) fn from_pairs(pairs: Vec<(Bytes, Bytes)>) -> Rdn
+        ensures { result ≡ pairs.items }
+    {
         Rdn { pairs }
     }
 }
 
+impl PartialEq for Rdn {
+    ghost eq = { rdn_eq };
+
+    ghost laws = { partial_rdn_eq_laws };
+
+    fn eq(&self, other: &Rdn) -> bool {
+        self.pairs == other.pairs
+    }
+}
+
+impl Eq for Rdn {
+    ghost laws = { rdn_eq_laws };
+}
+
 /// A distinguished name as spelled: its RDNs, leaf first. Spaces around separators and the choice of
 /// escapes are no part of it.
-#[derive(PartialEq, Eq, Debug, Drop)]
+#[derive(Debug, Drop)]
 pub struct Dn {
     rdns: Vec<Rdn>,
+}
+
+impl Model for Dn {
+    ghost use Rattle.std.specs.Prelude.{ℕ, List};
+
+    ghost Value = { List (List (List ℕ × List ℕ)) };
+
+    ghost view = { λ name. name.rdns.items };
 }
 
 impl Dn {
@@ -115,12 +157,16 @@ impl Dn {
     }
 
     /// The RDNs, leaf first.
-    pub fn rdns(&self) -> &[Rdn] {
+    pub fn rdns(&self) -> &[Rdn]
+        ensures { result.now ≡ self.now }
+    {
         self.rdns.as_slice()
     }
 
     /// The RDNs, leaf first, moved out of the name.
-    pub fn into_rdns(self) -> Vec<Rdn> {
+    pub fn into_rdns(self) -> Vec<Rdn>
+        ensures { result.items ≡ self }
+    {
         self.rdns
     }
 
@@ -129,18 +175,36 @@ impl Dn {
     /// # Errors
     ///
     /// `NameLimit` where there are more than 64; the list is dropped.
-    pub fn from_rdns(rdns: Vec<Rdn>) -> Result<Dn, NameFault> {
+    pub fn from_rdns(rdns: Vec<Rdn>) -> Result<Dn, NameFault>
+        ensures { result ≡ cond (nat_le (length rdns.items) 64) (Ok rdns.items) (Err NameLimit) }
+    {
         if rdns.len() > MAX_RDNS {
             return Err(NameFault::NameLimit);
         }
         Ok(Dn { rdns })
     }
 
-    pub fn try_clone(&self, alloc: Global) -> Result<Dn, NameFault> {
-        let mut rdns = Vec::new(alloc);
+    pub fn try_clone(&self, alloc: Global) -> Result<Dn, NameFault>
+        ensures { Gives (λ name. name) result (Ok self.now) }
+    {
+        let mut rdns = Vec::with_capacity(alloc, self.rdns.len())?;
         for rdn in self.rdns.as_slice() {
             rdns.push(rdn.try_clone(alloc)?)?;
         }
         Ok(Dn { rdns })
     }
+}
+
+impl PartialEq for Dn {
+    ghost eq = { name_eq };
+
+    ghost laws = { partial_name_eq_laws };
+
+    fn eq(&self, other: &Dn) -> bool {
+        self.rdns == other.rdns
+    }
+}
+
+impl Eq for Dn {
+    ghost laws = { name_eq_laws };
 }

@@ -2,6 +2,7 @@ ghost use Rattle.std.specs.Prelude.{◌<◌, IfSome};
 
 use crate::attribute::{is_reserved, is_type};
 use crate::limits::{MAX_DESCRIPTION, MAX_RDN_TEXT, MAX_RDNS};
+use crate::spaces::{trimmed_end, trimmed_front};
 use crate::{Bytes, Dn, NameFault, Rdn};
 use std::alloc::Global;
 
@@ -88,28 +89,6 @@ fn pair_of(alloc: Global, text: &[u8]) -> Result<(Bytes, Bytes), NameFault> {
     }
     let value = value_of(alloc, trimmed_front(&text[at + 1..]))?;
     Ok((Bytes::copy_of(alloc, kind)?, Bytes::new(value)))
-}
-
-fn trimmed_front(text: &[u8]) -> &[u8] {
-    let mut rest = text;
-    for _ in 0..text.len() {
-        match rest {
-            [b' ', after @ ..] => rest = after,
-            _ => break,
-        }
-    }
-    rest
-}
-
-fn trimmed_end(text: &[u8]) -> &[u8] {
-    let mut rest = text;
-    for _ in 0..text.len() {
-        match rest {
-            [before @ .., b' '] => rest = before,
-            _ => break,
-        }
-    }
-    rest
 }
 
 /// Where a value is being read.

@@ -1,7 +1,14 @@
+ghost use Rattle.std.specs.Prelude.{◌≡◌, Ok, find, option_copied};
+ghost use Rattle.std.specs.List.{list_any};
+ghost use Rattle.std.specs.Str.{str_eq_ignore_ascii_case};
+ghost use Rattle.dir_names.specs.Orders.{bytes_eq};
+ghost use Rattle.dir_names.specs.Outcome.{Gives};
+
 use crate::attribute::lower;
 use crate::table::ROWS;
 use crate::{AttrKey, Bytes, NameFault, Texts};
 use std::alloc::Global;
+use std::marker::Model;
 
 /// How the values of an attribute type are compared (RFC 4517, section 4.2).
 #[derive(Clone, Copy, PartialEq, Eq, Debug)]
@@ -24,14 +31,14 @@ pub enum Rule {
     ObjectId,
 }
 
-/// An attribute type: its key, the lower-case names and the number that name it, the rule of its
-/// values, and whether it takes at most one.
+/// An attribute type: its key, the names and the number that name it, the rule of its values, and
+/// whether it takes at most one.
 #[derive(Debug, Drop)]
-struct TypeRow {
-    key: Bytes,
-    names: Texts,
-    rule: Rule,
-    single: bool,
+pub struct TypeRow {
+    pub key: Bytes,
+    pub names: Texts,
+    pub rule: Rule,
+    pub single: bool,
 }
 
 /// The attribute types that are known. Any other type compares its values byte by byte and takes
@@ -41,7 +48,18 @@ pub struct Schema {
     rows: Vec<TypeRow>,
 }
 
+impl Model for Schema {
+    ghost use Rattle.std.specs.Prelude.{List};
+    ghost use Rattle.dir_names.specs.declared.schema.TypeRow.{TypeRow};
+
+    ghost Value = { List TypeRow };
+
+    ghost view = { λ schema. schema.rows.items };
+}
+
 impl Schema {
+    ghost use Rattle.dir_names.specs.Table.{type_key_of, row_of, rule_of, single_of};
+
     /// The types of RFC 4519, 4524, 2798 and 2307 that this kit knows from the start.
     pub fn builtin(alloc: Global) -> Result<Schema, NameFault> {
         let mut rows = Vec::new(alloc);
@@ -61,36 +79,72 @@ impl Schema {
     }
 
     /// The rule by which values of this type are compared.
-    pub fn rule(&self, attr: &AttrKey) -> Rule {
-        match self.row(attr) {
+    pub fn rule(&self, attr: &AttrKey) -> Rule
+        ensures { result ≡ rule_of self.now attr.now }
+    {
+        match row_of(self.rows.as_slice(), attr.kind()) {
             Some(row) => row.rule,
             None => Rule::Octet,
         }
     }
 
     /// Whether an attribute of this type takes at most one value.
-    pub fn single(&self, attr: &AttrKey) -> bool {
-        match self.row(attr) {
+    pub fn single(&self, attr: &AttrKey) -> bool
+        ensures { result ≡ single_of self.now attr.now }
+    {
+        match row_of(self.rows.as_slice(), attr.kind()) {
             Some(row) => row.single,
             None => false,
         }
     }
 
-    fn row(&self, attr: &AttrKey) -> Option<&TypeRow> {
-        self.rows
-            .iter()
-            .find(|row| row.key.as_slice() == attr.kind())
-    }
-
     /// The key of the type that a name or a number names: its primary name in lower case, or for a
     /// type that isn't known the text itself in lower case.
-    pub(crate) fn type_key(&self, alloc: Global, kind: &[u8]) -> Result<Bytes, NameFault> {
-        let text = lower(alloc, kind)?;
-        for row in self.rows.as_slice() {
-            if row.names.as_slice().contains(&text) {
-                return row.key.try_clone(alloc);
-            }
+    pub(crate) fn type_key(&self, alloc: Global, kind: &[u8]) -> Result<Bytes, NameFault>
+        ensures { Gives (λ key. key) result (Ok (type_key_of self.now kind.now)) }
+    {
+        match row_named(self.rows.as_slice(), kind) {
+            Some(row) => row.key.try_clone(alloc),
+            None => lower(alloc, kind),
         }
-        Ok(text)
     }
+}
+
+fn row_of<'a>(rows: &'a [TypeRow], key: &[u8]) -> Option<&'a TypeRow>
+    ensures { option_copied result ≡ find (λ row. bytes_eq row.key key.now) rows.now }
+{
+    for row in rows {
+        if row.key.as_slice() == key {
+            return Some(row);
+        }
+    }
+    None
+}
+
+fn row_named<'a>(rows: &'a [TypeRow], kind: &[u8]) -> Option<&'a TypeRow>
+    ensures { option_copied result ≡ find (λ row. list_any (λ name. str_eq_ignore_ascii_case name kind.now) row.names) rows.now }
+{
+    for row in rows {
+        if is_named(row.names.as_slice(), kind) {
+            return Some(row);
+        }
+    }
+    None
+}
+
+fn is_named(names: &[Bytes], kind: &[u8]) -> bool
+    ensures { result ≡ list_any (λ name. str_eq_ignore_ascii_case name kind.now) names.now }
+{
+    for name in names {
+        if is_same(name.as_slice(), kind) {
+            return true;
+        }
+    }
+    false
+}
+
+fn is_same(one: &[u8], another: &[u8]) -> bool
+    ensures { result ≡ str_eq_ignore_ascii_case one.now another.now }
+{
+    one.eq_ignore_ascii_case(another)
 }

@@ -1,9 +1,23 @@
-use crate::folding::{folded, is_ascii, is_tidy, tidied, without_spaces_and_hyphens};
+ghost use Rattle.std.specs.Prelude.{◌≡◌, ◌&&◌, nat_lt, Ok, Some, refl, option_copied};
+ghost use Rattle.std.specs.List.{list_all};
+ghost use Rattle.std.specs.Str.{str_to_ascii_lowercase};
+ghost use Rattle.dir_names.specs.Spaces.{tidied, without_spaces_and_hyphens};
+ghost use Rattle.dir_names.specs.ValueKeys.{folded, is_ascii, is_positive, is_integer, is_object_id, is_text, key_if, text_key_of};
+ghost use Rattle.std.specs.Ordering.{as_partial_cmp};
+ghost use Rattle.std.specs.Cmp.{partial_order_from_agreeing_total};
+ghost use Rattle.dir_names.specs.Values.{value_key_cmp, value_key_eq, value_key_cmp_total, value_key_cmp_ties, text_of, name_of_key};
+ghost use Rattle.dir_names.specs.Orders.{tied_equiv, tied_per};
+ghost use Rattle.dir_names.specs.Outcome.{Gives};
+
+use crate::attribute::{are_digits, lower};
+use crate::folding::{folded, is_ascii, lowered};
+use crate::spaces::{tidied, without_spaces_and_hyphens};
 use crate::{AttrKey, Bytes, Dn, DnKey, NameFault, Rule, Schema};
 use std::alloc::Global;
+use std::cmp::Ordering;
 
 /// What a value is compared by: two values with the same key are the same value.
-#[derive(PartialEq, Eq, PartialOrd, Ord, Debug, Drop)]
+#[derive(Debug, Drop)]
 pub enum ValueKey {
     /// The key under every rule but `Name`.
     Text(Bytes),
@@ -12,24 +26,77 @@ pub enum ValueKey {
 }
 
 impl ValueKey {
-    pub fn text(&self) -> Option<&[u8]> {
+    pub fn text(&self) -> Option<&[u8]>
+        ensures { option_copied result ≡ text_of self.now }
+    {
         match self {
             ValueKey::Text(text) => Some(text.as_slice()),
             ValueKey::Name(_) => None,
         }
     }
 
-    pub fn name(&self) -> Option<&DnKey> {
+    pub fn name(&self) -> Option<&DnKey>
+        ensures { option_copied result ≡ name_of_key self.now }
+    {
         match self {
             ValueKey::Text(_) => None,
             ValueKey::Name(key) => Some(key),
         }
     }
 
-    pub fn try_clone(&self, alloc: Global) -> Result<ValueKey, NameFault> {
+    pub fn try_clone(&self, alloc: Global) -> Result<ValueKey, NameFault>
+        ensures { Gives (λ key. key) result (Ok self.now) }
+    {
         match self {
             ValueKey::Text(text) => Ok(ValueKey::Text(text.try_clone(alloc)?)),
             ValueKey::Name(key) => Ok(ValueKey::Name(key.try_clone(alloc)?)),
+        }
+    }
+}
+
+impl PartialEq for ValueKey {
+    ghost eq = { value_key_eq };
+
+    ghost laws = { tied_per value_key_cmp value_key_cmp_total value_key_cmp_ties };
+
+    fn eq(&self, other: &ValueKey) -> bool {
+        match (self, other) {
+            (ValueKey::Text(one), ValueKey::Text(another)) => one == another,
+            (ValueKey::Name(one), ValueKey::Name(another)) => one == another,
+            _ => false,
+        }
+    }
+}
+
+impl Eq for ValueKey {
+    ghost laws = { tied_equiv value_key_cmp value_key_cmp_total value_key_cmp_ties };
+}
+
+impl PartialOrd for ValueKey {
+    ghost partial_cmp = { as_partial_cmp value_key_cmp };
+
+    ghost laws = { partial_order_from_agreeing_total value_key_cmp value_key_cmp_total (λ _ _. refl) value_key_cmp_ties };
+
+    fn partial_cmp(&self, other: &ValueKey) -> Option<Ordering> {
+        Some(self.cmp(other))
+    }
+}
+
+impl Ord for ValueKey {
+    ghost cmp = { value_key_cmp };
+
+    ghost total = { value_key_cmp_total };
+
+    ghost matches_partial_cmp = { λ _ _. refl };
+
+    ghost matches_eq = { value_key_cmp_ties };
+
+    fn cmp(&self, other: &ValueKey) -> Ordering {
+        match (self, other) {
+            (ValueKey::Text(one), ValueKey::Text(another)) => one.cmp(another),
+            (ValueKey::Text(_), ValueKey::Name(_)) => Ordering::Less,
+            (ValueKey::Name(_), ValueKey::Text(_)) => Ordering::Greater,
+            (ValueKey::Name(one), ValueKey::Name(another)) => one.cmp(another),
         }
     }
 }
@@ -72,56 +139,112 @@ fn bad_value(fault: NameFault) -> NameFault {
 }
 
 /// The key of a value under a rule other than `Name`, which gives none here.
-pub(crate) fn text_key(alloc: Global, rule: Rule, bytes: &[u8]) -> Result<Bytes, NameFault> {
+pub(crate) fn text_key(alloc: Global, rule: Rule, value: &[u8]) -> Result<Bytes, NameFault>
+    ensures { Gives (λ key. key) result (text_key_of rule value.now) }
+{
     match rule {
-        Rule::Octet => Bytes::copy_of(alloc, bytes),
-        Rule::CaseIgnore if !bytes.is_empty() => Ok(Bytes::new(tidy(
-            alloc,
-            folded(alloc, bytes)?,
-        )?)),
-        Rule::Telephone if !bytes.is_empty() => {
-            let text = folded(alloc, bytes)?;
-            Ok(Bytes::new(without_spaces_and_hyphens(alloc, text.as_slice())?))
-        }
-        Rule::Ia5CaseIgnore if is_ascii(bytes) => {
-            let mut text = bytes.to_vec(alloc)?;
-            text.as_mut_slice().make_ascii_lowercase();
-            Ok(Bytes::new(tidy(alloc, text)?))
-        }
-        Rule::Ia5CaseExact if is_ascii(bytes) => Ok(Bytes::new(tidy(alloc, bytes.to_vec(alloc)?)?)),
-        Rule::Integer if is_integer(bytes) => Bytes::copy_of(alloc, bytes),
-        Rule::ObjectId if is_object_id(bytes) => {
-            let mut text = bytes.to_vec(alloc)?;
-            text.as_mut_slice().make_ascii_lowercase();
-            Ok(Bytes::new(text))
-        }
-        _ => Err(NameFault::BadValue),
+        Rule::Octet => Bytes::copy_of(alloc, value),
+        Rule::CaseIgnore => case_ignore_key(alloc, value),
+        Rule::Telephone => telephone_key(alloc, value),
+        Rule::Ia5CaseIgnore => ia5_case_ignore_key(alloc, value),
+        Rule::Ia5CaseExact => ia5_case_exact_key(alloc, value),
+        Rule::Integer => integer_key(alloc, value),
+        Rule::ObjectId => object_id_key(alloc, value),
+        Rule::Name => Err(NameFault::BadValue),
     }
 }
 
-fn tidy(alloc: Global, text: Vec<u8>) -> Result<Vec<u8>, NameFault> {
-    if is_tidy(text.as_slice()) {
-        return Ok(text);
+fn case_ignore_key(alloc: Global, value: &[u8]) -> Result<Bytes, NameFault>
+    ensures { Gives (λ key. key) result (key_if (is_text value.now) (tidied (folded value.now))) }
+{
+    if value.is_empty() {
+        return Err(NameFault::BadValue);
     }
-    tidied(alloc, text.as_slice())
+    let text = folded(alloc, value)?;
+    Ok(Bytes::new(tidied(alloc, text)?))
+}
+
+fn telephone_key(alloc: Global, value: &[u8]) -> Result<Bytes, NameFault>
+    ensures { Gives (λ key. key) result (key_if (is_text value.now) (without_spaces_and_hyphens (folded value.now))) }
+{
+    if value.is_empty() {
+        return Err(NameFault::BadValue);
+    }
+    let text = folded(alloc, value)?;
+    Ok(Bytes::new(without_spaces_and_hyphens(text)))
+}
+
+fn ia5_case_ignore_key(alloc: Global, value: &[u8]) -> Result<Bytes, NameFault>
+    ensures { Gives (λ key. key) result (key_if (is_ascii value.now) (tidied (str_to_ascii_lowercase value.now))) }
+{
+    if !is_ascii(value) {
+        return Err(NameFault::BadValue);
+    }
+    let text = lowered(alloc, value)?;
+    Ok(Bytes::new(tidied(alloc, text)?))
+}
+
+fn ia5_case_exact_key(alloc: Global, value: &[u8]) -> Result<Bytes, NameFault>
+    ensures { Gives (λ key. key) result (key_if (is_ascii value.now) (tidied value.now)) }
+{
+    if !is_ascii(value) {
+        return Err(NameFault::BadValue);
+    }
+    let text = value.to_vec(alloc)?;
+    Ok(Bytes::new(tidied(alloc, text)?))
+}
+
+fn integer_key(alloc: Global, value: &[u8]) -> Result<Bytes, NameFault>
+    ensures { Gives (λ key. key) result (key_if (is_integer value.now) value.now) }
+{
+    if is_integer(value) {
+        Bytes::copy_of(alloc, value)
+    } else {
+        Err(NameFault::BadValue)
+    }
+}
+
+fn object_id_key(alloc: Global, value: &[u8]) -> Result<Bytes, NameFault>
+    ensures { Gives (λ key. key) result (key_if (is_object_id value.now) (str_to_ascii_lowercase value.now)) }
+{
+    if is_object_id(value) {
+        lower(alloc, value)
+    } else {
+        Err(NameFault::BadValue)
+    }
 }
 
 /// `0`, or an optional minus and digits that don't begin with 0.
-fn is_integer(bytes: &[u8]) -> bool {
-    match bytes {
-        [b'0'] => true,
-        [b'-', digits @ ..] => is_positive(digits),
-        digits => is_positive(digits),
+fn is_integer(value: &[u8]) -> bool
+    ensures { result ≡ is_integer value.now }
+{
+    let Some((first, rest)) = value.split_first() else {
+        return false;
+    };
+    match *first {
+        b'0' => rest.is_empty(),
+        b'-' => is_positive(rest),
+        _ => is_positive(value),
     }
 }
 
-fn is_positive(digits: &[u8]) -> bool {
-    match digits {
-        [] | [b'0', ..] => false,
-        digits => digits.iter().all(|b| b.is_ascii_digit()),
-    }
+fn is_positive(digits: &[u8]) -> bool
+    ensures { result ≡ is_positive digits.now }
+{
+    let Some((first, _)) = digits.split_first() else {
+        return false;
+    };
+    *first != b'0' && are_digits(digits)
 }
 
-fn is_object_id(bytes: &[u8]) -> bool {
-    !bytes.is_empty() && bytes.iter().all(|b| b.is_ascii_graphic())
+fn is_object_id(value: &[u8]) -> bool
+    ensures { result ≡ is_object_id value.now }
+{
+    !value.is_empty() && are_seen(value)
+}
+
+fn are_seen(value: &[u8]) -> bool
+    ensures { result ≡ list_all (λ b. nat_lt 32 b && nat_lt b 127) value.now }
+{
+    value.iter().all(|b| *b > 32 && *b < 127)
 }

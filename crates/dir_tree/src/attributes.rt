@@ -1,7 +1,16 @@
+ghost use Rattle.std.specs.Prelude.{◌≡◌, IfOk, IfSome, IsTrue, length, map, option_copied};
+ghost use Rattle.std.specs.Option.{option_map};
+ghost use Rattle.std.specs.FinMap as fin;
+ghost use Rattle.std.specs.List.Sorted.{IsSearchInRange};
+ghost use Rattle.dir_names.specs.Orders.{attr_cmp};
+ghost use Rattle.dir_names.specs.Sorted.{place};
+ghost use Rattle.dir_tree.specs.Content.{attribute_pair, attributes_rise, has_value};
+
 use crate::EntryFault;
 use crate::values::{ValueMap, Values};
 use dir_names::{AttrKey, Bytes, Description, Memory, Rdn, Schema, ValueKey};
 use std::alloc::Global;
+use std::marker::Model;
 use std::slice;
 
 /// An attribute of an entry: its description as spelled, and its values.
@@ -11,17 +20,33 @@ pub struct Attribute {
     values: ValueMap,
 }
 
+impl Model for Attribute {
+    ghost use Rattle.dir_tree.specs.Content.{Keyed, keyed_code};
+
+    ghost Value = { Keyed };
+
+    ghost coded = { keyed_code };
+
+    ghost view = { λ a. record { key = a.description.key; stored = record { spelling = a.description.spelling; values = a.values } } };
+}
+
 impl Attribute {
-    pub fn description(&self) -> &Description {
+    pub fn description(&self) -> &Description
+        ensures { result.now ≡ record { spelling = self.now.stored.spelling; key = self.now.key } }
+    {
         &self.description
     }
 
     /// The values, in order of their keys.
-    pub fn values(&self) -> Values<'_> {
+    pub fn values(&self) -> Values<'_>
+        ensures { result ≡ fin.entries self.now.stored.values }
+    {
         self.values.iter()
     }
 
-    pub fn try_clone(&self, alloc: Global) -> Result<Attribute, Memory> {
+    pub fn try_clone(&self, alloc: Global) -> Result<Attribute, Memory>
+        ensures { IfOk result (λ a. a ≡ self.now) }
+    {
         let Ok(description) = self.description.try_clone(alloc) else {
             return Err(Memory);
         };
@@ -31,15 +56,21 @@ impl Attribute {
         })
     }
 
-    pub(crate) fn with(description: Description, values: ValueMap) -> Attribute {
-        Attribute {
-            description,
-            values,
-        }
+    pub(crate) fn has(&self, key: &ValueKey) -> bool
+        ensures { result ≡ fin.contains_key self.now.stored.values key.now }
+    {
+        self.values.contains_key(key)
     }
 
-    pub(crate) fn has(&self, key: &ValueKey) -> bool {
-        self.values.contains_key(key)
+    fn add(&mut self, key: ValueKey, bytes: Bytes) -> Result<(), EntryFault>
+        ensures { self.new.key ≡ self.old.key }
+    {
+        self.values.insert(key, bytes)
+    }
+
+    /// Whether there is more than one value.
+    fn has_many(&self) -> bool {
+        self.values.len() > 1
     }
 }
 
@@ -49,22 +80,51 @@ pub struct AttributeMap {
     items: Vec<Attribute>,
 }
 
+impl Model for AttributeMap {
+    ghost use Rattle.std.specs.Prelude.{IsTrue};
+    ghost use Rattle.dir_tree.specs.Content.{StoredAttributes, attributes_code, attributes_in, attributes_rise};
+
+    ghost Value = { StoredAttributes };
+
+    ghost coded = { attributes_code };
+
+    ghost view = { λ m. attributes_in m.items.items };
+
+    ghost invariant = { λ m. IsTrue (attributes_rise m.items.items) };
+}
+
 impl AttributeMap {
-    pub fn get(&self, key: &AttrKey) -> Option<&Attribute> {
-        match place(self.items.as_slice(), key) {
-            Ok(at) => self.items.get(at),
+    /// The map without attributes.
+    pub(crate) fn empty(alloc: Global) -> AttributeMap
+        ensures { result ≡ fin.empty }
+    {
+        AttributeMap {
+            items: Vec::new(alloc),
+        }
+    }
+
+    pub fn get(&self, key: &AttrKey) -> Option<&Attribute>
+        ensures value { option_map (λ a. a.now.stored) result ≡ fin.get self.now key.now }
+        ensures key { IfSome result (λ a. a.now.key ≡ key.now) }
+    {
+        match place_of(self.items.as_slice(), key) {
+            Ok(at) => Some(&self.items[at]),
             Err(_) => None,
         }
     }
 
     /// The attributes, in order of their keys.
-    pub fn iter(&self) -> Attributes<'_> {
+    pub fn iter(&self) -> Attributes<'_>
+        ensures { result ≡ fin.entries self.now }
+    {
         Attributes {
             rest: self.items.iter(),
         }
     }
 
-    pub fn try_clone(&self, alloc: Global) -> Result<AttributeMap, Memory> {
+    pub fn try_clone(&self, alloc: Global) -> Result<AttributeMap, Memory>
+        ensures { IfOk result (λ m. m ≡ self.now) }
+    {
         let mut items = Vec::with_capacity(alloc, self.items.len())?;
         for attribute in self.items.as_slice() {
             items.push(attribute.try_clone(alloc)?)?;
@@ -72,46 +132,23 @@ impl AttributeMap {
         Ok(AttributeMap { items })
     }
 
-    /// The map of attributes that stand in order of their keys, none twice.
-    pub(crate) fn from_sorted(items: Vec<Attribute>) -> AttributeMap {
-        AttributeMap { items }
-    }
-
-    /// Adds each pair of an RDN that isn't there by key; a new attribute is spelled as in the RDN.
-    pub(crate) fn gain(
-        &mut self,
-        alloc: Global,
-        schema: &Schema,
-        rdn: &Rdn,
-    ) -> Result<(), EntryFault> {
-        for pair in rdn.pairs() {
-            let description = Description::read(alloc, schema, pair.0.as_slice())?;
-            let key = schema.value_key(alloc, description.key(), pair.1.as_slice())?;
-            let bytes = pair.1.try_clone(alloc)?;
-            self.add(alloc, description, key, bytes)?;
-        }
-        Ok(())
-    }
-
-    fn add(
+    /// Adds a value. A new attribute is spelled as in `description`.
+    ///
+    /// # Errors
+    ///
+    /// `Twice` where the value's key is there, and want of memory.
+    pub(crate) fn add(
         &mut self,
         alloc: Global,
         description: Description,
         key: ValueKey,
         bytes: Bytes,
     ) -> Result<(), EntryFault> {
-        match place(self.items.as_slice(), description.key()) {
-            Ok(at) => {
-                let attribute = &mut self.items[at];
-                if attribute.has(&key) {
-                    return Ok(());
-                }
-                attribute.values.insert(key, bytes)
-            }
+        match place_of(self.items.as_slice(), description.key()) {
+            Ok(at) => self.items[at].add(key, bytes),
             Err(at) => {
-                let Ok(values) = ValueMap::one(alloc, key, bytes) else {
-                    return Err(EntryFault::Memory);
-                };
+                let mut values = ValueMap::empty(alloc);
+                values.insert(key, bytes)?;
                 self.items.insert(
                     at,
                     Attribute {
@@ -124,15 +161,66 @@ impl AttributeMap {
         }
     }
 
+    /// Adds a description without values, unless it is there.
+    pub(crate) fn declare(
+        &mut self,
+        alloc: Global,
+        description: &Description,
+    ) -> Result<(), EntryFault> {
+        if let Err(at) = place_of(self.items.as_slice(), description.key()) {
+            let description = description.try_clone(alloc)?;
+            let values = ValueMap::empty(alloc);
+            self.items.insert(
+                at,
+                Attribute {
+                    description,
+                    values,
+                },
+            )?;
+        }
+        Ok(())
+    }
+
+    /// Adds each pair of an RDN that isn't there by key. A new attribute is spelled as in the RDN.
+    pub(crate) fn gain(
+        &mut self,
+        alloc: Global,
+        schema: &Schema,
+        rdn: &Rdn,
+    ) -> Result<(), EntryFault> {
+        for pair in rdn.pairs() {
+            let description = Description::read(alloc, schema, pair.0.as_slice())?;
+            let key = schema.value_key(alloc, description.key(), pair.1.as_slice())?;
+            if !self.has(description.key(), &key) {
+                self.add(alloc, description, key, pair.1.try_clone(alloc)?)?;
+            }
+        }
+        Ok(())
+    }
+
+    /// Whether the attribute has the value.
+    pub(crate) fn has(&self, attr: &AttrKey, value: &ValueKey) -> bool
+        ensures { result ≡ has_value self.now attr.now value.now }
+    {
+        match self.get(attr) {
+            Some(attribute) => attribute.has(value),
+            None => false,
+        }
+    }
+
     /// Whether an attribute of a single type has more than one value.
     pub(crate) fn is_crowded(&self, schema: &Schema) -> bool {
-        self.items.iter().any(|attribute| attribute.values.len() > 1
+        self.items.iter().any(|attribute| attribute.has_many()
             && schema.single(attribute.description.key()))
     }
 }
 
 /// Where the attribute with this key stands, or where it would be put.
-fn place(items: &[Attribute], key: &AttrKey) -> Result<usize, usize> {
+fn place_of(items: &[Attribute], key: &AttrKey) -> Result<usize, usize>
+    requires { IsTrue (attributes_rise items.now) }
+    ensures range { IsSearchInRange result (length items.now) }
+    ensures place { result ≡ place attr_cmp key.now (map (λ attribute. (attribute_pair attribute).0) items.now) }
+{
     items.binary_search_by(|attribute| attribute.description.key().cmp(key))
 }
 
@@ -142,8 +230,28 @@ pub struct Attributes<'a> {
     rest: slice::Iter<'a, Attribute>,
 }
 
+impl<'a> Model for Attributes<'a> {
+    ghost use Rattle.std.specs.Prelude.{List, map};
+    ghost use Rattle.std.specs.Slice.Iter.{iter_rest};
+    ghost use Rattle.dir_names.specs.Attr.{Attr};
+    ghost use Rattle.std.specs.Coded.{coded_list, coded×};
+    ghost use Rattle.dir_tree.specs.Content.{Stored, attr_code, stored_code, attribute_pair};
+
+    ghost Value = { List (Attr × Stored) };
+
+    ghost coded = { coded_list (coded× attr_code stored_code) };
+
+    ghost view = { λ s. map attribute_pair (iter_rest s.rest) };
+}
+
 impl<'a> Iterator for Attributes<'a> {
+    ghost use Rattle.std.specs.Iterator.{YieldsFirstBy, item_count};
+
     type Item = (&'a AttrKey, &'a Attribute);
+
+    ghost next_gives = { YieldsFirstBy (λ item. (item.0.now, item.1.now.stored)) (λ rest. rest) };
+
+    ghost remaining = { item_count (λ rest. rest) };
 
     fn next(&mut self) -> Option<(&'a AttrKey, &'a Attribute)> {
         let attribute = self.rest.next()?;

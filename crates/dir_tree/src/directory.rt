@@ -16,7 +16,7 @@ pub trait Directory {
     fn replace(&mut self, key: &DnKey, entry: Entry) -> Entry;
 
     /// Takes out the entry at a key that is there and has no child.
-    fn remove_leaf(&mut self, key: &DnKey) -> Entry;
+    fn remove_leaf(&mut self, key: &DnKey) -> Option<Entry>;
 
     /// Puts an entry at a free key, which is the suffix or has its parent in the map.
     ///

@@ -1,8 +1,14 @@
+ghost use Rattle.std.specs.Prelude.{◌≡◌, IfOk, IfSome, option_copied};
+ghost use Rattle.std.specs.Option.{option_map};
+ghost use Rattle.std.specs.FinMap as fin;
+ghost use Rattle.dir_tree.specs.Content.{has_value};
+
 use crate::EntryFault;
 use crate::attributes::{Attribute, AttributeMap, Attributes};
 use crate::lines::attributes_of;
 use dir_names::{AttrKey, Dn, Lines, Memory, Rdn, RdnKey, Schema, ValueKey};
 use std::alloc::Global;
+use std::marker::Model;
 
 /// An entry: its own name as spelled, and its attributes (RFC 4512, section 2.2). The own name is one
 /// RDN, or for the entry of the suffix the whole suffix, leaf first.
@@ -11,6 +17,16 @@ pub struct Entry {
     own: Vec<Rdn>,
     key: RdnKey,
     attributes: AttributeMap,
+}
+
+impl Model for Entry {
+    ghost use Rattle.dir_tree.specs.Content.{Content, content_code};
+
+    ghost Value = { Content };
+
+    ghost coded = { content_code };
+
+    ghost view = { λ e. record { own = e.own.items; key = e.key; attributes = e.attributes } };
 }
 
 impl Entry {
@@ -44,29 +60,37 @@ impl Entry {
     }
 
     /// The own name as spelled, leaf first: one RDN, or all of the suffix.
-    pub fn own(&self) -> &[Rdn] {
+    pub fn own(&self) -> &[Rdn]
+        ensures { result.now ≡ self.now.own }
+    {
         self.own.as_slice()
     }
 
     /// The attribute with this description key.
-    pub fn attribute(&self, key: &AttrKey) -> Option<&Attribute> {
+    pub fn attribute(&self, key: &AttrKey) -> Option<&Attribute>
+        ensures value { option_map (λ a. a.now.stored) result ≡ fin.get self.now.attributes key.now }
+        ensures key { IfSome result (λ a. a.now.key ≡ key.now) }
+    {
         self.attributes.get(key)
     }
 
     /// Whether the attribute has the value.
-    pub fn has(&self, attr: &AttrKey, value: &ValueKey) -> bool {
-        match self.attributes.get(attr) {
-            Some(attribute) => attribute.has(value),
-            None => false,
-        }
+    pub fn has(&self, attr: &AttrKey, value: &ValueKey) -> bool
+        ensures { result ≡ has_value self.now.attributes attr.now value.now }
+    {
+        self.attributes.has(attr, value)
     }
 
     /// The attributes, in order of their keys.
-    pub fn attributes(&self) -> Attributes<'_> {
+    pub fn attributes(&self) -> Attributes<'_>
+        ensures { result ≡ fin.entries self.now.attributes }
+    {
         self.attributes.iter()
     }
 
-    pub fn try_clone(&self, alloc: Global) -> Result<Entry, Memory> {
+    pub fn try_clone(&self, alloc: Global) -> Result<Entry, Memory>
+        ensures { IfOk result (λ e. e ≡ self.now) }
+    {
         let mut own = Vec::with_capacity(alloc, self.own.len())?;
         for rdn in self.own.as_slice() {
             let Ok(rdn) = rdn.try_clone(alloc) else {

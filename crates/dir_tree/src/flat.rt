@@ -47,8 +47,8 @@ impl Directory for FlatDirectory {
         }
     }
 
-    fn remove_leaf(&mut self, key: &DnKey) -> Entry {
-        self.entries.remove(key).unwrap()
+    fn remove_leaf(&mut self, key: &DnKey) -> Option<Entry> {
+        self.entries.remove(key)
     }
 
     fn insert(&mut self, key: &DnKey, entry: Entry) -> Result<(), Entry> {

@@ -1,8 +1,11 @@
 use crate::EntryFault;
-use crate::attributes::{Attribute, AttributeMap};
-use crate::values::Unsorted;
+use crate::attributes::AttributeMap;
 use dir_names::{Bytes, Description, Lines, Schema, ValueKey};
 use std::alloc::Global;
+
+/// From this number on the lines of an entry are put in order before they are added, so that each
+/// finds its place at the end.
+const MANY: usize = 64;
 
 /// A line of an entry with the key of its value.
 #[derive(Debug, Drop)]
@@ -23,13 +26,20 @@ pub(crate) fn attributes_of(
     lines: Lines,
 ) -> Result<AttributeMap, EntryFault> {
     let mut keyed = keyed_lines(alloc, schema, lines)?;
-    keyed.sort_by(|a, b| a.description.key().cmp(b.description.key()))?;
-    let groups = grouped(alloc, keyed)?;
-    let mut attributes = Vec::with_capacity(alloc, groups.len())?;
-    for (description, values) in groups {
-        attributes.push(Attribute::with(description, values.sorted()?))?;
+    let mut attributes = AttributeMap::empty(alloc);
+    if keyed.len() > MANY {
+        declare_in_order(alloc, &mut attributes, &mut keyed)?;
+        keyed.sort_by(|a, b| a.key.cmp(&b.key))?;
     }
-    Ok(AttributeMap::from_sorted(attributes))
+    for line in keyed {
+        let KeyedLine {
+            description,
+            key,
+            bytes,
+        } = line;
+        attributes.add(alloc, description, key, bytes)?;
+    }
+    Ok(attributes)
 }
 
 fn keyed_lines(alloc: Global, schema: &Schema, lines: Lines) -> Result<Vec<KeyedLine>, EntryFault> {
@@ -46,22 +56,16 @@ fn keyed_lines(alloc: Global, schema: &Schema, lines: Lines) -> Result<Vec<Keyed
     Ok(keyed)
 }
 
-/// Neighbouring lines of one description key, put together.
-fn grouped(
+/// Adds each description of the lines without values, in the order of their keys, spelled as in its
+/// first line.
+fn declare_in_order(
     alloc: Global,
-    lines: Vec<KeyedLine>,
-) -> Result<Vec<(Description, Unsorted)>, EntryFault> {
-    let mut groups: Vec<(Description, Unsorted)> = Vec::with_capacity(alloc, lines.len())?;
-    for line in lines {
-        let KeyedLine {
-            description,
-            key,
-            bytes,
-        } = line;
-        match groups.last_mut() {
-            Some(last) if last.0.key() == description.key() => last.1.push(key, bytes)?,
-            _ => groups.push((description, Unsorted::one(alloc, key, bytes)?))?,
-        }
+    attributes: &mut AttributeMap,
+    lines: &mut Vec<KeyedLine>,
+) -> Result<(), EntryFault> {
+    lines.sort_by(|a, b| a.description.key().cmp(b.description.key()))?;
+    for line in lines.as_slice() {
+        attributes.declare(alloc, &line.description)?;
     }
-    Ok(groups)
+    Ok(())
 }

@@ -1,0 +1,61 @@
+-- ASCII takes a short way through folding.
+use Rattle.std.proofs.Common.{◌≡◌, ℕ, ◌<◌, ◌≤◌, Bool, true, false, List, length, get_or, Ok, Err, refl, ap, sym, ◌∙◌, Decides, MatchBool, arith}
+use Rattle.std.specs.Prelude.{nat_lt, IsAscii, IsUtf8, chars, encode_utf8_all}
+use Rattle.std.specs.Str.{IsNotAscii, is_utf8, str_to_ascii_lowercase}
+use Rattle.std.specs.Char.{to_ascii_lowercase}
+use Rattle.std.specs.List.{All, list_all}
+use Rattle.std.proofs.lemmas.Str.{chars-IsAscii, encodes-IsAscii, IsUtf8-from_ascii, is_utf8-from_IsUtf8, IsUtf8-from_is_utf8, chars_from_encodes, encodes-chars}
+use Rattle.std.proofs.lemmas.Str.Ascii.{IsAscii-from_all, All-from_ascii, IsAscii-map, lowercase_ascii}
+use Rattle.std.proofs.lemmas.Bool.Decides.{Decides-by_and, Decides-ltb}
+use Rattle.caseless.specs.Caseless.{default_case_fold}
+use Rattle.caseless.proofs.CaselessLemmas.{default_case_fold-ascii}
+use Rattle.unicode_normalization.specs.declared.Form.TheVariants.{Nfkc}
+use Rattle.unicode_normalization.specs.Forms.{nfkc}
+use Rattle.unicode_normalization.proofs.FormsLemmas.{normalize-ascii}
+use Rattle.dir_names.specs.declared.fault.NameFault.TheVariants.{BadValue}
+use Rattle.dir_names.specs.ValueKeys.{folded, is_ascii, key_if}
+
+pub is_ascii_decides : (text : List ℕ) → Decides (is_ascii text) (All (λ b. b < 128) text)
+is_ascii_decides text = Decides-by_and (λ b. nat_lt b 128) (λ b. b < 128) is_ascii (λ b. Decides-ltb b 128) refl (λ _ _. refl) text
+
+pub ascii_from_test : (text : List ℕ) → is_ascii text ≡ true → IsAscii text
+ascii_from_test text e = IsAscii-from_all text ((is_ascii_decides text).0 e)
+
+-- what std's test says
+pub same_test : (text : List ℕ) (r : Bool) → MatchBool r (IsAscii text) (IsNotAscii text) → r ≡ is_ascii text
+same_test text true h = sym ((is_ascii_decides text).1 (All-from_ascii text h))
+same_test text false h = by (is_ascii text) refl
+  where
+    by : (t : Bool) → is_ascii text ≡ t → false ≡ t
+    by true e = let low = ascii_from_test text e h.0 in absurd (omega (arith, low, h.1))
+    by false e = refl
+
+pub ascii_utf8 : (text : List ℕ) → IsAscii text → is_utf8 text ≡ true
+ascii_utf8 text a = is_utf8-from_IsUtf8 text (IsUtf8-from_ascii text a)
+
+pub folded-ascii : (text : List ℕ) → IsAscii text → folded text ≡ str_to_ascii_lowercase text
+folded-ascii text a =
+    let small = IsAscii-map to_ascii_lowercase text lowercase_ascii a in
+    ap (λ cs. encode_utf8_all (nfkc (default_case_fold cs))) (chars-IsAscii text a)
+    ∙ ap (λ cs. encode_utf8_all (nfkc cs)) (default_case_fold-ascii text (All-from_ascii text a))
+    ∙ ap encode_utf8_all (normalize-ascii Nfkc (str_to_ascii_lowercase text) (All-from_ascii _ small))
+    ∙ encodes-IsAscii (str_to_ascii_lowercase text) small
+
+-- what the two calls give, one after the other
+pub folded_by : (text small whole : List ℕ) → IsUtf8 small → small ≡ encode_utf8_all (default_case_fold (chars text)) → whole ≡ encode_utf8_all (nfkc (chars small)) → whole ≡ folded text
+folded_by text small whole u e f = f ∙ ap (λ cs. encode_utf8_all (nfkc cs)) (sym (chars_from_encodes (default_case_fold (chars text)) small u (sym e)))
+
+pub ascii_key : (text : List ℕ) → is_ascii text ≡ true → Ok (str_to_ascii_lowercase text) ≡ key_if (is_utf8 text) (folded text)
+ascii_key text e =
+    let a = ascii_from_test text e in
+    ap Ok (sym (folded-ascii text a)) ∙ ap (λ b. key_if b (folded text)) (sym (ascii_utf8 text a))
+
+pub utf8_key : (text : List ℕ) → IsUtf8 text → Ok (folded text) ≡ key_if (is_utf8 text) (folded text)
+utf8_key text u = ap (λ b. key_if b (folded text)) (sym (is_utf8-from_IsUtf8 text u))
+
+pub no_key : (text : List ℕ) → ¬ (IsUtf8 text) → key_if (is_utf8 text) (folded text) ≡ Err BadValue
+no_key text n = by (is_utf8 text) refl
+  where
+    by : (b : Bool) → is_utf8 text ≡ b → key_if b (folded text) ≡ Err BadValue
+    by true e = absurd (n (IsUtf8-from_is_utf8 text e))
+    by false e = refl

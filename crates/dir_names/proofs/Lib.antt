@@ -1,0 +1,9 @@
+pub mod Compared
+pub mod CutLemmas
+pub mod FindLemmas
+pub mod AsciiFolding
+pub mod Maps
+pub mod OptionLemmas
+pub mod Pairs
+pub mod Placed
+pub mod Tidy

@@ -1,0 +1,14 @@
+pub mod Attr
+pub mod Covers
+pub mod Cut
+pub mod Described
+pub mod Descriptions
+pub mod Keys
+pub mod Names
+pub mod Orders
+pub mod Outcome
+pub mod Sorted
+pub mod Spaces
+pub mod Table
+pub mod ValueKeys
+pub mod Values
