@@ -79,3 +79,9 @@ piece_first rest text after e more = ap (λ t. t ++ more) (cut_at-text 10 rest t
 
 pub length-piece : (rest text after : List ℕ) → Some (text, after) ≡ cut_at 10 rest → length after + 1 ≤ length rest
 length-piece rest text after e = omega (arith, ap length (cut_at-text 10 rest text after e).0, length-append text (10 ∷ after))
+
+-- what is left of a piece stays its end
+pub front_more : (piece rest text after : List ℕ) → Some (text, after) ≡ cut_at 10 rest → (front : List ℕ) × (piece ≡ front ++ rest) → (front : List ℕ) × (piece ≡ front ++ after)
+front_more piece rest text after e h =
+    let whole : rest ≡ (text ++ 10 ∷ []) ++ after = (cut_at-text 10 rest text after e).0 ∙ sym (append_assoc text (10 ∷ []) after) in
+    (h.0 ++ (text ++ 10 ∷ []), h.1 ∙ ap (λ t. h.0 ++ t) whole ∙ sym (append_assoc h.0 (text ++ 10 ∷ []) after))

@@ -109,14 +109,14 @@ some_of_long : (partial : List ℕ) → 2097152 < length (without_last 13 partia
 some_of_long [] long = absurd (omega arith)
 some_of_long (x ∷ xs) long = refl
 
-some_of_length : (xs : List ℕ) → 0 < length xs → is_empty xs ≡ false
+pub some_of_length : (xs : List ℕ) → 0 < length xs → is_empty xs ≡ false
 some_of_length [] h = absurd (omega arith)
 some_of_length (x ∷ xs) h = refl
 
 some_of_kept : (partial : List ℕ) → 2097152 < length (without_last 13 partial) → is_empty (without_last 13 partial) ≡ false
 some_of_kept partial long = some_of_length (without_last 13 partial) (omega arith)
 
-ltb-of_lt : (a b : ℕ) → a < b → nat_lt a b ≡ true
+pub ltb-of_lt : (a b : ℕ) → a < b → nat_lt a b ≡ true
 ltb-of_lt a b h = grind (arith, nat_tests)
 
 length-without_last : (xs ys : List ℕ) → length (without_last 13 xs) ≤ length (without_last 13 (xs ++ ys))
@@ -161,7 +161,7 @@ some_of_begins : (b : ℕ) (xs : List ℕ) → begins_with b xs ≡ true → is_
 some_of_begins b [] e = cc
 some_of_begins b (x ∷ xs) e = refl
 
-glued_long : (begun : Bool) (block : List Line) (k n : ℕ) (text next : List ℕ) (rest : List Line) → is_empty text ≡ false → begins_with 32 next ≡ true → 2097153 < length text + length next
+pub glued_long : (begun : Bool) (block : List Line) (k n : ℕ) (text next : List ℕ) (rest : List Line) → is_empty text ≡ false → begins_with 32 next ≡ true → 2097153 < length text + length next
     → parts_from begun block (glue (k, text) (glue (n, next) rest)) ≡ Err LineTooLong ∷ []
 glued_long begun block k n [] next rest some space long = cc
 glued_long begun block k n (a ∷ tail) [] rest some space long = cc
@@ -180,12 +180,17 @@ long_continued begun block last n partial text lacks some space long =
     let still_space : begins_with 32 whole ≡ true = begins_with-without_last 32 partial f.0 (some_of_begins 32 (without_last 13 partial) space) ∙ space in
     rw f.2 (glued_long begun block last.0 n last.1 whole (joined f.1) some still_space (omega (arith, length-without_last partial f.0)))
 
-not_first : (v w : Bool) → (not v && w) ≡ true → v ≡ false
+pub not_first : (v w : Bool) → (not v && w) ≡ true → v ≡ false
 not_first true w e = cc
 not_first false w e = refl
 
 some_of_kept_line : (last : Line) → is_kept (Some last) ≡ true → is_empty last.1 ≡ false
 some_of_kept_line last e = not_first (is_empty last.1) (not (is_long last)) e
+
+pub not_second : (v w : Bool) → (v && not w) ≡ true → w ≡ false
+not_second true true e = cc
+not_second true false e = refl
+not_second false w e = cc
 
 -- ---- the same for a joiner's last line, if there is one, and the text that a check looked at
 
