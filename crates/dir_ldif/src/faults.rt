@@ -58,12 +58,22 @@ pub enum StreamFault {
 }
 
 impl From<AllocError> for StreamFault {
+    ghost use Rattle.std.specs.Prelude.{◌≡◌};
+    ghost use Rattle.dir_ldif.specs.declared.faults.StreamFault.TheVariants.{Memory};
+
+    ghost from_gives = { λ _ e. e ≡ Memory };
+
     fn from(_error: AllocError) -> StreamFault {
         StreamFault::Memory
     }
 }
 
 impl<T: Drop> From<AllocFailed<T>> for StreamFault {
+    ghost use Rattle.std.specs.Prelude.{◌≡◌};
+    ghost use Rattle.dir_ldif.specs.declared.faults.StreamFault.TheVariants.{Memory};
+
+    ghost from_gives = { λ _ e. e ≡ Memory };
+
     fn from(_error: AllocFailed<T>) -> StreamFault {
         StreamFault::Memory
     }
@@ -77,12 +87,22 @@ pub enum Refusal {
 }
 
 impl From<RecordFault> for Refusal {
+    ghost use Rattle.std.specs.Prelude.{◌≡◌};
+    ghost use Rattle.dir_ldif.specs.declared.faults.Refusal.TheVariants.{Fault};
+
+    ghost from_gives = { λ f r. r ≡ Fault f };
+
     fn from(fault: RecordFault) -> Refusal {
         Refusal::Fault(fault)
     }
 }
 
 impl From<NameFault> for Refusal {
+    ghost use Rattle.std.specs.Prelude.{◌≡◌};
+    ghost use Rattle.dir_ldif.specs.Refused.{refusal_of};
+
+    ghost from_gives = { λ f r. r ≡ refusal_of f };
+
     fn from(fault: NameFault) -> Refusal {
         match fault {
             NameFault::Memory => Refusal::Memory,
@@ -92,12 +112,22 @@ impl From<NameFault> for Refusal {
 }
 
 impl From<AllocError> for Refusal {
+    ghost use Rattle.std.specs.Prelude.{◌≡◌};
+    ghost use Rattle.dir_ldif.specs.declared.faults.Refusal.TheVariants.{Memory};
+
+    ghost from_gives = { λ _ r. r ≡ Memory };
+
     fn from(_error: AllocError) -> Refusal {
         Refusal::Memory
     }
 }
 
 impl<T: Drop> From<AllocFailed<T>> for Refusal {
+    ghost use Rattle.std.specs.Prelude.{◌≡◌};
+    ghost use Rattle.dir_ldif.specs.declared.faults.Refusal.TheVariants.{Memory};
+
+    ghost from_gives = { λ _ r. r ≡ Memory };
+
     fn from(_error: AllocFailed<T>) -> Refusal {
         Refusal::Memory
     }

@@ -2,6 +2,7 @@
 #![tactic(auto)]
 
 mod block;
+mod bytes;
 mod calls;
 mod checking;
 mod device;
@@ -13,6 +14,7 @@ mod records;
 mod standard;
 mod tape;
 mod trial;
+mod version;
 mod whole;
 mod writer;
 

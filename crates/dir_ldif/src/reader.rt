@@ -1,9 +1,9 @@
-ghost use Rattle.std.specs.Prelude.{◌≡◌, ◌+◌, ◌-◌, ◌*◌, ◌^◌, ◌<◌, ◌≤◌, vec_len};
+ghost use Rattle.std.specs.Prelude.{◌≡◌, ◌+◌, ◌-◌, ◌*◌, ◌^◌, ◌<◌, ◌≤◌, length, vec_len};
 
 use crate::block::record_of;
 use crate::device::Source;
 use crate::faults::{RecordFault, Refusal, StreamFault};
-use crate::lines::Joiner;
+use crate::lines::{Joiner, Line};
 use crate::records::Record;
 use dir_names::Schema;
 use std::alloc::Global;
@@ -92,6 +92,15 @@ struct Core {
 }
 
 impl Core {
+    ghost use Rattle.std.specs.Prelude.{◌≡◌, ◌+◌, ◌*◌, ◌^◌, ◌<◌, ◌≤◌, ℕ, List, [], Ok, true, false, IfErr, IfNone, IfOk, IfSome, MatchOption, length};
+    ghost use Rattle.std.specs.Io.KnownBytes.{Consumes, IsAtEnd};
+    ghost use Rattle.dir_ldif.specs.declared.reader.Place.TheVariants.{AtEnd, Reading};
+    ghost use Rattle.dir_ldif.specs.Bytes.{is_empty};
+    ghost use Rattle.dir_ldif.specs.Device.{FailsToRead};
+    ghost use Rattle.dir_ldif.specs.Joining.{to_come};
+    ghost use Rattle.dir_ldif.specs.Parts.{Ends, give};
+    ghost use Rattle.dir_ldif.specs.Reading.{Finds, Stops, coming, hand};
+
     fn new(alloc: Global, turns: u64) -> Result<Core, StreamFault>
         requires { turns ≤ MAX_TURNS }
     {
@@ -128,43 +137,59 @@ impl Core {
             Place::AtEnd => return Ok(None),
             Place::Reading => {}
         }
-        self.fill_block(source)?;
-        answer_of(self.alloc, schema, &mut self.joiner)
+        let block = self.next_block(source)?;
+        if block.is_empty() {
+            return Ok(None);
+        }
+        Ok(Some(answer_of(self.alloc, schema, block.as_slice())?))
     }
 
-    /// Reads on to the end of a block that has a line, or to the end of the text.
-    fn fill_block<S: Source>(&mut self, source: &mut S) -> Result<(), StreamFault> {
-        while !self.take_hand()? {
-            if self.turns == 0 {
-                return Err(StreamFault::TooManyTurns);
+    /// The next block, which has no line at the end of the text alone.
+    fn next_block<S: Source>(&mut self, source: &mut S) -> Result<Vec<Line>, StreamFault>
+        requires { self.old.place ≡ Reading }
+        ensures ok { IfOk result (λ block. (bytes : List ℕ)
+            × Consumes (S.left source.old) (S.left source.new) bytes
+            × Finds self.new.place (coming self.old) block.items (coming self.new) bytes (S.left source.new)
+            × (self.new.place ≡ Reading → (self.old.turns ≤ self.new.turns + length bytes) × (is_empty block.items ≡ false))) }
+        ensures err { IfErr result (λ fault. (bytes : List ℕ)
+            × Consumes (S.left source.old) (S.left source.new) bytes
+            × Stops fault self.old self.new bytes (S.left source.new) (S.failures source.old) (S.failures source.new)) }
+        ensures same { S.is_same source.old source.new }
+    {
+        loop {
+            match self.take_hand() {
+                Ok(Some(block)) => return Ok(block),
+                Ok(None) => {}
+                Err(fault) => return Err(fault),
             }
-            self.turns -= 1;
-            let Ok(n) = source.read(self.buffer.as_mut_slice()) else {
-                return Err(StreamFault::Read);
-            };
-            self.at = 0;
-            self.end = n;
-            if n == 0 {
-                self.place = Place::AtEnd;
-                return self.joiner.finish();
+            match self.read_more(source) {
+                Ok(true) => {}
+                Ok(false) => return self.finish(),
+                Err(fault) => return Err(fault),
             }
         }
-        Ok(())
     }
 
-    /// Takes what is in hand. Answers whether a block has ended.
-    fn take_hand(&mut self) -> Result<bool, StreamFault>
-        ensures { self.new.turns ≡ self.old.turns }
+    /// Takes what is in hand, up to the end of a block. Answers that block, if there is one.
+    fn take_hand(&mut self) -> Result<Option<Vec<Line>>, StreamFault>
+        ensures turns { self.new.turns ≡ self.old.turns }
+        ensures place { self.new.place ≡ self.old.place }
+        ensures ok { IfOk result (λ o. MatchOption o
+            ((text : List ℕ) → coming self.old text ≡ to_come self.new.joiner text)
+            (λ block. (text : List ℕ) → coming self.old text ≡ give block.items (coming self.new text))) }
+        ensures none { IfOk result (λ o. IfNone o (self.new.at ≡ self.new.end)) }
+        ensures some { IfOk result (λ o. IfSome o (λ block. is_empty block.items ≡ false)) }
+        ensures err { IfErr result (λ fault. (text : List ℕ) → Ends fault (coming self.old text)) }
     {
         let piece = &self.buffer[self.at..self.end];
         match self.joiner.take_piece(piece) {
-            Ok(Some(rest)) => {
+            Ok(Some((block, rest))) => {
                 self.at = self.end - rest.len();
-                Ok(true)
+                Ok(Some(block))
             }
             Ok(None) => {
                 self.at = self.end;
-                Ok(false)
+                Ok(None)
             }
             Err(fault) => {
                 self.at = self.end;
@@ -172,27 +197,61 @@ impl Core {
             }
         }
     }
+
+    /// Reads the next piece. Answers whether there is one.
+    fn read_more<S: Source>(&mut self, source: &mut S) -> Result<bool, StreamFault>
+        requires { self.old.at ≡ self.old.end }
+        ensures joiner { self.new.joiner ≡ self.old.joiner }
+        ensures place { self.new.place ≡ self.old.place }
+        ensures bytes { Consumes (S.left source.old) (S.left source.new) (hand self.new) }
+        ensures some { result ≡ Ok true → 0 < length (hand self.new) }
+        ensures none { result ≡ Ok false → (hand self.new ≡ []) × IsAtEnd (S.left source.new) }
+        ensures turns { IfOk result (λ _. self.old.turns ≡ self.new.turns + 1) }
+        ensures counts { IfOk result (λ _. S.failures source.new ≡ S.failures source.old) }
+        ensures err { IfErr result (λ fault. (hand self.new ≡ []) × FailsToRead fault self.old.turns (S.failures source.old) (S.failures source.new)) }
+        ensures same { S.is_same source.old source.new }
+    {
+        self.at = 0;
+        self.end = 0;
+        if self.turns == 0 {
+            return Err(StreamFault::TooManyTurns);
+        }
+        self.turns -= 1;
+        match source.read(self.buffer.as_mut_slice()) {
+            Ok(n) => {
+                self.end = n;
+                Ok(n > 0)
+            }
+            Err(_) => Err(StreamFault::Read),
+        }
+    }
+
+    /// Ends the text. Answers the last block.
+    fn finish(&mut self) -> Result<Vec<Line>, StreamFault>
+        requires empty { hand self.old ≡ [] }
+        requires room { self.old.joiner.number + 8192 * self.old.turns + 1 < 2 ^ 62 }
+        ensures place { self.new.place ≡ AtEnd }
+        ensures turns { self.new.turns ≡ self.old.turns }
+        ensures ok { IfOk result (λ block. coming self.old [] ≡ give block.items []) }
+        ensures err { IfErr result (λ fault. Ends fault (coming self.old [])) }
+    {
+        self.place = Place::AtEnd;
+        self.at = 0;
+        self.end = 0;
+        self.joiner.finish()
+    }
 }
 
-/// The answer on the block in hand, if it has a line. The block is empty afterwards.
-fn answer_of(
-    alloc: Global,
-    schema: &Schema,
-    joiner: &mut Joiner,
-) -> Result<Option<Answer>, StreamFault>
-    ensures { joiner.new.number ≡ joiner.old.number }
+/// The answer on a block.
+fn answer_of(alloc: Global, schema: &Schema, block: &[Line]) -> Result<Answer, StreamFault>
+    requires { 0 < length block.now }
 {
-    let Some(first) = joiner.block.first() else {
-        return Ok(None);
-    };
-    let number = first.number;
-    let answer = match record_of(alloc, schema, joiner.block.as_slice()) {
-        Ok(record) => Ok(record),
-        Err(Refusal::Fault(fault)) => Err(fault),
-        Err(Refusal::Memory) => return Err(StreamFault::Memory),
-    };
-    joiner.block.clear();
-    Ok(Some((number, answer)))
+    let number = block[0].number();
+    match record_of(alloc, schema, block) {
+        Ok(record) => Ok((number, Ok(record))),
+        Err(Refusal::Fault(fault)) => Ok((number, Err(fault))),
+        Err(Refusal::Memory) => Err(StreamFault::Memory),
+    }
 }
 
 /// The records of a text, each with the number of its first line, or the text's stream fault alone. A text
@@ -204,15 +263,13 @@ pub fn read_all(alloc: Global, schema: &Schema, text: &[u8]) -> Result<Vec<Answe
     let mut joiner = Joiner::new(alloc);
     let mut answers = Vec::new(alloc);
     let mut rest = text;
-    while let Some(after) = joiner.take_piece(rest)? {
+    while let Some((block, after)) = joiner.take_piece(rest)? {
         rest = after;
-        if let Some(answer) = answer_of(alloc, schema, &mut joiner)? {
-            answers.push(answer)?;
-        }
+        answers.push(answer_of(alloc, schema, block.as_slice())?)?;
     }
-    joiner.finish()?;
-    if let Some(answer) = answer_of(alloc, schema, &mut joiner)? {
-        answers.push(answer)?;
+    let block = joiner.finish()?;
+    if !block.is_empty() {
+        answers.push(answer_of(alloc, schema, block.as_slice())?)?;
     }
     Ok(answers)
 }
