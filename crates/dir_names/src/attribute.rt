@@ -6,6 +6,7 @@ ghost use Rattle.std.specs.Prelude.{◌==◌, [], ◌∷◌, ◌&&◌, not, map,
 ghost use Rattle.std.specs.List.{before_first};
 ghost use Rattle.std.specs.Str.{str_to_ascii_lowercase};
 ghost use Rattle.dir_names.specs.Cut.{behind_first, parts_at, parts_left};
+ghost use Rattle.dir_names.specs.Described.{described_eq, described_eq_laws, partial_described_eq_laws};
 ghost use Rattle.dir_names.specs.Descriptions.{is_digit, is_keychar, is_name, is_decimal, is_number, is_type, is_option, is_reserved, options_read, description_of};
 ghost use Rattle.dir_names.specs.Sorted.{rises, with_member};
 ghost use Rattle.std.specs.List.{list_all, list_any};
@@ -17,6 +18,7 @@ use crate::{Bytes, NameFault, Schema, Texts};
 use std::alloc::Global;
 use std::cmp::Ordering;
 use std::marker::Model;
+use std::rc::Rc;
 
 /// What an attribute description means: the key of its type and the set of its options, in lower
 /// case (RFC 4512, section 2.5).
@@ -122,9 +124,14 @@ fn is_subset(some: &[Bytes], all: &[Bytes]) -> bool
     true
 }
 
-/// An attribute description as it was spelled, with its key.
-#[derive(PartialEq, Eq, Debug, Drop)]
+/// An attribute description as it was spelled, with its key. Copies share its memory.
+#[derive(Debug, Drop)]
 pub struct Description {
+    shared: Rc<Spelled>,
+}
+
+#[derive(Debug, Drop)]
+struct Spelled {
     spelling: Bytes,
     key: AttrKey,
 }
@@ -134,9 +141,7 @@ impl Model for Description {
 
     ghost Value = { Described };
 
-    ghost view = { λ d. record { spelling = d.spelling; key = d.key } };
-
-    ghost inverse = { λ d. record { spelling = d.spelling; key = d.key } };
+    ghost view = { λ d. record { spelling = d.shared.value.spelling; key = d.shared.value.key } };
 }
 
 impl Description {
@@ -159,35 +164,50 @@ impl Description {
         if is_reserved(kind) {
             return Err(NameFault::ReservedName);
         }
+        let spelling = Bytes::copy_of(alloc, text)?;
+        let key = AttrKey {
+            kind: schema.type_key(alloc, kind)?,
+            options,
+        };
         Ok(Description {
-            spelling: Bytes::copy_of(alloc, text)?,
-            key: AttrKey {
-                kind: schema.type_key(alloc, kind)?,
-                options,
-            },
+            shared: Rc::new(alloc, Spelled { spelling, key })?,
         })
     }
 
     pub fn spelling(&self) -> &[u8]
         ensures { result.now ≡ self.now.spelling }
     {
-        self.spelling.as_slice()
+        self.shared.spelling.as_slice()
     }
 
     pub fn key(&self) -> &AttrKey
         ensures { result.now ≡ self.now.key }
     {
-        &self.key
+        &self.shared.key
     }
 
-    pub fn try_clone(&self, alloc: Global) -> Result<Description, NameFault>
+    /// The same description, in the same memory.
+    pub fn try_clone(&self, _alloc: Global) -> Result<Description, NameFault>
         ensures { Gives (λ description. description) result (Ok self.now) }
     {
         Ok(Description {
-            spelling: self.spelling.try_clone(alloc)?,
-            key: self.key.try_clone(alloc)?,
+            shared: self.shared.clone()?,
         })
     }
+}
+
+impl PartialEq for Description {
+    ghost eq = { described_eq };
+
+    ghost laws = { partial_described_eq_laws };
+
+    fn eq(&self, other: &Description) -> bool {
+        self.spelling() == other.spelling() && self.key() == other.key()
+    }
+}
+
+impl Eq for Description {
+    ghost laws = { described_eq_laws };
 }
 
 /// `option`: one or more letters, digits and hyphens (RFC 4512, section 2.5).
