@@ -44,7 +44,11 @@ pub(crate) fn add<D: Directory>(
 
 /// What stands above a new entry in its name: its parent's name as spelled in the directory, or
 /// nothing for the suffix. None where the parent is missing.
-fn name_above<D: Directory>(alloc: Global, directory: &D, key: &DnKey) -> Result<Option<Dn>, Refusal>
+fn name_above<D: Directory>(
+    alloc: Global,
+    directory: &D,
+    key: &DnKey,
+) -> Result<Option<Dn>, Refusal>
     ensures { IfOk result (λ above. is_some above ≡ has_parent (D.state directory.now) key.now) }
 {
     if key == directory.suffix() {

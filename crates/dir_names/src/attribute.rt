@@ -153,6 +153,9 @@ impl Description {
     pub fn read(alloc: Global, schema: &Schema, text: &[u8]) -> Result<Description, NameFault>
         ensures { Gives (λ description. description) result (description_of schema.now text.now) }
     {
+        if let Some(ready) = schema.ready(text) {
+            return ready.try_clone(alloc);
+        }
         if text.len() > MAX_DESCRIPTION {
             return Err(NameFault::BadDescription);
         }
