@@ -13,6 +13,7 @@ pub mod Printing
 pub mod Reading
 pub mod Rows
 pub mod Sorted
+pub mod Sound
 pub mod Spaces
 pub mod Table
 pub mod ValueKeys
