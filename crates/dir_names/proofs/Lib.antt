@@ -13,5 +13,6 @@ pub mod Placed
 pub mod PrintLemmas
 pub mod ReadNames
 pub mod ReadValues
+pub mod SoundLemmas
 pub mod Tidy
 pub mod ValueSteps

@@ -15,7 +15,8 @@ use Rattle.dir_names.specs.Printing.{upper_digit, escaped, is_special, shown, re
 use Rattle.dir_names.specs.Reading.{and_all, all_of, pieces, pair_from, pair_of, rdn_of, name_of, only_rdn, only_rdn_of, value_of}
 use Rattle.dir_names.specs.Sound.{is_pair, is_rdn, is_name}
 use Rattle.dir_names.specs.Spaces.{trimmed_front, trimmed_end}
-use Rattle.dir_names.proofs.ByteFacts.{is_type_char, upper_is_hex, upper_is_plain, high_half, low_half, plain_not_escape, plain_not_plus, plain_not_comma, type_not_equals, type_not_space, type_not_plus, type_not_comma, type_not_escape, letter_is_type, keychar_is_type, digit_is_type, dot_is_type}
+use Rattle.dir_names.proofs.ByteFacts.{is_type_char, upper_is_hex, upper_is_plain, upper_is_ascii, plain_is_ascii, type_is_ascii, high_half, low_half, plain_not_escape, plain_not_plus, plain_not_comma, type_not_equals, type_not_space, type_not_plus, type_not_comma, type_not_escape, letter_is_type, keychar_is_type, digit_is_type, dot_is_type}
+use Rattle.dir_names.specs.ValueKeys.{is_ascii}
 use Rattle.dir_names.proofs.PieceLemmas.{onto}
 use Rattle.dir_names.proofs.ReadValues.{value_back}
 use Rattle.dir_names.proofs.Tidy.{front_other}
@@ -265,3 +266,57 @@ name_back (rdn ∷ rdns) e =
     some_text (name_printed (rdn ∷ rdns)) (rdn ∷ rdns)
     (ap (all_of rdn_of) (join_pieces 44 (rdn_printed rdn) (map rdn_printed rdns) (all_passing 44 rdn_printed is_rdn rdn_passes (rdn ∷ rdns) e))
     ∙ all_back rdn_of rdn_printed is_rdn rdn_back (rdn ∷ rdns) e)
+
+-- ---- a printed name is ASCII
+
+escaped_ascii : (b : ℕ) → b < 256 → is_ascii (escaped b) ≡ true
+escaped_ascii b h = λ i. upper_is_ascii (b / 16) (high_half b h) i && (upper_is_ascii (b % 16) (low_half b) i && true)
+
+shown_ascii : (b : ℕ) → b < 256 → is_ascii (shown b) ≡ true
+shown_ascii b h = by (is_special b) refl
+  where
+    by : (s : Bool) → is_special b ≡ s → is_ascii (cond s (escaped b) (b ∷ [])) ≡ true
+    by true g = escaped_ascii b h
+    by false g = λ i. plain_is_ascii b g i && true
+
+either_ascii : (s : Bool) (b : ℕ) → b < 256 → is_ascii (cond s (escaped b) (shown b)) ≡ true
+either_ascii true b h = escaped_ascii b h
+either_ascii false b h = shown_ascii b h
+
+joined_ascii : (x y : List ℕ) → is_ascii x ≡ true → is_ascii y ≡ true → is_ascii (x ++ y) ≡ true
+joined_ascii x y e f = list_all-append (λ b. nat_lt b 128) x y ∙ (λ i. e i && f i)
+
+byte_low : (b : ℕ) (bs : List ℕ) → list_all (λ x. nat_lt x 256) (b ∷ bs) ≡ true → b < 256
+byte_low b bs e = ltb-true b 256 (and_parts _ _ e).0
+
+rest_ascii : (bs : List ℕ) → list_all (λ b. nat_lt b 256) bs ≡ true → is_ascii (rest_printed bs) ≡ true
+rest_ascii [] e = refl
+rest_ascii (b ∷ []) e = either_ascii (b == 32) b (byte_low b [] e)
+rest_ascii (b ∷ c ∷ bs) e = joined_ascii (shown b) (rest_printed (c ∷ bs)) (shown_ascii b (byte_low b (c ∷ bs) e)) (rest_ascii (c ∷ bs) (and_parts _ _ e).1)
+
+value_ascii : (bs : List ℕ) → list_all (λ b. nat_lt b 256) bs ≡ true → is_ascii (value_printed bs) ≡ true
+value_ascii [] e = refl
+value_ascii (b ∷ bs) e =
+    joined_ascii (cond (b == 32 || b == 35) (escaped b) (shown b)) (rest_printed bs) (either_ascii (b == 32 || b == 35) b (byte_low b bs e)) (rest_ascii bs (and_parts _ _ e).1)
+
+kind_ascii : (kind : List ℕ) → list_all is_type_char kind ≡ true → is_ascii kind ≡ true
+kind_ascii [] e = refl
+kind_ascii (b ∷ bs) e = let parts = and_parts _ _ e in λ i. type_is_ascii b parts.0 i && kind_ascii bs parts.1 i
+
+pair_ascii : (p : SpelledPair) → is_pair p ≡ true → is_ascii (pair_printed p) ≡ true
+pair_ascii p e =
+    let parts = and_parts _ _ e in
+    joined_ascii p.0 (61 ∷ value_printed p.1) (kind_ascii p.0 (type_chars p.0 (and_parts _ _ parts.0).0)) (value_ascii p.1 parts.1)
+
+list_ascii : {A : Type 0} (separator : ℕ) → nat_lt separator 128 ≡ true → (g : A → List ℕ) (sound : A → Bool) → ((x : A) → sound x ≡ true → is_ascii (g x) ≡ true) → (xs : List A) → list_all sound xs ≡ true → is_ascii (join_with_byte separator (map g xs)) ≡ true
+list_ascii separator s g sound each [] e = refl
+list_ascii separator s g sound each (x ∷ []) e = each x (and_parts _ _ e).0
+list_ascii separator s g sound each (x ∷ y ∷ ys) e =
+    let parts = and_parts _ _ e in
+    joined_ascii (g x) (separator ∷ join_with_byte separator (map g (y ∷ ys))) (each x parts.0) (λ i. s i && list_ascii separator s g sound each (y ∷ ys) parts.1 i)
+
+pub rdn_ascii : (rdn : SpelledRdn) → is_rdn rdn ≡ true → is_ascii (rdn_printed rdn) ≡ true
+rdn_ascii rdn e = list_ascii 43 refl pair_printed is_pair pair_ascii rdn (and_parts _ _ e).1
+
+pub name_ascii : (name : SpelledName) → is_name name ≡ true → is_ascii (name_printed name) ≡ true
+name_ascii name e = list_ascii 44 refl rdn_printed is_rdn rdn_ascii name e

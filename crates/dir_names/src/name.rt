@@ -1,10 +1,12 @@
-ghost use Rattle.std.specs.Prelude.{◌≡◌, ◌∷◌, cond, length, nat_le, Ok, Err};
+ghost use Rattle.std.specs.Prelude.{◌≡◌, ◌∷◌, cond, length, nat_le, Ok, Err, Some, IsTrue};
 ghost use Rattle.dir_names.specs.declared.fault.NameFault.TheVariants.{NameLimit};
 ghost use Rattle.dir_names.specs.Names.{name_eq, rdn_eq, name_eq_laws, rdn_eq_laws, partial_name_eq_laws, partial_rdn_eq_laws};
 ghost use Rattle.dir_names.specs.NameKeys.{pair_key, rdn_key, name_key};
 ghost use Rattle.dir_names.specs.Outcome.{Gives};
 ghost use Rattle.dir_names.specs.Printing.{rdn_printed, name_printed};
-ghost use Rattle.dir_names.specs.Reading.{or_bad_dn, name_read, rdn_read};
+ghost use Rattle.dir_names.specs.Reading.{or_bad_dn, only_rdn_of, name_of, name_read, rdn_read};
+ghost use Rattle.dir_names.specs.Sound.{is_rdn, is_name};
+ghost use Rattle.dir_names.specs.ValueKeys.{is_ascii};
 
 use crate::attribute::AttrKey;
 use crate::fault::as_bad_dn;
@@ -29,6 +31,11 @@ impl Model for Rdn {
     ghost Value = { List (List ℕ × List ℕ) };
 
     ghost view = { λ rdn. rdn.pairs.items };
+
+    ghost use Rattle.std.specs.Prelude.{IsTrue};
+    ghost use Rattle.dir_names.specs.Sound.{is_rdn};
+
+    ghost invariant = { λ rdn. IsTrue (is_rdn rdn.pairs.items) };
 }
 
 impl Rdn {
@@ -45,7 +52,9 @@ impl Rdn {
 
     /// The text of the RDN, in ASCII (RFC 4514, section 2).
     pub fn print(&self, alloc: Global) -> Result<Vec<u8>, NameFault>
-        ensures { Gives (λ text. text.items) result (Ok (rdn_printed self.now)) }
+        ensures text { Gives (λ text. text.items) result (Ok (rdn_printed self.now)) }
+        ensures ascii { IsTrue (is_ascii (rdn_printed self.now)) }
+        ensures back { only_rdn_of (rdn_printed self.now) ≡ Some self.now }
     {
         let mut out = Vec::new(alloc);
         print_rdn(self, &mut out)?;
@@ -70,7 +79,8 @@ impl Rdn {
 
     /// The pairs of type and value, as spelled.
     pub fn pairs(&self) -> &[(Bytes, Bytes)]
-        ensures { result.now ≡ self.now }
+        ensures value { result.now ≡ self.now }
+        ensures sound { IsTrue (is_rdn self.now) }
     {
         self.pairs.as_slice()
     }
@@ -86,6 +96,7 @@ impl Rdn {
     }
 
     pub(crate) fn from_pairs(pairs: Vec<(Bytes, Bytes)>) -> Rdn
+        requires { IsTrue (is_rdn pairs.items) }
         ensures { result ≡ pairs.items }
     {
         Rdn { pairs }
@@ -134,6 +145,11 @@ impl Model for Dn {
     ghost Value = { List (List (List ℕ × List ℕ)) };
 
     ghost view = { λ name. name.rdns.items };
+
+    ghost use Rattle.std.specs.Prelude.{IsTrue};
+    ghost use Rattle.dir_names.specs.Sound.{is_name};
+
+    ghost invariant = { λ name. IsTrue (is_name name.rdns.items) };
 }
 
 impl Dn {
@@ -158,7 +174,9 @@ impl Dn {
 
     /// The text of the name, in ASCII (RFC 4514, section 2).
     pub fn print(&self, alloc: Global) -> Result<Vec<u8>, NameFault>
-        ensures { Gives (λ text. text.items) result (Ok (name_printed self.now)) }
+        ensures text { Gives (λ text. text.items) result (Ok (name_printed self.now)) }
+        ensures ascii { IsTrue (is_ascii (name_printed self.now)) }
+        ensures back { name_of (name_printed self.now) ≡ Some self.now }
     {
         let mut out = Vec::new(alloc);
         print_name(self.rdns.as_slice(), &mut out)?;
@@ -184,7 +202,8 @@ impl Dn {
 
     /// The RDNs, leaf first.
     pub fn rdns(&self) -> &[Rdn]
-        ensures { result.now ≡ self.now }
+        ensures value { result.now ≡ self.now }
+        ensures sound { IsTrue (is_name self.now) }
     {
         self.rdns.as_slice()
     }
@@ -199,6 +218,10 @@ impl Dn {
     {
         if rdns.len() > MAX_RDNS {
             return Err(NameFault::NameLimit);
+        }
+        // Each RDN is opened once, so that the proof sees it to be sound.
+        for rdn in rdns.as_slice() {
+            let _pairs = &rdn.pairs;
         }
         Ok(Dn { rdns })
     }
