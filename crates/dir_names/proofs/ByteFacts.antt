@@ -81,3 +81,32 @@ digit_is_type b e = grind (arith, nat_tests)
 
 pub dot_is_type : (b : ℕ) → (b == 46) ≡ true → is_type_char b ≡ true
 dot_is_type b e = grind (arith, nat_tests)
+
+-- ---- signs and digits
+
+pub sign_not_hex : (b : ℕ) → is_escapable b ≡ true → is_hex b ≡ false
+sign_not_hex b e = grind (arith, nat_tests)
+
+pub hex_not_plus : (b : ℕ) → is_hex b ≡ true → (b == 43) ≡ false
+hex_not_plus b e = grind (arith, nat_tests)
+
+pub hex_not_comma : (b : ℕ) → is_hex b ≡ true → (b == 44) ≡ false
+hex_not_comma b e = grind (arith, nat_tests)
+
+pub hex_not_escape : (b : ℕ) → is_hex b ≡ true → (b == 92) ≡ false
+hex_not_escape b e = grind (arith, nat_tests)
+
+pub legal_not_plus : (b : ℕ) → is_refused b ≡ false → (b == 43) ≡ false
+legal_not_plus b e = grind (arith, nat_tests)
+
+pub legal_not_comma : (b : ℕ) → is_refused b ≡ false → (b == 44) ≡ false
+legal_not_comma b e = grind (arith, nat_tests)
+
+pub legal_not_escape : (b : ℕ) → is_refused b ≡ false → (b == 92) ≡ false
+legal_not_escape b e = grind (arith, nat_tests)
+
+pub space_is_legal : is_refused 32 ≡ false
+space_is_legal = refl
+
+pub type_no_equals : (b : ℕ) → is_type_char b ≡ true → not (b == 61) ≡ true
+type_no_equals b e = ap not (type_not_equals b e)

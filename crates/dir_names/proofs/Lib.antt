@@ -14,5 +14,6 @@ pub mod PrintLemmas
 pub mod ReadNames
 pub mod ReadValues
 pub mod SoundLemmas
+pub mod SpellsReads
 pub mod Tidy
 pub mod ValueSteps

@@ -1,5 +1,5 @@
 -- A printed name reads back: no separator stands in a printed part, so that cutting at separators gives the parts.
-use Rattle.std.proofs.Common.{◌≡◌, ℕ, zero, suc, ◌+◌, ◌/◌, ◌%◌, ◌<◌, ◌≤◌, Bool, true, false, cond, not, List, [], ◌∷◌, ◌++◌, map, length, take, drop, Option, Some, None, refl, ap, sym, subst, ◌∙◌, append_assoc, arith}
+use Rattle.std.proofs.Common.{◌≡◌, ℕ, zero, suc, ◌+◌, ◌/◌, ◌%◌, ◌<◌, ◌≤◌, Bool, true, false, cond, not, List, [], ◌∷◌, ◌++◌, map, length, take, drop, Option, Some, None, Ok, Err, refl, ap, sym, subst, ◌∙◌, append_assoc, arith}
 use Rattle.std.specs.Prelude.{◌==◌, ◌&&◌, ◌||◌, nat_lt}
 use Rattle.std.specs.List.{list_all, list_any, join_with_byte, onto_first, slice_split, before_first, after_first, position_or_len}
 use Rattle.std.specs.Option.{option_map}
@@ -8,11 +8,12 @@ use Rattle.std.proofs.lemmas.List.Folds.{list_all-append}
 use Rattle.std.proofs.lemmas.Bool.{ltb-true, lt-ltb, eq-eqb, and_parts}
 use Rattle.std.proofs.lemmas.Bool.Decides.{nat_tests}
 use Rattle.std.proofs.Math.Seq.{take-append_seam}
+use Rattle.dir_names.specs.declared.fault.NameFault.TheVariants.{NameLimit}
 use Rattle.dir_names.specs.Cut.{behind_first, parts_at}
 use Rattle.dir_names.specs.Descriptions.{is_letter, is_digit, is_keychar, is_name as is_type_name, is_decimal, is_number, is_type, is_reserved}
 use Rattle.dir_names.specs.Names.{SpelledPair, SpelledRdn, SpelledName}
 use Rattle.dir_names.specs.Printing.{upper_digit, escaped, is_special, shown, rest_printed, value_printed, pair_printed, rdn_printed, name_printed}
-use Rattle.dir_names.specs.Reading.{and_all, all_of, pieces, pair_from, pair_of, rdn_of, name_of, only_rdn, only_rdn_of, value_of}
+use Rattle.dir_names.specs.Reading.{and_all, all_of, pieces, pair_from, pair_of, rdn_of, name_of, only_rdn, only_rdn_of, value_of, limited, is_small, is_within_limits, name_read, rdn_read}
 use Rattle.dir_names.specs.Sound.{is_pair, is_rdn, is_name}
 use Rattle.dir_names.specs.Spaces.{trimmed_front, trimmed_end}
 use Rattle.dir_names.proofs.ByteFacts.{is_type_char, upper_is_hex, upper_is_plain, upper_is_ascii, plain_is_ascii, type_is_ascii, high_half, low_half, plain_not_escape, plain_not_plus, plain_not_comma, type_not_equals, type_not_space, type_not_plus, type_not_comma, type_not_escape, letter_is_type, keychar_is_type, digit_is_type, dot_is_type}
@@ -129,7 +130,7 @@ type_chars bs e = by (is_type_name bs) refl e
     by true g h = kind_chars bs g
     by false g h = number_chars bs (all_decimal_digits (parts_at 46 bs) (and_parts _ _ h).1)
 
-kind_passes : (separator : ℕ) → ((b : ℕ) → is_type_char b ≡ true → (b == separator) ≡ false) → (bs : List ℕ) → list_all is_type_char bs ≡ true → passes separator false bs ≡ Some false
+pub kind_passes : (separator : ℕ) → ((b : ℕ) → is_type_char b ≡ true → (b == separator) ≡ false) → (bs : List ℕ) → list_all is_type_char bs ≡ true → passes separator false bs ≡ Some false
 kind_passes separator apart [] e = refl
 kind_passes separator apart (b ∷ bs) e =
     let parts = and_parts _ _ e in
@@ -205,7 +206,7 @@ cut_kind kind value e =
     behind [] = refl
     behind (b ∷ bs) = ap (λ n. drop n (b ∷ bs ++ 61 ∷ value)) (let same : suc (length bs) + 1 ≡ suc (length bs + 1) = omega arith in same) ∙ behind bs
 
-untouched : (kind : List ℕ) → list_all is_type_char kind ≡ true → trimmed_end (trimmed_front kind) ≡ kind
+pub untouched : (kind : List ℕ) → list_all is_type_char kind ≡ true → trimmed_end (trimmed_front kind) ≡ kind
 untouched [] e = refl
 untouched (b ∷ bs) e =
     let parts = and_parts _ _ e in
@@ -256,7 +257,7 @@ pub only_rdn_back : (rdn : SpelledRdn) → is_rdn rdn ≡ true → only_rdn_of (
 only_rdn_back rdn e = ap only_rdn (join_pieces 44 (rdn_printed rdn) [] (rdn_passes rdn e, tt)) ∙ rdn_back rdn e
 
 -- a text with RDNs is not empty
-some_text : (text : List ℕ) (rdns : SpelledName) → all_of rdn_of (pieces 44 false text) ≡ Some rdns → name_of text ≡ Some rdns
+pub some_text : (text : List ℕ) (rdns : SpelledName) → all_of rdn_of (pieces 44 false text) ≡ Some rdns → name_of text ≡ Some rdns
 some_text [] rdns e = absurd (cc)
 some_text (b ∷ bs) rdns e = e
 
@@ -320,3 +321,11 @@ rdn_ascii rdn e = list_ascii 43 refl pair_printed is_pair pair_ascii rdn (and_pa
 
 pub name_ascii : (name : SpelledName) → is_name name ≡ true → is_ascii (name_printed name) ≡ true
 name_ascii name e = list_ascii 44 refl rdn_printed is_rdn rdn_ascii name e
+
+-- ---- within the limits
+
+pub name_read_back : (name : SpelledName) → is_name name ≡ true → is_within_limits name ≡ true → name_read (name_printed name) ≡ Ok name
+name_read_back name e w = ap (limited is_within_limits) (name_back name e) ∙ ap (λ b. cond b (Ok name) (Err NameLimit)) w
+
+pub rdn_read_back : (rdn : SpelledRdn) → is_rdn rdn ≡ true → is_small rdn ≡ true → rdn_read (rdn_printed rdn) ≡ Ok rdn
+rdn_read_back rdn e w = ap (limited is_small) (only_rdn_back rdn e) ∙ ap (λ b. cond b (Ok rdn) (Err NameLimit)) w

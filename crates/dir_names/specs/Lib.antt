@@ -15,6 +15,7 @@ pub mod Rows
 pub mod Sorted
 pub mod Sound
 pub mod Spaces
+pub mod Spells
 pub mod Table
 pub mod ValueKeys
 pub mod Values
