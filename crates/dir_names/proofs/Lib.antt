@@ -13,6 +13,7 @@ pub mod Placed
 pub mod PrintLemmas
 pub mod ReadNames
 pub mod ReadValues
+pub mod ReadsSpells
 pub mod SoundLemmas
 pub mod SpellsReads
 pub mod Tidy

@@ -1,10 +1,12 @@
-ghost use Rattle.std.specs.Prelude.{◌≡◌, ◌∷◌, cond, length, nat_le, Ok, Err, Some, IsTrue};
-ghost use Rattle.dir_names.specs.declared.fault.NameFault.TheVariants.{NameLimit};
+ghost use Rattle.std.specs.Prelude.{◌≡◌, ◌∷◌, cond, length, nat_le, Ok, Err, Some, IsTrue, IsFalse, IfOk, IsErrOf};
+ghost use Rattle.dir_names.specs.declared.fault.NameFault.TheVariants.{BadDn, NameLimit};
 ghost use Rattle.dir_names.specs.Names.{name_eq, rdn_eq, name_eq_laws, rdn_eq_laws, partial_name_eq_laws, partial_rdn_eq_laws};
 ghost use Rattle.dir_names.specs.NameKeys.{pair_key, rdn_key, name_key};
 ghost use Rattle.dir_names.specs.Outcome.{Gives};
 ghost use Rattle.dir_names.specs.Printing.{rdn_printed, name_printed};
-ghost use Rattle.dir_names.specs.Reading.{or_bad_dn, only_rdn_of, name_of, name_read, rdn_read};
+ghost use Rattle.dir_names.specs.Reading.{or_bad_dn, only_rdn_of, name_of, name_read, rdn_read, is_within_limits};
+ghost use Rattle.dir_names.specs.Spells.{Spells};
+ghost use Rattle.dir_names.specs.Names.{SpelledName};
 ghost use Rattle.dir_names.specs.Sound.{is_rdn, is_name};
 ghost use Rattle.dir_names.specs.ValueKeys.{is_ascii};
 
@@ -160,14 +162,20 @@ impl Dn {
     /// `BadDn` where the text is no name; then `NameLimit` where it has more than 64 RDNs or one that
     /// prints to more than 4,096 bytes.
     pub fn read(alloc: Global, text: &[u8]) -> Result<Dn, NameFault>
-        ensures { Gives (λ name. name) result (name_read text.now) }
+        ensures read { Gives (λ name. name) result (name_read text.now) }
+        ensures spelled { IfOk result (λ name. Spells text.now name × IsTrue (is_within_limits name)) }
+        ensures no_name { IsErrOf result BadDn → (name : SpelledName) → Spells text.now name → ⊥ }
+        ensures past_limits { IsErrOf result NameLimit → (name : SpelledName) × Spells text.now name × IsFalse (is_within_limits name) }
     {
         read_name(alloc, text)
     }
 
     /// The same as `read`, for stored values.
     pub fn read_text(alloc: Global, text: &[u8]) -> Result<Dn, NameFault>
-        ensures { Gives (λ name. name) result (name_read text.now) }
+        ensures read { Gives (λ name. name) result (name_read text.now) }
+        ensures spelled { IfOk result (λ name. Spells text.now name × IsTrue (is_within_limits name)) }
+        ensures no_name { IsErrOf result BadDn → (name : SpelledName) → Spells text.now name → ⊥ }
+        ensures past_limits { IsErrOf result NameLimit → (name : SpelledName) × Spells text.now name × IsFalse (is_within_limits name) }
     {
         Dn::read(alloc, text)
     }
@@ -177,6 +185,7 @@ impl Dn {
         ensures text { Gives (λ text. text.items) result (Ok (name_printed self.now)) }
         ensures ascii { IsTrue (is_ascii (name_printed self.now)) }
         ensures back { name_of (name_printed self.now) ≡ Some self.now }
+        ensures spells { Spells (name_printed self.now) self.now }
     {
         let mut out = Vec::new(alloc);
         print_name(self.rdns.as_slice(), &mut out)?;
