@@ -16,12 +16,12 @@ use Rattle.dir_names.specs.declared.reading.Step.{Step}
 use Rattle.dir_names.specs.declared.reading.Step.TheVariants.{Space, Byte, Inside, Refused}
 use Rattle.dir_names.specs.Descriptions.{is_type, is_reserved}
 use Rattle.dir_names.specs.Names.{SpelledPair, SpelledRdn, SpelledName}
-use Rattle.dir_names.specs.Reading.{is_hex, hex_of, is_refused, is_escapable, step_of, with_space, added, value_from, value_of, begins_with_hash, and_all, all_of, pieces, pair_from, pair_of, rdn_of, name_of, limited, is_within_limits, name_read}
+use Rattle.dir_names.specs.Reading.{is_hex, hex_of, is_refused, is_escapable, step_of, with_space, added, value_from, value_of, begins_with_hash, and_all, all_of, pieces, pair_from, pair_of, rdn_of, name_of, only_rdn, only_rdn_of, limited, is_small, is_within_limits, name_read, rdn_read}
 use Rattle.dir_names.specs.Spaces.{trimmed_front, trimmed_end}
 use Rattle.dir_names.specs.Spells.{SpellsByte, SpellsBytes, BeginsValue, SpellsPair, SpellsRdn, SpellsRdns, Spells}
 use Rattle.dir_names.specs.Spells.{digits, sign, plain, none, byte, space, trailing, empty, begins, pair, last_pair, pair_before, last_rdn, rdn_before, nothing, rdns}
 use Rattle.dir_names.proofs.PieceLemmas.{onto, some_piece}
-use Rattle.dir_names.proofs.SpellsReads.{spells_reads}
+use Rattle.dir_names.proofs.SpellsReads.{spells_reads, only_rdn_reads}
 
 -- ---- values
 
@@ -298,3 +298,45 @@ module _ (text : List ℕ) where
   answer_past (Err BadValue) g e = absurd (cc)
   answer_past (Err BadDn) g e = absurd (cc)
   answer_past (Err Memory) g e = absurd (cc)
+
+-- ---- one RDN
+
+pub reads_only_rdn : (text : List ℕ) (rdn : SpelledRdn) → only_rdn_of text ≡ Some rdn → SpellsRdn text rdn
+reads_only_rdn text rdn e = by (pieces 44 false text) (pieces_join 44 false text) e
+  where
+    by : (ps : List (List ℕ)) → join_with_byte 44 ps ≡ text → only_rdn ps ≡ Some rdn → SpellsRdn text rdn
+    by [] j f = absurd (cc)
+    by (p ∷ []) j f = subst (λ t. SpellsRdn t rdn) j (reads_rdn p rdn f)
+    by (p ∷ q ∷ ps) j f = absurd (cc)
+
+module _ (text : List ℕ) where
+  pub rdn_spelled : (r : Result SpelledRdn NameFault) → Gives (λ rdn. rdn) r (rdn_read text) → IfOk r (λ rdn. SpellsRdn text rdn × (is_small rdn ≡ true))
+  rdn_spelled (Ok rdn) g = let w = limited_ok is_small (only_rdn_of text) rdn g in (reads_only_rdn text rdn w.0, w.1)
+  rdn_spelled (Err e) g = tt
+
+  none_spelled : rdn_read text ≡ Err BadDn → (rdn : SpelledRdn) → SpellsRdn text rdn → ⊥
+  none_spelled e rdn s =
+      let none = limited_bad is_small (only_rdn_of text) e in
+      let some = only_rdn_reads text rdn s in
+      cc
+
+  pub rdn_no_name : (r : Result SpelledRdn NameFault) → Gives (λ rdn. rdn) r (rdn_read text) → r ≡ Err BadDn → (rdn : SpelledRdn) → SpellsRdn text rdn → ⊥
+  rdn_no_name (Ok rdn) g e = absurd (cc)
+  rdn_no_name (Err BadDn) g e = none_spelled g
+  rdn_no_name (Err BadDescription) g e = absurd (cc)
+  rdn_no_name (Err ReservedName) g e = absurd (cc)
+  rdn_no_name (Err BadValue) g e = absurd (cc)
+  rdn_no_name (Err NameLimit) g e = absurd (cc)
+  rdn_no_name (Err Memory) g e = absurd (cc)
+
+  rdn_large : rdn_read text ≡ Err NameLimit → (rdn : SpelledRdn) × SpellsRdn text rdn × (is_small rdn ≡ false)
+  rdn_large e = let w = limited_past is_small (only_rdn_of text) e in (w.0, reads_only_rdn text w.0 w.1, w.2)
+
+  pub rdn_past : (r : Result SpelledRdn NameFault) → Gives (λ rdn. rdn) r (rdn_read text) → r ≡ Err NameLimit → (rdn : SpelledRdn) × SpellsRdn text rdn × (is_small rdn ≡ false)
+  rdn_past (Ok rdn) g e = absurd (cc)
+  rdn_past (Err NameLimit) g e = rdn_large g
+  rdn_past (Err BadDescription) g e = absurd (cc)
+  rdn_past (Err ReservedName) g e = absurd (cc)
+  rdn_past (Err BadValue) g e = absurd (cc)
+  rdn_past (Err BadDn) g e = absurd (cc)
+  rdn_past (Err Memory) g e = absurd (cc)

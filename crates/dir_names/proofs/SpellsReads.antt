@@ -13,7 +13,7 @@ use lib.Dec.{eqb-suc-zero}
 use Rattle.dir_names.specs.Cut.{behind_first}
 use Rattle.dir_names.specs.Descriptions.{is_type, is_reserved}
 use Rattle.dir_names.specs.Names.{SpelledPair, SpelledRdn, SpelledName}
-use Rattle.dir_names.specs.Reading.{is_hex, hex_of, is_refused, is_escapable, with_space, added, value_from, value_of, begins_with_hash, and_all, all_of, pieces, pair_from, pair_of, rdn_of, name_of}
+use Rattle.dir_names.specs.Reading.{is_hex, hex_of, is_refused, is_escapable, with_space, added, value_from, value_of, begins_with_hash, and_all, all_of, pieces, pair_from, pair_of, rdn_of, name_of, only_rdn, only_rdn_of}
 use Rattle.dir_names.specs.Spaces.{trimmed_front, trimmed_end}
 use Rattle.dir_names.specs.Spells.{SpellsByte, SpellsBytes, BeginsValue, SpellsPair, SpellsRdn, SpellsRdns, Spells}
 use Rattle.dir_names.specs.Spells.{digits, sign, plain}
@@ -181,3 +181,6 @@ rdns_read text name (rdn_before t x rest xs s r) =
 pub spells_reads : (text : List ℕ) (name : SpelledName) → Spells text name → name_of text ≡ Some name
 spells_reads text name nothing = refl
 spells_reads text name (rdns t n s) = some_text t n (rdns_read t n s)
+
+pub only_rdn_reads : (text : List ℕ) (ps : SpelledRdn) → SpellsRdn text ps → only_rdn_of text ≡ Some ps
+only_rdn_reads text ps s = ap only_rdn (one_piece 44 text (rdn_no_comma text ps s)) ∙ rdn_reads text ps s

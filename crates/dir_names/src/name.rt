@@ -4,9 +4,9 @@ ghost use Rattle.dir_names.specs.Names.{name_eq, rdn_eq, name_eq_laws, rdn_eq_la
 ghost use Rattle.dir_names.specs.NameKeys.{pair_key, rdn_key, name_key};
 ghost use Rattle.dir_names.specs.Outcome.{Gives};
 ghost use Rattle.dir_names.specs.Printing.{rdn_printed, name_printed};
-ghost use Rattle.dir_names.specs.Reading.{or_bad_dn, only_rdn_of, name_of, name_read, rdn_read, is_within_limits};
-ghost use Rattle.dir_names.specs.Spells.{Spells};
-ghost use Rattle.dir_names.specs.Names.{SpelledName};
+ghost use Rattle.dir_names.specs.Reading.{or_bad_dn, only_rdn_of, name_of, name_read, rdn_read, is_small, is_within_limits};
+ghost use Rattle.dir_names.specs.Spells.{Spells, SpellsRdn};
+ghost use Rattle.dir_names.specs.Names.{SpelledRdn, SpelledName};
 ghost use Rattle.dir_names.specs.Sound.{is_rdn, is_name};
 ghost use Rattle.dir_names.specs.ValueKeys.{is_ascii};
 
@@ -47,7 +47,10 @@ impl Rdn {
     ///
     /// `BadDn` where the text is none, `NameLimit` where it prints to more than 4,096 bytes.
     pub fn read(alloc: Global, text: &[u8]) -> Result<Rdn, NameFault>
-        ensures { Gives (λ rdn. rdn) result (rdn_read text.now) }
+        ensures read { Gives (λ rdn. rdn) result (rdn_read text.now) }
+        ensures spelled { IfOk result (λ rdn. SpellsRdn text.now rdn × IsTrue (is_small rdn)) }
+        ensures no_name { IsErrOf result BadDn → (rdn : SpelledRdn) → SpellsRdn text.now rdn → ⊥ }
+        ensures past_limits { IsErrOf result NameLimit → (rdn : SpelledRdn) × SpellsRdn text.now rdn × IsFalse (is_small rdn) }
     {
         read_one_rdn(alloc, text)
     }
@@ -57,6 +60,7 @@ impl Rdn {
         ensures text { Gives (λ text. text.items) result (Ok (rdn_printed self.now)) }
         ensures ascii { IsTrue (is_ascii (rdn_printed self.now)) }
         ensures back { only_rdn_of (rdn_printed self.now) ≡ Some self.now }
+        ensures spells { SpellsRdn (rdn_printed self.now) self.now }
     {
         let mut out = Vec::new(alloc);
         print_rdn(self, &mut out)?;
