@@ -340,3 +340,14 @@ module _ (text : List ℕ) where
   rdn_past (Err BadValue) g e = absurd (cc)
   rdn_past (Err BadDn) g e = absurd (cc)
   rdn_past (Err Memory) g e = absurd (cc)
+
+-- ---- and what the grammar relates, within the limits, is answered
+
+within : {A : Type 0} (is_within : A → Bool) (o : Option A) (x : A) → o ≡ Some x → is_within x ≡ true → limited is_within o ≡ Ok x
+within is_within o x e w = ap (limited is_within) e ∙ ap (λ b. cond b (Ok x) (Err NameLimit)) w
+
+pub name_exact : (text : List ℕ) (r : Result SpelledName NameFault) → Gives (λ name. name) r (name_read text) → (name : SpelledName) → Spells text name → is_within_limits name ≡ true → Gives (λ name. name) r (Ok name)
+name_exact text r g name s w = subst (λ (a : Result SpelledName NameFault). Gives (λ (n : SpelledName). n) r a) (within is_within_limits (name_of text) name (spells_reads text name s) w) g
+
+pub rdn_exact : (text : List ℕ) (r : Result SpelledRdn NameFault) → Gives (λ rdn. rdn) r (rdn_read text) → (rdn : SpelledRdn) → SpellsRdn text rdn → is_small rdn ≡ true → Gives (λ rdn. rdn) r (Ok rdn)
+rdn_exact text r g rdn s w = subst (λ (a : Result SpelledRdn NameFault). Gives (λ (n : SpelledRdn). n) r a) (within is_small (only_rdn_of text) rdn (only_rdn_reads text rdn s) w) g

@@ -49,6 +49,7 @@ impl Rdn {
     pub fn read(alloc: Global, text: &[u8]) -> Result<Rdn, NameFault>
         ensures read { Gives (λ rdn. rdn) result (rdn_read text.now) }
         ensures spelled { IfOk result (λ rdn. SpellsRdn text.now rdn × IsTrue (is_small rdn)) }
+        ensures exact { (rdn : SpelledRdn) → SpellsRdn text.now rdn → IsTrue (is_small rdn) → Gives (λ r. r) result (Ok rdn) }
         ensures no_name { IsErrOf result BadDn → (rdn : SpelledRdn) → SpellsRdn text.now rdn → ⊥ }
         ensures past_limits { IsErrOf result NameLimit → (rdn : SpelledRdn) × SpellsRdn text.now rdn × IsFalse (is_small rdn) }
     {
@@ -168,6 +169,7 @@ impl Dn {
     pub fn read(alloc: Global, text: &[u8]) -> Result<Dn, NameFault>
         ensures read { Gives (λ name. name) result (name_read text.now) }
         ensures spelled { IfOk result (λ name. Spells text.now name × IsTrue (is_within_limits name)) }
+        ensures exact { (name : SpelledName) → Spells text.now name → IsTrue (is_within_limits name) → Gives (λ n. n) result (Ok name) }
         ensures no_name { IsErrOf result BadDn → (name : SpelledName) → Spells text.now name → ⊥ }
         ensures past_limits { IsErrOf result NameLimit → (name : SpelledName) × Spells text.now name × IsFalse (is_within_limits name) }
     {
@@ -178,6 +180,7 @@ impl Dn {
     pub fn read_text(alloc: Global, text: &[u8]) -> Result<Dn, NameFault>
         ensures read { Gives (λ name. name) result (name_read text.now) }
         ensures spelled { IfOk result (λ name. Spells text.now name × IsTrue (is_within_limits name)) }
+        ensures exact { (name : SpelledName) → Spells text.now name → IsTrue (is_within_limits name) → Gives (λ n. n) result (Ok name) }
         ensures no_name { IsErrOf result BadDn → (name : SpelledName) → Spells text.now name → ⊥ }
         ensures past_limits { IsErrOf result NameLimit → (name : SpelledName) × Spells text.now name × IsFalse (is_within_limits name) }
     {

@@ -1,4 +1,4 @@
-use Rattle.dir_names.proofs.ReadsSpells.{answer_spelled, answer_no_name, answer_past}
+use Rattle.dir_names.proofs.ReadsSpells.{name_exact, answer_spelled, answer_no_name, answer_past}
 use Rattle.dir_names.proofs.name.Dn.read.Goals as goal
 
 pub returns-clause-spelled : goal.returns-clause-spelled
@@ -9,3 +9,6 @@ returns-clause-no_name c = answer_no_name c.args.text.now c.read_name.result c.r
 
 pub returns-clause-past_limits : goal.returns-clause-past_limits
 returns-clause-past_limits c = answer_past c.args.text.now c.read_name.result c.read_name.ensures
+
+pub returns-clause-exact : goal.returns-clause-exact
+returns-clause-exact c = name_exact c.args.text.now c.read_name.result c.read_name.ensures
