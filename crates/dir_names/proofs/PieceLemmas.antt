@@ -17,7 +17,7 @@ onto_more front b [] = refl
 onto_more front b (piece ∷ rest) = ap (λ p. p ∷ rest) (sym (append_assoc front (b ∷ []) piece))
 
 module _ (separator : ℕ) where
-  some_piece : (e : Bool) (text : List ℕ) → pieces separator e text ≡ onto [] (pieces separator e text)
+  pub some_piece : (e : Bool) (text : List ℕ) → pieces separator e text ≡ onto [] (pieces separator e text)
   some_piece e [] = refl
   some_piece e (b ∷ bs) =
       by (not e && (b == separator)) (pieces separator (not e && (b == 92)) bs)
