@@ -1,3 +1,4 @@
+pub mod BlockLemmas
 pub mod BytesLemmas
 pub mod JoinerLemmas
 pub mod LinesLemmas
