@@ -4,6 +4,7 @@ pub mod JoinerLemmas
 pub mod LinesLemmas
 pub mod PartLemmas
 pub mod ReadingLemmas
+pub mod RecordsLemmas
 pub mod SettledLemmas
 pub mod StopsLemmas
 pub mod TextLemmas

@@ -1,4 +1,5 @@
-ghost use Rattle.std.specs.Prelude.{◌≡◌, ◌+◌, ◌-◌, ◌*◌, ◌^◌, ◌<◌, ◌≤◌, length, vec_len};
+ghost use Rattle.std.specs.Prelude.{◌≡◌, ◌+◌, ◌-◌, ◌*◌, ◌++◌, ◌∷◌, ◌^◌, ◌<◌, ◌≤◌, [], IfErr, IfOk, OnOk, length, vec_len};
+ghost use Rattle.dir_ldif.specs.Records.{EndsIn, all_found, found_of, records_of};
 
 use crate::block::record_of;
 use crate::device::Source;
@@ -245,6 +246,8 @@ impl Core {
 /// The answer on a block.
 fn answer_of(alloc: Global, schema: &Schema, block: &[Line]) -> Result<Answer, StreamFault>
     requires { 0 < length block.now }
+    ensures ok { IfOk result (λ answer. answer ≡ found_of schema.now block.now) }
+    ensures err { IfErr result (λ fault. fault ≡ StreamFault.Memory) }
 {
     let number = block[0].number();
     match record_of(alloc, schema, block) {
@@ -256,20 +259,52 @@ fn answer_of(alloc: Global, schema: &Schema, block: &[Line]) -> Result<Answer, S
 
 /// The records of a text, each with the number of its first line, or the text's stream fault alone. A text
 /// of more than 9,007,199,254,732,800 bytes is `TooManyTurns`.
-pub fn read_all(alloc: Global, schema: &Schema, text: &[u8]) -> Result<Vec<Answer>, StreamFault> {
+pub fn read_all(alloc: Global, schema: &Schema, text: &[u8]) -> Result<Vec<Answer>, StreamFault>
+    ensures ok { IfOk result (λ answers. records_of schema.now text.now ≡ all_found answers.items) }
+    ensures err { IfErr result (λ fault. EndsIn fault schema.now text.now) }
+{
     if text.len() > MAX_TEXT {
         return Err(StreamFault::TooManyTurns);
     }
     let mut joiner = Joiner::new(alloc);
     let mut answers = Vec::new(alloc);
     let mut rest = text;
-    while let Some((block, after)) = joiner.take_piece(rest)? {
-        rest = after;
-        answers.push(answer_of(alloc, schema, block.as_slice())?)?;
+    loop {
+        match joiner.take_piece(rest) {
+            Ok(Some((block, after))) => {
+                rest = after;
+                if let Err(fault) = push_answer(alloc, schema, &mut answers, block.as_slice()) {
+                    return Err(fault);
+                }
+            }
+            Ok(None) => break,
+            Err(fault) => return Err(fault),
+        }
     }
-    let block = joiner.finish()?;
-    if !block.is_empty() {
-        answers.push(answer_of(alloc, schema, block.as_slice())?)?;
+    let block = match joiner.finish() {
+        Ok(block) => block,
+        Err(fault) => return Err(fault),
+    };
+    if block.is_empty() {
+        return Ok(answers);
     }
-    Ok(answers)
+    match push_answer(alloc, schema, &mut answers, block.as_slice()) {
+        Ok(()) => Ok(answers),
+        Err(fault) => Err(fault),
+    }
+}
+
+/// Appends the answer on a block.
+fn push_answer(
+    alloc: Global,
+    schema: &Schema,
+    answers: &mut Vec<Answer>,
+    block: &[Line],
+) -> Result<(), StreamFault>
+    requires { 0 < length block.now }
+    ensures ok { OnOk result (answers.new.items ≡ answers.old.items ++ found_of schema.now block.now ∷ []) }
+    ensures err { IfErr result (λ fault. fault ≡ StreamFault.Memory) }
+{
+    answers.push(answer_of(alloc, schema, block)?)?;
+    Ok(())
 }
