@@ -2,6 +2,7 @@ pub mod BlockLemmas
 pub mod BytesLemmas
 pub mod JoinerLemmas
 pub mod LinesLemmas
+pub mod NextLemmas
 pub mod PartLemmas
 pub mod ReadingLemmas
 pub mod RecordsLemmas

@@ -93,9 +93,10 @@ struct Core {
 }
 
 impl Core {
-    ghost use Rattle.std.specs.Prelude.{◌≡◌, ◌+◌, ◌*◌, ◌^◌, ◌<◌, ◌≤◌, ℕ, List, [], Ok, true, false, IfErr, IfNone, IfOk, IfSome, MatchOption, length};
+    ghost use Rattle.std.specs.Prelude.{◌≡◌, ◌+◌, ◌++◌, ◌*◌, ◌^◌, ◌<◌, ◌≤◌, ℕ, List, [], None, Ok, Err, true, false, IfErr, IfNone, IfOk, IfSome, MatchOption, length};
     ghost use Rattle.std.specs.Io.KnownBytes.{Consumes, IsAtEnd};
-    ghost use Rattle.dir_ldif.specs.declared.reader.Place.TheVariants.{AtEnd, Reading};
+    ghost use Rattle.dir_ldif.specs.declared.reader.Place.TheVariants.{AtEnd, Ended, Reading};
+    ghost use Rattle.dir_ldif.specs.Next.{Faults, GivesFirst, GivesNone, answers_left};
     ghost use Rattle.dir_ldif.specs.Bytes.{is_empty};
     ghost use Rattle.dir_ldif.specs.Device.{FailsToRead};
     ghost use Rattle.dir_ldif.specs.Joining.{to_come};
@@ -120,29 +121,57 @@ impl Core {
         &mut self,
         schema: &Schema,
         source: &mut S,
-    ) -> Result<Option<Answer>, StreamFault> {
-        let answer = self.advance(schema, source);
-        if answer.is_err() {
-            self.place = Place::Ended;
+    ) -> Result<Option<Answer>, StreamFault>
+        ensures some { IfOk result (λ o. IfSome o (λ found. GivesFirst (Ok found)
+            (answers_left schema.now self.old (S.left source.old)) (answers_left schema.now self.new (S.left source.new)))) }
+        ensures none { IfOk result (λ o. IfNone o (GivesNone (answers_left schema.now self.old (S.left source.old)) × (self.new.place ≡ AtEnd))) }
+        ensures err { IfErr result (λ fault. Faults fault schema.now self.old (S.left source.old) (S.left source.new) (S.failures source.old) (S.failures source.new)
+            × (self.new.place ≡ Ended)) }
+        ensures ended { self.old.place ≡ Ended → result ≡ Err StreamFault.Ended }
+        ensures at_end { self.old.place ≡ AtEnd → (result ≡ Ok None) }
+        ensures turns { IfOk result (λ _. self.new.place ≡ Reading → (bytes : List ℕ)
+            × Consumes (S.left source.old) (S.left source.new) bytes × (self.old.turns ≤ self.new.turns + length bytes)) }
+        ensures same { S.is_same source.old source.new }
+    {
+        match self.place {
+            Place::Ended => Err(StreamFault::Ended),
+            Place::AtEnd => Ok(None),
+            Place::Reading => match self.next_answer(schema, source) {
+                Ok(answer) => Ok(answer),
+                Err(fault) => {
+                    self.place = Place::Ended;
+                    Err(fault)
+                }
+            },
         }
-        answer
     }
 
-    fn advance<S: Source>(
+    /// The answer on the next block.
+    fn next_answer<S: Source>(
         &mut self,
         schema: &Schema,
         source: &mut S,
-    ) -> Result<Option<Answer>, StreamFault> {
-        match self.place {
-            Place::Ended => return Err(StreamFault::Ended),
-            Place::AtEnd => return Ok(None),
-            Place::Reading => {}
-        }
-        let block = self.next_block(source)?;
+    ) -> Result<Option<Answer>, StreamFault>
+        requires { self.old.place ≡ Reading }
+        ensures some { IfOk result (λ o. IfSome o (λ found. GivesFirst (Ok found)
+            (answers_left schema.now self.old (S.left source.old)) (answers_left schema.now self.new (S.left source.new)))) }
+        ensures none { IfOk result (λ o. IfNone o (GivesNone (answers_left schema.now self.old (S.left source.old)) × (self.new.place ≡ AtEnd))) }
+        ensures err { IfErr result (λ fault. Faults fault schema.now self.old (S.left source.old) (S.left source.new) (S.failures source.old) (S.failures source.new)) }
+        ensures turns { IfOk result (λ _. self.new.place ≡ Reading → (bytes : List ℕ)
+            × Consumes (S.left source.old) (S.left source.new) bytes × (self.old.turns ≤ self.new.turns + length bytes)) }
+        ensures same { S.is_same source.old source.new }
+    {
+        let block = match self.next_block(source) {
+            Ok(block) => block,
+            Err(fault) => return Err(fault),
+        };
         if block.is_empty() {
             return Ok(None);
         }
-        Ok(Some(answer_of(self.alloc, schema, block.as_slice())?))
+        match answer_of(self.alloc, schema, block.as_slice()) {
+            Ok(answer) => Ok(Some(answer)),
+            Err(fault) => Err(fault),
+        }
     }
 
     /// The next block, which has no line at the end of the text alone.
