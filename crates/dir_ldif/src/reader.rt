@@ -41,6 +41,12 @@ pub struct RecordReader<'s, R> {
 }
 
 impl<'s, R: Source + Drop> RecordReader<'s, R> {
+    ghost use Rattle.std.specs.Prelude.{◌≡◌, ◌≤◌, None, Ok, Err, IfErr, IfNone, IfOk, IfSome};
+    ghost use Rattle.std.specs.Option.{option_map};
+    ghost use Rattle.dir_ldif.specs.Next.{GivesFirst, GivesNone};
+    ghost use Rattle.dir_ldif.specs.Reader.{IsAtEnd, IsEnded, StopsFor, to_give, turns_left};
+    ghost use Rattle.dir_ldif.specs.Records.{records_of};
+
     /// A reader that is allowed 1,099,511,627,776 read calls.
     ///
     /// # Errors
@@ -62,6 +68,9 @@ impl<'s, R: Source + Drop> RecordReader<'s, R> {
         turns: u64,
     ) -> Result<RecordReader<'s, R>, StreamFault>
         requires { turns ≤ MAX_TURNS }
+        ensures answers { IfOk result (λ r. to_give R.left r ≡ option_map (records_of schema.now) (R.left source)) }
+        ensures turns { IfOk result (λ r. turns_left r ≡ turns) }
+        ensures err { IfErr result (λ fault. fault ≡ StreamFault.Memory) }
     {
         Ok(RecordReader {
             schema,
@@ -70,8 +79,21 @@ impl<'s, R: Source + Drop> RecordReader<'s, R> {
         })
     }
 
-    /// The next record or its fault, or none at the end.
-    pub fn next(&mut self) -> Result<Option<Answer>, StreamFault> {
+    /// The next record or its fault, or none at the end. After a stream fault each call answers `Ended`, and
+    /// after the end none.
+    ///
+    /// # Errors
+    ///
+    /// `LineTooLong` and `BadVersion` where the text is at fault and no record is left; `Read` where the source
+    /// failed in this call; `TooManyTurns` where the source gave as many bytes as read calls were allowed;
+    /// `Memory`; `Ended`.
+    pub fn next(&mut self) -> Result<Option<Answer>, StreamFault>
+        ensures some { IfOk result (λ o. IfSome o (λ found. GivesFirst (Ok found) (to_give R.left self.old) (to_give R.left self.new))) }
+        ensures none { IfOk result (λ o. IfNone o (GivesNone (to_give R.left self.old) × IsAtEnd self.new)) }
+        ensures err { IfErr result (λ fault. StopsFor R.left R.failures fault self.old self.new × IsEnded self.new) }
+        ensures ended { IsEnded self.old → result ≡ Err StreamFault.Ended }
+        ensures at_end { IsAtEnd self.old → result ≡ Ok None }
+    {
         self.core.next(self.schema, &mut self.source)
     }
 }
@@ -100,11 +122,15 @@ impl Core {
     ghost use Rattle.dir_ldif.specs.Bytes.{is_empty};
     ghost use Rattle.dir_ldif.specs.Device.{FailsToRead};
     ghost use Rattle.dir_ldif.specs.Joining.{to_come};
-    ghost use Rattle.dir_ldif.specs.Parts.{Ends, give};
+    ghost use Rattle.dir_ldif.specs.Parts.{Ends, give, parts_of};
     ghost use Rattle.dir_ldif.specs.Reading.{Finds, Stops, coming, hand};
 
     fn new(alloc: Global, turns: u64) -> Result<Core, StreamFault>
         requires { turns ≤ MAX_TURNS }
+        ensures text { IfOk result (λ c. (text : List ℕ) → coming c text ≡ parts_of text) }
+        ensures place { IfOk result (λ c. c.place ≡ Reading) }
+        ensures turns { IfOk result (λ c. c.turns ≡ turns) }
+        ensures err { IfErr result (λ fault. fault ≡ StreamFault.Memory) }
     {
         Ok(Core {
             joiner: Joiner::new(alloc),
