@@ -2,6 +2,7 @@ pub mod BlockLemmas
 pub mod BytesLemmas
 pub mod JoinerLemmas
 pub mod LegalLemmas
+pub mod LegalRecords
 pub mod LinesLemmas
 pub mod NextLemmas
 pub mod PartLemmas

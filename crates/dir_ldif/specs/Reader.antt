@@ -4,7 +4,8 @@ use Rattle.dir_ldif.specs.declared.faults.StreamFault.{StreamFault}
 use Rattle.dir_ldif.specs.declared.reader.RecordReader.{RecordReader}
 use Rattle.dir_ldif.specs.declared.reader.Place.TheVariants.{Reading, AtEnd, Ended}
 use Rattle.dir_ldif.specs.Next.{answers_left, Faults}
-use Rattle.dir_ldif.specs.Records.{Answer}
+use Rattle.dir_ldif.specs.Records.{Found, Answer}
+use Rattle.dir_ldif.specs.LegalFound.{IsLegalFound}
 
 module _ {R : Type 0} where
   -- the answers that are left, where the source tells its bytes
@@ -22,6 +23,10 @@ module _ {R : Type 0} where
   -- a fault was answered
   abbrev pub IsEnded : RecordReader R → Type 0
   IsEnded r = r.core.place ≡ Ended
+
+  -- the record that is given is legal
+  abbrev pub GivesLegal : RecordReader R → Found → Type 0
+  GivesLegal r found = IsLegalFound r.schema.now found
 
   -- why no further answer is given
   abbrev pub StopsFor : (R → Option (List ℕ)) → (R → ℕ) → StreamFault → RecordReader R → RecordReader R → Type 0

@@ -1,4 +1,5 @@
-ghost use Rattle.std.specs.Prelude.{◌≡◌, ◌+◌, ◌-◌, ◌*◌, ◌++◌, ◌∷◌, ◌^◌, ◌<◌, ◌≤◌, [], IfErr, IfOk, OnOk, length, vec_len};
+ghost use Rattle.std.specs.Prelude.{◌≡◌, ◌+◌, ◌-◌, ◌*◌, ◌++◌, ◌∷◌, ◌^◌, ◌<◌, ◌≤◌, [], All, IfErr, IfOk, OnOk, length, vec_len};
+ghost use Rattle.dir_ldif.specs.LegalFound.{IsLegalFound};
 ghost use Rattle.dir_ldif.specs.Records.{EndsIn, all_found, found_of, records_of};
 
 use crate::block::record_of;
@@ -44,7 +45,7 @@ impl<'s, R: Source + Drop> RecordReader<'s, R> {
     ghost use Rattle.std.specs.Prelude.{◌≡◌, ◌≤◌, None, Ok, Err, IfErr, IfNone, IfOk, IfSome};
     ghost use Rattle.std.specs.Option.{option_map};
     ghost use Rattle.dir_ldif.specs.Next.{GivesFirst, GivesNone};
-    ghost use Rattle.dir_ldif.specs.Reader.{IsAtEnd, IsEnded, StopsFor, to_give, turns_left};
+    ghost use Rattle.dir_ldif.specs.Reader.{GivesLegal, IsAtEnd, IsEnded, StopsFor, to_give, turns_left};
     ghost use Rattle.dir_ldif.specs.Records.{records_of};
 
     /// A reader that is allowed 1,099,511,627,776 read calls.
@@ -91,6 +92,7 @@ impl<'s, R: Source + Drop> RecordReader<'s, R> {
         ensures some { IfOk result (λ o. IfSome o (λ found. GivesFirst (Ok found) (to_give R.left self.old) (to_give R.left self.new))) }
         ensures none { IfOk result (λ o. IfNone o (GivesNone (to_give R.left self.old) × IsAtEnd self.new)) }
         ensures err { IfErr result (λ fault. StopsFor R.left R.failures fault self.old self.new × IsEnded self.new) }
+        ensures legal { IfOk result (λ o. IfSome o (GivesLegal self.old)) }
         ensures ended { IsEnded self.old → result ≡ Err StreamFault.Ended }
         ensures at_end { IsAtEnd self.old → result ≡ Ok None }
     {
@@ -119,6 +121,7 @@ impl Core {
     ghost use Rattle.std.specs.Io.KnownBytes.{Consumes, IsAtEnd};
     ghost use Rattle.dir_ldif.specs.declared.reader.Place.TheVariants.{AtEnd, Ended, Reading};
     ghost use Rattle.dir_ldif.specs.Next.{Faults, GivesFirst, GivesNone, answers_left};
+    ghost use Rattle.dir_ldif.specs.LegalFound.{IsLegalFound};
     ghost use Rattle.dir_ldif.specs.Bytes.{is_empty};
     ghost use Rattle.dir_ldif.specs.Device.{FailsToRead};
     ghost use Rattle.dir_ldif.specs.Joining.{to_come};
@@ -153,6 +156,7 @@ impl Core {
         ensures none { IfOk result (λ o. IfNone o (GivesNone (answers_left schema.now self.old (S.left source.old)) × (self.new.place ≡ AtEnd))) }
         ensures err { IfErr result (λ fault. Faults fault schema.now self.old (S.left source.old) (S.left source.new) (S.failures source.old) (S.failures source.new)
             × (self.new.place ≡ Ended)) }
+        ensures legal { IfOk result (λ o. IfSome o (IsLegalFound schema.now)) }
         ensures ended { self.old.place ≡ Ended → result ≡ Err StreamFault.Ended }
         ensures at_end { self.old.place ≡ AtEnd → (result ≡ Ok None) }
         ensures turns { IfOk result (λ _. self.new.place ≡ Reading → (bytes : List ℕ)
@@ -183,6 +187,7 @@ impl Core {
             (answers_left schema.now self.old (S.left source.old)) (answers_left schema.now self.new (S.left source.new)))) }
         ensures none { IfOk result (λ o. IfNone o (GivesNone (answers_left schema.now self.old (S.left source.old)) × (self.new.place ≡ AtEnd))) }
         ensures err { IfErr result (λ fault. Faults fault schema.now self.old (S.left source.old) (S.left source.new) (S.failures source.old) (S.failures source.new)) }
+        ensures legal { IfOk result (λ o. IfSome o (IsLegalFound schema.now)) }
         ensures turns { IfOk result (λ _. self.new.place ≡ Reading → (bytes : List ℕ)
             × Consumes (S.left source.old) (S.left source.new) bytes × (self.old.turns ≤ self.new.turns + length bytes)) }
         ensures same { S.is_same source.old source.new }
@@ -302,6 +307,7 @@ impl Core {
 fn answer_of(alloc: Global, schema: &Schema, block: &[Line]) -> Result<Answer, StreamFault>
     requires { 0 < length block.now }
     ensures ok { IfOk result (λ answer. answer ≡ found_of schema.now block.now) }
+    ensures legal { IfOk result (IsLegalFound schema.now) }
     ensures err { IfErr result (λ fault. fault ≡ StreamFault.Memory) }
 {
     let number = block[0].number();
@@ -316,6 +322,7 @@ fn answer_of(alloc: Global, schema: &Schema, block: &[Line]) -> Result<Answer, S
 /// of more than 9,007,199,254,732,800 bytes is `TooManyTurns`.
 pub fn read_all(alloc: Global, schema: &Schema, text: &[u8]) -> Result<Vec<Answer>, StreamFault>
     ensures ok { IfOk result (λ answers. records_of schema.now text.now ≡ all_found answers.items) }
+    ensures legal { IfOk result (λ answers. All (IsLegalFound schema.now) answers.items) }
     ensures err { IfErr result (λ fault. EndsIn fault schema.now text.now) }
 {
     if text.len() > MAX_TEXT {
@@ -358,6 +365,7 @@ fn push_answer(
 ) -> Result<(), StreamFault>
     requires { 0 < length block.now }
     ensures ok { OnOk result (answers.new.items ≡ answers.old.items ++ found_of schema.now block.now ∷ []) }
+    ensures legal { OnOk result (All (IsLegalFound schema.now) answers.old.items → All (IsLegalFound schema.now) answers.new.items) }
     ensures err { IfErr result (λ fault. fault ≡ StreamFault.Memory) }
 {
     answers.push(answer_of(alloc, schema, block)?)?;
