@@ -11,3 +11,4 @@ pub mod RecordsLemmas
 pub mod SettledLemmas
 pub mod StopsLemmas
 pub mod TextLemmas
+pub mod WholeLemmas
