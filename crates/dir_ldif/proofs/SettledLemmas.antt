@@ -12,7 +12,7 @@ use Rattle.dir_ldif.specs.Lines.{Line, cut, is_lf, numbered, joined, is_comment,
 use Rattle.dir_ldif.specs.Kept.{is_kept}
 use Rattle.dir_ldif.specs.Parts.{Part, give, parts_from, by_version, version_of}
 use Rattle.dir_ldif.specs.Joining.{behind, parts_before, to_come}
-use Rattle.dir_ldif.specs.Reading.{IsSettled}
+use Rattle.dir_ldif.specs.Reading.{MayFail}
 use Rattle.dir_ldif.proofs.BytesLemmas.{true_or_false}
 use Rattle.dir_ldif.proofs.LinesLemmas.{line_alone, parts_from-long, joined-apart, glued_long, ltb-of_lt, some_of_length, not_first, not_second}
 
@@ -79,13 +79,9 @@ goes_wrong j n h =
     let long : 2097153 < length (without_last 13 (whole ++ [])) = omega (arith, length-without_last-back (whole ++ []), length-append whole []) in
     subst (λ t. Faulty (parts_before j t)) (sym one) (long_faulty j.begun j.block.items j.last j.number (without_last 13 (whole ++ [])) j.kept long)
 
-never_settled_by : (j : Joiner) (n : ℕ) → 2097156 ≤ n → IsSettled (to_come j) → ⊥
-never_settled_by j n h s =
-    let wrong = goes_wrong j n h in
-    let right = s.1 (letters n) in
-    let same : Ok s.0 ∷ right.0 ≡ Err wrong.0 ∷ [] = sym right.1 ∙ wrong.1 in
-    cc
+may_fail_by : (j : Joiner) (n : ℕ) → 2097156 ≤ n → MayFail (to_come j)
+may_fail_by j n h none = let wrong = goes_wrong j n h in none (letters n) wrong.0 wrong.1
 
 -- whatever was taken, a text may follow that ends in a fault before any block
-pub never_settled : (j : Joiner) → IsSettled (to_come j) → ⊥
-never_settled j s = never_settled_by j 2097156 (lit≤ tt) s
+pub may_fail : (j : Joiner) → MayFail (to_come j)
+may_fail j = may_fail_by j 2097156 (lit≤ tt)

@@ -10,8 +10,8 @@ use Rattle.dir_ldif.specs.declared.reader.Core.{Core}
 use Rattle.dir_ldif.specs.Device.{FailsToRead}
 use Rattle.dir_ldif.specs.Parts.{Part, Ends}
 use Rattle.dir_ldif.specs.Joining.{to_come}
-use Rattle.dir_ldif.specs.Reading.{coming, hand, Stops, IsSettled}
-use Rattle.dir_ldif.proofs.SettledLemmas.{never_settled}
+use Rattle.dir_ldif.specs.Reading.{coming, hand, Stops, MayFail}
+use Rattle.dir_ldif.proofs.SettledLemmas.{may_fail}
 
 -- nothing was read beside
 pub Consumes-none : (a b c : Option (List ℕ)) (bytes piece : List ℕ) → Consumes a b bytes → Consumes b c piece → piece ≡ [] → Consumes a c bytes
@@ -42,8 +42,8 @@ end_stops Read old mid new bytes left f f' same end h = absurd h
 end_stops AfterFault old mid new bytes left f f' same end h = absurd h
 end_stops TooManyTurns old mid new bytes left f f' same end h = absurd h
 
-unsettled : (old : Core) (j : Joiner) (bytes : List ℕ) → ((text : List ℕ) → coming old (bytes ++ text) ≡ to_come j text) → IsSettled (λ text. coming old (bytes ++ text)) → ⊥
-unsettled old j bytes same s = never_settled j (s.0, λ text. ((s.1 text).0, sym (same text) ∙ (s.1 text).1))
+may_fail_still : (old : Core) (j : Joiner) (bytes : List ℕ) → ((text : List ℕ) → coming old (bytes ++ text) ≡ to_come j text) → MayFail (λ text. coming old (bytes ++ text))
+may_fail_still old j bytes same none = may_fail j (λ text fault e. none text fault (same text ∙ e))
 
 -- no further bytes came
 pub read_stops : (fault : StreamFault) (old new : Core) (bytes : List ℕ) (left : Option (List ℕ)) (turns failures failures' : ℕ) → ((text : List ℕ) → coming old (bytes ++ text) ≡ to_come new.joiner text)
@@ -53,6 +53,6 @@ read_stops BadVersion old new bytes left turns f f' same empty fits h = absurd h
 read_stops Memory old new bytes left turns f f' same empty fits h = absurd h
 read_stops AfterFault old new bytes left turns f f' same empty fits h = absurd h
 read_stops Read old new bytes left turns f f' same empty fits h =
-    (h, λ text. same text ∙ ap (λ t. to_come new.joiner (t ++ text)) (sym empty), unsettled old new.joiner bytes same)
+    (h, λ text. same text ∙ ap (λ t. to_come new.joiner (t ++ text)) (sym empty), may_fail_still old new.joiner bytes same)
 read_stops TooManyTurns old new bytes left turns f f' same empty fits h =
-    (omega (arith, h.0), λ text. same text ∙ ap (λ t. to_come new.joiner (t ++ text)) (sym empty), unsettled old new.joiner bytes same)
+    (omega (arith, h.0), λ text. same text ∙ ap (λ t. to_come new.joiner (t ++ text)) (sym empty), may_fail_still old new.joiner bytes same)

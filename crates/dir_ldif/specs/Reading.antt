@@ -1,5 +1,5 @@
 -- What a reader has still to give.
-use Rattle.std.specs.Prelude.{◌≡◌, ℕ, ◌+◌, ◌-◌, ◌≤◌, List, [], ◌∷◌, ◌++◌, take, drop, length, Option, IfSome, Ok}
+use Rattle.std.specs.Prelude.{◌≡◌, ℕ, ◌+◌, ◌-◌, ◌≤◌, List, [], ◌∷◌, ◌++◌, take, drop, length, Option, IfSome, Err}
 use Rattle.std.specs.Io.KnownBytes.{Consumes, IsAtEnd}
 use Rattle.dir_ldif.specs.declared.reader.Core.{Core}
 use Rattle.dir_ldif.specs.declared.reader.Place.{Place}
@@ -27,19 +27,19 @@ Finds Reading old block new bytes left = (text : List ℕ) → old (bytes ++ tex
 Finds AtEnd old block new bytes left = IsAtEnd left × (old bytes ≡ give block [])
 Finds Ended old block new bytes left = ⊥
 
--- whatever text follows, the same block is the first part
-abbrev pub IsSettled : (List ℕ → List Part) → Type 0
-IsSettled parts = (block : List Line) × ((text : List ℕ) → (rest : List Part) × (parts text ≡ Ok block ∷ rest))
+-- some text would bring a fault before any block
+abbrev pub MayFail : (List ℕ → List Part) → Type 0
+MayFail parts = ((text : List ℕ) (fault : StreamFault) → parts text ≡ Err fault ∷ [] → ⊥) → ⊥
 
 -- why no block was found, where these bytes were read and this is left: the text is at fault; or the source
--- failed, or gave as many bytes as there were read calls, and the end of no block was among them. Then what was
--- to come still is
+-- failed, or gave as many bytes as there were read calls, and some text would bring a fault
+-- before any block, so that no answer was left. What was to come still is
 abbrev pub Stops : StreamFault → Core → Core → List ℕ → Option (List ℕ) → ℕ → ℕ → Type 0
 Stops LineTooLong old new bytes left failures failures' = IfSome left (λ text. Ends LineTooLong (coming old (bytes ++ text)))
 Stops BadVersion old new bytes left failures failures' = IfSome left (λ text. Ends BadVersion (coming old (bytes ++ text)))
 Stops Read old new bytes left failures failures' =
-    HasFailed failures failures' × ((text : List ℕ) → coming old (bytes ++ text) ≡ coming new text) × (IsSettled (λ text. coming old (bytes ++ text)) → ⊥)
+    HasFailed failures failures' × ((text : List ℕ) → coming old (bytes ++ text) ≡ coming new text) × MayFail (λ text. coming old (bytes ++ text))
 Stops TooManyTurns old new bytes left failures failures' =
-    (old.turns ≤ length bytes) × ((text : List ℕ) → coming old (bytes ++ text) ≡ coming new text) × (IsSettled (λ text. coming old (bytes ++ text)) → ⊥)
+    (old.turns ≤ length bytes) × ((text : List ℕ) → coming old (bytes ++ text) ≡ coming new text) × MayFail (λ text. coming old (bytes ++ text))
 Stops Memory old new bytes left failures failures' = Unit {0}
 Stops AfterFault old new bytes left failures failures' = ⊥

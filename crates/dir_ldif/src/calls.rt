@@ -1,4 +1,4 @@
-ghost use Rattle.std.specs.Prelude.{◌≡◌, MatchBool};
+ghost use Rattle.std.specs.Prelude.{◌≡◌, ◌==◌, ◌-◌, ◌↔◌, IsTrue, MatchBool, if◌then◌else◌};
 ghost use Rattle.dir_ldif.specs.Device.{one_more};
 
 /// The calls of a device for tests: how many still succeed, and how many have failed.
@@ -16,7 +16,9 @@ impl Calls {
     };
 
     /// Each call from this one on fails; the first is 1.
-    pub(crate) fn failing_from(call: u64) -> Calls {
+    pub(crate) fn failing_from(call: u64) -> Calls
+        ensures { result ≡ record { good = call - 1; failures = 0 } }
+    {
         Calls {
             good: call.saturating_sub(1),
             failures: 0,
@@ -25,7 +27,9 @@ impl Calls {
 
     /// Counts a call. Answers whether it fails.
     pub(crate) fn fails(&mut self) -> bool
-        ensures { MatchBool result (self.new.failures ≡ one_more self.old.failures) (self.new.failures ≡ self.old.failures) }
+        ensures fails { IsTrue result ↔ (self.old.good ≡ 0) }
+        ensures failures { MatchBool result (self.new.failures ≡ one_more self.old.failures) (self.new.failures ≡ self.old.failures) }
+        ensures good { self.new.good ≡ (if self.old.good == u64.MAX then u64.MAX else self.old.good - 1) }
     {
         if self.good == 0 {
             self.failures = self.failures.saturating_add(1);

@@ -1,4 +1,6 @@
-ghost use Rattle.std.specs.Prelude.{◌≡◌, ◌+◌, ◌-◌, ◌*◌, ◌^◌, ◌<◌, ◌≤◌, length, vec_len};
+ghost use Rattle.std.specs.Prelude.{◌≡◌, ◌+◌, ◌-◌, ◌*◌, ◌++◌, ◌∷◌, ◌^◌, ◌<◌, ◌≤◌, [], All, IfErr, IfOk, OnOk, length, vec_len};
+ghost use Rattle.dir_ldif.specs.LegalFound.{IsLegalFound};
+ghost use Rattle.dir_ldif.specs.Records.{EndsIn, all_found, found_of, records_of};
 
 use crate::block::record_of;
 use crate::device::Source;
@@ -40,6 +42,12 @@ pub struct RecordReader<'s, R> {
 }
 
 impl<'s, R: Source + Drop> RecordReader<'s, R> {
+    ghost use Rattle.std.specs.Prelude.{◌≡◌, ◌≤◌, None, Ok, Err, IfErr, IfNone, IfOk, IfSome};
+    ghost use Rattle.std.specs.Option.{option_map};
+    ghost use Rattle.dir_ldif.specs.Next.{GivesFirst, GivesNone};
+    ghost use Rattle.dir_ldif.specs.Reader.{GivesLegal, IsAtEnd, IsEnded, StopsFor, to_give, turns_left};
+    ghost use Rattle.dir_ldif.specs.Records.{records_of};
+
     /// A reader that is allowed 1,099,511,627,776 read calls.
     ///
     /// # Errors
@@ -61,6 +69,9 @@ impl<'s, R: Source + Drop> RecordReader<'s, R> {
         turns: u64,
     ) -> Result<RecordReader<'s, R>, StreamFault>
         requires { turns ≤ MAX_TURNS }
+        ensures answers { IfOk result (λ r. to_give R.left r ≡ option_map (records_of schema.now) (R.left source)) }
+        ensures turns { IfOk result (λ r. turns_left r ≡ turns) }
+        ensures err { IfErr result (λ fault. fault ≡ StreamFault.Memory) }
     {
         Ok(RecordReader {
             schema,
@@ -69,8 +80,22 @@ impl<'s, R: Source + Drop> RecordReader<'s, R> {
         })
     }
 
-    /// The next record or its fault, or none at the end.
-    pub fn next(&mut self) -> Result<Option<Answer>, StreamFault> {
+    /// The next record or its fault, or none at the end. After a stream fault each call answers `Ended`, and
+    /// after the end none.
+    ///
+    /// # Errors
+    ///
+    /// `LineTooLong` and `BadVersion` where the text is at fault and no record is left; `Read` where the source
+    /// failed in this call; `TooManyTurns` where the source gave as many bytes as read calls were allowed;
+    /// `Memory`; `Ended`.
+    pub fn next(&mut self) -> Result<Option<Answer>, StreamFault>
+        ensures some { IfOk result (λ o. IfSome o (λ found. GivesFirst (Ok found) (to_give R.left self.old) (to_give R.left self.new))) }
+        ensures none { IfOk result (λ o. IfNone o (GivesNone (to_give R.left self.old) × IsAtEnd self.new)) }
+        ensures err { IfErr result (λ fault. StopsFor R.left R.failures fault self.old self.new × IsEnded self.new) }
+        ensures legal { IfOk result (λ o. IfSome o (GivesLegal self.old)) }
+        ensures ended { IsEnded self.old → result ≡ Err StreamFault.Ended }
+        ensures at_end { IsAtEnd self.old → result ≡ Ok None }
+    {
         self.core.next(self.schema, &mut self.source)
     }
 }
@@ -92,17 +117,23 @@ struct Core {
 }
 
 impl Core {
-    ghost use Rattle.std.specs.Prelude.{◌≡◌, ◌+◌, ◌*◌, ◌^◌, ◌<◌, ◌≤◌, ℕ, List, [], Ok, true, false, IfErr, IfNone, IfOk, IfSome, MatchOption, length};
+    ghost use Rattle.std.specs.Prelude.{◌≡◌, ◌+◌, ◌++◌, ◌*◌, ◌^◌, ◌<◌, ◌≤◌, ℕ, List, [], None, Ok, Err, true, false, IfErr, IfNone, IfOk, IfSome, MatchOption, length};
     ghost use Rattle.std.specs.Io.KnownBytes.{Consumes, IsAtEnd};
-    ghost use Rattle.dir_ldif.specs.declared.reader.Place.TheVariants.{AtEnd, Reading};
+    ghost use Rattle.dir_ldif.specs.declared.reader.Place.TheVariants.{AtEnd, Ended, Reading};
+    ghost use Rattle.dir_ldif.specs.Next.{Faults, GivesFirst, GivesNone, answers_left};
+    ghost use Rattle.dir_ldif.specs.LegalFound.{IsLegalFound};
     ghost use Rattle.dir_ldif.specs.Bytes.{is_empty};
     ghost use Rattle.dir_ldif.specs.Device.{FailsToRead};
     ghost use Rattle.dir_ldif.specs.Joining.{to_come};
-    ghost use Rattle.dir_ldif.specs.Parts.{Ends, give};
+    ghost use Rattle.dir_ldif.specs.Parts.{Ends, give, parts_of};
     ghost use Rattle.dir_ldif.specs.Reading.{Finds, Stops, coming, hand};
 
     fn new(alloc: Global, turns: u64) -> Result<Core, StreamFault>
         requires { turns ≤ MAX_TURNS }
+        ensures text { IfOk result (λ c. (text : List ℕ) → coming c text ≡ parts_of text) }
+        ensures place { IfOk result (λ c. c.place ≡ Reading) }
+        ensures turns { IfOk result (λ c. c.turns ≡ turns) }
+        ensures err { IfErr result (λ fault. fault ≡ StreamFault.Memory) }
     {
         Ok(Core {
             joiner: Joiner::new(alloc),
@@ -119,29 +150,59 @@ impl Core {
         &mut self,
         schema: &Schema,
         source: &mut S,
-    ) -> Result<Option<Answer>, StreamFault> {
-        let answer = self.advance(schema, source);
-        if answer.is_err() {
-            self.place = Place::Ended;
+    ) -> Result<Option<Answer>, StreamFault>
+        ensures some { IfOk result (λ o. IfSome o (λ found. GivesFirst (Ok found)
+            (answers_left schema.now self.old (S.left source.old)) (answers_left schema.now self.new (S.left source.new)))) }
+        ensures none { IfOk result (λ o. IfNone o (GivesNone (answers_left schema.now self.old (S.left source.old)) × (self.new.place ≡ AtEnd))) }
+        ensures err { IfErr result (λ fault. Faults fault schema.now self.old (S.left source.old) (S.left source.new) (S.failures source.old) (S.failures source.new)
+            × (self.new.place ≡ Ended)) }
+        ensures legal { IfOk result (λ o. IfSome o (IsLegalFound schema.now)) }
+        ensures ended { self.old.place ≡ Ended → result ≡ Err StreamFault.Ended }
+        ensures at_end { self.old.place ≡ AtEnd → (result ≡ Ok None) }
+        ensures turns { IfOk result (λ _. self.new.place ≡ Reading → (bytes : List ℕ)
+            × Consumes (S.left source.old) (S.left source.new) bytes × (self.old.turns ≤ self.new.turns + length bytes)) }
+        ensures same { S.is_same source.old source.new }
+    {
+        match self.place {
+            Place::Ended => Err(StreamFault::Ended),
+            Place::AtEnd => Ok(None),
+            Place::Reading => match self.next_answer(schema, source) {
+                Ok(answer) => Ok(answer),
+                Err(fault) => {
+                    self.place = Place::Ended;
+                    Err(fault)
+                }
+            },
         }
-        answer
     }
 
-    fn advance<S: Source>(
+    /// The answer on the next block.
+    fn next_answer<S: Source>(
         &mut self,
         schema: &Schema,
         source: &mut S,
-    ) -> Result<Option<Answer>, StreamFault> {
-        match self.place {
-            Place::Ended => return Err(StreamFault::Ended),
-            Place::AtEnd => return Ok(None),
-            Place::Reading => {}
-        }
-        let block = self.next_block(source)?;
+    ) -> Result<Option<Answer>, StreamFault>
+        requires { self.old.place ≡ Reading }
+        ensures some { IfOk result (λ o. IfSome o (λ found. GivesFirst (Ok found)
+            (answers_left schema.now self.old (S.left source.old)) (answers_left schema.now self.new (S.left source.new)))) }
+        ensures none { IfOk result (λ o. IfNone o (GivesNone (answers_left schema.now self.old (S.left source.old)) × (self.new.place ≡ AtEnd))) }
+        ensures err { IfErr result (λ fault. Faults fault schema.now self.old (S.left source.old) (S.left source.new) (S.failures source.old) (S.failures source.new)) }
+        ensures legal { IfOk result (λ o. IfSome o (IsLegalFound schema.now)) }
+        ensures turns { IfOk result (λ _. self.new.place ≡ Reading → (bytes : List ℕ)
+            × Consumes (S.left source.old) (S.left source.new) bytes × (self.old.turns ≤ self.new.turns + length bytes)) }
+        ensures same { S.is_same source.old source.new }
+    {
+        let block = match self.next_block(source) {
+            Ok(block) => block,
+            Err(fault) => return Err(fault),
+        };
         if block.is_empty() {
             return Ok(None);
         }
-        Ok(Some(answer_of(self.alloc, schema, block.as_slice())?))
+        match answer_of(self.alloc, schema, block.as_slice()) {
+            Ok(answer) => Ok(Some(answer)),
+            Err(fault) => Err(fault),
+        }
     }
 
     /// The next block, which has no line at the end of the text alone.
@@ -245,6 +306,9 @@ impl Core {
 /// The answer on a block.
 fn answer_of(alloc: Global, schema: &Schema, block: &[Line]) -> Result<Answer, StreamFault>
     requires { 0 < length block.now }
+    ensures ok { IfOk result (λ answer. answer ≡ found_of schema.now block.now) }
+    ensures legal { IfOk result (IsLegalFound schema.now) }
+    ensures err { IfErr result (λ fault. fault ≡ StreamFault.Memory) }
 {
     let number = block[0].number();
     match record_of(alloc, schema, block) {
@@ -256,20 +320,54 @@ fn answer_of(alloc: Global, schema: &Schema, block: &[Line]) -> Result<Answer, S
 
 /// The records of a text, each with the number of its first line, or the text's stream fault alone. A text
 /// of more than 9,007,199,254,732,800 bytes is `TooManyTurns`.
-pub fn read_all(alloc: Global, schema: &Schema, text: &[u8]) -> Result<Vec<Answer>, StreamFault> {
+pub fn read_all(alloc: Global, schema: &Schema, text: &[u8]) -> Result<Vec<Answer>, StreamFault>
+    ensures ok { IfOk result (λ answers. records_of schema.now text.now ≡ all_found answers.items) }
+    ensures legal { IfOk result (λ answers. All (IsLegalFound schema.now) answers.items) }
+    ensures err { IfErr result (λ fault. EndsIn fault schema.now text.now) }
+{
     if text.len() > MAX_TEXT {
         return Err(StreamFault::TooManyTurns);
     }
     let mut joiner = Joiner::new(alloc);
     let mut answers = Vec::new(alloc);
     let mut rest = text;
-    while let Some((block, after)) = joiner.take_piece(rest)? {
-        rest = after;
-        answers.push(answer_of(alloc, schema, block.as_slice())?)?;
+    loop {
+        match joiner.take_piece(rest) {
+            Ok(Some((block, after))) => {
+                rest = after;
+                if let Err(fault) = push_answer(alloc, schema, &mut answers, block.as_slice()) {
+                    return Err(fault);
+                }
+            }
+            Ok(None) => break,
+            Err(fault) => return Err(fault),
+        }
     }
-    let block = joiner.finish()?;
-    if !block.is_empty() {
-        answers.push(answer_of(alloc, schema, block.as_slice())?)?;
+    let block = match joiner.finish() {
+        Ok(block) => block,
+        Err(fault) => return Err(fault),
+    };
+    if block.is_empty() {
+        return Ok(answers);
     }
-    Ok(answers)
+    match push_answer(alloc, schema, &mut answers, block.as_slice()) {
+        Ok(()) => Ok(answers),
+        Err(fault) => Err(fault),
+    }
+}
+
+/// Appends the answer on a block.
+fn push_answer(
+    alloc: Global,
+    schema: &Schema,
+    answers: &mut Vec<Answer>,
+    block: &[Line],
+) -> Result<(), StreamFault>
+    requires { 0 < length block.now }
+    ensures ok { OnOk result (answers.new.items ≡ answers.old.items ++ found_of schema.now block.now ∷ []) }
+    ensures legal { OnOk result (All (IsLegalFound schema.now) answers.old.items → All (IsLegalFound schema.now) answers.new.items) }
+    ensures err { IfErr result (λ fault. fault ≡ StreamFault.Memory) }
+{
+    answers.push(answer_of(alloc, schema, block)?)?;
+    Ok(())
 }

@@ -1,4 +1,4 @@
-ghost use Rattle.std.specs.Prelude.{⊤};
+ghost use Rattle.std.specs.Prelude.{◌≡◌, ⊤};
 
 use crate::device::{DeviceFault, Sink, Source};
 use std::io::{Read, Write};
@@ -11,7 +11,10 @@ pub struct Reader<R> {
 }
 
 impl<R: Read> Reader<R> {
-    pub fn new(inner: R) -> Reader<R> {
+    pub fn new(inner: R) -> Reader<R>
+        ensures left { ⟦<Reader<R> as Source>⟧.left result ≡ R.remaining inner }
+        ensures failures { ⟦<Reader<R> as Source>⟧.failures result ≡ 0 }
+    {
         Reader { inner, failures: 0 }
     }
 }
@@ -46,7 +49,10 @@ pub struct Writer<W> {
 }
 
 impl<W: Write> Writer<W> {
-    pub fn new(inner: W) -> Writer<W> {
+    pub fn new(inner: W) -> Writer<W>
+        ensures taken { ⟦<Writer<W> as Sink>⟧.taken result ≡ W.contents inner }
+        ensures failures { ⟦<Writer<W> as Sink>⟧.failures result ≡ 0 }
+    {
         Writer { inner, failures: 0 }
     }
 }

@@ -1,4 +1,4 @@
-ghost use Rattle.std.specs.Prelude.{◌≡◌, ◌++◌, ◌<◌, ◌≤◌, ⊤, [], None, Some, drop, if◌then◌else◌, length, take};
+ghost use Rattle.std.specs.Prelude.{◌<◌, ◌≤◌, length};
 
 use crate::calls::Calls;
 use crate::device::{DeviceFault, Source};
@@ -19,8 +19,15 @@ pub struct Script<'a> {
 }
 
 impl<'a> Script<'a> {
+    ghost use Rattle.std.specs.Prelude.{◌≡◌, ◌++◌, ◌-◌, ◌<◌, ◌≤◌, [], None, Some, drop, length, max, take};
+    ghost use Rattle.dir_ldif.specs.Trial.{failures_of, first_size, good_calls, left_of, piece_size};
+
     /// Gives all bytes, as many in a call as there is room for.
-    pub fn new(bytes: &'a [u8]) -> Script<'a> {
+    pub fn new(bytes: &'a [u8]) -> Script<'a>
+        ensures left { left_of result ≡ Some bytes.now }
+        ensures calls { (failures_of result ≡ 0) × (good_calls result ≡ u64.MAX) }
+        ensures pieces { (first_size result ≡ usize.MAX) × (piece_size result ≡ usize.MAX) }
+    {
         Script {
             bytes,
             at: 0,
@@ -32,26 +39,42 @@ impl<'a> Script<'a> {
     }
 
     /// At most `size` bytes in a call, but at least one.
-    pub fn pieces(mut self, size: usize) -> Script<'a> {
+    pub fn pieces(mut self, size: usize) -> Script<'a>
+        ensures left { left_of result ≡ left_of self.entry }
+        ensures calls { (failures_of result ≡ failures_of self.entry) × (good_calls result ≡ good_calls self.entry) }
+        ensures pieces { (first_size result ≡ max size 1) × (piece_size result ≡ max size 1) }
+    {
         self.first = size.max(1);
         self.piece = size.max(1);
         self
     }
 
     /// At most `size` bytes in the first call, but at least one.
-    pub fn first_piece(mut self, size: usize) -> Script<'a> {
+    pub fn first_piece(mut self, size: usize) -> Script<'a>
+        ensures left { left_of result ≡ left_of self.entry }
+        ensures calls { (failures_of result ≡ failures_of self.entry) × (good_calls result ≡ good_calls self.entry) }
+        ensures pieces { (first_size result ≡ max size 1) × (piece_size result ≡ piece_size self.entry) }
+    {
         self.first = size.max(1);
         self
     }
 
     /// The bytes over and over, without end.
-    pub fn endless(mut self) -> Script<'a> {
+    pub fn endless(mut self) -> Script<'a>
+        ensures left { left_of result ≡ None }
+        ensures calls { (failures_of result ≡ failures_of self.entry) × (good_calls result ≡ good_calls self.entry) }
+        ensures pieces { (first_size result ≡ first_size self.entry) × (piece_size result ≡ piece_size self.entry) }
+    {
         self.endless = true;
         self
     }
 
     /// Fails from this call on; the first call is 1.
-    pub fn failing_from(mut self, call: u64) -> Script<'a> {
+    pub fn failing_from(mut self, call: u64) -> Script<'a>
+        ensures left { left_of result ≡ left_of self.entry }
+        ensures calls { (failures_of result ≡ 0) × (good_calls result ≡ call - 1) }
+        ensures pieces { (first_size result ≡ first_size self.entry) × (piece_size result ≡ piece_size self.entry) }
+    {
         self.calls = Calls::failing_from(call);
         self
     }
@@ -63,6 +86,7 @@ impl<'a> Script<'a> {
         ensures end { result ≡ 0 → 0 < length buffer.new → drop self.new.at self.new.bytes.now ≡ [] }
         ensures calls { self.new.calls ≡ self.old.calls }
         ensures endless { self.new.endless ≡ self.old.endless }
+        ensures pieces { (result ≤ self.old.first) × (self.new.first ≡ self.old.piece) × (self.new.piece ≡ self.old.piece) }
     {
         let n = self.first.min(buffer.len()).min(self.bytes.len() - self.at);
         buffer[..n].copy_from_slice(&self.bytes[self.at..self.at + n]);
@@ -73,9 +97,14 @@ impl<'a> Script<'a> {
 }
 
 impl Source for Script<'_> {
-    ghost left = { λ s. if s.endless then None else Some (drop s.at s.bytes.now) };
+    ghost use Rattle.std.specs.Prelude.{◌≡◌, ◌≤◌, ◌↔◌, ⊤, IfOk, IsErr, length};
+    ghost use Rattle.std.specs.Io.KnownBytes.{ReadConsumes};
+    ghost use Rattle.dir_ldif.specs.Device.{Counts};
+    ghost use Rattle.dir_ldif.specs.Trial.{failures_of, first_size, good_calls, left_of, piece_size};
 
-    ghost failures = { λ s. s.calls.failures };
+    ghost left = { left_of };
+
+    ghost failures = { failures_of };
 
     ghost is_same = { λ _ _. ⊤ };
 
@@ -83,7 +112,14 @@ impl Source for Script<'_> {
 
     ghost same_trans = { λ _ _ _ _ _. tt };
 
-    fn read(&mut self, buffer: &mut [u8]) -> Result<usize, DeviceFault> {
+    fn read(&mut self, buffer: &mut [u8]) -> Result<usize, DeviceFault>
+        ensures bound { IfOk result (λ n. n ≤ length buffer.new) }
+        ensures bytes { ReadConsumes (left_of self.old) (left_of self.new) result buffer.new }
+        ensures count { Counts result (failures_of self.old) (failures_of self.new) }
+        ensures same { ⊤ }
+        ensures fails { IsErr result ↔ (good_calls self.old ≡ 0) }
+        ensures pieces { IfOk result (λ n. (n ≤ first_size self.old) × (first_size self.new ≡ piece_size self.old) × (piece_size self.new ≡ piece_size self.old)) }
+    {
         if self.calls.fails() {
             return Err(DeviceFault);
         }

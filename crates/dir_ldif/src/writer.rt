@@ -1,37 +1,49 @@
-ghost use Rattle.std.specs.Prelude.{◌≡◌, ◌++◌, ◌∷◌, ◌≤◌, ℕ, List, [], IfOk, OnOk};
-ghost use Rattle.std.specs.List.{list_all};
+ghost use Rattle.std.specs.Prelude.{◌≡◌, ◌++◌, ◌∷◌, ◌≤◌, ℕ, List, [], IfOk, OnOk, codes};
+ghost use Rattle.std.specs.List.{flat_map, list_all};
+ghost use Rattle.dir_names.specs.Printing.{rdn_printed};
 ghost use Rattle.dir_ldif.specs.Bytes.{ends_in};
+ghost use Rattle.dir_ldif.specs.RecordText.{change_text, change_word, flag_text, kind_text, mod_text, name_line, op_word, record_text_of, superior_text, value_text};
 ghost use Rattle.dir_ldif.specs.Text.{base64_of, fold_from, is_plain, is_safe, is_safe_first, written, written_line};
 
 use crate::records::{Change, ChangeKind, Mod, ModOp, Record};
 use base64::engine::general_purpose::STANDARD;
-use dir_names::{Bytes, Description, Dn, Memory, NameFault, Rdn};
+use dir_names::{Bytes, Description, Dn, Lines, Memory, Rdn};
 use std::alloc::Global;
 
 /// The greatest length of a written line without its LF, in bytes.
 const COLUMNS: usize = 76;
 
 /// The text of a record: its `dn` line, its further lines and an empty line (RFC 2849).
-pub fn record_text(alloc: Global, record: &Record) -> Result<Vec<u8>, Memory> {
+pub fn record_text(alloc: Global, record: &Record) -> Result<Vec<u8>, Memory>
+    ensures { IfOk result (λ text. text.items ≡ record_text_of record.now) }
+{
     let mut out = Vec::new(alloc);
     push_record(&mut out, record)?;
     Ok(out)
 }
 
 /// Appends the text of a record.
-pub fn push_record(out: &mut Vec<u8>, record: &Record) -> Result<(), Memory> {
+pub fn push_record(out: &mut Vec<u8>, record: &Record) -> Result<(), Memory>
+    ensures { OnOk result (out.new.items ≡ out.old.items ++ record_text_of record.now) }
+{
     match record {
-        Record::Content { dn, lines } => {
-            push_name(out, b"dn", dn)?;
-            push_values(out, lines.as_slice())?;
-            push_end(out)
-        }
+        Record::Content { dn, lines } => push_content(out, dn, lines),
         Record::Change(change) => push_change(out, change),
     }
 }
 
+fn push_content(out: &mut Vec<u8>, dn: &Dn, lines: &Lines) -> Result<(), Memory>
+    ensures { OnOk result (out.new.items ≡ out.old.items ++ record_text_of (Record.Content dn.now lines.now)) }
+{
+    push_name(out, b"dn", dn)?;
+    push_values(out, lines.as_slice())?;
+    push_end(out)
+}
+
 /// Appends the text of a change record.
-pub fn push_change(out: &mut Vec<u8>, change: &Change) -> Result<(), Memory> {
+pub fn push_change(out: &mut Vec<u8>, change: &Change) -> Result<(), Memory>
+    ensures { OnOk result (out.new.items ≡ out.old.items ++ change_text change.now) }
+{
     push_name(out, b"dn", &change.dn)?;
     push_line(out, b"changetype", change_word(&change.kind))?;
     push_kind(out, &change.kind)?;
@@ -142,32 +154,36 @@ fn ends_in_space(text: &[u8]) -> bool
 }
 
 /// Appends the line of a keyword whose value is a name, as the `dn` line of a record.
-pub fn push_name(out: &mut Vec<u8>, word: &[u8], dn: &Dn) -> Result<(), Memory> {
-    let text = printed(dn.print(*out.allocator()))?;
-    push_line(out, word, text.as_slice())
-}
-
-fn push_rdn(out: &mut Vec<u8>, rdn: &Rdn) -> Result<(), Memory> {
-    let text = printed(rdn.print(*out.allocator()))?;
-    push_line(out, b"newrdn", text.as_slice())
-}
-
-/// A printed name, which can only want memory.
-fn printed(text: Result<Vec<u8>, NameFault>) -> Result<Vec<u8>, Memory> {
-    match text {
-        Ok(text) => Ok(text),
+pub fn push_name(out: &mut Vec<u8>, word: &[u8], dn: &Dn) -> Result<(), Memory>
+    ensures { OnOk result (out.new.items ≡ out.old.items ++ name_line word.now dn.now) }
+{
+    match dn.print(*out.allocator()) {
+        Ok(text) => push_line(out, word, text.as_slice()),
         Err(_) => Err(Memory),
     }
 }
 
-fn push_values(out: &mut Vec<u8>, lines: &[(Description, Bytes)]) -> Result<(), Memory> {
-    for (description, value) in lines {
-        push_line(out, description.spelling(), value.as_slice())?;
+fn push_rdn(out: &mut Vec<u8>, rdn: &Rdn) -> Result<(), Memory>
+    ensures { OnOk result (out.new.items ≡ out.old.items ++ written_line (codes "newrdn") (rdn_printed rdn.now)) }
+{
+    match rdn.print(*out.allocator()) {
+        Ok(text) => push_line(out, b"newrdn", text.as_slice()),
+        Err(_) => Err(Memory),
+    }
+}
+
+fn push_values(out: &mut Vec<u8>, lines: &[(Description, Bytes)]) -> Result<(), Memory>
+    ensures { OnOk result (out.new.items ≡ out.old.items ++ flat_map value_text lines.now) }
+{
+    for line in lines {
+        push_line(out, line.0.spelling(), line.1.as_slice())?;
     }
     Ok(())
 }
 
-fn change_word(kind: &ChangeKind) -> &'static [u8] {
+fn change_word(kind: &ChangeKind) -> &'static [u8]
+    ensures { result.now ≡ change_word kind.now }
+{
     match kind {
         ChangeKind::Add(_) => b"add",
         ChangeKind::Delete => b"delete",
@@ -177,7 +193,9 @@ fn change_word(kind: &ChangeKind) -> &'static [u8] {
 }
 
 /// Appends the lines behind the changetype.
-fn push_kind(out: &mut Vec<u8>, kind: &ChangeKind) -> Result<(), Memory> {
+fn push_kind(out: &mut Vec<u8>, kind: &ChangeKind) -> Result<(), Memory>
+    ensures { OnOk result (out.new.items ≡ out.old.items ++ kind_text kind.now) }
+{
     match kind {
         ChangeKind::Add(lines) => push_values(out, lines.as_slice()),
         ChangeKind::Delete => Ok(()),
@@ -186,18 +204,26 @@ fn push_kind(out: &mut Vec<u8>, kind: &ChangeKind) -> Result<(), Memory> {
             newrdn,
             delete_old,
             newsuperior,
-        } => {
-            push_rdn(out, newrdn)?;
-            push_flag(out, *delete_old)?;
-            match newsuperior {
-                Some(dn) => push_name(out, b"newsuperior", dn),
-                None => Ok(()),
-            }
-        }
+        } => push_rename(out, newrdn, *delete_old, newsuperior),
     }
 }
 
-fn push_flag(out: &mut Vec<u8>, delete_old: bool) -> Result<(), Memory> {
+fn push_rename(
+    out: &mut Vec<u8>,
+    newrdn: &Rdn,
+    delete_old: bool,
+    newsuperior: &Option<Dn>,
+) -> Result<(), Memory>
+    ensures { OnOk result (out.new.items ≡ out.old.items ++ kind_text (ChangeKind.Rename newrdn.now delete_old newsuperior.now)) }
+{
+    push_rdn(out, newrdn)?;
+    push_flag(out, delete_old)?;
+    push_superior(out, newsuperior)
+}
+
+fn push_flag(out: &mut Vec<u8>, delete_old: bool) -> Result<(), Memory>
+    ensures { OnOk result (out.new.items ≡ out.old.items ++ written_line (codes "deleteoldrdn") (flag_text delete_old)) }
+{
     if delete_old {
         push_line(out, b"deleteoldrdn", b"1")
     } else {
@@ -205,24 +231,47 @@ fn push_flag(out: &mut Vec<u8>, delete_old: bool) -> Result<(), Memory> {
     }
 }
 
-fn push_mods(out: &mut Vec<u8>, mods: &[Mod]) -> Result<(), Memory> {
+fn push_superior(out: &mut Vec<u8>, newsuperior: &Option<Dn>) -> Result<(), Memory>
+    ensures { OnOk result (out.new.items ≡ out.old.items ++ superior_text newsuperior.now) }
+{
+    match newsuperior {
+        Some(dn) => push_name(out, b"newsuperior", dn),
+        None => Ok(()),
+    }
+}
+
+fn push_mods(out: &mut Vec<u8>, mods: &[Mod]) -> Result<(), Memory>
+    ensures { OnOk result (out.new.items ≡ out.old.items ++ flat_map mod_text mods.now) }
+{
     for m in mods {
         push_mod(out, m)?;
     }
     Ok(())
 }
 
-fn push_mod(out: &mut Vec<u8>, m: &Mod) -> Result<(), Memory> {
+fn push_mod(out: &mut Vec<u8>, m: &Mod) -> Result<(), Memory>
+    ensures { OnOk result (out.new.items ≡ out.old.items ++ mod_text m.now) }
+{
     let spelling = m.description.spelling();
     push_line(out, op_word(m.op), spelling)?;
-    for value in m.values.as_slice() {
-        push_line(out, spelling, value.as_slice())?;
-    }
+    push_texts(out, spelling, m.values.as_slice())?;
     out.extend_from_slice(b"-\n")?;
     Ok(())
 }
 
-fn op_word(op: ModOp) -> &'static [u8] {
+/// Appends a line for each value of one attribute.
+fn push_texts(out: &mut Vec<u8>, spelling: &[u8], values: &[Bytes]) -> Result<(), Memory>
+    ensures { OnOk result (out.new.items ≡ out.old.items ++ flat_map (λ value. written_line spelling.now value) values.now) }
+{
+    for value in values {
+        push_line(out, spelling, value.as_slice())?;
+    }
+    Ok(())
+}
+
+fn op_word(op: ModOp) -> &'static [u8]
+    ensures { result.now ≡ op_word op }
+{
     match op {
         ModOp::Add => b"add",
         ModOp::Delete => b"delete",
