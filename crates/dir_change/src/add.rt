@@ -1,4 +1,5 @@
-ghost use Rattle.std.specs.Prelude.{◌≡◌, IfOk, is_some};
+ghost use Rattle.std.specs.Prelude.{◌≡◌, IfErr, IfOk, OnErr, OnOk, is_some};
+ghost use Rattle.dir_change.specs.Operation.{AddRefused, Adds};
 ghost use Rattle.dir_tree.specs.Dir.{has_parent};
 
 use crate::{Refusal, ResultCode, Undo};
@@ -16,7 +17,11 @@ pub(crate) fn add<D: Directory>(
     name: &Dn,
     key: &DnKey,
     lines: &Lines,
-) -> Result<Undo, Refusal> {
+) -> Result<Undo, Refusal>
+    ensures ok { OnOk result (Adds (D.state directory.old) key.now (D.state directory.new)) }
+    ensures refused { IfErr result (AddRefused (D.state directory.old) key.now) }
+    ensures err { OnErr result (D.state directory.new ≡ D.state directory.old) }
+{
     if !key.at_or_below(directory.suffix()) {
         return Err(Refusal::Code(ResultCode::NoSuchObject));
     }

@@ -224,7 +224,7 @@ fn is_option(text: &[u8]) -> bool
 pub(crate) fn is_type(text: &[u8]) -> bool
     ensures { result ≡ is_type text.now }
 {
-    is_name(text) || is_number(text)
+    (is_name(text) || is_number(text)) && text.len() <= MAX_DESCRIPTION
 }
 
 /// `descr`: a letter followed by letters, digits and hyphens (RFC 4512, section 1.4).
