@@ -3,10 +3,20 @@ use Rattle.std.specs.Prelude.{◌≡◌, Bool, true, false, IsSome, IsTrue, None
 use Rattle.dir_names.specs.Keys.{DnKeys, IsAtOrBelow}
 use Rattle.dir_tree.specs.Content.{Content}
 use Rattle.dir_tree.specs.Dir.{Dir, HasChild, entry_at, has_parent, put_entry, without}
+use Rattle.dir_tree.specs.declared.fault.EntryFault.{EntryFault}
+use Rattle.dir_tree.specs.declared.fault.EntryFault.TheVariants as entry
 use Rattle.dir_change.specs.declared.operation.Refusal.{Refusal}
 use Rattle.dir_change.specs.declared.operation.Refusal.TheVariants as refusal
 use Rattle.dir_change.specs.declared.result_code.ResultCode.{ResultCode}
 use Rattle.dir_change.specs.declared.result_code.ResultCode.TheVariants.{NoSuchObject, NotAllowedOnNonLeaf, EntryAlreadyExists, InvalidAttributeSyntax, AttributeOrValueExists, ConstraintViolation, NotAllowedOnRdn}
+
+-- what an entry that can't be made is refused with
+abbrev pub refusal_of : EntryFault → Refusal
+refusal_of entry.BadValue = refusal.Code InvalidAttributeSyntax
+refusal_of entry.Twice = refusal.Code AttributeOrValueExists
+refusal_of entry.NotNamed = refusal.Code NotAllowedOnRdn
+refusal_of entry.Single = refusal.Code ConstraintViolation
+refusal_of entry.Memory = refusal.Memory
 
 -- a delete is accepted: the entry is there and has no child, and goes
 abbrev pub Deletes : Dir → DnKeys → Dir → Type 0

@@ -1,6 +1,6 @@
 -- The undo text of a run: groups of changes, each in the order in which it is to be applied, the last accepted record's group first.
-use Rattle.std.specs.Prelude.{ℕ, List, ◌++◌, codes}
-use Rattle.std.specs.List.{flat_map, reverse}
+use Rattle.std.specs.Prelude.{ℕ, List, ◌++◌, codes, reverse}
+use Rattle.std.specs.List.{flat_map}
 use Rattle.dir_ldif.specs.declared.records.Change.{Change}
 use Rattle.dir_ldif.specs.RecordText.{change_text}
 

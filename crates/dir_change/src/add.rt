@@ -54,7 +54,8 @@ fn name_above<D: Directory>(
     directory: &D,
     key: &DnKey,
 ) -> Result<Option<Dn>, Refusal>
-    ensures { IfOk result (λ above. is_some above ≡ has_parent (D.state directory.now) key.now) }
+    ensures parent { IfOk result (λ above. is_some above ≡ has_parent (D.state directory.now) key.now) }
+    ensures memory { IfErr result (λ e. e ≡ Refusal.Memory) }
 {
     if key == directory.suffix() {
         return Ok(Some(Dn::from_rdns(Vec::new(alloc))?));
@@ -69,7 +70,9 @@ fn name_above<D: Directory>(
 }
 
 /// The own name and then what stands above it.
-fn joined(alloc: Global, own: &[Rdn], above: Dn) -> Result<Dn, Refusal> {
+fn joined(alloc: Global, own: &[Rdn], above: Dn) -> Result<Dn, Refusal>
+    ensures { IfErr result (λ e. e ≡ Refusal.Memory) }
+{
     let mut rdns = Vec::with_capacity(alloc, own.len())?;
     for rdn in own {
         rdns.push(rdn.try_clone(alloc)?)?;

@@ -36,7 +36,9 @@ pub(crate) fn delete<D: Directory>(
 }
 
 /// All values of an entry, in the order of its canonical text.
-fn all_lines(alloc: Global, entry: &Entry) -> Result<Lines, Refusal> {
+fn all_lines(alloc: Global, entry: &Entry) -> Result<Lines, Refusal>
+    ensures { IfErr result (λ e. e ≡ Refusal.Memory) }
+{
     let mut lines = Vec::new(alloc);
     for (_, attribute) in entry.attributes() {
         for (_, bytes) in attribute.values() {

@@ -1,4 +1,5 @@
-ghost use Rattle.std.specs.Prelude.{◌≡◌, [], ◌∷◌, ◌++◌, IfErr, IfOk, OnErr, OnOk};
+ghost use Rattle.std.specs.Prelude.{◌≡◌, [], ◌∷◌, ◌++◌, IfErr, IfOk, OnErr, OnOk, reverse};
+ghost use Rattle.std.specs.List.{flat_map};
 ghost use Rattle.dir_change.specs.UndoText.{group_text, undo_text_of};
 
 use crate::Undo;
@@ -54,11 +55,21 @@ impl History {
         ensures { IfOk result (λ text. text.items ≡ undo_text_of self.now) }
     {
         let mut text = b"version: 1\n\n".to_vec(alloc)?;
-        for group in self.groups.iter().rev() {
-            push_group(&mut text, group)?;
-        }
+        push_groups(&mut text, self.groups.as_slice())?;
         Ok(text)
     }
+}
+
+/// Appends the texts of groups, the last one first.
+fn push_groups(out: &mut Vec<u8>, groups: &[Undo]) -> Result<(), Memory>
+    ensures { OnOk result (out.new.items ≡ out.old.items ++ flat_map group_text (reverse groups.now)) }
+{
+    let mut at = groups.len();
+    while at > 0 {
+        at -= 1;
+        push_group(out, &groups[at])?;
+    }
+    Ok(())
 }
 
 /// Appends the texts of a group's changes.

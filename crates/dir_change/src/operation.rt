@@ -1,4 +1,6 @@
 ghost use Rattle.std.specs.Prelude.{◌≡◌, OnErr};
+ghost use Rattle.dir_change.specs.declared.operation.Refusal.TheVariants.{Memory};
+ghost use Rattle.dir_change.specs.Operation.{refusal_of};
 
 use crate::add::add;
 use crate::delete::delete;
@@ -44,7 +46,7 @@ pub fn apply<D: Directory>(
 }
 
 impl From<AllocError> for Refusal {
-    ghost from_gives = { λ _ e. e ≡ Refusal.Memory };
+    ghost from_gives = { λ _ e. e ≡ Memory };
 
     fn from(_error: AllocError) -> Refusal {
         Refusal::Memory
@@ -52,7 +54,7 @@ impl From<AllocError> for Refusal {
 }
 
 impl<T: Drop> From<AllocFailed<T>> for Refusal {
-    ghost from_gives = { λ _ e. e ≡ Refusal.Memory };
+    ghost from_gives = { λ _ e. e ≡ Memory };
 
     fn from(_error: AllocFailed<T>) -> Refusal {
         Refusal::Memory
@@ -60,7 +62,7 @@ impl<T: Drop> From<AllocFailed<T>> for Refusal {
 }
 
 impl From<Memory> for Refusal {
-    ghost from_gives = { λ _ e. e ≡ Refusal.Memory };
+    ghost from_gives = { λ _ e. e ≡ Memory };
 
     fn from(_error: Memory) -> Refusal {
         Refusal::Memory
@@ -69,7 +71,7 @@ impl From<Memory> for Refusal {
 
 /// Want of memory: the one fault that a legal change's names and descriptions can meet.
 impl From<NameFault> for Refusal {
-    ghost from_gives = { λ _ e. e ≡ Refusal.Memory };
+    ghost from_gives = { λ _ e. e ≡ Memory };
 
     fn from(_fault: NameFault) -> Refusal {
         Refusal::Memory
@@ -77,6 +79,8 @@ impl From<NameFault> for Refusal {
 }
 
 impl From<EntryFault> for Refusal {
+    ghost from_gives = { λ fault refusal. refusal ≡ refusal_of fault };
+
     fn from(fault: EntryFault) -> Refusal {
         match fault {
             EntryFault::BadValue => Refusal::Code(ResultCode::InvalidAttributeSyntax),
