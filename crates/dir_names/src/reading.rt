@@ -1,9 +1,7 @@
-ghost use Rattle.std.specs.Prelude.{◌≡◌, ◌<◌, ◌∷◌, Ok, Some, None, false, cond, not, ◌&&◌, ◌==◌, IsTrue, IfSome, option_copied, length};
 ghost use Rattle.std.specs.List.{list_all};
+ghost use Rattle.std.specs.Prelude.{◌≡◌, ◌<◌, ◌∷◌, Ok, Some, None, false, cond, not, ◌&&◌, ◌==◌, IsTrue, IfSome, option_copied, length};
 ghost use Rattle.dir_names.specs.Outcome.{Gives};
-ghost use Rattle.dir_names.specs.Printing.{is_refused_sign};
-ghost use Rattle.dir_names.specs.Reading.{is_hex, hex_of, is_refused, is_escapable, is_outside, has_digit, keeps_digit, step_of, all_of, begins_with_hash, value_of, pieces, pieces_left, pair_of, rdn_of, name_of, only_rdn_of, is_small, or_bad_dn, limited, name_read, rdn_read};
-ghost use Rattle.dir_names.specs.Spaces.{trimmed_front};
+ghost use Rattle.dir_names.specs.Reading.{is_hex, hex_of, is_refused, is_escapable, is_outside, has_digit, keeps_digit, step_of, all_of, begins_with_hash, value_of, pieces, pieces_left, pair_of, rdn_of, name_of, is_small, or_bad_dn, limited, name_read, rdn_read};
 
 use crate::attribute::{cut, is_reserved, is_type};
 use crate::limits::MAX_RDN_TEXT;
