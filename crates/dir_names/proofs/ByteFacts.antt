@@ -1,9 +1,9 @@
 -- What the tests say of single bytes.
-use Rattle.std.proofs.Common.{◌≡◌, ℕ, ◌+◌, ◌*◌, ◌-◌, ◌/◌, ◌%◌, ◌<◌, ◌≤◌, Bool, true, false, cond, not, refl, ap, sym, ◌∙◌, arith}
-use Rattle.std.specs.Prelude.{◌==◌, ◌&&◌, ◌||◌, nat_lt, nat_le}
+use Rattle.std.proofs.Common.{◌≡◌, ℕ, ◌+◌, ◌*◌, ◌/◌, ◌%◌, ◌<◌, Bool, true, false, not, refl, ap, arith}
+use Rattle.std.specs.Prelude.{◌==◌, ◌||◌, nat_lt}
 use Rattle.std.proofs.lemmas.Bool.Decides.{nat_tests}
 use Rattle.dir_names.specs.Descriptions.{is_letter, is_digit, is_keychar}
-use Rattle.dir_names.specs.Printing.{upper_digit, is_refused_sign, is_special}
+use Rattle.dir_names.specs.Printing.{upper_digit, is_special}
 use Rattle.dir_names.specs.Reading.{is_hex, hex_of, is_refused, is_escapable}
 
 -- what may stand in a type

@@ -1,7 +1,7 @@
 -- A printed name reads back: no separator stands in a printed part, so that cutting at separators gives the parts.
-use Rattle.std.proofs.Common.{◌≡◌, ℕ, zero, suc, ◌+◌, ◌/◌, ◌%◌, ◌<◌, ◌≤◌, Bool, true, false, cond, not, List, [], ◌∷◌, ◌++◌, map, length, take, drop, Option, Some, None, Ok, Err, refl, ap, sym, subst, ◌∙◌, append_assoc, arith}
+use Rattle.std.proofs.Common.{◌≡◌, ℕ, suc, ◌+◌, ◌/◌, ◌%◌, ◌<◌, Bool, true, false, cond, not, List, [], ◌∷◌, ◌++◌, map, length, take, drop, Option, Some, None, Ok, Err, refl, ap, sym, ◌∙◌, arith}
 use Rattle.std.specs.Prelude.{◌==◌, ◌&&◌, ◌||◌, nat_lt}
-use Rattle.std.specs.List.{list_all, list_any, join_with_byte, onto_first, slice_split, before_first, after_first, position_or_len}
+use Rattle.std.specs.List.{list_all, join_with_byte, onto_first, before_first, after_first, position_or_len}
 use Rattle.std.specs.Option.{option_map}
 use Rattle.std.proofs.lemmas.List.{append-nil, length-append}
 use Rattle.std.proofs.lemmas.List.Folds.{list_all-append}
@@ -10,13 +10,13 @@ use Rattle.std.proofs.lemmas.Bool.Decides.{nat_tests}
 use Rattle.std.proofs.Math.Seq.{take-append_seam}
 use Rattle.dir_names.specs.declared.fault.NameFault.TheVariants.{NameLimit}
 use Rattle.dir_names.specs.Cut.{behind_first, parts_at}
-use Rattle.dir_names.specs.Descriptions.{is_letter, is_digit, is_keychar, is_name as is_type_name, is_decimal, is_number, is_type, is_reserved}
+use Rattle.dir_names.specs.Descriptions.{is_digit, is_keychar, is_name as is_type_name, is_decimal, is_number, is_type}
 use Rattle.dir_names.specs.Names.{SpelledPair, SpelledRdn, SpelledName}
 use Rattle.dir_names.specs.Printing.{upper_digit, escaped, is_special, shown, rest_printed, value_printed, pair_printed, rdn_printed, name_printed}
 use Rattle.dir_names.specs.Reading.{and_all, all_of, pieces, pair_from, pair_of, rdn_of, name_of, only_rdn, only_rdn_of, value_of, limited, is_small, is_within_limits, name_read, rdn_read}
 use Rattle.dir_names.specs.Sound.{is_pair, is_rdn, is_name}
 use Rattle.dir_names.specs.Spaces.{trimmed_front, trimmed_end}
-use Rattle.dir_names.proofs.ByteFacts.{is_type_char, upper_is_hex, upper_is_plain, upper_is_ascii, plain_is_ascii, type_is_ascii, high_half, low_half, plain_not_escape, plain_not_plus, plain_not_comma, type_not_equals, type_not_space, type_not_plus, type_not_comma, type_not_escape, letter_is_type, keychar_is_type, digit_is_type, dot_is_type}
+use Rattle.dir_names.proofs.ByteFacts.{is_type_char, upper_is_plain, upper_is_ascii, plain_is_ascii, type_is_ascii, high_half, low_half, plain_not_escape, plain_not_plus, plain_not_comma, type_not_equals, type_not_space, type_not_plus, type_not_comma, type_not_escape, letter_is_type, keychar_is_type, digit_is_type, dot_is_type}
 use Rattle.dir_names.specs.ValueKeys.{is_ascii}
 use Rattle.dir_names.proofs.PieceLemmas.{onto}
 use Rattle.dir_names.proofs.ReadValues.{value_back}

@@ -1,16 +1,14 @@
 -- A printed value reads back.
-use Rattle.std.proofs.Common.{◌≡◌, ℕ, ◌+◌, ◌*◌, ◌/◌, ◌%◌, ◌<◌, Bool, true, false, cond, not, T, List, [], ◌∷◌, ◌++◌, length, Option, Some, None, refl, ap, sym, ◌∙◌}
-use Rattle.std.specs.Prelude.{◌==◌, ◌&&◌, ◌||◌, nat_lt}
+use Rattle.std.proofs.Common.{◌≡◌, ℕ, ◌+◌, ◌*◌, ◌/◌, ◌%◌, ◌<◌, Bool, true, false, cond, List, [], ◌∷◌, ◌++◌, Some, None, refl, ap, sym, ◌∙◌}
+use Rattle.std.specs.Prelude.{◌==◌, ◌||◌, nat_lt}
 use Rattle.std.specs.List.{list_all}
 use Rattle.std.specs.Option.{option_map}
 use Rattle.std.proofs.lemmas.List.{append-nil}
 use Rattle.std.proofs.lemmas.Bool.{ltb-true, eqb-true, and_parts}
-use Rattle.dir_names.specs.declared.reading.Place.{Place}
 use Rattle.dir_names.specs.declared.reading.Place.TheVariants.{Outside, Behind, Second}
-use Rattle.dir_names.specs.declared.reading.Step.{Step}
 use Rattle.dir_names.specs.declared.reading.Step.TheVariants.{Space, Byte, Inside, Refused}
 use Rattle.dir_names.specs.Printing.{upper_digit, escaped, is_special, shown, rest_printed, value_printed}
-use Rattle.dir_names.specs.Reading.{is_hex, hex_of, is_refused, is_escapable, step_of, with_space, added, value_from, value_of, begins_with_hash}
+use Rattle.dir_names.specs.Reading.{is_hex, hex_of, is_refused, is_escapable, step_of, with_space, added, value_from, value_of}
 use Rattle.dir_names.specs.Spaces.{trimmed_front}
 use Rattle.dir_names.proofs.ByteFacts.{upper_is_hex, hex-upper, halves, high_half, low_half, plain_not_escape, plain_not_refused}
 

@@ -1,22 +1,19 @@
 -- What is read is what the grammar relates.
-use Rattle.std.proofs.Common.{◌≡◌, ℕ, zero, suc, ◌+◌, ◌*◌, ◌<◌, ◌≤◌, Bool, true, false, cond, not, List, [], ◌∷◌, ◌++◌, length, get_or, replicate, Option, Some, None, Ok, Err, refl, ap, sym, subst, ◌∙◌, append_assoc, arith}
-use Rattle.std.specs.Prelude.{◌==◌, ◌&&◌, ◌||◌, nat_lt}
+use Rattle.std.proofs.Common.{◌≡◌, ℕ, zero, suc, ◌+◌, ◌*◌, ◌≤◌, Bool, true, false, cond, not, List, [], ◌∷◌, ◌++◌, length, get_or, replicate, Option, Some, None, Ok, Err, refl, ap, sym, subst, ◌∙◌, append_assoc, arith}
+use Rattle.std.specs.Prelude.{◌==◌, ◌&&◌, nat_lt}
 use Rattle.std.specs.List.{onto_first, join_with_byte, before_first, after_first, position_or_len}
 use Rattle.std.specs.Option.{option_map}
-use Rattle.std.proofs.lemmas.List.{append-nil}
 use Rattle.std.proofs.lemmas.List.Sums.{split_at_first, passes_at_first}
 use Rattle.std.proofs.lemmas.Bool.{ltb-true, eqb-true, eqb-false, and_parts}
 use Rattle.std.specs.Prelude.{IfOk, Result}
 use Rattle.dir_names.specs.declared.fault.NameFault.{NameFault}
 use Rattle.dir_names.specs.declared.fault.NameFault.TheVariants.{BadDescription, ReservedName, BadValue, BadDn, NameLimit, Memory}
 use Rattle.dir_names.specs.Outcome.{Gives}
-use Rattle.dir_names.specs.declared.reading.Place.{Place}
 use Rattle.dir_names.specs.declared.reading.Place.TheVariants.{Outside, Behind, Second}
-use Rattle.dir_names.specs.declared.reading.Step.{Step}
 use Rattle.dir_names.specs.declared.reading.Step.TheVariants.{Space, Byte, Inside, Refused}
 use Rattle.dir_names.specs.Descriptions.{is_type, is_reserved}
 use Rattle.dir_names.specs.Names.{SpelledPair, SpelledRdn, SpelledName}
-use Rattle.dir_names.specs.Reading.{is_hex, hex_of, is_refused, is_escapable, step_of, with_space, added, value_from, value_of, begins_with_hash, and_all, all_of, pieces, pair_from, pair_of, rdn_of, name_of, only_rdn, only_rdn_of, limited, is_small, is_within_limits, name_read, rdn_read}
+use Rattle.dir_names.specs.Reading.{is_hex, hex_of, is_refused, is_escapable, with_space, added, value_from, value_of, begins_with_hash, and_all, all_of, pieces, pair_from, pair_of, rdn_of, name_of, only_rdn, only_rdn_of, limited, is_small, is_within_limits, name_read, rdn_read}
 use Rattle.dir_names.specs.Spaces.{trimmed_front, trimmed_end}
 use Rattle.dir_names.specs.Spells.{SpellsByte, SpellsBytes, BeginsValue, SpellsPair, SpellsRdn, SpellsRdns, Spells}
 use Rattle.dir_names.specs.Spells.{digits, sign, plain, none, byte, space, trailing, empty, begins, pair, last_pair, pair_before, last_rdn, rdn_before, nothing, rdns}

@@ -1,18 +1,17 @@
 -- What is read of a text of bytes is a legal name.
-use Rattle.std.proofs.Common.{◌≡◌, ℕ, zero, suc, ◌+◌, ◌*◌, ◌-◌, ◌<◌, ◌≤◌, ◌^◌, Bool, true, false, cond, not, List, [], ◌∷◌, ◌++◌, length, get_or, drop, Option, Some, None, refl, ap, sym, subst, ◌∙◌, arith}
-use Rattle.std.specs.Prelude.{◌==◌, ◌&&◌, ◌||◌, nat_lt, nat_le}
+use Rattle.std.proofs.Common.{◌≡◌, ℕ, zero, suc, ◌+◌, ◌*◌, ◌<◌, Bool, true, false, cond, not, List, [], ◌∷◌, length, get_or, drop, Option, Some, None, refl, ap, sym, subst, ◌∙◌, arith}
+use Rattle.std.specs.Prelude.{◌==◌, ◌&&◌, nat_lt}
 use Rattle.std.specs.List.{list_all, onto_first, position_or_len, before_first, after_first}
 use Rattle.std.specs.Option.{option_map}
-use Rattle.std.proofs.lemmas.Bool.{ltb-true, lt-ltb, and_parts}
+use Rattle.std.proofs.lemmas.Bool.{lt-ltb, and_parts}
 use Rattle.std.proofs.lemmas.Bool.Decides.{nat_tests}
 use Rattle.dir_names.specs.declared.reading.Place.{Place}
 use Rattle.dir_names.specs.declared.reading.Place.TheVariants.{Outside, Behind, Second}
 use Rattle.dir_names.specs.declared.reading.Step.{Step}
 use Rattle.dir_names.specs.declared.reading.Step.TheVariants.{Space, Byte, Inside, Refused}
-use Rattle.dir_names.specs.Cut.{behind_first}
 use Rattle.dir_names.specs.Descriptions.{is_type, is_reserved}
 use Rattle.dir_names.specs.Names.{SpelledPair, SpelledRdn, SpelledName}
-use Rattle.dir_names.specs.Reading.{is_hex, hex_of, is_refused, is_escapable, step_of, with_space, added, at_end, value_from, value_of, begins_with_hash, has_digit, keeps_digit, and_all, all_of, pieces, pair_from, pair_of, rdn_of, name_of}
+use Rattle.dir_names.specs.Reading.{is_hex, hex_of, is_refused, is_escapable, step_of, with_space, added, value_from, value_of, begins_with_hash, has_digit, and_all, all_of, pieces, pair_from, pair_of, rdn_of, name_of}
 use Rattle.dir_names.specs.Sound.{is_pair, is_rdn, is_name}
 use Rattle.dir_names.specs.Spaces.{trimmed_front, trimmed_end}
 use Rattle.dir_names.proofs.PieceLemmas.{onto, some_piece}

@@ -1,5 +1,5 @@
 -- What the grammar relates is read so.
-use Rattle.std.proofs.Common.{◌≡◌, ℕ, zero, suc, ◌+◌, ◌*◌, ◌<◌, ◌≤◌, Bool, true, false, cond, not, List, [], ◌∷◌, ◌++◌, length, take, drop, replicate, Option, Some, None, refl, ap, sym, ◌∙◌, append_assoc, arith}
+use Rattle.std.proofs.Common.{◌≡◌, ℕ, zero, suc, ◌+◌, ◌<◌, true, false, cond, not, List, [], ◌∷◌, ◌++◌, length, take, drop, replicate, Some, None, refl, ap, sym, ◌∙◌, append_assoc, arith}
 use Rattle.std.specs.Prelude.{◌==◌, ◌&&◌, nat_lt}
 use Rattle.std.specs.List.{list_all, onto_first, before_first, after_first, position_or_len}
 use Rattle.std.specs.Option.{option_map}
@@ -7,11 +7,11 @@ use Rattle.std.proofs.lemmas.List.{append-nil, length-append}
 use Rattle.std.proofs.lemmas.List.Folds.{list_all-append}
 use Rattle.std.proofs.Math.Seq.{take-append_seam}
 use Rattle.std.proofs.lemmas.Bool.{lt-ltb, eq-eqb, ne_eqb, and_parts}
-use Rattle.dir_names.specs.declared.reading.Place.TheVariants.{Outside, Behind, Second}
-use Rattle.dir_names.specs.declared.reading.Step.TheVariants.{Space, Byte, Inside, Refused}
+use Rattle.dir_names.specs.declared.reading.Place.TheVariants.{Outside, Second}
+use Rattle.dir_names.specs.declared.reading.Step.TheVariants.{Byte, Inside, Refused}
 use lib.Dec.{eqb-suc-zero}
 use Rattle.dir_names.specs.Cut.{behind_first}
-use Rattle.dir_names.specs.Descriptions.{is_type, is_reserved}
+use Rattle.dir_names.specs.Descriptions.{is_type}
 use Rattle.dir_names.specs.Names.{SpelledPair, SpelledRdn, SpelledName}
 use Rattle.dir_names.specs.Reading.{is_hex, hex_of, is_refused, is_escapable, with_space, added, value_from, value_of, begins_with_hash, and_all, all_of, pieces, pair_from, pair_of, rdn_of, name_of, only_rdn, only_rdn_of}
 use Rattle.dir_names.specs.Spaces.{trimmed_front, trimmed_end}

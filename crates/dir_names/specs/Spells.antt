@@ -1,5 +1,5 @@
 -- Which name a text spells, in the words of the grammar (RFC 4514, sections 2 and 3, where unescaped spaces around a separator, around the `=` after a type and at both ends are skipped).
-use Rattle.std.specs.Prelude.{◌≡◌, ℕ, ◌+◌, ◌*◌, Bool, true, false, List, [], ◌∷◌, ◌++◌, replicate}
+use Rattle.std.specs.Prelude.{◌≡◌, ℕ, ◌+◌, ◌*◌, true, false, List, [], ◌∷◌, ◌++◌, replicate}
 use Rattle.dir_names.specs.Descriptions.{is_type, is_reserved}
 use Rattle.dir_names.specs.Names.{SpelledPair, SpelledRdn, SpelledName}
 use Rattle.dir_names.specs.Reading.{is_hex, hex_of, is_refused, is_escapable}

@@ -1,17 +1,15 @@
-ghost use Rattle.std.specs.Prelude.{◌≡◌, ◌↔◌, IsTrue, Ok, Some, refl};
-ghost use Rattle.std.specs.Ordering.{as_partial_cmp};
 ghost use Rattle.std.specs.Cmp.{partial_order_from_agreeing_total};
-ghost use Rattle.dir_names.specs.Covers.{Covers, covers};
-ghost use Rattle.std.specs.Prelude.{◌==◌, [], ◌∷◌, ◌&&◌, not, map, length, option_copied, position};
-ghost use Rattle.std.specs.List.{before_first};
+ghost use Rattle.std.specs.List.{before_first, list_all, list_any};
+ghost use Rattle.std.specs.Ordering.{as_partial_cmp};
+ghost use Rattle.std.specs.Prelude.{◌≡◌, ◌↔◌, IsTrue, Ok, refl, ◌==◌, [], ◌∷◌, option_copied, position};
 ghost use Rattle.std.specs.Str.{str_to_ascii_lowercase};
+ghost use Rattle.dir_names.specs.Covers.{Covers, covers};
 ghost use Rattle.dir_names.specs.Cut.{behind_first, parts_at, parts_left};
 ghost use Rattle.dir_names.specs.Described.{described_eq, described_eq_laws, partial_described_eq_laws};
 ghost use Rattle.dir_names.specs.Descriptions.{is_digit, is_keychar, is_name, is_decimal, is_number, is_type, is_option, is_reserved, options_read, description_of};
-ghost use Rattle.dir_names.specs.Sorted.{rises, with_member};
-ghost use Rattle.std.specs.List.{list_all, list_any};
 ghost use Rattle.dir_names.specs.Orders.{bytes_cmp, bytes_eq, attr_cmp, attr_eq, attr_cmp_total, attr_cmp_ties, tied_equiv, tied_per};
 ghost use Rattle.dir_names.specs.Outcome.{Gives};
+ghost use Rattle.dir_names.specs.Sorted.{rises, with_member};
 
 use crate::limits::MAX_DESCRIPTION;
 use crate::{Bytes, NameFault, Schema, Texts};

@@ -1,14 +1,13 @@
-ghost use Rattle.std.specs.Prelude.{◌≡◌, ◌∷◌, cond, length, nat_le, Ok, Err, Some, IsTrue, IsFalse, IfOk, IsErrOf};
-ghost use Rattle.dir_names.specs.declared.fault.NameFault.TheVariants.{BadDn, NameLimit};
-ghost use Rattle.dir_names.specs.Names.{name_eq, rdn_eq, name_eq_laws, rdn_eq_laws, partial_name_eq_laws, partial_rdn_eq_laws};
+ghost use Rattle.std.specs.Prelude.{◌≡◌, cond, length, nat_le, Ok, Err, Some, IsTrue, IsFalse, IfOk, IsErrOf};
 ghost use Rattle.dir_names.specs.NameKeys.{pair_key, rdn_key, name_key};
+ghost use Rattle.dir_names.specs.Names.{name_eq, rdn_eq, name_eq_laws, rdn_eq_laws, partial_name_eq_laws, partial_rdn_eq_laws, SpelledRdn, SpelledName};
 ghost use Rattle.dir_names.specs.Outcome.{Gives};
 ghost use Rattle.dir_names.specs.Printing.{rdn_printed, name_printed};
 ghost use Rattle.dir_names.specs.Reading.{or_bad_dn, only_rdn_of, name_of, name_read, rdn_read, is_small, is_within_limits};
-ghost use Rattle.dir_names.specs.Spells.{Spells, SpellsRdn};
-ghost use Rattle.dir_names.specs.Names.{SpelledRdn, SpelledName};
 ghost use Rattle.dir_names.specs.Sound.{is_rdn, is_name};
+ghost use Rattle.dir_names.specs.Spells.{Spells, SpellsRdn};
 ghost use Rattle.dir_names.specs.ValueKeys.{is_ascii};
+ghost use Rattle.dir_names.specs.declared.fault.NameFault.TheVariants.{BadDn, NameLimit};
 
 use crate::attribute::AttrKey;
 use crate::fault::as_bad_dn;

@@ -1,7 +1,7 @@
 ghost use Rattle.std.specs.Prelude.{◌≡◌, ◌<◌, ◌++◌, Ok, cond, flat_map, IsTrue};
 ghost use Rattle.dir_names.specs.Outcome.{Gives};
-ghost use Rattle.dir_names.specs.Sound.{is_rdn};
 ghost use Rattle.dir_names.specs.Printing.{upper_digit, escaped, is_refused_sign, is_special, shown, rest_printed, value_printed, pair_printed, rdn_printed, name_printed};
+ghost use Rattle.dir_names.specs.Sound.{is_rdn};
 
 use crate::{Bytes, NameFault, Rdn};
 

@@ -221,7 +221,7 @@ fn values_are_folded_and_normalised(rt: HostRuntime) -> Result<(), Fail> {
         ("\u{2102}", "C"),
         ("\u{1d2c}", "A"),
         ("\u{a0}x\u{a0}", "x"),
-        ("\u{2460}", "1"),
+        ("\u{2461}", "2"),
     ];
     for (value, want) in rows {
         key_text(

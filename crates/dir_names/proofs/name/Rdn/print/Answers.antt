@@ -1,5 +1,3 @@
-use Rattle.std.proofs.Common.{ap, sym, ◌∙◌}
-use Rattle.dir_names.specs.Sound.{is_name}
 use Rattle.dir_names.proofs.ReadNames.{rdn_ascii, only_rdn_back}
 use Rattle.dir_names.specs.Printing.{rdn_printed}
 use Rattle.dir_names.proofs.ReadsSpells.{reads_only_rdn}
