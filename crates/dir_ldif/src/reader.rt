@@ -57,7 +57,11 @@ impl<'s, R: Source + Drop> RecordReader<'s, R> {
         alloc: Global,
         schema: &'s Schema,
         source: R,
-    ) -> Result<RecordReader<'s, R>, StreamFault> {
+    ) -> Result<RecordReader<'s, R>, StreamFault>
+        ensures answers { IfOk result (λ r. to_give R.left r ≡ option_map (records_of schema.now) (R.left source)) }
+        ensures turns { IfOk result (λ r. turns_left r ≡ MAX_TURNS) }
+        ensures err { IfErr result (λ fault. fault ≡ StreamFault.Memory) }
+    {
         RecordReader::with_turns(alloc, schema, source, MAX_TURNS)
     }
 
