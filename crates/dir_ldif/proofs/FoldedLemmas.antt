@@ -10,11 +10,11 @@ use Rattle.dir_ldif.proofs.LinesLemmas.{glue-continued, joined-apart}
 
 -- ---- tests
 
-or_first : (v w : Bool) → (v || w) ≡ false → v ≡ false
+pub or_first : (v w : Bool) → (v || w) ≡ false → v ≡ false
 or_first true w e = cc
 or_first false w e = refl
 
-or_second : (v w : Bool) → (v || w) ≡ false → w ≡ false
+pub or_second : (v w : Bool) → (v || w) ≡ false → w ≡ false
 or_second true w e = cc
 or_second false w e = e
 

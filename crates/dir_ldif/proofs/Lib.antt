@@ -13,3 +13,4 @@ pub mod SettledLemmas
 pub mod StopsLemmas
 pub mod TextLemmas
 pub mod WholeLemmas
+pub mod WrittenLemmas
