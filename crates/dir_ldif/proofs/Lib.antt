@@ -1,5 +1,6 @@
 pub mod BlockLemmas
 pub mod BytesLemmas
+pub mod FoldedLemmas
 pub mod JoinerLemmas
 pub mod LegalLemmas
 pub mod LegalRecords
@@ -12,3 +13,4 @@ pub mod SettledLemmas
 pub mod StopsLemmas
 pub mod TextLemmas
 pub mod WholeLemmas
+pub mod WrittenLemmas

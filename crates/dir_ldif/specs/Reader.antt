@@ -1,5 +1,7 @@
 -- What a reader of records has still to give, and in what state it is.
-use Rattle.std.specs.Prelude.{◌≡◌, ℕ, List, Option}
+use Rattle.std.specs.Prelude.{◌≡◌, ℕ, ◌+◌, ◌≤◌, List, length, Option}
+use Rattle.std.specs.Io.KnownBytes.{Consumes}
+use Rattle.dir_names.specs.declared.schema.TypeRow.{TypeRow}
 use Rattle.dir_ldif.specs.declared.faults.StreamFault.{StreamFault}
 use Rattle.dir_ldif.specs.declared.reader.RecordReader.{RecordReader}
 use Rattle.dir_ldif.specs.declared.reader.Place.TheVariants.{Reading, AtEnd, Ended}
@@ -15,6 +17,20 @@ module _ {R : Type 0} where
   -- the read calls that are left
   abbrev pub turns_left : RecordReader R → ℕ
   turns_left r = r.core.turns
+
+  abbrev pub source_of : RecordReader R → R
+  source_of r = r.source
+
+  abbrev pub schema_of : RecordReader R → List TypeRow
+  schema_of r = r.schema.now
+
+  -- neither the end nor a fault was answered
+  abbrev pub IsReading : RecordReader R → Type 0
+  IsReading r = r.core.place ≡ Reading
+
+  -- each read call but one at the end gave a byte or more
+  abbrev pub SpendsTurns : (R → Option (List ℕ)) → RecordReader R → RecordReader R → Type 0
+  SpendsTurns left old new = (bytes : List ℕ) × Consumes (left old.source) (left new.source) bytes × (old.core.turns ≤ new.core.turns + length bytes)
 
   -- the end was answered
   abbrev pub IsAtEnd : RecordReader R → Type 0

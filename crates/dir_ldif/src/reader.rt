@@ -42,10 +42,10 @@ pub struct RecordReader<'s, R> {
 }
 
 impl<'s, R: Source + Drop> RecordReader<'s, R> {
-    ghost use Rattle.std.specs.Prelude.{◌≡◌, ◌≤◌, None, Ok, Err, IfErr, IfNone, IfOk, IfSome};
+    ghost use Rattle.std.specs.Prelude.{◌≡◌, None, Ok, Err, IfErr, IfNone, IfOk, IfSome, OnOk};
     ghost use Rattle.std.specs.Option.{option_map};
     ghost use Rattle.dir_ldif.specs.Next.{GivesFirst, GivesNone};
-    ghost use Rattle.dir_ldif.specs.Reader.{GivesLegal, IsAtEnd, IsEnded, StopsFor, to_give, turns_left};
+    ghost use Rattle.dir_ldif.specs.Reader.{GivesLegal, IsAtEnd, IsEnded, IsReading, SpendsTurns, StopsFor, schema_of, source_of, to_give, turns_left};
     ghost use Rattle.dir_ldif.specs.Records.{records_of};
 
     /// A reader that is allowed 1,099,511,627,776 read calls.
@@ -57,7 +57,12 @@ impl<'s, R: Source + Drop> RecordReader<'s, R> {
         alloc: Global,
         schema: &'s Schema,
         source: R,
-    ) -> Result<RecordReader<'s, R>, StreamFault> {
+    ) -> Result<RecordReader<'s, R>, StreamFault>
+        ensures answers { IfOk result (λ r. to_give R.left r ≡ option_map (records_of schema.now) (R.left source)) }
+        ensures turns { IfOk result (λ r. turns_left r ≡ MAX_TURNS) }
+        ensures source { IfOk result (λ r. (source_of r ≡ source) × (schema_of r ≡ schema.now) × IsReading r) }
+        ensures err { IfErr result (λ fault. fault ≡ StreamFault.Memory) }
+    {
         RecordReader::with_turns(alloc, schema, source, MAX_TURNS)
     }
 
@@ -71,6 +76,7 @@ impl<'s, R: Source + Drop> RecordReader<'s, R> {
         requires { turns ≤ MAX_TURNS }
         ensures answers { IfOk result (λ r. to_give R.left r ≡ option_map (records_of schema.now) (R.left source)) }
         ensures turns { IfOk result (λ r. turns_left r ≡ turns) }
+        ensures source { IfOk result (λ r. (source_of r ≡ source) × (schema_of r ≡ schema.now) × IsReading r) }
         ensures err { IfErr result (λ fault. fault ≡ StreamFault.Memory) }
     {
         Ok(RecordReader {
@@ -95,6 +101,10 @@ impl<'s, R: Source + Drop> RecordReader<'s, R> {
         ensures legal { IfOk result (λ o. IfSome o (GivesLegal self.old)) }
         ensures ended { IsEnded self.old → result ≡ Err StreamFault.Ended }
         ensures at_end { IsAtEnd self.old → result ≡ Ok None }
+        ensures schema { schema_of self.new ≡ schema_of self.old }
+        ensures count { OnOk result (R.failures (source_of self.new) ≡ R.failures (source_of self.old)) }
+        ensures turns { IfOk result (λ _. IsReading self.new → SpendsTurns R.left self.old self.new) }
+        ensures same { R.is_same (source_of self.old) (source_of self.new) }
     {
         self.core.next(self.schema, &mut self.source)
     }
@@ -117,7 +127,7 @@ struct Core {
 }
 
 impl Core {
-    ghost use Rattle.std.specs.Prelude.{◌≡◌, ◌+◌, ◌++◌, ◌*◌, ◌^◌, ◌<◌, ◌≤◌, ℕ, List, [], None, Ok, Err, true, false, IfErr, IfNone, IfOk, IfSome, MatchOption, length};
+    ghost use Rattle.std.specs.Prelude.{◌≡◌, ◌+◌, ◌++◌, ◌*◌, ◌^◌, ◌<◌, ◌≤◌, ℕ, List, [], None, Ok, Err, true, false, IfErr, IfNone, IfOk, IfSome, MatchOption, OnOk, length};
     ghost use Rattle.std.specs.Io.KnownBytes.{Consumes, IsAtEnd};
     ghost use Rattle.dir_ldif.specs.declared.reader.Place.TheVariants.{AtEnd, Ended, Reading};
     ghost use Rattle.dir_ldif.specs.Next.{Faults, GivesFirst, GivesNone, answers_left};
@@ -161,6 +171,7 @@ impl Core {
         ensures at_end { self.old.place ≡ AtEnd → (result ≡ Ok None) }
         ensures turns { IfOk result (λ _. self.new.place ≡ Reading → (bytes : List ℕ)
             × Consumes (S.left source.old) (S.left source.new) bytes × (self.old.turns ≤ self.new.turns + length bytes)) }
+        ensures count { OnOk result (S.failures source.new ≡ S.failures source.old) }
         ensures same { S.is_same source.old source.new }
     {
         match self.place {
@@ -190,6 +201,7 @@ impl Core {
         ensures legal { IfOk result (λ o. IfSome o (IsLegalFound schema.now)) }
         ensures turns { IfOk result (λ _. self.new.place ≡ Reading → (bytes : List ℕ)
             × Consumes (S.left source.old) (S.left source.new) bytes × (self.old.turns ≤ self.new.turns + length bytes)) }
+        ensures count { OnOk result (S.failures source.new ≡ S.failures source.old) }
         ensures same { S.is_same source.old source.new }
     {
         let block = match self.next_block(source) {
@@ -215,6 +227,7 @@ impl Core {
         ensures err { IfErr result (λ fault. (bytes : List ℕ)
             × Consumes (S.left source.old) (S.left source.new) bytes
             × Stops fault self.old self.new bytes (S.left source.new) (S.failures source.old) (S.failures source.new)) }
+        ensures count { OnOk result (S.failures source.new ≡ S.failures source.old) }
         ensures same { S.is_same source.old source.new }
     {
         loop {
