@@ -1,13 +1,14 @@
-// A library with one function.
+//! The update operations of LDAP on a directory, each with the changes that take it back.
 #![tactic(auto)]
 
-ghost use Rattle.std.specs.Prelude.{◌≡◌};
-ghost use Rattle.dir_change.specs.Echo.{echo_of};
+mod add;
+mod delete;
+mod history;
+mod operation;
+mod result_code;
+mod undo;
 
-// The `ensures` clause is the contract: what `echo` returns is `echo_of` of its argument, a definition
-// in `specs/Echo.antt`, which a caller's clause can cite too.
-pub fn echo(x: usize) -> usize
-    ensures { result ≡ echo_of x }
-{
-    x
-}
+pub use history::History;
+pub use operation::{Refusal, apply};
+pub use result_code::ResultCode;
+pub use undo::Undo;

@@ -1,13 +1,34 @@
-// A library with one function.
+//! LDIF (RFC 2849): the devices that give and take its bytes, the reader, and the writer.
 #![tactic(auto)]
 
-ghost use Rattle.std.specs.Prelude.{◌≡◌};
-ghost use Rattle.dir_ldif.specs.Echo.{echo_of};
+mod block;
+mod bytes;
+mod calls;
+mod checking;
+mod device;
+mod faults;
+mod lines;
+mod part;
+mod reader;
+mod records;
+mod standard;
+mod tape;
+mod trial;
+mod version;
+mod whole;
+mod writer;
 
-// The `ensures` clause is the contract: what `echo` returns is `echo_of` of its argument, a definition
-// in `specs/Echo.antt`, which a caller's clause can cite too.
-pub fn echo(x: usize) -> usize
-    ensures { result ≡ echo_of x }
-{
-    x
-}
+pub use device::{DeviceFault, Sink, Source};
+pub use faults::{RecordFault, StreamFault};
+pub use lines::MAX_LINE;
+pub use part::MAX_VALUE;
+pub use reader::{MAX_TURNS, RecordReader, read_all};
+pub use records::{Change, ChangeKind, Mod, ModOp, Mods, Record};
+pub use standard::{Reader, Writer};
+pub use tape::Tape;
+pub use trial::Script;
+pub use whole::write_whole;
+pub use writer::{push_change, push_end, push_line, push_name, push_record, record_text};
+
+#[cfg(test)]
+mod tests;

@@ -124,7 +124,7 @@ number_chars (b ∷ bs) e = by (b == 46) refl (parts_at 46 bs) refl e (λ h. num
         λ i. digit_is_type b parts.0 i && rec (ap (list_all (list_all is_digit)) q ∙ (λ j. parts.1 j && all.1 j)) i
 
 pub type_chars : (bs : List ℕ) → is_type bs ≡ true → list_all is_type_char bs ≡ true
-type_chars bs e = by (is_type_name bs) refl e
+type_chars bs e = by (is_type_name bs) refl (and_parts (is_type_name bs || is_number bs) _ e).0
   where
     by : (t : Bool) → is_type_name bs ≡ t → (t || is_number bs) ≡ true → list_all is_type_char bs ≡ true
     by true g h = kind_chars bs g

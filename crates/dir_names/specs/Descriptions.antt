@@ -36,9 +36,9 @@ is_decimal (b ∷ bs) = (is_digit b && (not (b == 48) || length bs == 0)) && lis
 abbrev pub is_number : List ℕ → Bool
 is_number text = list_any (λ b. b == 46) text && list_all is_decimal (parts_at 46 text)
 
--- a type: its name or its number
+-- a type: its name or its number, of at most 512 bytes
 abbrev pub is_type : List ℕ → Bool
-is_type text = is_name text || is_number text
+is_type text = (is_name text || is_number text) && nat_le (length text) 512
 
 -- option: one or more keychars
 abbrev pub is_option : List ℕ → Bool

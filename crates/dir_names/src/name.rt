@@ -223,6 +223,13 @@ impl Dn {
         self.rdns.as_slice()
     }
 
+    /// The RDNs, leaf first, moved out of the name.
+    pub fn into_rdns(self) -> Vec<Rdn>
+        ensures { result.items ≡ self }
+    {
+        self.rdns
+    }
+
     /// The name with these RDNs, leaf first.
     ///
     /// # Errors

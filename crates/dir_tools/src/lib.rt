@@ -1,13 +1,17 @@
-// A library with one function.
+//! The tools over any readers and writers: `run_modify` applies changes to a copy of a directory and
+//! writes the new copy, the undo text and the report.
 #![tactic(auto)]
 
-ghost use Rattle.std.specs.Prelude.{◌≡◌};
-ghost use Rattle.dir_tools.specs.Echo.{echo_of};
+mod canonical;
+mod copy;
+mod fault;
+mod modify;
+mod report;
+mod write;
 
-// The `ensures` clause is the contract: what `echo` returns is `echo_of` of its argument, a definition
-// in `specs/Echo.antt`, which a caller's clause can cite too.
-pub fn echo(x: usize) -> usize
-    ensures { result ≡ echo_of x }
-{
-    x
-}
+pub use copy::{read_copy, write_copy};
+pub use fault::{Cause, Input, Item, Output, ToolFault};
+pub use modify::{ModifyOptions, Summary, run_modify};
+
+#[cfg(test)]
+mod tests;

@@ -1,13 +1,20 @@
-// A library with one function.
+//! Entries of an LDAP directory, and the directory as a suffix and a map from names to entries.
 #![tactic(auto)]
 
-ghost use Rattle.std.specs.Prelude.{◌≡◌};
-ghost use Rattle.dir_tree.specs.Echo.{echo_of};
+mod attributes;
+mod directory;
+mod entry;
+mod fault;
+mod flat;
+mod lines;
+mod values;
 
-// The `ensures` clause is the contract: what `echo` returns is `echo_of` of its argument, a definition
-// in `specs/Echo.antt`, which a caller's clause can cite too.
-pub fn echo(x: usize) -> usize
-    ensures { result ≡ echo_of x }
-{
-    x
-}
+pub use attributes::{Attribute, AttributeMap, Attributes};
+pub use directory::{Directory, may_stand};
+pub use entry::{Entry, own_rdns};
+pub use fault::EntryFault;
+pub use flat::FlatDirectory;
+pub use values::{ValueMap, Values};
+
+#[cfg(test)]
+mod tests;

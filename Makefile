@@ -1,0 +1,20 @@
+# The quick start, the tests and the installation of slapkit. The toolchain's command is rt.
+
+PREFIX ?= /usr/local
+PROGRAM = crates/slapkit/out/slapkit
+
+.PHONY: demo test install
+
+# Builds the program and runs the example: the changes on the copy, and then the undo file on the new copy.
+demo: $(PROGRAM)
+	examples/demo.sh $(PROGRAM)
+
+# Proves every crate and runs all tests.
+test:
+	rt ci
+
+install: $(PROGRAM)
+	install -D $(PROGRAM) $(DESTDIR)$(PREFIX)/bin/slapkit
+
+$(PROGRAM): crates.txt $(wildcard crates/*/src/*.rt crates/*/src/*/*.rt crates/*/specs/*.antt crates/*/proofs/*.antt)
+	cd crates/slapkit && rt run -- --help > /dev/null

@@ -1,0 +1,84 @@
+ghost use Rattle.std.specs.Prelude.{◌≡◌, IfErr, IfOk, OnErr, OnOk, is_some};
+ghost use Rattle.dir_change.specs.Operation.{AddRefused, Adds};
+ghost use Rattle.dir_tree.specs.Dir.{has_parent};
+
+use crate::{Refusal, ResultCode, Undo};
+use dir_ldif::{Change, ChangeKind};
+use dir_names::{Dn, DnKey, Lines, Rdn, Schema};
+use dir_tree::{Directory, Entry, own_rdns};
+use std::alloc::Global;
+
+/// Adds an entry (RFC 4511, section 4.7): 32 outside the suffix; 68 where the name is taken; 32
+/// without a parent; then what the entry's values are refused with. A delete takes it back.
+pub(crate) fn add<D: Directory>(
+    alloc: Global,
+    schema: &Schema,
+    directory: &mut D,
+    name: &Dn,
+    key: &DnKey,
+    lines: &Lines,
+) -> Result<Undo, Refusal>
+    ensures ok { OnOk result (Adds (D.state directory.old) key.now (D.state directory.new)) }
+    ensures refused { IfErr result (AddRefused (D.state directory.old) key.now) }
+    ensures err { OnErr result (D.state directory.new ≡ D.state directory.old) }
+{
+    if !key.at_or_below(directory.suffix()) {
+        return Err(Refusal::Code(ResultCode::NoSuchObject));
+    }
+    if directory.get(key).is_some() {
+        return Err(Refusal::Code(ResultCode::EntryAlreadyExists));
+    }
+    let Some(above) = name_above(alloc, directory, key)? else {
+        return Err(Refusal::Code(ResultCode::NoSuchObject));
+    };
+    let own = own_rdns(name.try_clone(alloc)?, key == directory.suffix());
+    let spelled = joined(alloc, own.as_slice(), above)?;
+    let entry = Entry::make(alloc, schema, own, lines.try_clone(alloc)?)?;
+    let undo = Undo::one(
+        alloc,
+        Change {
+            dn: spelled,
+            kind: ChangeKind::Delete,
+        },
+    )?;
+    match directory.insert(key, entry) {
+        Ok(()) => Ok(undo),
+        Err(_) => Err(Refusal::Memory),
+    }
+}
+
+/// What stands above a new entry in its name: its parent's name as spelled in the directory, or
+/// nothing for the suffix. None where the parent is missing.
+fn name_above<D: Directory>(
+    alloc: Global,
+    directory: &D,
+    key: &DnKey,
+) -> Result<Option<Dn>, Refusal>
+    ensures parent { IfOk result (λ above. is_some above ≡ has_parent (D.state directory.now) key.now) }
+    ensures memory { IfErr result (λ e. e ≡ Refusal.Memory) }
+{
+    if key == directory.suffix() {
+        return Ok(Some(Dn::from_rdns(Vec::new(alloc))?));
+    }
+    let Some(parent) = key.parent(alloc)? else {
+        return Ok(None);
+    };
+    if directory.get(&parent).is_none() {
+        return Ok(None);
+    }
+    Ok(Some(directory.spelled(&parent)?))
+}
+
+/// The own name and then what stands above it.
+fn joined(alloc: Global, own: &[Rdn], above: Dn) -> Result<Dn, Refusal>
+    ensures { IfErr result (λ e. e ≡ Refusal.Memory) }
+{
+    let mut rdns = Vec::with_capacity(alloc, own.len())?;
+    for rdn in own {
+        rdns.push(rdn.try_clone(alloc)?)?;
+    }
+    for rdn in above.into_rdns() {
+        rdns.push(rdn)?;
+    }
+    Ok(Dn::from_rdns(rdns)?)
+}

@@ -1,0 +1,93 @@
+ghost use Rattle.std.specs.Prelude.{◌≡◌, OnErr};
+ghost use Rattle.dir_change.specs.declared.operation.Refusal.TheVariants.{Memory};
+ghost use Rattle.dir_change.specs.Operation.{refusal_of};
+
+use crate::add::add;
+use crate::delete::delete;
+use crate::{ResultCode, Undo};
+use dir_ldif::{Change, ChangeKind};
+use dir_names::{Memory, NameFault, Schema};
+use dir_tree::{Directory, EntryFault};
+use std::alloc::{AllocError, AllocFailed, Global};
+
+/// Why a change is not applied.
+#[derive(Clone, Copy, PartialEq, Eq, Debug)]
+pub enum Refusal {
+    /// The operation's result code.
+    Code(ResultCode),
+    /// No memory is left.
+    Memory,
+}
+
+/// Applies one change as the root identity (RFC 4511, sections 4.7 and 4.8): an add or a delete; a
+/// modify or a rename is refused with 53 for now. The answer is the changes that take it back.
+///
+/// The change is legal under the schema. A refused change leaves the directory as it was.
+///
+/// # Errors
+///
+/// The first refusal in the operation's order, or want of memory.
+pub fn apply<D: Directory>(
+    alloc: Global,
+    schema: &Schema,
+    directory: &mut D,
+    change: &Change,
+) -> Result<Undo, Refusal>
+    ensures { OnErr result (D.state directory.new ≡ D.state directory.old) }
+{
+    let key = change.dn.key(alloc, schema)?;
+    match &change.kind {
+        ChangeKind::Add(lines) => add(alloc, schema, directory, &change.dn, &key, lines),
+        ChangeKind::Delete => delete(alloc, directory, &key),
+        ChangeKind::Modify(_) | ChangeKind::Rename { .. } => Err(Refusal::Code(
+            ResultCode::UnwillingToPerform,
+        )),
+    }
+}
+
+impl From<AllocError> for Refusal {
+    ghost from_gives = { λ _ e. e ≡ Memory };
+
+    fn from(_error: AllocError) -> Refusal {
+        Refusal::Memory
+    }
+}
+
+impl<T: Drop> From<AllocFailed<T>> for Refusal {
+    ghost from_gives = { λ _ e. e ≡ Memory };
+
+    fn from(_error: AllocFailed<T>) -> Refusal {
+        Refusal::Memory
+    }
+}
+
+impl From<Memory> for Refusal {
+    ghost from_gives = { λ _ e. e ≡ Memory };
+
+    fn from(_error: Memory) -> Refusal {
+        Refusal::Memory
+    }
+}
+
+/// Want of memory: the one fault that a legal change's names and descriptions can meet.
+impl From<NameFault> for Refusal {
+    ghost from_gives = { λ _ e. e ≡ Memory };
+
+    fn from(_fault: NameFault) -> Refusal {
+        Refusal::Memory
+    }
+}
+
+impl From<EntryFault> for Refusal {
+    ghost from_gives = { λ fault refusal. refusal ≡ refusal_of fault };
+
+    fn from(fault: EntryFault) -> Refusal {
+        match fault {
+            EntryFault::BadValue => Refusal::Code(ResultCode::InvalidAttributeSyntax),
+            EntryFault::Twice => Refusal::Code(ResultCode::AttributeOrValueExists),
+            EntryFault::NotNamed => Refusal::Code(ResultCode::NotAllowedOnRdn),
+            EntryFault::Single => Refusal::Code(ResultCode::ConstraintViolation),
+            EntryFault::Memory => Refusal::Memory,
+        }
+    }
+}

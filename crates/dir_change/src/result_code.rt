@@ -1,0 +1,42 @@
+use std::fmt;
+
+/// Why an operation is refused (RFC 4511, appendix A).
+#[derive(Clone, Copy, PartialEq, Eq, Debug)]
+pub enum ResultCode {
+    ProtocolError,
+    AdminLimitExceeded,
+    NoSuchAttribute,
+    ConstraintViolation,
+    AttributeOrValueExists,
+    InvalidAttributeSyntax,
+    NoSuchObject,
+    UnwillingToPerform,
+    NotAllowedOnNonLeaf,
+    NotAllowedOnRdn,
+    EntryAlreadyExists,
+}
+
+impl ResultCode {
+    /// The code's number and name, as in `32 noSuchObject`.
+    pub fn text(self) -> &'static str {
+        match self {
+            ResultCode::ProtocolError => "2 protocolError",
+            ResultCode::AdminLimitExceeded => "11 adminLimitExceeded",
+            ResultCode::NoSuchAttribute => "16 noSuchAttribute",
+            ResultCode::ConstraintViolation => "19 constraintViolation",
+            ResultCode::AttributeOrValueExists => "20 attributeOrValueExists",
+            ResultCode::InvalidAttributeSyntax => "21 invalidAttributeSyntax",
+            ResultCode::NoSuchObject => "32 noSuchObject",
+            ResultCode::UnwillingToPerform => "53 unwillingToPerform",
+            ResultCode::NotAllowedOnNonLeaf => "66 notAllowedOnNonLeaf",
+            ResultCode::NotAllowedOnRdn => "67 notAllowedOnRDN",
+            ResultCode::EntryAlreadyExists => "68 entryAlreadyExists",
+        }
+    }
+}
+
+impl fmt::Display for ResultCode {
+    fn fmt<W: fmt::Write>(&self, f: &mut fmt::Formatter<W>) -> fmt::Result {
+        f.write_str(self.text())
+    }
+}

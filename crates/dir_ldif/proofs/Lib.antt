@@ -1,0 +1,14 @@
+pub mod BlockLemmas
+pub mod BytesLemmas
+pub mod JoinerLemmas
+pub mod LegalLemmas
+pub mod LegalRecords
+pub mod LinesLemmas
+pub mod NextLemmas
+pub mod PartLemmas
+pub mod ReadingLemmas
+pub mod RecordsLemmas
+pub mod SettledLemmas
+pub mod StopsLemmas
+pub mod TextLemmas
+pub mod WholeLemmas

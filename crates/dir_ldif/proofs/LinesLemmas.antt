@@ -1,0 +1,251 @@
+-- Lemmas on the lines of a text that comes in pieces.
+use Rattle.std.proofs.Common.{◌≡◌, ℕ, ◌+◌, ◌<◌, ◌≤◌, Bool, true, false, not, ◌&&◌, eqb, List, [], ◌∷◌, ◌++◌, length, drop, refl, sym, ap, ⊎_elim, ◌∙◌, append_assoc, append-nil, length-append, if◌then◌else◌, nat_lt, subst, Option, None, Some, Result, Ok, Err, arith}
+use Rattle.std.specs.List.{list_any, onto_first}
+use Rattle.std.proofs.lemmas.Bool.{eqb-true}
+use Rattle.std.proofs.lemmas.List.Folds.{list_any-append}
+use Rattle.std.proofs.lemmas.Bool.Decides.{nat_tests}
+use Rattle.dir_ldif.specs.declared.faults.StreamFault.{StreamFault}
+use Rattle.dir_ldif.specs.declared.faults.StreamFault.TheVariants.{LineTooLong}
+use Rattle.dir_ldif.specs.declared.lines.Joiner.{Joiner}
+use Rattle.dir_ldif.specs.Bytes.{is_empty, begins_with, without_last}
+use Rattle.dir_ldif.specs.Lines.{Line, cut, is_lf, numbered, glue, joined, is_long}
+use Rattle.dir_ldif.specs.Parts.{parts_from, Ends}
+use Rattle.dir_ldif.specs.Joining.{behind, Joins}
+use Rattle.dir_ldif.specs.Kept.{is_kept}
+use Rattle.dir_ldif.proofs.BytesLemmas.{true_or_false, begins_with-append}
+
+-- the first piece ends at the first LF
+pub cut-line : (xs ys : List ℕ) → list_any is_lf xs ≡ false → cut is_lf (xs ++ 10 ∷ ys) ≡ xs ∷ cut is_lf ys
+cut-line [] ys e = refl
+cut-line (x ∷ xs) ys e =
+    ⊎_elim
+    (λ (yes : eqb x 10 ≡ true). let never : true ≡ false = rw yes at e in cc)
+    (λ (no : eqb x 10 ≡ false). let rest : list_any is_lf xs ≡ false = rw no at e in rw (no, cut-line xs ys rest) refl)
+    (true_or_false (eqb x 10))
+
+-- an element goes onto the first piece, or begins one
+onto : (x : ℕ) (pieces : List (List ℕ)) → (more : List ℕ) × (rest : List (List ℕ)) × (onto_first x pieces ≡ (x ∷ more) ∷ rest)
+onto x [] = ([], [], refl)
+onto x (piece ∷ pieces) = (piece, pieces, refl)
+
+-- the first piece begins with what has no LF
+pub cut-front : (x : ℕ) (xs ys : List ℕ) → list_any is_lf (x ∷ xs) ≡ false → (more : List ℕ) × (rest : List (List ℕ)) × (cut is_lf ((x ∷ xs) ++ ys) ≡ ((x ∷ xs) ++ more) ∷ rest)
+cut-front x [] ys e =
+    ⊎_elim
+    (λ (yes : eqb x 10 ≡ true). let never : true ≡ false = rw yes at e in cc)
+    (λ (no : eqb x 10 ≡ false). let o = onto x (cut is_lf ys) in (o.0, o.1, rw no o.2))
+    (true_or_false (eqb x 10))
+cut-front x (y ∷ xs) ys e =
+    ⊎_elim
+    (λ (yes : eqb x 10 ≡ true). let never : true ≡ false = rw yes at e in cc)
+    (λ (no : eqb x 10 ≡ false).
+    let rest : list_any is_lf (y ∷ xs) ≡ false = rw no at e in
+    let ih = cut-front y xs ys rest in
+    (ih.0, ih.1, rw no (ap (onto_first x) ih.2)))
+    (true_or_false (eqb x 10))
+
+-- a continuation of a line that is not empty
+pub glue-continued : (k a : ℕ) (tail : List ℕ) (n : ℕ) (cs : List ℕ) (rest : List Line) → glue (k, a ∷ tail) (glue (n, 32 ∷ cs) rest) ≡ glue (k, (a ∷ tail) ++ cs) rest
+glue-continued k a tail n cs [] = refl
+glue-continued k a tail n cs (r ∷ rs) =
+    ⊎_elim
+    (λ (yes : begins_with 32 r.1 ≡ true). rw yes (ap (λ t. (k, a ∷ t) ∷ rs) (sym (append_assoc tail cs (drop 1 r.1)))))
+    (λ (no : begins_with 32 r.1 ≡ false). rw no refl)
+    (true_or_false (begins_with 32 r.1))
+
+-- a line stays the first one, and grows at its end alone
+pub glue-first : (n : ℕ) (text : List ℕ) (rest : List Line) → (more : List ℕ) × (others : List Line) × (glue (n, text) rest ≡ (n, text ++ more) ∷ others) × (is_empty text ≡ true → more ≡ [])
+glue-first n text [] = ([], [], ap (λ t. (n, t) ∷ []) (sym (append-nil text)), λ _. refl)
+glue-first n [] (r ∷ rs) = ([], r ∷ rs, refl, λ _. refl)
+glue-first n (c ∷ cs) (r ∷ rs) =
+    ⊎_elim
+    (λ (yes : begins_with 32 r.1 ≡ true). (drop 1 r.1, rs, rw yes refl, λ (e : false ≡ true). cc))
+    (λ (no : begins_with 32 r.1 ≡ false). ([], r ∷ rs, rw no (ap (λ t. (n, c ∷ t) ∷ r ∷ rs) (sym (append-nil cs))), λ _. refl))
+    (true_or_false (begins_with 32 r.1))
+
+still : (n : ℕ) (text more : List ℕ) → begins_with 32 text ≡ false → (is_empty text ≡ true → more ≡ []) → begins_with 32 (text ++ more) ≡ false
+still n [] more e h = rw (h refl) refl
+still n (c ∷ cs) more e h = e
+
+never : (v : Bool) (line : Line) (xs ys : List Line) → (if not v && false then xs else ys) ≡ ys
+never true line xs ys = refl
+never false line xs ys = refl
+
+apart : (line : Line) (n : ℕ) (text : List ℕ) (rest : List Line) → begins_with 32 text ≡ false → glue line ((n, text) ∷ rest) ≡ line ∷ (n, text) ∷ rest
+apart line n text rest e = rw e (never (is_empty line.1) line ((line.0, line.1 ++ drop 1 text) ∷ rest) (line ∷ (n, text) ∷ rest))
+
+-- a line that does not begin with a space continues none
+pub glue-apart : (line : Line) (n : ℕ) (text : List ℕ) (rest : List Line) → begins_with 32 text ≡ false → glue line (glue (n, text) rest) ≡ line ∷ glue (n, text) rest
+glue-apart line n text rest e =
+    let f = glue-first n text rest in
+    rw f.2 (apart line n (text ++ f.0) f.1 (still n text f.0 e f.3))
+
+if_true : {A : Type 0} (v : Bool) (x y : A) → v ≡ true → (if v then x else y) ≡ x
+if_true v x y e = rw e refl
+
+-- a line that is too long ends the text, however it goes on
+pub parts_from-long : (begun : Bool) (block : List Line) (n : ℕ) (text : List ℕ) (rest : List Line) → is_long (n, text) ≡ true → parts_from begun block (glue (n, text) rest) ≡ Err LineTooLong ∷ []
+parts_from-long begun block n text rest e =
+    let f = glue-first n text rest in
+    let longer : nat_lt 2097152 (length (text ++ f.0)) ≡ true = grind (arith, nat_tests, length-append) in
+    rw f.2 (if_true _ _ _ longer)
+
+-- the same of two lines
+pub joined-apart : (last : Line) (n : ℕ) (text : List ℕ) (more : List Line) → begins_with 32 text ≡ false → joined (last ∷ (n, text) ∷ more) ≡ last ∷ joined ((n, text) ∷ more)
+joined-apart last n text more e = glue-apart last n text (joined more) e
+
+-- a fault of a line that is not continued ends the text whatever follows
+pub Ends-apart : (fault : StreamFault) (begun : Bool) (block : List Line) (o : Option Line) (last : Line) (n : ℕ) (text : List ℕ) (more : List Line) → o ≡ Some last → begins_with 32 text ≡ false
+    → ((after : List Line) → Ends fault (parts_from begun block (last ∷ after))) → Ends fault (parts_from begun block (behind o ((n, text) ∷ more)))
+Ends-apart fault begun block o last n text more is e h =
+    rw is (subst (λ t. Ends fault (parts_from begun block t)) (sym (joined-apart last n text more e)) (h (joined ((n, text) ∷ more))))
+
+-- a continuation was taken
+pub Joins-continued : (begun : Bool) (block : List Line) (o : Option Line) (last : Line) (n : ℕ) (text given : List ℕ) (r : Result Bool StreamFault) (j : Joiner) → o ≡ Some last → given ≡ text
+    → Joins (λ more. parts_from begun block (joined (last ∷ (n, given) ∷ more))) r j → Joins (λ more. parts_from begun block (behind o ((n, text) ∷ more))) r j
+Joins-continued begun block o last n text given r j is same h = rw (is, sym same) h
+
+some_of_long : (partial : List ℕ) → 2097152 < length (without_last 13 partial) → is_empty partial ≡ false
+some_of_long [] long = absurd (omega arith)
+some_of_long (x ∷ xs) long = refl
+
+pub some_of_length : (xs : List ℕ) → 0 < length xs → is_empty xs ≡ false
+some_of_length [] h = absurd (omega arith)
+some_of_length (x ∷ xs) h = refl
+
+some_of_kept : (partial : List ℕ) → 2097152 < length (without_last 13 partial) → is_empty (without_last 13 partial) ≡ false
+some_of_kept partial long = some_of_length (without_last 13 partial) (omega arith)
+
+pub ltb-of_lt : (a b : ℕ) → a < b → nat_lt a b ≡ true
+ltb-of_lt a b h = grind (arith, nat_tests)
+
+length-without_last : (xs ys : List ℕ) → length (without_last 13 xs) ≤ length (without_last 13 (xs ++ ys))
+length-without_last [] ys = omega arith
+length-without_last (x ∷ []) [] = omega arith
+length-without_last (x ∷ []) (y ∷ ys) = ⊎_elim (λ (yes : eqb x 13 ≡ true). rw yes (omega arith)) (λ (other : eqb x 13 ≡ false). rw other (omega arith)) (true_or_false (eqb x 13))
+length-without_last (x ∷ z ∷ zs) ys = let ih = length-without_last (z ∷ zs) ys in omega arith
+
+begins_with-without_last : (b : ℕ) (xs ys : List ℕ) → is_empty (without_last 13 xs) ≡ false → begins_with b (without_last 13 (xs ++ ys)) ≡ begins_with b (without_last 13 xs)
+begins_with-without_last b [] ys e = cc
+begins_with-without_last b (x ∷ []) [] e = refl
+begins_with-without_last b (x ∷ []) (y ∷ ys) e =
+    ⊎_elim (λ (yes : eqb x 13 ≡ true). let never : true ≡ false = rw yes at e in cc) (λ (other : eqb x 13 ≡ false). rw other refl) (true_or_false (eqb x 13))
+begins_with-without_last b (x ∷ z ∷ zs) ys e = refl
+
+-- the first line of what begins with a line that has not ended
+pub partial_first : (n : ℕ) (partial text : List ℕ) → list_any is_lf partial ≡ false → is_empty partial ≡ false
+    → (more : List ℕ) × (rest : List Line) × (numbered n (cut is_lf (partial ++ text)) ≡ (n, without_last 13 (partial ++ more)) ∷ rest)
+partial_first n [] text lacks some = cc
+partial_first n (x ∷ xs) text lacks some = let f = cut-front x xs text lacks in (f.0, numbered (n + 1) f.1, rw f.2 refl)
+
+-- where a line that has not ended is too long, it ends the text
+pub long_alone : (begun : Bool) (block : List Line) (n : ℕ) (partial text : List ℕ) → list_any is_lf partial ≡ false → 2097152 < length (without_last 13 partial)
+    → parts_from begun block (joined (numbered n (cut is_lf (partial ++ text)))) ≡ Err LineTooLong ∷ []
+long_alone begun block n partial text lacks long =
+    let f = partial_first n partial text lacks (some_of_long partial long) in
+    rw f.2 (parts_from-long begun block n (without_last 13 (partial ++ f.0)) (joined f.1) (ltb-of_lt _ _ (omega (arith, length-without_last partial f.0))))
+
+-- a last line that it does not continue stands before it
+pub long_behind : (last : Line) (n : ℕ) (partial text : List ℕ) → list_any is_lf partial ≡ false → begins_with 32 (without_last 13 partial) ≡ false → 2097152 < length (without_last 13 partial)
+    → joined (last ∷ numbered n (cut is_lf (partial ++ text))) ≡ last ∷ joined (numbered n (cut is_lf (partial ++ text)))
+long_behind last n partial text lacks apart long =
+    let f = partial_first n partial text lacks (some_of_long partial long) in
+    let other : begins_with 32 (without_last 13 (partial ++ f.0)) ≡ false = begins_with-without_last 32 partial f.0 (some_of_kept partial long) ∙ apart in
+    rw f.2 (joined-apart last n (without_last 13 (partial ++ f.0)) f.1 other)
+
+some_of_space : (partial : List ℕ) → begins_with 32 (without_last 13 partial) ≡ true → is_empty partial ≡ false
+some_of_space [] e = cc
+some_of_space (x ∷ xs) e = refl
+
+some_of_begins : (b : ℕ) (xs : List ℕ) → begins_with b xs ≡ true → is_empty xs ≡ false
+some_of_begins b [] e = cc
+some_of_begins b (x ∷ xs) e = refl
+
+pub glued_long : (begun : Bool) (block : List Line) (k n : ℕ) (text next : List ℕ) (rest : List Line) → is_empty text ≡ false → begins_with 32 next ≡ true → 2097153 < length text + length next
+    → parts_from begun block (glue (k, text) (glue (n, next) rest)) ≡ Err LineTooLong ∷ []
+glued_long begun block k n [] next rest some space long = cc
+glued_long begun block k n (a ∷ tail) [] rest some space long = cc
+glued_long begun block k n (a ∷ tail) (c ∷ cs) rest some space long =
+    let whole : parts_from begun block (glue (k, (a ∷ tail) ++ cs) rest) ≡ Err LineTooLong ∷ [] =
+    parts_from-long begun block k ((a ∷ tail) ++ cs) rest (ltb-of_lt _ _ (omega (arith, length-append (a ∷ tail) cs))) in
+    rw (eqb-true c 32 space, glue-continued k a tail n cs rest) whole
+
+-- a last line that it continues ends the text with it
+pub long_continued : (begun : Bool) (block : List Line) (last : Line) (n : ℕ) (partial text : List ℕ) → list_any is_lf partial ≡ false → is_empty last.1 ≡ false
+    → begins_with 32 (without_last 13 partial) ≡ true → 2097153 < length last.1 + length (without_last 13 partial)
+    → parts_from begun block (joined (last ∷ numbered n (cut is_lf (partial ++ text)))) ≡ Err LineTooLong ∷ []
+long_continued begun block last n partial text lacks some space long =
+    let f = partial_first n partial text lacks (some_of_space partial space) in
+    let whole = without_last 13 (partial ++ f.0) in
+    let still_space : begins_with 32 whole ≡ true = begins_with-without_last 32 partial f.0 (some_of_begins 32 (without_last 13 partial) space) ∙ space in
+    rw f.2 (glued_long begun block last.0 n last.1 whole (joined f.1) some still_space (omega (arith, length-without_last partial f.0)))
+
+pub not_first : (v w : Bool) → (not v && w) ≡ true → v ≡ false
+not_first true w e = cc
+not_first false w e = refl
+
+some_of_kept_line : (last : Line) → is_kept (Some last) ≡ true → is_empty last.1 ≡ false
+some_of_kept_line last e = not_first (is_empty last.1) (not (is_long last)) e
+
+pub not_second : (v w : Bool) → (v && not w) ≡ true → w ≡ false
+not_second true true e = cc
+not_second true false e = refl
+not_second false w e = cc
+
+-- ---- the same for a joiner's last line, if there is one, and the text that a check looked at
+
+pub too_long_alone : (begun : Bool) (block : List Line) (o : Option Line) (n : ℕ) (partial shown text : List ℕ) → o ≡ None → shown ≡ without_last 13 partial → list_any is_lf partial ≡ false
+    → 2097152 < length shown → parts_from begun block (behind o (numbered n (cut is_lf (partial ++ text)))) ≡ Err LineTooLong ∷ []
+too_long_alone begun block o n partial shown text is e lacks long = rw is (long_alone begun block n partial text lacks (subst (λ t. 2097152 < length t) e long))
+
+pub too_long_continued : (begun : Bool) (block : List Line) (o : Option Line) (last : Line) (n : ℕ) (partial shown text : List ℕ) → o ≡ Some last → shown ≡ without_last 13 partial
+    → list_any is_lf partial ≡ false → is_kept o ≡ true → begins_with 32 shown ≡ true → 2097153 < length last.1 + length shown
+    → parts_from begun block (behind o (numbered n (cut is_lf (partial ++ text)))) ≡ Err LineTooLong ∷ []
+too_long_continued begun block o last n partial shown text is e lacks kept space long =
+    let kept_last : is_kept (Some last) ≡ true = rw is at kept in
+    let some : is_empty last.1 ≡ false = some_of_kept_line last kept_last in
+    rw is (long_continued begun block last n partial text lacks some (rw e at space) (subst (λ t. 2097153 < length last.1 + length t) e long))
+
+pub too_long_Ends : (fault : StreamFault) (begun : Bool) (block : List Line) (o : Option Line) (last : Line) (n : ℕ) (partial shown text : List ℕ) → o ≡ Some last → shown ≡ without_last 13 partial
+    → list_any is_lf partial ≡ false → begins_with 32 shown ≡ false → 2097152 < length shown → ((after : List Line) → Ends fault (parts_from begun block (last ∷ after)))
+    → Ends fault (parts_from begun block (behind o (numbered n (cut is_lf (partial ++ text)))))
+too_long_Ends fault begun block o last n partial shown text is e lacks space long h =
+    let apart = long_behind last n partial text lacks (rw e at space) (subst (λ t. 2097152 < length t) e long) in
+    rw is (subst (λ t. Ends fault (parts_from begun block t)) (sym apart) (h (joined (numbered n (cut is_lf (partial ++ text))))))
+
+pub too_long_behind : (begun begun' : Bool) (block block' : List Line) (o : Option Line) (last : Line) (n : ℕ) (partial shown text : List ℕ) → o ≡ Some last → shown ≡ without_last 13 partial
+    → list_any is_lf partial ≡ false → begins_with 32 shown ≡ false → 2097152 < length shown → ((after : List Line) → parts_from begun block (last ∷ after) ≡ parts_from begun' block' after)
+    → parts_from begun block (behind o (numbered n (cut is_lf (partial ++ text)))) ≡ Err LineTooLong ∷ []
+too_long_behind begun begun' block block' o last n partial shown text is e lacks space long h =
+    let long_text : 2097152 < length (without_last 13 partial) = subst (λ t. 2097152 < length t) e long in
+    let apart = long_behind last n partial text lacks (rw e at space) long_text in
+    let rest = joined (numbered n (cut is_lf (partial ++ text))) in
+    rw is (ap (parts_from begun block) apart ∙ h rest ∙ long_alone begun' block' n partial text lacks long_text)
+
+-- ---- a physical line and its end
+
+lacks-append : (xs ys : List ℕ) → list_any is_lf xs ≡ false → list_any is_lf ys ≡ false → list_any is_lf (xs ++ ys) ≡ false
+lacks-append xs ys p q = list_any-append is_lf xs ys ∙ rw p q
+
+-- a line that ends is the first one
+pub line_first : (n : ℕ) (partial line rest : List ℕ) → list_any is_lf partial ≡ false → list_any is_lf line ≡ false
+    → numbered n (cut is_lf (partial ++ (line ++ 10 ∷ rest))) ≡ (n, without_last 13 (partial ++ line)) ∷ numbered (n + 1) (cut is_lf rest)
+line_first n partial line rest p q =
+    rw (sym (append_assoc partial line (10 ∷ rest)), cut-line (partial ++ line) rest (lacks-append partial line p q)) refl
+
+-- a line that has not ended is the only one where nothing follows
+cut-whole : (x : ℕ) (xs : List ℕ) → list_any is_lf (x ∷ xs) ≡ false → cut is_lf (x ∷ xs) ≡ (x ∷ xs) ∷ []
+cut-whole x [] e =
+    ⊎_elim (λ (yes : eqb x 10 ≡ true). let never : true ≡ false = rw yes at e in cc) (λ (other : eqb x 10 ≡ false). rw other refl) (true_or_false (eqb x 10))
+cut-whole x (y ∷ xs) e =
+    ⊎_elim
+    (λ (yes : eqb x 10 ≡ true). let never : true ≡ false = rw yes at e in cc)
+    (λ (other : eqb x 10 ≡ false). let rest : list_any is_lf (y ∷ xs) ≡ false = rw other at e in rw other (ap (onto_first x) (cut-whole y xs rest)))
+    (true_or_false (eqb x 10))
+
+pub line_alone : (n : ℕ) (partial : List ℕ) → list_any is_lf partial ≡ false → is_empty partial ≡ false
+    → numbered n (cut is_lf (partial ++ [])) ≡ (n, without_last 13 (partial ++ [])) ∷ []
+line_alone n [] lacks some = cc
+line_alone n (x ∷ xs) lacks some =
+    let same = append-nil (x ∷ xs) in
+    ap (λ t. numbered n (cut is_lf t)) same ∙ ap (numbered n) (cut-whole x xs lacks) ∙ ap (λ t. (n, without_last 13 t) ∷ []) (sym same)

@@ -1,0 +1,45 @@
+use Rattle.std.proofs.Common.{◌≡◌, ℕ, ◌+◌, ◌<◌, ◌≤◌, Ok, List, ◌++◌, length, sym, ap, subst, ◌∙◌, length-append, rules, arith}
+use Rattle.dir_ldif.specs.Joining.{to_come}
+use Rattle.dir_ldif.specs.Reading.{coming, hand}
+use Rattle.dir_ldif.specs.Device.{FailsToRead}
+use Rattle.dir_ldif.proofs.ReadingLemmas.{more_read}
+use Rattle.dir_ldif.proofs.StopsLemmas.{Consumes-none, hand_stops, read_stops}
+use Rattle.dir_ldif.proofs.reader.Core.next_block.Goals as goal
+
+pub returns-in-Err-clause-err : goal.returns-in-Err-clause-err
+returns-in-Err-clause-err g c =
+    let so_far = c.loop-block.invariant.3 in
+    (so_far.0, so_far.1, hand_stops c.in-Err.fault c.args.self.now c.loop-block.self _ so_far.0 _ _ _ so_far.2 c.in-Err.ensures.err)
+
+pub returns-in-Err-read_more-clause-err : goal.returns-in-Err-read_more-clause-err
+returns-in-Err-read_more-clause-err g c =
+    let so_far = c.loop-block.invariant.3 in
+    let old = c.args.self.now in
+    let new = c.read_more.new.self in
+    let taken : (text : List ℕ) → coming c.loop-block.self text ≡ to_come c.take_hand.new.self.joiner text = rw c.in-Ok-None.field-0-is at c.in-Ok-None.ensures.ok in
+    let same : (text : List ℕ) → coming old (so_far.0 ++ text) ≡ to_come new.joiner text = λ text. so_far.2 text ∙ taken text ∙ ap (λ j. to_come j text) (sym c.read_more.ensures.joiner) in
+    let failed = c.in-Err-read_more.ensures.err in (
+      so_far.0,
+      Consumes-none _ _ _ so_far.0 (hand new) so_far.1 c.read_more.ensures.bytes failed.0,
+      read_stops c.in-Err-read_more.fault old new so_far.0 _ c.take_hand.new.self.turns _ _ same failed.0 (omega (arith, so_far.3, c.take_hand.ensures.turns)) (subst (λ f. FailsToRead c.in-Err-read_more.fault c.take_hand.new.self.turns f (g.S.Source.failures c.read_more.new.source)) c.loop-block.invariant.2 failed.1),
+    )
+
+pub loop-block-preserved : goal.loop-block-preserved
+loop-block-preserved g c =
+    let so_far = c.loop-block.invariant.3 in
+    let old = c.args.self.now in
+    let new = c.read_more.new.self in
+    let taken : (text : List ℕ) → coming c.loop-block.self text ≡ to_come c.take_hand.new.self.joiner text = rw c.in-Ok-None.field-0-is at c.in-Ok-None.ensures.ok in
+    let same : (text : List ℕ) → coming c.loop-block.self (hand new ++ text) ≡ coming new text = λ text. taken (hand new ++ text) ∙ ap (λ j. to_come j (hand new ++ text)) (sym c.read_more.ensures.joiner) in
+    let more = more_read (coming old) (coming c.loop-block.self) (coming new) _ _ _ so_far.0 (hand new) so_far.1 so_far.2 c.read_more.ensures.bytes same in
+    let some : 0 < length (hand new) = c.in-Ok-true.ensures.some (ap Ok c.in-Ok-true.field-0-test) in (
+      c.read_more.ensures.place ∙ c.take_hand.ensures.place ∙ c.loop-block.invariant.0,
+      g.met.S.Source.same_trans _ _ _ c.loop-block.invariant.1 c.read_more.ensures.same,
+      c.in-Ok-true.ensures.counts ∙ c.loop-block.invariant.2,
+      (
+        so_far.0 ++ hand new,
+        more.0,
+        more.1,
+        omega (arith, so_far.3, c.take_hand.ensures.turns, c.in-Ok-true.ensures.turns, some, length-append so_far.0 (hand new)),
+      ),
+    )

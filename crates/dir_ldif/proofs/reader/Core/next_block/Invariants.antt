@@ -1,0 +1,18 @@
+use Rattle.std.proofs.Common.{◌≡◌, ◌+◌, ◌++◌, ◌≤◌, ℕ, List, length}
+use Rattle.std.specs.Io.KnownBytes.{Consumes}
+use Rattle.dir_ldif.specs.declared.reader.Place.TheVariants.{Reading}
+use Rattle.dir_ldif.specs.Reading.{coming}
+use Rattle.dir_ldif.proofs.reader.Core.next_block.Given as goal
+
+abbrev pub invariant-loop-block : goal.invariant-loop-block
+invariant-loop-block g l =
+    (l.self.place ≡ Reading)
+    × g.S.Source.is_same l.fn.source l.source
+    × (g.S.Source.failures l.source ≡ g.S.Source.failures l.fn.source)
+    × ((bytes : List ℕ)
+    × Consumes (g.S.Source.left l.fn.source) (g.S.Source.left l.source) bytes
+    × ((text : List ℕ) → coming l.fn.self (bytes ++ text) ≡ coming l.self text)
+    × (l.fn.self.turns ≤ l.self.turns + length bytes))
+
+abbrev pub decreases-loop-block : goal.decreases-loop-block
+decreases-loop-block g l = l.self.turns

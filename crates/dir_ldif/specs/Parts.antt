@@ -1,0 +1,65 @@
+-- The blocks of a text, and the fault in which it may end.
+use Rattle.std.specs.Prelude.{◌≡◌, ℕ, Bool, true, false, if◌then◌else◌, List, [], ◌∷◌, ◌++◌, Option, None, Some, Result, Ok, Err}
+use Rattle.std.specs.Str.{str_eq_ignore_ascii_case, bytes_eq}
+use Rattle.dir_ldif.specs.declared.faults.StreamFault.{StreamFault}
+use Rattle.dir_ldif.specs.declared.faults.StreamFault.TheVariants.{LineTooLong, Read, Memory, Ended, TooManyTurns, BadVersion}
+use Rattle.dir_ldif.specs.declared.version.Version.{Version}
+use Rattle.dir_ldif.specs.declared.version.Version.TheVariants.{Absent, One, Other}
+use Rattle.dir_ldif.specs.Bytes.{is_empty, cut_at, without_front}
+use Rattle.dir_ldif.specs.Lines.{Line, lines_of, is_comment, is_long}
+
+-- a block of lines, or the fault in which the text ends
+abbrev pub Part : Type 0
+Part = Result (List Line) StreamFault
+
+-- `version`
+abbrev pub version_word : List ℕ
+version_word = 118 ∷ 101 ∷ 114 ∷ 115 ∷ 105 ∷ 111 ∷ 110 ∷ []
+
+-- what a line cut at its first colon says of the version: its plain value is 1, or another (version-spec)
+abbrev pub version_of_cut : Option (List ℕ × List ℕ) → Version
+version_of_cut None = Absent
+version_of_cut (Some p) =
+    if str_eq_ignore_ascii_case p.0 version_word
+    then (if bytes_eq (without_front 32 p.1) (49 ∷ []) then One else Other)
+    else Absent
+
+-- what a line says of the version
+abbrev pub version_of : List ℕ → Version
+version_of line = version_of_cut (cut_at 58 line)
+
+-- the case of a version line
+abbrev pub by_version : {A : Type 0} → Version → A → A → A → A
+by_version Absent absent one other = absent
+by_version One absent one other = one
+by_version Other absent one other = other
+
+-- a block before the other parts, if it has a line
+abbrev pub give : List Line → List Part → List Part
+give [] rest = rest
+give (line ∷ lines) rest = Ok (line ∷ lines) ∷ rest
+
+-- the parts of the logical lines behind the lines of a block. A line that is too long ends the text, a
+-- comment counts for nothing else, an empty line ends the block, and the first line that is left may say
+-- the version
+abbrev pub parts_from : Bool → List Line → List Line → List Part
+parts_from begun block [] = give block []
+parts_from begun block (line ∷ rest) =
+    if is_long line then Err LineTooLong ∷ []
+    else (if is_comment line then parts_from begun block rest
+    else (if is_empty line.1 then give block (parts_from begun [] rest)
+    else (if begun then parts_from true (block ++ line ∷ []) rest
+    else by_version (version_of line.1) (parts_from true (block ++ line ∷ []) rest) (parts_from true block rest) (Err BadVersion ∷ []))))
+
+-- the parts of a text
+abbrev pub parts_of : List ℕ → List Part
+parts_of text = parts_from false [] (lines_of text)
+
+-- the text ends in this fault, with no part before it; want of memory says nothing of the text
+abbrev pub Ends : StreamFault → List Part → Type 0
+Ends LineTooLong parts = parts ≡ Err LineTooLong ∷ []
+Ends BadVersion parts = parts ≡ Err BadVersion ∷ []
+Ends Memory parts = Unit {0}
+Ends Read parts = ⊥
+Ends Ended parts = ⊥
+Ends TooManyTurns parts = ⊥

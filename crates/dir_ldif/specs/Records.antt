@@ -1,0 +1,51 @@
+-- The records of a text, each with its line, and how the text ends.
+use Rattle.std.specs.Prelude.{◌≡◌, ℕ, ◌<◌, List, [], ◌∷◌, ◌++◌, map, length, Result, Ok, Err}
+use Rattle.dir_names.specs.declared.schema.TypeRow.{TypeRow}
+use Rattle.dir_ldif.specs.declared.faults.RecordFault.{RecordFault}
+use Rattle.dir_ldif.specs.declared.faults.StreamFault.{StreamFault}
+use Rattle.dir_ldif.specs.declared.faults.StreamFault.TheVariants.{LineTooLong, Read, Memory, Ended, TooManyTurns, BadVersion}
+use Rattle.dir_ldif.specs.declared.records.Record.{Record}
+use Rattle.dir_ldif.specs.Block.{record_of}
+use Rattle.dir_ldif.specs.Lines.{Line}
+use Rattle.dir_ldif.specs.Parts.{Part, parts_of}
+
+-- the number of a record's first line that is no comment, and the record or its fault
+abbrev pub Found : Type 0
+Found = ℕ × Result Record RecordFault
+
+-- one answer of a reader; a stream fault is the last
+abbrev pub Answer : Type 0
+Answer = Result Found StreamFault
+
+abbrev pub first_number : List Line → ℕ
+first_number [] = 0
+first_number (line ∷ lines) = line.0
+
+-- the record of a block, with its line
+abbrev pub found_of : List TypeRow → List Line → Found
+found_of rows block = (first_number block, record_of rows block)
+
+abbrev pub answer_of : List TypeRow → Part → Answer
+answer_of rows (Ok block) = Ok (found_of rows block)
+answer_of rows (Err fault) = Err fault
+
+-- the answers on the parts of a text
+abbrev pub answers_on : List TypeRow → List Part → List Answer
+answers_on rows parts = map (answer_of rows) parts
+
+-- the records of a text, and the fault in which it ends
+abbrev pub records_of : List TypeRow → List ℕ → List Answer
+records_of rows text = answers_on rows (parts_of text)
+
+-- records without a fault at the end
+abbrev pub all_found : List Found → List Answer
+all_found found = map (λ (f : Found). Ok f) found
+
+-- the fault in which a text ends, behind its records; a text that is too long, and want of memory
+abbrev pub EndsIn : StreamFault → List TypeRow → List ℕ → Type 0
+EndsIn LineTooLong rows text = (found : List Found) × (records_of rows text ≡ all_found found ++ Err LineTooLong ∷ [])
+EndsIn BadVersion rows text = (found : List Found) × (records_of rows text ≡ all_found found ++ Err BadVersion ∷ [])
+EndsIn TooManyTurns rows text = 9007199254732800 < length text
+EndsIn Memory rows text = Unit {0}
+EndsIn Read rows text = ⊥
+EndsIn Ended rows text = ⊥

@@ -1,0 +1,91 @@
+ghost use Rattle.std.specs.Prelude.{◌≡◌, ◌<◌, ◌≤◌, ℕ, List, Option, length, IfOk, refl};
+ghost use Rattle.std.proofs.Common.{◌∙◌};
+ghost use Rattle.std.specs.Io.KnownBytes.{Keeps, ReadConsumes, WriteAppends};
+ghost use Rattle.dir_ldif.specs.Device.{Counts};
+
+use thiserror::Error;
+
+/// A device failed. It has taken and given no byte in that call.
+#[derive(Clone, Copy, PartialEq, Eq, Debug, Error)]
+#[error("the device failed")]
+pub struct DeviceFault;
+
+/// What gives bytes.
+pub trait Source {
+    // The bytes that are left, where the source tells them.
+    ghost left: { Self → Option (List ℕ) };
+
+    // How often the source has failed; the count stops at the greatest number.
+    ghost failures: { Self → ℕ };
+
+    // Whether a borrowed source is the same one still.
+    ghost is_same: { Self → Self → Type 0 };
+
+    /// Puts up to `buffer.len()` bytes into the front of `buffer`, and says how many. None come only at the
+    /// end, or where the buffer has no room.
+    fn read(&mut self, buffer: &mut [u8]) -> Result<usize, DeviceFault>
+        ensures bound { IfOk result (λ n. n ≤ length buffer.new) }
+        ensures bytes { ReadConsumes (left self.old) (left self.new) result buffer.new }
+        ensures count { Counts result (failures self.old) (failures self.new) }
+        ensures same { is_same self.old self.new };
+
+    ghost same_refl: { (a : Self) → is_same a a };
+
+    ghost same_trans: { (a b c : Self) → is_same a b → is_same b c → is_same a c };
+}
+
+/// What takes bytes.
+pub trait Sink {
+    // The bytes that were taken, where the sink tells them.
+    ghost taken: { Self → Option (List ℕ) };
+
+    // How often the sink has failed; the count stops at the greatest number.
+    ghost failures: { Self → ℕ };
+
+    // Whether the sink may take no byte of a text that has one.
+    ghost may_stall: { Self → Type 0 };
+
+    /// Takes a front of `bytes`, and says how many.
+    fn write(&mut self, bytes: &[u8]) -> Result<usize, DeviceFault>
+        ensures bound { IfOk result (λ n. n ≤ length bytes.now) }
+        ensures bytes { WriteAppends (taken self.old) (taken self.new) result bytes.now }
+        ensures count { Counts result (failures self.old) (failures self.new) }
+        ensures stalls { IfOk result (λ n. n ≡ 0 → 0 < length bytes.now → may_stall self.new) };
+
+    /// Passes on what was taken.
+    fn flush(&mut self) -> Result<(), DeviceFault>
+        ensures bytes { Keeps (taken self.old) (taken self.new) }
+        ensures count { Counts result (failures self.old) (failures self.new) };
+}
+
+impl<S: Source> Source for &mut S {
+    ghost left = { λ s. S.left s.now };
+
+    ghost failures = { λ s. S.failures s.now };
+
+    ghost is_same = { λ s t. t.ghost_name ≡ s.ghost_name };
+
+    ghost same_refl = { λ _. refl };
+
+    ghost same_trans = { λ _ _ _ p q. q ∙ p };
+
+    fn read(&mut self, buffer: &mut [u8]) -> Result<usize, DeviceFault> {
+        (**self).read(buffer)
+    }
+}
+
+impl<S: Sink> Sink for &mut S {
+    ghost taken = { λ s. S.taken s.now };
+
+    ghost failures = { λ s. S.failures s.now };
+
+    ghost may_stall = { λ s. S.may_stall s.now };
+
+    fn write(&mut self, bytes: &[u8]) -> Result<usize, DeviceFault> {
+        (**self).write(bytes)
+    }
+
+    fn flush(&mut self) -> Result<(), DeviceFault> {
+        (**self).flush()
+    }
+}

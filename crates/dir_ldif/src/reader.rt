@@ -1,0 +1,373 @@
+ghost use Rattle.std.specs.Prelude.{◌≡◌, ◌+◌, ◌-◌, ◌*◌, ◌++◌, ◌∷◌, ◌^◌, ◌<◌, ◌≤◌, [], All, IfErr, IfOk, OnOk, length, vec_len};
+ghost use Rattle.dir_ldif.specs.LegalFound.{IsLegalFound};
+ghost use Rattle.dir_ldif.specs.Records.{EndsIn, all_found, found_of, records_of};
+
+use crate::block::record_of;
+use crate::device::Source;
+use crate::faults::{RecordFault, Refusal, StreamFault};
+use crate::lines::{Joiner, Line};
+use crate::records::Record;
+use dir_names::Schema;
+use std::alloc::Global;
+
+/// The greatest number of read calls of one reader.
+pub const MAX_TURNS: u64 = 1_099_511_627_776;
+
+/// The greatest number of bytes of a text that is read at once.
+pub const MAX_TEXT: usize = 9_007_199_254_732_800;
+
+/// The greatest number of bytes that one read call is asked for.
+const PIECE: usize = 8192;
+
+/// What a record is answered as: the number of its first line that is no comment, and the record or its
+/// fault.
+pub type Answer = (u64, Result<Record, RecordFault>);
+
+/// How far a reader has come.
+#[derive(Clone, Copy, PartialEq, Eq)]
+enum Place {
+    Reading,
+    /// The source gave its end.
+    AtEnd,
+    /// A stream fault was answered.
+    Ended,
+}
+
+/// Reads the records of a source, one after the other.
+#[derive(Drop)]
+pub struct RecordReader<'s, R> {
+    schema: &'s Schema,
+    source: R,
+    core: Core,
+}
+
+impl<'s, R: Source + Drop> RecordReader<'s, R> {
+    ghost use Rattle.std.specs.Prelude.{◌≡◌, ◌≤◌, None, Ok, Err, IfErr, IfNone, IfOk, IfSome};
+    ghost use Rattle.std.specs.Option.{option_map};
+    ghost use Rattle.dir_ldif.specs.Next.{GivesFirst, GivesNone};
+    ghost use Rattle.dir_ldif.specs.Reader.{GivesLegal, IsAtEnd, IsEnded, StopsFor, to_give, turns_left};
+    ghost use Rattle.dir_ldif.specs.Records.{records_of};
+
+    /// A reader that is allowed 1,099,511,627,776 read calls.
+    ///
+    /// # Errors
+    ///
+    /// `Memory` alone.
+    pub fn new(
+        alloc: Global,
+        schema: &'s Schema,
+        source: R,
+    ) -> Result<RecordReader<'s, R>, StreamFault> {
+        RecordReader::with_turns(alloc, schema, source, MAX_TURNS)
+    }
+
+    /// A reader that is allowed this number of read calls.
+    pub fn with_turns(
+        alloc: Global,
+        schema: &'s Schema,
+        source: R,
+        turns: u64,
+    ) -> Result<RecordReader<'s, R>, StreamFault>
+        requires { turns ≤ MAX_TURNS }
+        ensures answers { IfOk result (λ r. to_give R.left r ≡ option_map (records_of schema.now) (R.left source)) }
+        ensures turns { IfOk result (λ r. turns_left r ≡ turns) }
+        ensures err { IfErr result (λ fault. fault ≡ StreamFault.Memory) }
+    {
+        Ok(RecordReader {
+            schema,
+            source,
+            core: Core::new(alloc, turns)?,
+        })
+    }
+
+    /// The next record or its fault, or none at the end. After a stream fault each call answers `Ended`, and
+    /// after the end none.
+    ///
+    /// # Errors
+    ///
+    /// `LineTooLong` and `BadVersion` where the text is at fault and no record is left; `Read` where the source
+    /// failed in this call; `TooManyTurns` where the source gave as many bytes as read calls were allowed;
+    /// `Memory`; `Ended`.
+    pub fn next(&mut self) -> Result<Option<Answer>, StreamFault>
+        ensures some { IfOk result (λ o. IfSome o (λ found. GivesFirst (Ok found) (to_give R.left self.old) (to_give R.left self.new))) }
+        ensures none { IfOk result (λ o. IfNone o (GivesNone (to_give R.left self.old) × IsAtEnd self.new)) }
+        ensures err { IfErr result (λ fault. StopsFor R.left R.failures fault self.old self.new × IsEnded self.new) }
+        ensures legal { IfOk result (λ o. IfSome o (GivesLegal self.old)) }
+        ensures ended { IsEnded self.old → result ≡ Err StreamFault.Ended }
+        ensures at_end { IsAtEnd self.old → result ≡ Ok None }
+    {
+        self.core.next(self.schema, &mut self.source)
+    }
+}
+
+/// A reader without its source.
+#[derive(Drop)]
+struct Core {
+    joiner: Joiner,
+    buffer: Vec<u8>,
+    at: usize,
+    end: usize,
+    turns: u64,
+    place: Place,
+    alloc: Global,
+    ghost in_range: { at ≤ end },
+    ghost in_buffer: { end ≤ vec_len buffer },
+    ghost piece: { vec_len buffer ≡ 8192 },
+    ghost room: { joiner.number + (end - at) + 8192 * turns < 2 ^ 62 },
+}
+
+impl Core {
+    ghost use Rattle.std.specs.Prelude.{◌≡◌, ◌+◌, ◌++◌, ◌*◌, ◌^◌, ◌<◌, ◌≤◌, ℕ, List, [], None, Ok, Err, true, false, IfErr, IfNone, IfOk, IfSome, MatchOption, length};
+    ghost use Rattle.std.specs.Io.KnownBytes.{Consumes, IsAtEnd};
+    ghost use Rattle.dir_ldif.specs.declared.reader.Place.TheVariants.{AtEnd, Ended, Reading};
+    ghost use Rattle.dir_ldif.specs.Next.{Faults, GivesFirst, GivesNone, answers_left};
+    ghost use Rattle.dir_ldif.specs.LegalFound.{IsLegalFound};
+    ghost use Rattle.dir_ldif.specs.Bytes.{is_empty};
+    ghost use Rattle.dir_ldif.specs.Device.{FailsToRead};
+    ghost use Rattle.dir_ldif.specs.Joining.{to_come};
+    ghost use Rattle.dir_ldif.specs.Parts.{Ends, give, parts_of};
+    ghost use Rattle.dir_ldif.specs.Reading.{Finds, Stops, coming, hand};
+
+    fn new(alloc: Global, turns: u64) -> Result<Core, StreamFault>
+        requires { turns ≤ MAX_TURNS }
+        ensures text { IfOk result (λ c. (text : List ℕ) → coming c text ≡ parts_of text) }
+        ensures place { IfOk result (λ c. c.place ≡ Reading) }
+        ensures turns { IfOk result (λ c. c.turns ≡ turns) }
+        ensures err { IfErr result (λ fault. fault ≡ StreamFault.Memory) }
+    {
+        Ok(Core {
+            joiner: Joiner::new(alloc),
+            buffer: vec![in alloc; 0; PIECE]?,
+            at: 0,
+            end: 0,
+            turns,
+            place: Place::Reading,
+            alloc,
+        })
+    }
+
+    fn next<S: Source>(
+        &mut self,
+        schema: &Schema,
+        source: &mut S,
+    ) -> Result<Option<Answer>, StreamFault>
+        ensures some { IfOk result (λ o. IfSome o (λ found. GivesFirst (Ok found)
+            (answers_left schema.now self.old (S.left source.old)) (answers_left schema.now self.new (S.left source.new)))) }
+        ensures none { IfOk result (λ o. IfNone o (GivesNone (answers_left schema.now self.old (S.left source.old)) × (self.new.place ≡ AtEnd))) }
+        ensures err { IfErr result (λ fault. Faults fault schema.now self.old (S.left source.old) (S.left source.new) (S.failures source.old) (S.failures source.new)
+            × (self.new.place ≡ Ended)) }
+        ensures legal { IfOk result (λ o. IfSome o (IsLegalFound schema.now)) }
+        ensures ended { self.old.place ≡ Ended → result ≡ Err StreamFault.Ended }
+        ensures at_end { self.old.place ≡ AtEnd → (result ≡ Ok None) }
+        ensures turns { IfOk result (λ _. self.new.place ≡ Reading → (bytes : List ℕ)
+            × Consumes (S.left source.old) (S.left source.new) bytes × (self.old.turns ≤ self.new.turns + length bytes)) }
+        ensures same { S.is_same source.old source.new }
+    {
+        match self.place {
+            Place::Ended => Err(StreamFault::Ended),
+            Place::AtEnd => Ok(None),
+            Place::Reading => match self.next_answer(schema, source) {
+                Ok(answer) => Ok(answer),
+                Err(fault) => {
+                    self.place = Place::Ended;
+                    Err(fault)
+                }
+            },
+        }
+    }
+
+    /// The answer on the next block.
+    fn next_answer<S: Source>(
+        &mut self,
+        schema: &Schema,
+        source: &mut S,
+    ) -> Result<Option<Answer>, StreamFault>
+        requires { self.old.place ≡ Reading }
+        ensures some { IfOk result (λ o. IfSome o (λ found. GivesFirst (Ok found)
+            (answers_left schema.now self.old (S.left source.old)) (answers_left schema.now self.new (S.left source.new)))) }
+        ensures none { IfOk result (λ o. IfNone o (GivesNone (answers_left schema.now self.old (S.left source.old)) × (self.new.place ≡ AtEnd))) }
+        ensures err { IfErr result (λ fault. Faults fault schema.now self.old (S.left source.old) (S.left source.new) (S.failures source.old) (S.failures source.new)) }
+        ensures legal { IfOk result (λ o. IfSome o (IsLegalFound schema.now)) }
+        ensures turns { IfOk result (λ _. self.new.place ≡ Reading → (bytes : List ℕ)
+            × Consumes (S.left source.old) (S.left source.new) bytes × (self.old.turns ≤ self.new.turns + length bytes)) }
+        ensures same { S.is_same source.old source.new }
+    {
+        let block = match self.next_block(source) {
+            Ok(block) => block,
+            Err(fault) => return Err(fault),
+        };
+        if block.is_empty() {
+            return Ok(None);
+        }
+        match answer_of(self.alloc, schema, block.as_slice()) {
+            Ok(answer) => Ok(Some(answer)),
+            Err(fault) => Err(fault),
+        }
+    }
+
+    /// The next block, which has no line at the end of the text alone.
+    fn next_block<S: Source>(&mut self, source: &mut S) -> Result<Vec<Line>, StreamFault>
+        requires { self.old.place ≡ Reading }
+        ensures ok { IfOk result (λ block. (bytes : List ℕ)
+            × Consumes (S.left source.old) (S.left source.new) bytes
+            × Finds self.new.place (coming self.old) block.items (coming self.new) bytes (S.left source.new)
+            × (self.new.place ≡ Reading → (self.old.turns ≤ self.new.turns + length bytes) × (is_empty block.items ≡ false))) }
+        ensures err { IfErr result (λ fault. (bytes : List ℕ)
+            × Consumes (S.left source.old) (S.left source.new) bytes
+            × Stops fault self.old self.new bytes (S.left source.new) (S.failures source.old) (S.failures source.new)) }
+        ensures same { S.is_same source.old source.new }
+    {
+        loop {
+            match self.take_hand() {
+                Ok(Some(block)) => return Ok(block),
+                Ok(None) => {}
+                Err(fault) => return Err(fault),
+            }
+            match self.read_more(source) {
+                Ok(true) => {}
+                Ok(false) => return self.finish(),
+                Err(fault) => return Err(fault),
+            }
+        }
+    }
+
+    /// Takes what is in hand, up to the end of a block. Answers that block, if there is one.
+    fn take_hand(&mut self) -> Result<Option<Vec<Line>>, StreamFault>
+        ensures turns { self.new.turns ≡ self.old.turns }
+        ensures place { self.new.place ≡ self.old.place }
+        ensures ok { IfOk result (λ o. MatchOption o
+            ((text : List ℕ) → coming self.old text ≡ to_come self.new.joiner text)
+            (λ block. (text : List ℕ) → coming self.old text ≡ give block.items (coming self.new text))) }
+        ensures none { IfOk result (λ o. IfNone o (self.new.at ≡ self.new.end)) }
+        ensures some { IfOk result (λ o. IfSome o (λ block. is_empty block.items ≡ false)) }
+        ensures err { IfErr result (λ fault. (text : List ℕ) → Ends fault (coming self.old text)) }
+    {
+        let piece = &self.buffer[self.at..self.end];
+        match self.joiner.take_piece(piece) {
+            Ok(Some((block, rest))) => {
+                self.at = self.end - rest.len();
+                Ok(Some(block))
+            }
+            Ok(None) => {
+                self.at = self.end;
+                Ok(None)
+            }
+            Err(fault) => {
+                self.at = self.end;
+                Err(fault)
+            }
+        }
+    }
+
+    /// Reads the next piece. Answers whether there is one.
+    fn read_more<S: Source>(&mut self, source: &mut S) -> Result<bool, StreamFault>
+        requires { self.old.at ≡ self.old.end }
+        ensures joiner { self.new.joiner ≡ self.old.joiner }
+        ensures place { self.new.place ≡ self.old.place }
+        ensures bytes { Consumes (S.left source.old) (S.left source.new) (hand self.new) }
+        ensures some { result ≡ Ok true → 0 < length (hand self.new) }
+        ensures none { result ≡ Ok false → (hand self.new ≡ []) × IsAtEnd (S.left source.new) }
+        ensures turns { IfOk result (λ _. self.old.turns ≡ self.new.turns + 1) }
+        ensures counts { IfOk result (λ _. S.failures source.new ≡ S.failures source.old) }
+        ensures err { IfErr result (λ fault. (hand self.new ≡ []) × FailsToRead fault self.old.turns (S.failures source.old) (S.failures source.new)) }
+        ensures same { S.is_same source.old source.new }
+    {
+        self.at = 0;
+        self.end = 0;
+        if self.turns == 0 {
+            return Err(StreamFault::TooManyTurns);
+        }
+        self.turns -= 1;
+        match source.read(self.buffer.as_mut_slice()) {
+            Ok(n) => {
+                self.end = n;
+                Ok(n > 0)
+            }
+            Err(_) => Err(StreamFault::Read),
+        }
+    }
+
+    /// Ends the text. Answers the last block.
+    fn finish(&mut self) -> Result<Vec<Line>, StreamFault>
+        requires empty { hand self.old ≡ [] }
+        requires room { self.old.joiner.number + 8192 * self.old.turns + 1 < 2 ^ 62 }
+        ensures place { self.new.place ≡ AtEnd }
+        ensures turns { self.new.turns ≡ self.old.turns }
+        ensures ok { IfOk result (λ block. coming self.old [] ≡ give block.items []) }
+        ensures err { IfErr result (λ fault. Ends fault (coming self.old [])) }
+    {
+        self.place = Place::AtEnd;
+        self.at = 0;
+        self.end = 0;
+        self.joiner.finish()
+    }
+}
+
+/// The answer on a block.
+fn answer_of(alloc: Global, schema: &Schema, block: &[Line]) -> Result<Answer, StreamFault>
+    requires { 0 < length block.now }
+    ensures ok { IfOk result (λ answer. answer ≡ found_of schema.now block.now) }
+    ensures legal { IfOk result (IsLegalFound schema.now) }
+    ensures err { IfErr result (λ fault. fault ≡ StreamFault.Memory) }
+{
+    let number = block[0].number();
+    match record_of(alloc, schema, block) {
+        Ok(record) => Ok((number, Ok(record))),
+        Err(Refusal::Fault(fault)) => Ok((number, Err(fault))),
+        Err(Refusal::Memory) => Err(StreamFault::Memory),
+    }
+}
+
+/// The records of a text, each with the number of its first line, or the text's stream fault alone. A text
+/// of more than 9,007,199,254,732,800 bytes is `TooManyTurns`.
+pub fn read_all(alloc: Global, schema: &Schema, text: &[u8]) -> Result<Vec<Answer>, StreamFault>
+    ensures ok { IfOk result (λ answers. records_of schema.now text.now ≡ all_found answers.items) }
+    ensures legal { IfOk result (λ answers. All (IsLegalFound schema.now) answers.items) }
+    ensures err { IfErr result (λ fault. EndsIn fault schema.now text.now) }
+{
+    if text.len() > MAX_TEXT {
+        return Err(StreamFault::TooManyTurns);
+    }
+    let mut joiner = Joiner::new(alloc);
+    let mut answers = Vec::new(alloc);
+    let mut rest = text;
+    loop {
+        match joiner.take_piece(rest) {
+            Ok(Some((block, after))) => {
+                rest = after;
+                if let Err(fault) = push_answer(alloc, schema, &mut answers, block.as_slice()) {
+                    return Err(fault);
+                }
+            }
+            Ok(None) => break,
+            Err(fault) => return Err(fault),
+        }
+    }
+    let block = match joiner.finish() {
+        Ok(block) => block,
+        Err(fault) => return Err(fault),
+    };
+    if block.is_empty() {
+        return Ok(answers);
+    }
+    match push_answer(alloc, schema, &mut answers, block.as_slice()) {
+        Ok(()) => Ok(answers),
+        Err(fault) => Err(fault),
+    }
+}
+
+/// Appends the answer on a block.
+fn push_answer(
+    alloc: Global,
+    schema: &Schema,
+    answers: &mut Vec<Answer>,
+    block: &[Line],
+) -> Result<(), StreamFault>
+    requires { 0 < length block.now }
+    ensures ok { OnOk result (answers.new.items ≡ answers.old.items ++ found_of schema.now block.now ∷ []) }
+    ensures legal { OnOk result (All (IsLegalFound schema.now) answers.old.items → All (IsLegalFound schema.now) answers.new.items) }
+    ensures err { IfErr result (λ fault. fault ≡ StreamFault.Memory) }
+{
+    answers.push(answer_of(alloc, schema, block)?)?;
+    Ok(())
+}

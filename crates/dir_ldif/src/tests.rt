@@ -1,0 +1,305 @@
+use super::*;
+use dir_names::{Bytes, Description, Dn, Lines, Memory, Schema};
+use std::alloc::Global;
+use std::process::Abort;
+use std::test::Fail;
+
+/// What a text reads as: the line of each record, and its text or its fault; then what ends the text.
+fn shown(rt: &impl Abort, alloc: Global, text: &[u8]) -> String {
+    let schema = Schema::builtin(alloc).expect(rt, "a schema");
+    let reader = RecordReader::new(alloc, &schema, Script::new(text)).expect(rt, "a reader");
+    shown_records(rt, alloc, reader)
+}
+
+fn shown_records<R: Source + Drop>(
+    rt: &impl Abort,
+    alloc: Global,
+    mut reader: RecordReader<R>,
+) -> String {
+    let mut out = String::new(alloc);
+    for _ in 0..100 {
+        match reader.next() {
+            Ok(Some((line, answer))) => show(rt, alloc, &mut out, line, answer),
+            Ok(None) => break,
+            Err(fault) => {
+                out.push_str(format!(in alloc; "{fault};").expect(rt, "memory").as_str())
+                    .expect(rt, "memory");
+                if fault == StreamFault::Ended {
+                    break;
+                }
+            }
+        }
+    }
+    out
+}
+
+fn show(
+    rt: &impl Abort,
+    alloc: Global,
+    out: &mut String,
+    line: u64,
+    answer: Result<Record, RecordFault>,
+) {
+    let text = match answer {
+        Ok(record) => {
+            let text = record_text(alloc, &record).expect(rt, "memory");
+            let text = String::from_utf8(text)
+                .expect(rt, "ASCII")
+                .replace(alloc, "\n", "|")
+                .expect(rt, "memory");
+            format!(in alloc; "{line} {text};").expect(rt, "memory")
+        }
+        Err(fault) => format!(in alloc; "{line} {fault};").expect(rt, "memory"),
+    };
+    out.push_str(text.as_str()).expect(rt, "memory");
+}
+
+#[test]
+fn reads_examples_of_the_standard(rt: HostRuntime) -> Result<(), Fail> {
+    let alloc = rt.alloc();
+    for (text, want) in [
+        (
+            "version: 1\ndn: cn=B,dc=a\nobjectclass: top\ncn: B\n\n# c\ndn: cn=C,dc=a\ncn: C\n",
+            "2 dn: cn=B,dc=a|objectclass: top|cn: B||;7 dn: cn=C,dc=a|cn: C||;",
+        ),
+        (
+            "version: 1\ndn:cn=Barbara Jensen, ou=Product Development, dc=airius, dc=com\nobjectclass:top\ndescription:Babs is a big sailing fan, and travels extensively in sea\n rch of perfect sailing conditions.\n",
+            "2 dn: cn=Barbara Jensen,ou=Product Development,dc=airius,dc=com|objectclass: top|description: Babs is a big sailing fan, and travels extensively in search of|  perfect sailing conditions.||;",
+        ),
+        (
+            "version: 1\ndn: cn=G,dc=a\ndescription:: V2hhdCBhIGNhcmVmdWwgcmVhZGVyIHlvdSBhcmUhICBUaGlzIHZhbHVl\n  IGlzIGJhc2Utwrk=\n",
+            "2 L2 BadBase64;",
+        ),
+        (
+            "version: 1\ndn: cn=F,dc=a\nchangetype: add\ncn: F\n\ndn: cn=R,dc=a\nchangetype: delete\n\ndn: cn=P,dc=a\nchangetype: modrdn\nnewrdn: cn=Q\ndeleteoldrdn: 1\n\ndn: ou=P, dc=a\nchangetype: modrdn\nnewrdn: ou=N\ndeleteoldrdn: 0\nnewsuperior: ou=A, dc=a\n",
+            "2 dn: cn=F,dc=a|changetype: add|cn: F||;6 dn: cn=R,dc=a|changetype: delete||;9 dn: cn=P,dc=a|changetype: modrdn|newrdn: cn=Q|deleteoldrdn: 1||;14 dn: ou=P,dc=a|changetype: modrdn|newrdn: ou=N|deleteoldrdn: 0|newsuperior: ou=A,dc=a||;",
+        ),
+        (
+            "dn: cn=P,dc=a\nchangetype: modify\nadd: postaladdress\npostaladdress: 123\n-\ndelete: description\n-\nreplace: telephonenumber\ntelephonenumber: 1\ntelephonenumber: 2\n-\ndelete: l\nl: x\n",
+            "1 dn: cn=P,dc=a|changetype: modify|add: postaladdress|postaladdress: 123|-|delete: description|-|replace: telephonenumber|telephonenumber: 1|telephonenumber: 2|-|delete: l|l: x|-||;",
+        ),
+        ("dn: cn=a\njpegphoto:< file:///x\n", "1 L3 UrlValue;"),
+        (
+            "dn: cn=a\ncontrol: 1.2 true\nchangetype: delete\n",
+            "1 L4 Control;",
+        ),
+        ("", ""),
+        ("\n\n# only\n \n", ""),
+    ] {
+        assert_eq!(rt;
+            shown(&rt, alloc, text.as_bytes()).as_str(),
+            want,
+            "at {text}"
+        );
+    }
+    Ok(())
+}
+
+#[test]
+fn faults_have_their_line(rt: HostRuntime) -> Result<(), Fail> {
+    let alloc = rt.alloc();
+    for (text, want) in [
+        ("version: 2\n", "L15 BadVersion;L13 Ended;"),
+        ("VERSION:1\n\n", ""),
+        ("version:: MQ==\n", "L15 BadVersion;L13 Ended;"),
+        ("dn: cn=a\nnote:: A\n", "1 L2 BadBase64;"),
+        ("dn: cn=a\nnote:: AA=\n", "1 L2 BadBase64;"),
+        ("dn: cn=a\nnote:: AAF=\n", "1 L2 BadBase64;"),
+        ("dn: cn=a\nnote:: AAE= \n", "1 L2 BadBase64;"),
+        ("dn: cn=a\nnote::\n", "1 dn: cn=a|note:||;"),
+        ("dn: cn=a\nnote: \rx\n", "1 L1 BadLine;"),
+        ("dn: cn=a\nnote:   x \n", "1 dn: cn=a|note:: eCA=||;"),
+        ("dn: cn=a\n:x\n", "1 L1 BadLine;"),
+        ("cn: a\n\ndn: cn=b\n", "1 L1 BadLine;3 dn: cn=b||;"),
+        ("# c\n  c\n\n\n # d\n", "5 L1 BadLine;"),
+        ("dn: cn=a\nchangetype: move\n", "1 L5 BadChangetype;"),
+        ("dn: cn=a\nchangetype: delete\ncn: a\n", "1 L1 BadLine;"),
+        (
+            "dn: cn=a\nchangetype: modify\nincrement: a\n",
+            "1 L6 BadModify;",
+        ),
+        ("dn: cn=a\nchangetype: modify\n-\n", "1 L1 BadLine;"),
+        (
+            "dn: cn=a\nchangetype: modify\nadd: cn\nsn: x\n",
+            "1 L6 BadModify;",
+        ),
+        (
+            "dn: cn=a\nchangetype:: bW9kcmRu\nnewrdn: cn=b\n",
+            "1 L7 BadRename;",
+        ),
+        (
+            "dn: cn=a\nchangetype: modrdn\nnewrdn: cn=b\ndeleteoldrdn: 2\n",
+            "1 L7 BadRename;",
+        ),
+        (
+            "dn: cn=a\nchangetype: modrdn\nnewrdn: cn\ndeleteoldrdn: 2\n",
+            "1 L9 N4 BadDn;",
+        ),
+        ("dn: x\n", "1 L9 N4 BadDn;"),
+        ("dn: cn=a\n1cn: b\n", "1 L9 N1 BadDescription;"),
+        ("dn: cn=a\nchangetype;x: b\n", "1 L9 N2 ReservedName;"),
+    ] {
+        assert_eq!(rt;
+            shown(&rt, alloc, text.as_bytes()).as_str(),
+            want,
+            "at {text}"
+        );
+    }
+    Ok(())
+}
+
+/// CR LF ends, a folded comment, folded values and base64, with a final line without its end.
+const FOLDED: &str =
+    "# folded\r\n  comment\r\ndn: cn=e,dc=com\r\nchangetype: modify\r\nadd: description\r\ndescription: two\r\n  words \r\n\r\n\r\ndn: cn=f,dc=com\r\nnote:: AP\r\n 8=\r\nnote: x";
+
+const FOLDED_SHOWN: &str =
+    "3 dn: cn=e,dc=com|changetype: modify|add: description|description:: dHdvIHdvcmRzIA==|-||;10 dn: cn=f,dc=com|note:: AP8=|note: x||;";
+
+#[test]
+fn pieces_change_nothing(rt: HostRuntime) -> Result<(), Fail> {
+    let alloc = rt.alloc();
+    let schema = Schema::builtin(alloc)?;
+    let text = FOLDED.as_bytes();
+    assert_eq!(rt; shown(&rt, alloc, text).as_str(), FOLDED_SHOWN);
+    let single = RecordReader::new(alloc, &schema, Script::new(text).pieces(1))?;
+    assert_eq!(rt; shown_records(&rt, alloc, single).as_str(), FOLDED_SHOWN);
+    for at in 1..text.len() {
+        let cut = RecordReader::new(alloc, &schema, Script::new(text).first_piece(at))?;
+        assert_eq!(rt;
+            shown_records(&rt, alloc, cut).as_str(),
+            FOLDED_SHOWN,
+            "cut at {at}"
+        );
+    }
+    Ok(())
+}
+
+#[test]
+fn a_source_ends_or_fails(rt: HostRuntime) -> Result<(), Fail> {
+    let alloc = rt.alloc();
+    let schema = Schema::builtin(alloc)?;
+    let slow = RecordReader::with_turns(alloc, &schema, Script::new(b"dn: dc=com\n").pieces(1), 3)?;
+    assert_eq!(rt;
+        shown_records(&rt, alloc, slow).as_str(),
+        "L14 TooManyTurns;L13 Ended;"
+    );
+    let failing = RecordReader::new(alloc, &schema, Script::new(b"").failing_from(1))?;
+    assert_eq!(rt;
+        shown_records(&rt, alloc, failing).as_str(),
+        "L11 Read;L13 Ended;"
+    );
+    let later = RecordReader::new(
+        alloc,
+        &schema,
+        Script::new(b"dn: dc=com\n\n").failing_from(2),
+    )?;
+    assert_eq!(rt;
+        shown_records(&rt, alloc, later).as_str(),
+        "1 dn: dc=com||;L11 Read;L13 Ended;"
+    );
+    let empty = RecordReader::with_turns(alloc, &schema, Script::new(b"\n").endless(), 100)?;
+    assert_eq!(rt;
+        shown_records(&rt, alloc, empty).as_str(),
+        "L14 TooManyTurns;L13 Ended;"
+    );
+    Ok(())
+}
+
+#[test]
+fn a_long_line_ends_the_text(rt: HostRuntime) -> Result<(), Fail> {
+    let alloc = rt.alloc();
+    let schema = Schema::builtin(alloc)?;
+    let block = vec![in alloc; b'a'; 8192]?;
+    let long = RecordReader::new(alloc, &schema, Script::new(block.as_slice()).endless())?;
+    assert_eq!(rt;
+        shown_records(&rt, alloc, long).as_str(),
+        "L10 LineTooLong;L13 Ended;"
+    );
+    for (length, want) in [(MAX_VALUE, true), (MAX_VALUE + 1, false)] {
+        let mut text = b"dn: cn=a\nx: ".to_vec(alloc)?;
+        for _ in 0..length {
+            text.push(b'a')?;
+        }
+        text.push(b'\n')?;
+        let answers = read_all(alloc, &schema, text.as_slice())?;
+        assert_eq!(rt; answers.len(), 1);
+        assert_eq!(rt; answers[0].1.is_ok(), want);
+    }
+    let mut comment = b"#".to_vec(alloc)?;
+    for _ in 1..MAX_LINE {
+        comment.push(b'a')?;
+    }
+    comment.push(b'\r')?;
+    comment.push(b'\n')?;
+    assert!(rt; read_all(alloc, &schema, comment.as_slice())?.is_empty());
+    comment.extend_from_slice(b" a")?;
+    assert_eq!(rt;
+        read_all(alloc, &schema, comment.as_slice()).err(),
+        Some(StreamFault::LineTooLong)
+    );
+    Ok(())
+}
+
+#[test]
+fn lines_are_folded(rt: HostRuntime) -> Result<(), Fail> {
+    let alloc = rt.alloc();
+    let mut out = Vec::new(alloc);
+    push_line(
+        &mut out,
+        b"description",
+        vec![in alloc; b'a'; 70]?.as_slice(),
+    )?;
+    let mut want = b"description: ".to_vec(alloc)?;
+    want.extend_from_slice(vec![in alloc; b'a'; 63]?.as_slice())?;
+    want.extend_from_slice(b"\n aaaaaaa\n")?;
+    assert_eq!(rt; out.as_slice(), want.as_slice());
+    let mut out = Vec::new(alloc);
+    push_line(&mut out, b"note", b"")?;
+    push_line(&mut out, b"note", b" lead")?;
+    push_line(&mut out, b"note", b"<x")?;
+    push_line(&mut out, b"note", b":x")?;
+    push_line(&mut out, b"note", b"a<: b")?;
+    assert_eq!(rt;
+        out.as_slice(),
+        b"note:\nnote:: IGxlYWQ=\nnote:: PHg=\nnote:: Ong=\nnote: a<: b\n".as_slice()
+    );
+    Ok(())
+}
+
+#[test]
+fn legal_changes_pass(rt: HostRuntime) -> Result<(), Fail> {
+    let alloc = rt.alloc();
+    let schema = Schema::builtin(alloc)?;
+    let mut items = Vec::new(alloc);
+    items.push((
+        Description::read(alloc, &schema, b"description")?,
+        Bytes::copy_of(alloc, b"staff")?,
+    ))?;
+    let change = Change {
+        dn: Dn::read(alloc, b"ou=people,DC=COM")?,
+        kind: ChangeKind::Add(Lines::new(items)),
+    };
+    assert_eq!(rt; change.check(alloc, &schema), Ok(()));
+    let keyless = Change {
+        dn: Dn::read(alloc, b"cn=a+commonName=b")?,
+        kind: ChangeKind::Delete,
+    };
+    assert!(rt; keyless.check(alloc, &schema).is_err());
+    Ok(())
+}
+
+#[test]
+fn tapes_take_and_stall(rt: HostRuntime) -> Result<(), Fail> {
+    let mut room = [0u8; 8];
+    let mut tape = Tape::new(&mut room).pieces(3);
+    assert!(rt; write_whole(&mut tape, b"abcdef").is_ok());
+    assert_eq!(rt; tape.as_slice(), b"abcdef".as_slice());
+    assert!(rt; write_whole(&mut tape, b"ghi").is_err());
+    assert_eq!(rt; tape.as_slice(), b"abcdefgh".as_slice());
+    let mut room = [0u8; 8];
+    let mut tape = Tape::new(&mut room).failing_from(2);
+    assert!(rt; write_whole(&mut tape, b"abc").is_ok());
+    assert!(rt; tape.flush().is_err());
+    assert_eq!(rt; tape.as_slice(), b"abc".as_slice());
+    Ok(())
+}

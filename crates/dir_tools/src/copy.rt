@@ -1,0 +1,216 @@
+ghost use Rattle.std.specs.Prelude.{◌≡◌, None};
+ghost use Rattle.dir_tree.specs.Dir.{entry_at};
+
+use crate::canonical::canonical_text;
+use crate::write::write_text;
+use crate::{Cause, Input, Output, ToolFault};
+use dir_change::{Refusal, ResultCode};
+use dir_ldif::{Record, RecordFault, RecordReader, Sink, Source, StreamFault};
+use dir_names::{Dn, DnKey, Lines, Schema};
+use dir_tree::{Directory, Entry, may_stand, own_rdns};
+use std::alloc::Global;
+use std::collections::{BTreeMap, BTreeSet};
+
+/// Reads a copy of a directory into `empty`, whose map is empty. All records are content records, in
+/// any order; each entry is completed by the values of its own RDN.
+///
+/// # Errors
+///
+/// In the order of the text: a record's own fault; `BadChangetype` for a change record; 32 outside
+/// the suffix; 68 for a name that stood before; 21, 20 and 19 for its values; the fault in which the
+/// text ends. Then 32 for the first record whose parent is missing.
+pub fn read_copy<R: Source, D: Directory>(
+    alloc: Global,
+    schema: &Schema,
+    empty: D,
+    copy: &mut R,
+) -> Result<D, ToolFault>
+where
+    D: Drop,
+{
+    let mut loading = Loading::new(alloc, empty);
+    let mut records = match RecordReader::new(alloc, schema, copy) {
+        Ok(records) => records,
+        Err(fault) => return Err(ended(fault)),
+    };
+    for _ in 0..u64::MAX {
+        match records.next() {
+            Ok(Some((line, record))) => loading.take(alloc, schema, line, record)?,
+            Ok(None) => return loading.finish(alloc),
+            Err(fault) => return Err(ended(fault)),
+        }
+    }
+    Err(ended(StreamFault::TooManyTurns))
+}
+
+/// Writes the canonical text of a directory, built whole before its first byte is written.
+///
+/// # Errors
+///
+/// A write fault names `out`.
+pub fn write_copy<D: Directory, W: Sink>(
+    alloc: Global,
+    directory: &D,
+    out: &mut W,
+) -> Result<(), ToolFault> {
+    let Ok(text) = canonical_text(alloc, directory) else {
+        return Err(ToolFault::Memory);
+    };
+    write_text(out, text.as_slice(), Output::Out)
+}
+
+/// What a fault that ends a copy's text means.
+fn ended(fault: StreamFault) -> ToolFault {
+    match fault {
+        StreamFault::Read => ToolFault::Read(Input::Copy),
+        StreamFault::Memory => ToolFault::Memory,
+        fault => ToolFault::BadCopy(0, Cause::Ended(fault)),
+    }
+}
+
+fn refused(line: u64, code: ResultCode) -> ToolFault {
+    ToolFault::BadCopy(line, Cause::Code(code))
+}
+
+/// A copy as far as it was read: the entries whose parents were there, and those that wait for theirs.
+#[derive(Drop)]
+struct Loading<D: Directory + Drop> {
+    directory: D,
+    waiting: BTreeMap<DnKey, Waiting>,
+}
+
+/// An entry that came before its parent, and its line.
+#[derive(Drop)]
+struct Waiting {
+    line: u64,
+    entry: Entry,
+}
+
+impl<D: Directory + Drop> Loading<D> {
+    fn new(alloc: Global, directory: D) -> Loading<D> {
+        Loading {
+            directory,
+            waiting: BTreeMap::new(alloc),
+        }
+    }
+
+    /// Takes the next record of the copy.
+    fn take(
+        &mut self,
+        alloc: Global,
+        schema: &Schema,
+        line: u64,
+        record: Result<Record, RecordFault>,
+    ) -> Result<(), ToolFault> {
+        match record {
+            Ok(Record::Content { dn, lines }) => self.take_entry(alloc, schema, line, dn, lines),
+            Ok(Record::Change(_)) => Err(ToolFault::BadCopy(
+                line,
+                Cause::Fault(RecordFault::BadChangetype),
+            )),
+            Err(fault) => Err(ToolFault::BadCopy(line, Cause::Fault(fault))),
+        }
+    }
+
+    fn take_entry(
+        &mut self,
+        alloc: Global,
+        schema: &Schema,
+        line: u64,
+        name: Dn,
+        lines: Lines,
+    ) -> Result<(), ToolFault> {
+        let key = name.key(alloc, schema)?;
+        if !key.at_or_below(self.directory.suffix()) {
+            return Err(refused(line, ResultCode::NoSuchObject));
+        }
+        if self.directory.get(&key).is_some() || self.waiting.contains_key(&key) {
+            return Err(refused(line, ResultCode::EntryAlreadyExists));
+        }
+        let is_suffix = key == *self.directory.suffix();
+        let entry = match Entry::make(alloc, schema, own_rdns(name, is_suffix), lines) {
+            Ok(entry) => entry,
+            Err(fault) => {
+                return Err(match Refusal::from(fault) {
+                    Refusal::Code(code) => refused(line, code),
+                    Refusal::Memory => ToolFault::Memory,
+                });
+            }
+        };
+        if let Some(entry) = put(alloc, &mut self.directory, &key, entry)? {
+            self.waiting.insert(key, Waiting { line, entry })?;
+        }
+        Ok(())
+    }
+
+    /// The whole directory, once each entry that waited has found its parent. Parents come before what
+    /// is below them in the order of keys.
+    fn finish(self, alloc: Global) -> Result<D, ToolFault> {
+        let Loading {
+            mut directory,
+            waiting,
+        } = self;
+        let mut orphans = Orphans::new(alloc);
+        for (key, waiting) in waiting {
+            let Waiting { line, entry } = waiting;
+            if directory.get(&key).is_some() {
+                return Err(refused(line, ResultCode::EntryAlreadyExists));
+            }
+            if put(alloc, &mut directory, &key, entry)?.is_some() {
+                orphans.add(alloc, key, line)?;
+            }
+        }
+        match orphans.first {
+            Some(line) => Err(refused(line, ResultCode::NoSuchObject)),
+            None => Ok(directory),
+        }
+    }
+}
+
+/// Puts an entry at a free key. It comes back where its parent isn't there.
+fn put<D: Directory>(
+    alloc: Global,
+    directory: &mut D,
+    key: &DnKey,
+    entry: Entry,
+) -> Result<Option<Entry>, ToolFault>
+    requires { entry_at (D.state directory.old) key.now ≡ None }
+{
+    if !may_stand(alloc, directory, key)? {
+        return Ok(Some(entry));
+    }
+    match directory.insert(key, entry) {
+        Ok(()) => Ok(None),
+        Err(_) => Err(ToolFault::Memory),
+    }
+}
+
+/// The entries of a copy that have no parent in it, and those below them.
+#[derive(Drop)]
+struct Orphans {
+    keys: BTreeSet<DnKey>,
+    /// The line of the first record in the text whose parent stands nowhere.
+    first: Option<u64>,
+}
+
+impl Orphans {
+    fn new(alloc: Global) -> Orphans {
+        Orphans {
+            keys: BTreeSet::new(alloc),
+            first: None,
+        }
+    }
+
+    /// Adds an entry that found no parent, in the order of keys.
+    fn add(&mut self, alloc: Global, key: DnKey, line: u64) -> Result<(), ToolFault> {
+        let is_below = match key.parent(alloc)? {
+            Some(parent) => self.keys.contains(&parent),
+            None => false,
+        };
+        if !is_below && self.first.is_none_or(|first| line < first) {
+            self.first = Some(line);
+        }
+        self.keys.insert(key)?;
+        Ok(())
+    }
+}

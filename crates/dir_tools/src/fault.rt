@@ -1,0 +1,98 @@
+use dir_change::ResultCode;
+use dir_ldif::{RecordFault, StreamFault};
+use dir_names::{Memory, NameFault};
+use std::alloc::AllocFailed;
+use thiserror::Error;
+
+/// Why a tool gives no answer.
+#[derive(Clone, Copy, PartialEq, Eq, Debug, Error)]
+pub enum ToolFault {
+    /// The copy is no directory: the line of the record that is at fault, or 0 where the text itself
+    /// is, and why.
+    #[error("copy, line {0}: {1}")]
+    BadCopy(u64, Cause),
+    /// A reader failed.
+    #[error("cannot read {0}")]
+    Read(Input),
+    /// A writer failed, or took no byte of a text.
+    #[error("cannot write {0}")]
+    Write(Output),
+    /// No memory is left.
+    #[error("out of memory")]
+    Memory,
+    /// A part of the question is no legal name or description.
+    #[error("bad question: {0}")]
+    BadQuestion(Item),
+    /// The text of changes is at fault as a whole.
+    #[error("changes: {0}")]
+    BadChanges(StreamFault),
+}
+
+/// Why a record is refused, or a copy.
+#[derive(Clone, Copy, PartialEq, Eq, Debug, Error)]
+pub enum Cause {
+    /// The operation's result code.
+    #[error("{0}")]
+    Code(ResultCode),
+    /// The record is no legal one.
+    #[error("{0}")]
+    Fault(RecordFault),
+    /// The text ended in a fault.
+    #[error("{0}")]
+    Ended(StreamFault),
+}
+
+/// What a tool reads.
+#[derive(Clone, Copy, PartialEq, Eq, Debug, Error)]
+pub enum Input {
+    #[error("copy")]
+    Copy,
+    #[error("changes")]
+    Changes,
+    #[error("config")]
+    Config,
+}
+
+/// What a tool writes.
+#[derive(Clone, Copy, PartialEq, Eq, Debug, Error)]
+pub enum Output {
+    #[error("undo")]
+    Undo,
+    #[error("out")]
+    Out,
+    #[error("report")]
+    Report,
+}
+
+/// A part of a question.
+#[derive(Clone, Copy, PartialEq, Eq, Debug, Error)]
+pub enum Item {
+    #[error("suffix")]
+    Suffix,
+    #[error("base")]
+    Base,
+    #[error("authcDN")]
+    Authc,
+    /// A word, counted from 1.
+    #[error("word {0}")]
+    Word(u64),
+}
+
+/// Want of memory: the one fault that names which were read once can meet.
+impl From<NameFault> for ToolFault {
+    fn from(_fault: NameFault) -> ToolFault {
+        ToolFault::Memory
+    }
+}
+
+impl From<Memory> for ToolFault {
+    fn from(_error: Memory) -> ToolFault {
+        ToolFault::Memory
+    }
+}
+
+impl<T: Drop> From<AllocFailed<T>> for ToolFault {
+    fn from(_error: AllocFailed<T>) -> ToolFault {
+        ToolFault::Memory
+    }
+}

@@ -1,0 +1,238 @@
+use crate::canonical::canonical_text;
+use crate::copy::read_copy;
+use crate::report::Report;
+use crate::write::write_text;
+use crate::{Cause, Input, Item, Output, ToolFault};
+use dir_change::{History, Refusal, apply};
+use dir_ldif::{Change, Record, RecordFault, RecordReader, Sink, Source, StreamFault};
+use dir_names::{Dn, DnKey, NameFault, Schema};
+use dir_tree::{Directory, FlatDirectory};
+use std::alloc::Global;
+
+/// How changes are run.
+#[derive(Clone, Copy, PartialEq, Eq, Debug)]
+pub struct ModifyOptions {
+    /// Go on after a refused record.
+    pub go_on: bool,
+    /// Write the report alone.
+    pub dry: bool,
+    /// Report accepted records too.
+    pub verbose: bool,
+}
+
+/// How many records a run accepted and how many it refused.
+#[derive(Clone, Copy, PartialEq, Eq, Debug)]
+pub struct Summary {
+    pub accepted: u64,
+    pub refused: u64,
+}
+
+/// Applies a text of changes to a copy of a directory. The undo text, the new copy and the report are
+/// built whole, and then written one after the other, each flushed before the next is begun.
+///
+/// A record that is no legal change counts as refused. Unless the run goes on, it ends after the
+/// first refused record; what was accepted before is kept and written. A dry run writes the report
+/// alone.
+///
+/// # Errors
+///
+/// In this order: the suffix is no name of at least one RDN; the copy, as `read_copy` answers; the
+/// fault in which the text of changes ends; a writer's fault. Want of memory wherever it is met.
+pub fn run_modify<R: Source, R2: Source, W: Sink, W2: Sink, W3: Sink>(
+    alloc: Global,
+    schema: &Schema,
+    suffix: &[u8],
+    options: ModifyOptions,
+    copy: &mut R,
+    changes: &mut R2,
+    undo: &mut W,
+    out: &mut W2,
+    report: &mut W3,
+) -> Result<Summary, ToolFault> {
+    let texts = make_texts(alloc, schema, suffix, options, copy, changes)?;
+    if let Some(files) = &texts.files {
+        write_text(undo, files.undo.as_slice(), Output::Undo)?;
+        write_text(out, files.out.as_slice(), Output::Out)?;
+    }
+    write_text(report, texts.report.as_slice(), Output::Report)?;
+    Ok(texts.summary)
+}
+
+/// What a run writes.
+#[derive(Drop)]
+struct Texts {
+    /// None in a dry run.
+    files: Option<Files>,
+    report: Vec<u8>,
+    summary: Summary,
+}
+
+/// The undo text and the new copy.
+#[derive(Drop)]
+struct Files {
+    undo: Vec<u8>,
+    out: Vec<u8>,
+}
+
+fn make_texts<R: Source, R2: Source>(
+    alloc: Global,
+    schema: &Schema,
+    suffix: &[u8],
+    options: ModifyOptions,
+    copy: &mut R,
+    changes: &mut R2,
+) -> Result<Texts, ToolFault> {
+    let suffix = suffix_key(alloc, schema, suffix)?;
+    let directory = read_copy(alloc, schema, FlatDirectory::new(alloc, suffix), copy)?;
+    let mut run = Run::new(alloc, directory, options);
+    run.take_all(alloc, schema, changes)?;
+    run.finish(alloc)
+}
+
+fn suffix_key(alloc: Global, schema: &Schema, text: &[u8]) -> Result<DnKey, ToolFault> {
+    let key = match Dn::read(alloc, text) {
+        Ok(name) => name.key(alloc, schema),
+        Err(fault) => Err(fault),
+    };
+    match key {
+        Ok(key) if key.depth() > 0 => Ok(key),
+        Err(NameFault::Memory) => Err(ToolFault::Memory),
+        _ => Err(ToolFault::BadQuestion(Item::Suffix)),
+    }
+}
+
+/// A run as far as it has come.
+#[derive(Drop)]
+struct Run<D: Directory + Drop> {
+    directory: D,
+    history: History,
+    report: Report,
+    summary: Summary,
+    options: ModifyOptions,
+}
+
+impl<D: Directory + Drop> Run<D> {
+    fn new(alloc: Global, directory: D, options: ModifyOptions) -> Run<D> {
+        Run {
+            directory,
+            history: History::new(alloc),
+            report: Report::new(alloc, options.verbose),
+            summary: Summary {
+                accepted: 0,
+                refused: 0,
+            },
+            options,
+        }
+    }
+
+    /// Reads the changes to their end, or up to the first refused one where the run doesn't go on.
+    fn take_all<R: Source>(
+        &mut self,
+        alloc: Global,
+        schema: &Schema,
+        changes: &mut R,
+    ) -> Result<(), ToolFault> {
+        let mut records = match RecordReader::new(alloc, schema, changes) {
+            Ok(records) => records,
+            Err(fault) => return Err(ended(fault)),
+        };
+        for _ in 0..u64::MAX {
+            match records.next() {
+                Ok(Some((line, record))) => {
+                    let is_accepted = self.take(alloc, schema, line, record)?;
+                    if !is_accepted && !self.options.go_on {
+                        return Ok(());
+                    }
+                }
+                Ok(None) => return Ok(()),
+                Err(fault) => return Err(ended(fault)),
+            }
+        }
+        Err(ended(StreamFault::TooManyTurns))
+    }
+
+    /// Takes one record, and tells whether it is accepted.
+    fn take(
+        &mut self,
+        alloc: Global,
+        schema: &Schema,
+        line: u64,
+        record: Result<Record, RecordFault>,
+    ) -> Result<bool, ToolFault> {
+        match self.outcome(alloc, schema, record)? {
+            None => {
+                self.report.accept(line)?;
+                self.summary.accepted = self.summary.accepted.saturating_add(1);
+                Ok(true)
+            }
+            Some(cause) => {
+                self.report.refuse(line, cause)?;
+                self.summary.refused = self.summary.refused.saturating_add(1);
+                Ok(false)
+            }
+        }
+    }
+
+    /// Why a record is refused, or none where it is applied.
+    fn outcome(
+        &mut self,
+        alloc: Global,
+        schema: &Schema,
+        record: Result<Record, RecordFault>,
+    ) -> Result<Option<Cause>, ToolFault> {
+        match record {
+            Ok(Record::Change(change)) => self.change(alloc, schema, &change),
+            Ok(Record::Content { .. }) => Ok(Some(Cause::Fault(RecordFault::BadChangetype))),
+            Err(fault) => Ok(Some(Cause::Fault(fault))),
+        }
+    }
+
+    fn change(
+        &mut self,
+        alloc: Global,
+        schema: &Schema,
+        change: &Change,
+    ) -> Result<Option<Cause>, ToolFault> {
+        match apply(alloc, schema, &mut self.directory, change) {
+            Ok(undo) => match self.history.push(undo) {
+                Ok(()) => Ok(None),
+                Err(_) => Err(ToolFault::Memory),
+            },
+            Err(Refusal::Code(code)) => Ok(Some(Cause::Code(code))),
+            Err(Refusal::Memory) => Err(ToolFault::Memory),
+        }
+    }
+
+    /// The texts of the run.
+    fn finish(self, alloc: Global) -> Result<Texts, ToolFault> {
+        let Run {
+            directory,
+            history,
+            report,
+            summary,
+            options,
+        } = self;
+        let files = if options.dry {
+            None
+        } else {
+            Some(Files {
+                undo: history.undo_text(alloc)?,
+                out: canonical_text(alloc, &directory)?,
+            })
+        };
+        Ok(Texts {
+            files,
+            report: report.close(summary)?,
+            summary,
+        })
+    }
+}
+
+/// What a fault that ends the text of changes means.
+fn ended(fault: StreamFault) -> ToolFault {
+    match fault {
+        StreamFault::Read => ToolFault::Read(Input::Changes),
+        StreamFault::Memory => ToolFault::Memory,
+        fault => ToolFault::BadChanges(fault),
+    }
+}

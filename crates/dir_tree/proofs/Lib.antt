@@ -1,0 +1,3 @@
+pub mod DirLemmas
+pub mod Kept
+pub mod NextKey

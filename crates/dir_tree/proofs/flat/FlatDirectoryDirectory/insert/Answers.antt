@@ -1,0 +1,27 @@
+use Rattle.std.proofs.Common.{◌≡◌, true, false, List, [], ◌∷◌, ◌++◌, is_some, None, Some, rules, sym, ap, ◌∙◌, subst, refl, cond}
+use Rattle.std.specs.FinMap as fin
+use Rattle.dir_names.specs.Keys.{DnKeys}
+use Rattle.dir_names.specs.Orders.{dn_key_cmp, dn_key_cmp_total, dn_key_cmp_exact}
+use Rattle.dir_names.proofs.Maps.{get_entries, one_put, one_gone}
+use Rattle.dir_tree.specs.Content.{Content}
+use Rattle.dir_tree.specs.Dir.{Dir, IsClosed, HasChild, entry_at, has_parent, put_entry, without}
+use Rattle.dir_tree.proofs.DirLemmas.{closed_put, closed_without}
+use Rattle.dir_tree.proofs.NextKey.{next_is_child, before_below}
+use Rattle.dir_tree.proofs.flat.FlatDirectoryDirectory.insert.Goals as goal
+
+pub invariant_of-self : goal.invariant_of-self
+invariant_of-self c =
+    let before : Dir = record { suffix = c.self.inside.suffix; entries = fin.from_entries c.self.inside.entries.entries } in
+    let copied = c.in-Ok.ensures in
+    let same : c.args.key.now ≡ c.in-Ok.key = cc in
+    let parent : has_parent before c.in-Ok.key ≡ true = subst (λ k. has_parent before k ≡ true) same (subst (λ d. has_parent d c.args.key.now ≡ true) (sym c.self.view_is) c.requires.parent) in
+    let put = ap (λ entries. fin.from_entries entries) c.in-Ok-insert.ensures.entries ∙ one_put dn_key_cmp_total dn_key_cmp_exact c.self.inside.entries.entries c.in-Ok.key c.args.entry in
+    subst (λ entries. IsClosed (record { suffix = c.self.inside.suffix; entries = entries })) (sym put) (closed_put before c.in-Ok.key c.args.entry c.self.invariant parent)
+
+pub returns-in-Ok-insert-clause-ok : goal.returns-in-Ok-insert-clause-ok
+returns-in-Ok-insert-clause-ok c =
+    let copied = c.in-Ok.ensures in
+    let same : c.args.key.now ≡ c.in-Ok.key = cc in
+    let put = ap (λ entries. fin.from_entries entries) c.in-Ok-insert.ensures.entries ∙ one_put dn_key_cmp_total dn_key_cmp_exact c.self.inside.entries.entries c.in-Ok.key c.args.entry in
+    let entries : fin.FinMap dn_key_cmp Content → Dir = λ m. record { suffix = c.self.inside.suffix; entries = m } in
+    ap entries put ∙ ap (λ d. put_entry d c.in-Ok.key c.args.entry) c.self.view_is ∙ ap (λ k. put_entry c.args.self.now k c.args.entry) (sym same)

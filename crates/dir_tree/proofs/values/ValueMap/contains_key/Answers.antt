@@ -1,0 +1,19 @@
+use Rattle.std.proofs.Common.{◌≡◌, ℕ, true, List, [], ◌∷◌, length, map, refl, sym, ap, subst, ◌∙◌, Some, None, is_some, Result, Ok, Err, rules, set, get_or}
+use Rattle.std.specs.FinMap as fin
+use Rattle.dir_names.specs.Sorted.{place}
+use Rattle.dir_names.specs.Values.{value_key_cmp, value_key_cmp_total, value_key_cmp_exact}
+use Rattle.dir_tree.specs.Content.{value_pair, are_rising, values_in}
+use Rattle.dir_tree.proofs.Kept.{map_in_none, len_in, entries_in, got, missing, put, still_rises, keys_in}
+use Rattle.dir_tree.proofs.values.ValueMap.contains_key.Goals as goal
+use Rattle.std.specs.Result.{is_ok}
+use Rattle.dir_names.specs.declared.value.ValueKey.{ValueKey}
+
+-- a place that is there is that of a value
+told : (items : List (ValueKey × List ℕ)) → are_rising items ≡ true → (k : ValueKey) (r : Result ℕ ℕ) → r ≡ place value_key_cmp k (keys_in value_key_cmp_total value_pair items) → is_ok r ≡ is_some (fin.get (values_in items) k)
+told items t k (Ok i) at = sym (ap is_some (got value_key_cmp_total value_pair items t k (Ok i) at i refl (k, [])))
+told items t k (Err i) at = sym (ap is_some (missing value_key_cmp_total value_pair items t k (Err i) at i refl []))
+
+pub returns : goal.returns
+returns c =
+    let at : c.place_of.result ≡ place value_key_cmp c.args.key.now (keys_in value_key_cmp_total value_pair c.self.inside.items.items) = subst (λ xs. c.place_of.result ≡ place value_key_cmp c.args.key.now (keys_in value_key_cmp_total value_pair xs)) c.as_slice.ensures.value c.place_of.ensures.place in
+    c.is_ok.ensures.value ∙ told c.self.inside.items.items c.self.invariant c.args.key.now c.place_of.result at ∙ ap (λ m. is_some (fin.get m c.args.key.now)) c.self.view_is

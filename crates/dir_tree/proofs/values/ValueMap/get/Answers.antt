@@ -1,0 +1,18 @@
+use Rattle.std.proofs.Common.{◌≡◌, ℕ, List, [], ◌∷◌, length, map, refl, sym, ap, subst, ◌∙◌, Some, None, is_some, Result, Ok, Err, rules, set, get_or}
+use Rattle.std.specs.FinMap as fin
+use Rattle.dir_names.specs.Sorted.{place}
+use Rattle.dir_names.specs.Values.{value_key_cmp, value_key_cmp_total, value_key_cmp_exact}
+use Rattle.dir_tree.specs.Content.{value_pair, are_rising, values_in}
+use Rattle.dir_tree.proofs.Kept.{map_in_none, len_in, entries_in, got, missing, put, still_rises, keys_in}
+use Rattle.dir_tree.proofs.values.ValueMap.get.Goals as goal
+
+pub returns-in-Ok : goal.returns-in-Ok
+returns-in-Ok c =
+    let at : c.place_of.result ≡ place value_key_cmp c.args.key.now (keys_in value_key_cmp_total value_pair c.self.inside.items.items) = subst (λ xs. c.place_of.result ≡ place value_key_cmp c.args.key.now (keys_in value_key_cmp_total value_pair xs)) c.as_slice.ensures.value c.place_of.ensures.place in
+    let there = got value_key_cmp_total value_pair c.self.inside.items.items c.self.invariant c.args.key.now c.place_of.result at c.in-Ok.at c.in-Ok.is c.index.result.now in
+    sym (ap (λ m. fin.get m c.args.key.now) (sym c.self.view_is) ∙ there ∙ ap (λ value. Some value.1) (sym c.index.ensures))
+
+pub returns-in-Err : goal.returns-in-Err
+returns-in-Err c =
+    let at : c.place_of.result ≡ place value_key_cmp c.args.key.now (keys_in value_key_cmp_total value_pair c.self.inside.items.items) = subst (λ xs. c.place_of.result ≡ place value_key_cmp c.args.key.now (keys_in value_key_cmp_total value_pair xs)) c.as_slice.ensures.value c.place_of.ensures.place in
+    sym (ap (λ m. fin.get m c.args.key.now) (sym c.self.view_is) ∙ missing value_key_cmp_total value_pair c.self.inside.items.items c.self.invariant c.args.key.now c.place_of.result at c.in-Err.field-0 c.in-Err.is [])

@@ -1,0 +1,10 @@
+use Rattle.std.proofs.Common.{◌≡◌, List, [], ◌∷◌, ◌++◌, ap, ◌∙◌}
+use Rattle.dir_names.specs.Values.{value_key_cmp, value_key_cmp_total, value_key_cmp_exact}
+use Rattle.dir_tree.specs.Content.{value_pair, values_in}
+use Rattle.dir_tree.proofs.Kept.{one_in}
+use Rattle.dir_tree.proofs.values.ValueMap.one.Goals as goal
+
+pub returns : goal.returns
+returns c =
+    let items = c.in_ok-push.ensures.items ∙ ap (λ before. before ++ (c.args.key, c.args.bytes) ∷ []) c.in_ok-items.ensures.items in
+    ap (λ items. values_in items) items ∙ one_in value_key_cmp_total value_pair value_key_cmp_exact (c.args.key, c.args.bytes)

@@ -1,0 +1,268 @@
+ghost use Rattle.std.specs.Prelude.{◌≡◌, IfOk, IfSome, IsTrue, length, map, option_copied};
+ghost use Rattle.std.specs.Option.{option_map};
+ghost use Rattle.std.specs.FinMap as fin;
+ghost use Rattle.std.specs.List.Sorted.{IsSearchInRange};
+ghost use Rattle.dir_names.specs.Orders.{attr_cmp};
+ghost use Rattle.dir_names.specs.Sorted.{place};
+ghost use Rattle.dir_tree.specs.Content.{attribute_pair, attributes_rise, has_value};
+
+use crate::EntryFault;
+use crate::values::{ValueMap, Values};
+use dir_names::{AttrKey, Bytes, Description, Memory, Rdn, Schema, ValueKey};
+use std::alloc::Global;
+use std::marker::Model;
+use std::slice;
+
+/// An attribute of an entry: its description as spelled, and its values.
+#[derive(Debug, Drop)]
+pub struct Attribute {
+    description: Description,
+    values: ValueMap,
+}
+
+impl Model for Attribute {
+    ghost use Rattle.dir_tree.specs.Content.{Keyed, keyed_code};
+
+    ghost Value = { Keyed };
+
+    ghost coded = { keyed_code };
+
+    ghost view = { λ a. record { key = a.description.key; stored = record { spelling = a.description.spelling; values = a.values } } };
+}
+
+impl Attribute {
+    pub fn description(&self) -> &Description
+        ensures { result.now ≡ record { spelling = self.now.stored.spelling; key = self.now.key } }
+    {
+        &self.description
+    }
+
+    /// The values, in order of their keys.
+    pub fn values(&self) -> Values<'_>
+        ensures { result ≡ fin.entries self.now.stored.values }
+    {
+        self.values.iter()
+    }
+
+    pub fn try_clone(&self, alloc: Global) -> Result<Attribute, Memory>
+        ensures { IfOk result (λ a. a ≡ self.now) }
+    {
+        let Ok(description) = self.description.try_clone(alloc) else {
+            return Err(Memory);
+        };
+        Ok(Attribute {
+            description,
+            values: self.values.try_clone(alloc)?,
+        })
+    }
+
+    pub(crate) fn has(&self, key: &ValueKey) -> bool
+        ensures { result ≡ fin.contains_key self.now.stored.values key.now }
+    {
+        self.values.contains_key(key)
+    }
+
+    fn add(&mut self, key: ValueKey, bytes: Bytes) -> Result<(), EntryFault>
+        ensures { self.new.key ≡ self.old.key }
+    {
+        self.values.insert(key, bytes)
+    }
+
+    /// Whether there is more than one value.
+    fn has_many(&self) -> bool {
+        self.values.len() > 1
+    }
+}
+
+/// The attributes of an entry: an ordered map from description keys.
+#[derive(Debug, Drop)]
+pub struct AttributeMap {
+    items: Vec<Attribute>,
+}
+
+impl Model for AttributeMap {
+    ghost use Rattle.std.specs.Prelude.{IsTrue};
+    ghost use Rattle.dir_tree.specs.Content.{StoredAttributes, attributes_code, attributes_in, attributes_rise};
+
+    ghost Value = { StoredAttributes };
+
+    ghost coded = { attributes_code };
+
+    ghost view = { λ m. attributes_in m.items.items };
+
+    ghost invariant = { λ m. IsTrue (attributes_rise m.items.items) };
+}
+
+impl AttributeMap {
+    /// The map without attributes.
+    pub(crate) fn empty(alloc: Global) -> AttributeMap
+        ensures { result ≡ fin.empty }
+    {
+        AttributeMap {
+            items: Vec::new(alloc),
+        }
+    }
+
+    pub fn get(&self, key: &AttrKey) -> Option<&Attribute>
+        ensures value { option_map (λ a. a.now.stored) result ≡ fin.get self.now key.now }
+        ensures key { IfSome result (λ a. a.now.key ≡ key.now) }
+    {
+        match place_of(self.items.as_slice(), key) {
+            Ok(at) => Some(&self.items[at]),
+            Err(_) => None,
+        }
+    }
+
+    /// The attributes, in order of their keys.
+    pub fn iter(&self) -> Attributes<'_>
+        ensures { result ≡ fin.entries self.now }
+    {
+        Attributes {
+            rest: self.items.iter(),
+        }
+    }
+
+    pub fn try_clone(&self, alloc: Global) -> Result<AttributeMap, Memory>
+        ensures { IfOk result (λ m. m ≡ self.now) }
+    {
+        let mut items = Vec::with_capacity(alloc, self.items.len())?;
+        for attribute in self.items.as_slice() {
+            items.push(attribute.try_clone(alloc)?)?;
+        }
+        Ok(AttributeMap { items })
+    }
+
+    /// Adds a value. A new attribute is spelled as in `description`.
+    ///
+    /// # Errors
+    ///
+    /// `Twice` where the value's key is there, and want of memory.
+    pub(crate) fn add(
+        &mut self,
+        alloc: Global,
+        description: Description,
+        key: ValueKey,
+        bytes: Bytes,
+    ) -> Result<(), EntryFault> {
+        match place_of(self.items.as_slice(), description.key()) {
+            Ok(at) => self.items[at].add(key, bytes),
+            Err(at) => {
+                let Ok(values) = ValueMap::one(alloc, key, bytes) else {
+                    return Err(EntryFault::Memory);
+                };
+                self.items.insert(
+                    at,
+                    Attribute {
+                        description,
+                        values,
+                    },
+                )?;
+                Ok(())
+            }
+        }
+    }
+
+    /// Adds a description without values, unless it is there.
+    pub(crate) fn declare(
+        &mut self,
+        alloc: Global,
+        description: &Description,
+    ) -> Result<(), EntryFault> {
+        if let Err(at) = place_of(self.items.as_slice(), description.key()) {
+            let description = description.try_clone(alloc)?;
+            let values = ValueMap::empty(alloc);
+            self.items.insert(
+                at,
+                Attribute {
+                    description,
+                    values,
+                },
+            )?;
+        }
+        Ok(())
+    }
+
+    /// Adds each pair of an RDN that isn't there by key. A new attribute is spelled as in the RDN.
+    pub(crate) fn gain(
+        &mut self,
+        alloc: Global,
+        schema: &Schema,
+        rdn: &Rdn,
+    ) -> Result<(), EntryFault> {
+        for pair in rdn.pairs() {
+            let description = Description::read(alloc, schema, pair.0.as_slice())?;
+            let key = schema.value_key(alloc, description.key(), pair.1.as_slice())?;
+            if !self.has(description.key(), &key) {
+                self.add(alloc, description, key, pair.1.try_clone(alloc)?)?;
+            }
+        }
+        Ok(())
+    }
+
+    /// Gives back memory that no attribute needs.
+    pub(crate) fn shrink(&mut self)
+        ensures { self.new ≡ self.old }
+    {
+        self.items.shrink_to_fit();
+    }
+
+    /// Whether the attribute has the value.
+    pub(crate) fn has(&self, attr: &AttrKey, value: &ValueKey) -> bool
+        ensures { result ≡ has_value self.now attr.now value.now }
+    {
+        match self.get(attr) {
+            Some(attribute) => attribute.has(value),
+            None => false,
+        }
+    }
+
+    /// Whether an attribute of a single type has more than one value.
+    pub(crate) fn is_crowded(&self, schema: &Schema) -> bool {
+        self.items.iter().any(|attribute| attribute.has_many()
+            && schema.single(attribute.description.key()))
+    }
+}
+
+/// Where the attribute with this key stands, or where it would be put.
+fn place_of(items: &[Attribute], key: &AttrKey) -> Result<usize, usize>
+    requires { IsTrue (attributes_rise items.now) }
+    ensures range { IsSearchInRange result (length items.now) }
+    ensures place { result ≡ place attr_cmp key.now (map (λ attribute. (attribute_pair attribute).0) items.now) }
+{
+    items.binary_search_by(|attribute| attribute.description.key().cmp(key))
+}
+
+/// The attributes of an entry, in order of their keys.
+#[derive(Drop)]
+pub struct Attributes<'a> {
+    rest: slice::Iter<'a, Attribute>,
+}
+
+impl<'a> Model for Attributes<'a> {
+    ghost use Rattle.std.specs.Prelude.{List, map};
+    ghost use Rattle.std.specs.Slice.Iter.{iter_rest};
+    ghost use Rattle.dir_names.specs.Attr.{Attr};
+    ghost use Rattle.std.specs.Coded.{coded_list, coded×};
+    ghost use Rattle.dir_tree.specs.Content.{Stored, attr_code, stored_code, attribute_pair};
+
+    ghost Value = { List (Attr × Stored) };
+
+    ghost coded = { coded_list (coded× attr_code stored_code) };
+
+    ghost view = { λ s. map attribute_pair (iter_rest s.rest) };
+}
+
+impl<'a> Iterator for Attributes<'a> {
+    ghost use Rattle.std.specs.Iterator.{YieldsFirstBy, item_count};
+
+    type Item = (&'a AttrKey, &'a Attribute);
+
+    ghost next_gives = { YieldsFirstBy (λ item. (item.0.now, item.1.now.stored)) (λ rest. rest) };
+
+    ghost remaining = { item_count (λ rest. rest) };
+
+    fn next(&mut self) -> Option<(&'a AttrKey, &'a Attribute)> {
+        let attribute = self.rest.next()?;
+        Some((attribute.description.key(), attribute))
+    }
+}

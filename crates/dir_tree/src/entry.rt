@@ -1,0 +1,120 @@
+ghost use Rattle.std.specs.Prelude.{◌≡◌, IfOk, IfSome, option_copied};
+ghost use Rattle.std.specs.Option.{option_map};
+ghost use Rattle.std.specs.FinMap as fin;
+ghost use Rattle.dir_tree.specs.Content.{has_value};
+
+use crate::EntryFault;
+use crate::attributes::{Attribute, AttributeMap, Attributes};
+use crate::lines::attributes_of;
+use dir_names::{AttrKey, Dn, Lines, Memory, Rdn, RdnKey, Schema, ValueKey};
+use std::alloc::Global;
+use std::marker::Model;
+
+/// An entry: its own name as spelled, and its attributes (RFC 4512, section 2.2). The own name is one
+/// RDN, or for the entry of the suffix the whole suffix, leaf first.
+#[derive(Debug, Drop)]
+pub struct Entry {
+    own: Vec<Rdn>,
+    key: RdnKey,
+    attributes: AttributeMap,
+}
+
+impl Model for Entry {
+    ghost use Rattle.dir_tree.specs.Content.{Content, content_code};
+
+    ghost Value = { Content };
+
+    ghost coded = { content_code };
+
+    ghost view = { λ e. record { own = e.own.items; key = e.key; attributes = e.attributes } };
+}
+
+impl Entry {
+    /// The entry that an add makes: with the listed values, and with those of its own RDN that
+    /// aren't listed. A description is spelled as in its first line, or else as in the RDN.
+    ///
+    /// # Errors
+    ///
+    /// `BadValue` where a listed value has no key; then `Twice` where an attribute is given a value
+    /// twice; then `Single` where an attribute of a single type has two.
+    pub fn make(
+        alloc: Global,
+        schema: &Schema,
+        spelled: Vec<Rdn>,
+        values: Lines,
+    ) -> Result<Entry, EntryFault> {
+        let Some(leaf) = spelled.first() else {
+            return Err(EntryFault::NotNamed);
+        };
+        let key = leaf.key(alloc, schema)?;
+        let mut attributes = attributes_of(alloc, schema, values)?;
+        attributes.gain(alloc, schema, leaf)?;
+        attributes.shrink();
+        if attributes.is_crowded(schema) {
+            return Err(EntryFault::Single);
+        }
+        Ok(Entry {
+            own: spelled,
+            key,
+            attributes,
+        })
+    }
+
+    /// The own name as spelled, leaf first: one RDN, or all of the suffix.
+    pub fn own(&self) -> &[Rdn]
+        ensures { result.now ≡ self.now.own }
+    {
+        self.own.as_slice()
+    }
+
+    /// The attribute with this description key.
+    pub fn attribute(&self, key: &AttrKey) -> Option<&Attribute>
+        ensures value { option_map (λ a. a.now.stored) result ≡ fin.get self.now.attributes key.now }
+        ensures key { IfSome result (λ a. a.now.key ≡ key.now) }
+    {
+        self.attributes.get(key)
+    }
+
+    /// Whether the attribute has the value.
+    pub fn has(&self, attr: &AttrKey, value: &ValueKey) -> bool
+        ensures { result ≡ has_value self.now.attributes attr.now value.now }
+    {
+        self.attributes.has(attr, value)
+    }
+
+    /// The attributes, in order of their keys.
+    pub fn attributes(&self) -> Attributes<'_>
+        ensures { result ≡ fin.entries self.now.attributes }
+    {
+        self.attributes.iter()
+    }
+
+    pub fn try_clone(&self, alloc: Global) -> Result<Entry, Memory>
+        ensures { IfOk result (λ e. e ≡ self.now) }
+    {
+        let mut own = Vec::with_capacity(alloc, self.own.len())?;
+        for rdn in self.own.as_slice() {
+            let Ok(rdn) = rdn.try_clone(alloc) else {
+                return Err(Memory);
+            };
+            own.push(rdn)?;
+        }
+        let Ok(key) = self.key.try_clone(alloc) else {
+            return Err(Memory);
+        };
+        Ok(Entry {
+            own,
+            key,
+            attributes: self.attributes.try_clone(alloc)?,
+        })
+    }
+}
+
+/// What an entry keeps of its name: all of the suffix, or else the leaf RDN.
+pub fn own_rdns(name: Dn, is_suffix: bool) -> Vec<Rdn> {
+    let mut rdns = name.into_rdns();
+    if !is_suffix {
+        rdns.truncate(1);
+    }
+    rdns
+}

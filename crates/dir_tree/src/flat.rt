@@ -1,0 +1,147 @@
+ghost use Rattle.std.specs.Prelude.{◌≡◌, IfNone, IfSome, IsSome, None, false};
+ghost use Rattle.std.specs.BTreeMap.{get};
+ghost use Rattle.std.specs.Ordering.{is_gt};
+ghost use Rattle.std.specs.declared.cmp.Ordering.TheVariants.{Less};
+ghost use Rattle.dir_names.specs.Keys.{DnKeys};
+ghost use Rattle.dir_names.specs.Orders.{dn_key_cmp};
+ghost use Rattle.std.specs.FinMap as fin;
+
+use crate::{Directory, Entry};
+use dir_names::{Dn, DnKey, Memory, Rdn};
+use std::alloc::Global;
+use std::collections::BTreeMap;
+use std::marker::Model;
+use std::ops::Bound;
+
+/// A directory in one ordered map from the keys of names to entries.
+#[derive(Drop)]
+pub struct FlatDirectory {
+    alloc: Global,
+    suffix: DnKey,
+    entries: BTreeMap<DnKey, Entry>,
+}
+
+impl Model for FlatDirectory {
+    ghost use Rattle.std.specs.FinMap as fin;
+    ghost use Rattle.dir_tree.specs.Dir.{Dir, IsClosed, dir_code};
+
+    ghost Value = { Dir };
+
+    ghost coded = { dir_code };
+
+    ghost view = { λ d. record { suffix = d.suffix; entries = fin.from_entries d.entries.entries } };
+
+    ghost invariant = { λ d. IsClosed (record { suffix = d.suffix; entries = fin.from_entries d.entries.entries }) };
+}
+
+impl FlatDirectory {
+    /// The directory of this suffix without entries.
+    pub fn new(alloc: Global, suffix: DnKey) -> FlatDirectory
+        ensures { result ≡ record { suffix = suffix; entries = fin.empty } }
+    {
+        FlatDirectory {
+            alloc,
+            suffix,
+            entries: BTreeMap::new(alloc),
+        }
+    }
+}
+
+impl Directory for FlatDirectory {
+    ghost state = { λ d. d };
+
+    fn suffix(&self) -> &DnKey {
+        &self.suffix
+    }
+
+    fn get(&self, key: &DnKey) -> Option<&Entry> {
+        self.entries.get(key)
+    }
+
+    fn has_child(&self, key: &DnKey) -> bool {
+        match first_after(&self.entries, key) {
+            Some(next) => key.is_parent_of(next),
+            None => false,
+        }
+    }
+
+    fn remove_leaf(&mut self, key: &DnKey) -> Entry {
+        self.entries.remove(key).unwrap()
+    }
+
+    fn insert(&mut self, key: &DnKey, entry: Entry) -> Result<(), Entry> {
+        let Ok(key) = key.try_clone(self.alloc) else {
+            return Err(entry);
+        };
+        match self.entries.insert(key, entry) {
+            Ok(_) => Ok(()),
+            Err(refused) => Err(refused.value.1),
+        }
+    }
+
+    fn spelled(&self, key: &DnKey) -> Result<Dn, Memory> {
+        let mut rdns = Vec::new(self.alloc);
+        let Ok(mut at) = key.try_clone(self.alloc) else {
+            return Err(Memory);
+        };
+        for _ in 0..key.depth() {
+            let Some(entry) = self.entries.get(&at) else {
+                break;
+            };
+            push_clones(&mut rdns, entry.own(), self.alloc)?;
+            match at.parent(self.alloc) {
+                Ok(Some(parent)) => at = parent,
+                Ok(None) => break,
+                Err(_) => return Err(Memory),
+            }
+        }
+        named(rdns)
+    }
+
+    fn walk(&self) -> Result<Vec<(Dn, &Entry)>, Memory> {
+        let mut walked = Vec::with_capacity(self.alloc, self.entries.len())?;
+        let mut path: Vec<&[Rdn]> = Vec::new(self.alloc);
+        let above = self.suffix.depth();
+        for (key, entry) in &self.entries {
+            path.truncate(key.depth().saturating_sub(above));
+            path.push(entry.own())?;
+            let mut rdns = Vec::new(self.alloc);
+            for own in path.iter().rev() {
+                push_clones(&mut rdns, own, self.alloc)?;
+            }
+            walked.push((named(rdns)?, entry))?;
+        }
+        Ok(walked)
+    }
+}
+
+/// The first key of the map that is greater than this one.
+fn first_after<'m>(entries: &'m BTreeMap<DnKey, Entry>, key: &DnKey) -> Option<&'m DnKey>
+    ensures after { IfSome result (λ next. dn_key_cmp key.now next.now ≡ Less) }
+    ensures there { IfSome result (λ next. IsSome (get dn_key_cmp entries.now next.now)) }
+    ensures first { IfSome result (λ next. (q : DnKeys) → dn_key_cmp key.now q ≡ Less →
+        IsSome (get dn_key_cmp entries.now q) → is_gt (dn_key_cmp next.now q) ≡ false) }
+    ensures none { IfNone result ((q : DnKeys) → dn_key_cmp key.now q ≡ Less → get dn_key_cmp entries.now q ≡ None) }
+{
+    let (next, _) = entries
+        .range((Bound::Excluded(key), Bound::Unbounded))
+        .next()?;
+    Some(next)
+}
+
+fn push_clones(rdns: &mut Vec<Rdn>, more: &[Rdn], alloc: Global) -> Result<(), Memory> {
+    for rdn in more {
+        let Ok(copy) = rdn.try_clone(alloc) else {
+            return Err(Memory);
+        };
+        rdns.push(copy)?;
+    }
+    Ok(())
+}
+
+fn named(rdns: Vec<Rdn>) -> Result<Dn, Memory> {
+    match Dn::from_rdns(rdns) {
+        Ok(name) => Ok(name),
+        Err(_) => Err(Memory),
+    }
+}

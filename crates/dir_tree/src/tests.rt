@@ -1,0 +1,37 @@
+use super::*;
+use dir_names::{Dn, DnKey, Lines, Schema};
+use std::alloc::Global;
+use std::test::Fail;
+
+fn bare(alloc: Global, schema: &Schema, text: &[u8]) -> Result<(DnKey, Entry), Fail> {
+    let name = Dn::read(alloc, text)?;
+    let key = name.key(alloc, schema)?;
+    let mut own = name.into_rdns();
+    own.truncate(1);
+    Ok((
+        key,
+        Entry::make(alloc, schema, own, Lines::new(Vec::new(alloc)))?,
+    ))
+}
+
+#[test]
+fn a_flat_directory_holds_entries_parents_first(rt: HostRuntime) -> Result<(), Fail> {
+    let alloc = rt.alloc();
+    let schema = Schema::builtin(alloc)?;
+    let (com, top) = bare(alloc, &schema, b"dc=com")?;
+    let (below, leaf) = bare(alloc, &schema, b"cn=A,dc=com")?;
+    let mut directory = FlatDirectory::new(alloc, com.try_clone(alloc)?);
+    assert!(rt; directory.insert(&com, top).is_ok());
+    assert!(rt; directory.insert(&below, leaf.try_clone(alloc)?).is_ok());
+    assert!(rt; directory.has_child(&com));
+    let walked = directory.walk()?;
+    let names = [b"dc=com".as_slice(), b"cn=A,dc=com".as_slice()];
+    assert_eq!(rt; walked.len(), 2);
+    for (item, want) in walked.iter().zip(names.iter()) {
+        let text = item.0.print(alloc)?;
+        assert_eq!(rt; text.as_slice(), *want);
+    }
+    let text = directory.spelled(&below)?.print(alloc)?;
+    assert_eq!(rt; text.as_slice(), b"cn=A,dc=com".as_slice());
+    Ok(())
+}

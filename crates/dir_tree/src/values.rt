@@ -1,0 +1,156 @@
+ghost use Rattle.std.specs.Prelude.{◌≡◌, IfOk, IsTrue, length, map, option_copied};
+ghost use Rattle.std.specs.FinMap as fin;
+ghost use Rattle.std.specs.List.Sorted.{IsSearchInRange};
+ghost use Rattle.dir_names.specs.Sorted.{place};
+ghost use Rattle.dir_names.specs.Values.{value_key_cmp};
+ghost use Rattle.dir_tree.specs.Content.{value_pair, are_rising};
+
+use crate::EntryFault;
+use dir_names::{Bytes, Memory, ValueKey};
+use std::alloc::Global;
+use std::marker::Model;
+use std::slice;
+
+/// The values of an attribute: an ordered map from value keys to stored bytes.
+#[derive(Debug, Drop)]
+pub struct ValueMap {
+    items: Vec<(ValueKey, Bytes)>,
+}
+
+impl Model for ValueMap {
+    ghost use Rattle.std.specs.Prelude.{IsTrue};
+    ghost use Rattle.dir_tree.specs.Content.{StoredValues, values_code, values_in, are_rising};
+
+    ghost Value = { StoredValues };
+
+    ghost coded = { values_code };
+
+    ghost view = { λ m. values_in m.items.items };
+
+    ghost invariant = { λ m. IsTrue (are_rising m.items.items) };
+}
+
+impl ValueMap {
+    /// The map without values.
+    pub(crate) fn empty(alloc: Global) -> ValueMap
+        ensures { result ≡ fin.empty }
+    {
+        ValueMap {
+            items: Vec::new(alloc),
+        }
+    }
+
+    /// The map with one value, in just as much memory as it needs.
+    pub(crate) fn one(alloc: Global, key: ValueKey, bytes: Bytes) -> Result<ValueMap, Memory>
+        ensures { IfOk result (λ m. m ≡ fin.insert fin.empty key bytes) }
+    {
+        let mut items = Vec::with_capacity(alloc, 1)?;
+        items.push((key, bytes))?;
+        Ok(ValueMap { items })
+    }
+
+    pub fn len(&self) -> usize
+        ensures { result ≡ fin.len self.now }
+    {
+        self.items.as_slice().len()
+    }
+
+    /// The stored bytes of the value with this key.
+    pub fn get(&self, key: &ValueKey) -> Option<&Bytes>
+        ensures { option_copied result ≡ fin.get self.now key.now }
+    {
+        match place_of(self.items.as_slice(), key) {
+            Ok(at) => Some(&self.items[at].1),
+            Err(_) => None,
+        }
+    }
+
+    pub fn contains_key(&self, key: &ValueKey) -> bool
+        ensures { result ≡ fin.contains_key self.now key.now }
+    {
+        place_of(self.items.as_slice(), key).is_ok()
+    }
+
+    /// Adds a value.
+    ///
+    /// # Errors
+    ///
+    /// `Twice` where its key is there, and want of memory. The map is as it was.
+    pub(crate) fn insert(&mut self, key: ValueKey, bytes: Bytes) -> Result<(), EntryFault> {
+        match place_of(self.items.as_slice(), &key) {
+            Ok(_) => Err(EntryFault::Twice),
+            Err(at) => {
+                self.items.insert(at, (key, bytes))?;
+                Ok(())
+            }
+        }
+    }
+
+    /// The keys with their stored bytes, in order of keys.
+    pub fn iter(&self) -> Values<'_>
+        ensures { result ≡ fin.entries self.now }
+    {
+        Values {
+            rest: self.items.iter(),
+        }
+    }
+
+    pub fn try_clone(&self, alloc: Global) -> Result<ValueMap, Memory>
+        ensures { IfOk result (λ m. m ≡ self.now) }
+    {
+        let mut items = Vec::with_capacity(alloc, self.items.len())?;
+        for value in self.items.as_slice() {
+            items.push(clone_value(alloc, value)?)?;
+        }
+        Ok(ValueMap { items })
+    }
+}
+
+fn clone_value(alloc: Global, value: &(ValueKey, Bytes)) -> Result<(ValueKey, Bytes), Memory>
+    ensures { IfOk result (λ copy. copy ≡ value.now) }
+{
+    match (value.0.try_clone(alloc), value.1.try_clone(alloc)) {
+        (Ok(key), Ok(bytes)) => Ok((key, bytes)),
+        _ => Err(Memory),
+    }
+}
+
+/// Where the value with this key stands, or where it would be put.
+fn place_of(items: &[(ValueKey, Bytes)], key: &ValueKey) -> Result<usize, usize>
+    requires { IsTrue (are_rising items.now) }
+    ensures range { IsSearchInRange result (length items.now) }
+    ensures place { result ≡ place value_key_cmp key.now (map (λ value. (value_pair value).0) items.now) }
+{
+    items.binary_search_by(|value| value.0.cmp(key))
+}
+
+/// The values of an attribute, in order of their keys.
+#[derive(Drop)]
+pub struct Values<'a> {
+    rest: slice::Iter<'a, (ValueKey, Bytes)>,
+}
+
+impl<'a> Model for Values<'a> {
+    ghost use Rattle.std.specs.Prelude.{ℕ, List};
+    ghost use Rattle.std.specs.Slice.Iter.{iter_rest};
+    ghost use Rattle.dir_names.specs.declared.value.ValueKey.{ValueKey};
+
+    ghost Value = { List (ValueKey × List ℕ) };
+
+    ghost view = { λ s. iter_rest s.rest };
+}
+
+impl<'a> Iterator for Values<'a> {
+    ghost use Rattle.std.specs.Iterator.{YieldsFirstBy, item_count};
+
+    type Item = (&'a ValueKey, &'a Bytes);
+
+    ghost next_gives = { YieldsFirstBy (λ value. (value.0.now, value.1.now)) (λ rest. rest) };
+
+    ghost remaining = { item_count (λ rest. rest) };
+
+    fn next(&mut self) -> Option<(&'a ValueKey, &'a Bytes)> {
+        let value = self.rest.next()?;
+        Some((&value.0, &value.1))
+    }
+}

@@ -1,0 +1,26 @@
+use dir_tools::ToolFault;
+use std::fmt;
+
+/// Why the program ends without an answer.
+#[derive(Debug, Drop)]
+pub enum Fault<'a> {
+    /// Two of the paths are the same text.
+    SamePath(&'a str),
+    /// A file can't be opened or created.
+    CannotOpen(&'a str),
+    /// A file that is to be written exists already.
+    Exists(&'a str),
+    /// The tool's own fault.
+    Tool(ToolFault),
+}
+
+impl fmt::Display for Fault<'_> {
+    fn fmt<W: fmt::Write>(&self, f: &mut fmt::Formatter<W>) -> fmt::Result {
+        match self {
+            Fault::SamePath(path) => write!(f, "same path twice: {path}"),
+            Fault::CannotOpen(path) => write!(f, "cannot open {path}"),
+            Fault::Exists(path) => write!(f, "exists already: {path}"),
+            Fault::Tool(fault) => write!(f, "{fault}"),
+        }
+    }
+}

@@ -1,0 +1,189 @@
+use crate::command::{ModifyWords, OutputPaths, Words, read_words};
+use crate::fault::Fault;
+use crate::slapmodify::first_repeated;
+use dir_ldif::{RecordFault, StreamFault};
+use dir_names::NameFault;
+use dir_tools::{Cause, Input, Item, Output, ToolFault};
+use std::test::Fail;
+
+#[test]
+fn words_become_options(rt: HostRuntime) -> Result<(), Fail> {
+    let alloc = rt.alloc();
+    let words = [
+        "slapkit",
+        "slapmodify",
+        "-b",
+        "dc=com",
+        "--data",
+        "a",
+        "--out",
+        "b",
+        "--undo",
+        "c",
+        "-l",
+        "d",
+        "-c",
+        "-v",
+    ];
+    let Words::Slapmodify(read) = read_words(alloc, words.as_slice())?;
+    assert_eq!(rt; read.suffix, "dc=com");
+    assert_eq!(rt; read.data, "a");
+    assert!(rt;
+        read.files
+            == Some(OutputPaths {
+                out: "b",
+                undo: "c"
+            })
+    );
+    assert_eq!(rt; read.changes.unwrap_or(""), "d");
+    assert!(rt; read.options.go_on && read.options.verbose && !read.options.dry);
+    assert!(rt; first_repeated(&read).is_none());
+    Ok(())
+}
+
+#[test]
+fn a_dry_run_needs_no_outputs_and_touches_none(rt: HostRuntime) -> Result<(), Fail> {
+    let alloc = rt.alloc();
+    let words = [
+        "slapkit",
+        "slapmodify",
+        "-b",
+        "dc=com",
+        "--data",
+        "a",
+        "-u",
+        "--out",
+        "a",
+    ];
+    let Words::Slapmodify(read) = read_words(alloc, words.as_slice())?;
+    assert!(rt; read.options.dry && read.files.is_none() && read.changes.is_none());
+    assert!(rt; first_repeated(&read).is_none());
+    Ok(())
+}
+
+#[test]
+fn a_faulty_command_line_is_refused(rt: HostRuntime) {
+    let alloc = rt.alloc();
+    let rows: [&[&str]; 6] = [
+        &["slapkit"],
+        &["slapkit", "slapadd"],
+        &["slapkit", "slapmodify"],
+        &["slapkit", "slapmodify", "-b", "dc=com", "--data", "a"],
+        &[
+            "slapkit",
+            "slapmodify",
+            "-b",
+            "dc=com",
+            "--data",
+            "a",
+            "--out",
+            "b",
+        ],
+        &[
+            "slapkit",
+            "slapmodify",
+            "-b",
+            "dc=com",
+            "--data",
+            "a",
+            "-u",
+            "-x",
+        ],
+    ];
+    for words in rows {
+        match read_words(alloc, words) {
+            Ok(_) => panic!(rt; "read: {words:?}"),
+            Err(error) => assert!(rt; error.use_stderr(), "{words:?}"),
+        }
+    }
+    let help = ["slapkit", "slapmodify", "--help"];
+    match read_words(alloc, help.as_slice()) {
+        Ok(_) => panic!(rt; "help is no command"),
+        Err(error) => assert!(rt; !error.use_stderr()),
+    }
+}
+
+fn four_paths<'a>(data: &'a str, out: &'a str, undo: &'a str, changes: &'a str) -> [&'a str; 12] {
+    [
+        "slapkit",
+        "slapmodify",
+        "-b",
+        "dc=com",
+        "--data",
+        data,
+        "--out",
+        out,
+        "--undo",
+        undo,
+        "-l",
+        changes,
+    ]
+}
+
+#[test]
+fn paths_must_differ(rt: HostRuntime) -> Result<(), Fail> {
+    let alloc = rt.alloc();
+    let rows = [
+        ("a", "a", "b", "c", "a"),
+        ("a", "b", "a", "c", "a"),
+        ("a", "b", "b", "c", "b"),
+        ("a", "b", "c", "a", "a"),
+        ("a", "b", "c", "b", "b"),
+        ("a", "b", "c", "c", "c"),
+    ];
+    for (data, out, undo, changes, want) in rows {
+        let words = four_paths(data, out, undo, changes);
+        let Words::Slapmodify(read) = read_words(alloc, words.as_slice())?;
+        assert_eq!(rt; first_repeated(&read).unwrap_or(""), want);
+    }
+    Ok(())
+}
+
+#[test]
+fn each_fault_has_its_text(rt: HostRuntime) -> Result<(), Fail> {
+    let alloc = rt.alloc();
+    let bad_name = Cause::Fault(RecordFault::Name(NameFault::BadDn));
+    let rows = [
+        (Fault::SamePath("a"), "same path twice: a"),
+        (Fault::CannotOpen("a"), "cannot open a"),
+        (Fault::Exists("a"), "exists already: a"),
+        (
+            Fault::Tool(ToolFault::BadCopy(7, bad_name)),
+            "copy, line 7: L9 N4 BadDn",
+        ),
+        (
+            Fault::Tool(ToolFault::Read(Input::Copy)),
+            "cannot read copy",
+        ),
+        (
+            Fault::Tool(ToolFault::Read(Input::Changes)),
+            "cannot read changes",
+        ),
+        (
+            Fault::Tool(ToolFault::Write(Output::Undo)),
+            "cannot write undo",
+        ),
+        (
+            Fault::Tool(ToolFault::Write(Output::Out)),
+            "cannot write out",
+        ),
+        (
+            Fault::Tool(ToolFault::Write(Output::Report)),
+            "cannot write report",
+        ),
+        (Fault::Tool(ToolFault::Memory), "out of memory"),
+        (
+            Fault::Tool(ToolFault::BadQuestion(Item::Suffix)),
+            "bad question: suffix",
+        ),
+        (
+            Fault::Tool(ToolFault::BadChanges(StreamFault::LineTooLong)),
+            "changes: L10 LineTooLong",
+        ),
+    ];
+    for (fault, want) in rows {
+        let text = format!(in alloc; "{fault}")?;
+        assert_eq!(rt; text.as_str(), want);
+    }
+    Ok(())
+}
