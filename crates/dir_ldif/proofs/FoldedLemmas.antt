@@ -33,17 +33,17 @@ without_last-lacks (x ∷ y ∷ ys) e = ap (λ t. x ∷ t) (without_last-lacks (
 
 -- ---- the physical lines of a folded line
 
-pub front : ℕ → List ℕ → List ℕ
+unfoldable pub front : ℕ → List ℕ → List ℕ
 front room [] = []
 front zero (b ∷ bs) = []
 front (suc room) (b ∷ bs) = b ∷ front room bs
 
-pub more : ℕ → List ℕ → List (List ℕ)
+unfoldable pub more : ℕ → List ℕ → List (List ℕ)
 more room [] = []
 more zero (b ∷ bs) = (32 ∷ b ∷ front 74 bs) ∷ more 74 bs
 more (suc room) (b ∷ bs) = more room bs
 
-front-lacks : (room : ℕ) (xs : List ℕ) → list_any is_end xs ≡ false → list_any is_end (front room xs) ≡ false
+pub front-lacks : (room : ℕ) (xs : List ℕ) → list_any is_end xs ≡ false → list_any is_end (front room xs) ≡ false
 unfolding front
 front-lacks room [] e = refl
 front-lacks zero (x ∷ xs) e = refl

@@ -1,5 +1,6 @@
 pub mod BlockLemmas
 pub mod BytesLemmas
+pub mod BlocksRead
 pub mod FoldedLemmas
 pub mod JoinerLemmas
 pub mod LegalLemmas

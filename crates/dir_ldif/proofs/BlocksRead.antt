@@ -1,0 +1,121 @@
+-- The written lines of records read back as their blocks.
+use Rattle.std.proofs.Common.{◌≡◌, ℕ, ◌+◌, ◌<◌, ◌≤◌, Bool, true, false, not, ◌&&◌, eqb, List, [], ◌∷◌, ◌++◌, length, map, refl, sym, ap, subst, ◌∙◌, append_assoc, append-nil, Ok, nat_lt, arith}
+use Rattle.std.specs.Bool.{⊤}
+use Rattle.std.specs.List.{list_any, flat_map}
+use Rattle.std.proofs.lemmas.Bool.Decides.{nat_tests}
+use Rattle.dir_ldif.specs.declared.version.Version.TheVariants.{Absent, One, Other}
+use Rattle.dir_ldif.specs.Bytes.{is_empty, begins_with, without_last}
+use Rattle.dir_ldif.specs.Clean.{is_end}
+use Rattle.dir_ldif.specs.Lines.{Line, cut, is_lf, numbered, glue, joined, is_comment, is_long}
+use Rattle.dir_ldif.specs.Parts.{Part, give, parts_from, version_of}
+use Rattle.dir_ldif.specs.Text.{folded}
+use Rattle.dir_ldif.proofs.FoldedLemmas.{front, more, cut-folded, front-lacks, without_last-lacks, apart, line_reads}
+
+-- a line of a record: some bytes without LF and CR, the first of which is no space and no `#`
+abbrev pub Good : List ℕ → Type 0
+Good [] = ⊥
+Good (c ∷ cs) = (list_any is_end (c ∷ cs) ≡ false) × (eqb c 32 ≡ false) × (eqb c 35 ≡ false) × (length (c ∷ cs) ≤ 2097152)
+
+abbrev pub AllGood : List (List ℕ) → Type 0
+AllGood [] = ⊤
+AllGood (line ∷ lines) = Good line × AllGood lines
+
+abbrev pub texts : List Line → List (List ℕ)
+texts block = map (λ (l : Line). l.1) block
+
+apart-good : (line rest : List ℕ) → Good line → apart (cut is_lf (folded line ++ rest)) ≡ true
+unfolding front more
+apart-good [] rest g = absurd g
+apart-good (c ∷ cs) rest g =
+    let first : without_last 13 (c ∷ front 75 cs) ≡ c ∷ front 75 cs = without_last-lacks (c ∷ front 75 cs) (front-lacks 76 (c ∷ cs) g.0) in
+    ap apart (cut-folded 76 (c ∷ cs) rest g.0) ∙ ap (λ t. not (begins_with 32 t)) first ∙ ap not g.1
+
+apart-lines : (lines : List (List ℕ)) (rest : List ℕ) → AllGood lines → apart (cut is_lf rest) ≡ true → apart (cut is_lf (flat_map folded lines ++ rest)) ≡ true
+apart-lines [] rest g a = a
+apart-lines (line ∷ lines) rest g a =
+    ap (λ t. apart (cut is_lf t)) (append_assoc (folded line) (flat_map folded lines) rest) ∙ apart-good line (flat_map folded lines ++ rest) g.0
+
+-- the lines of a block read back
+lines_read : (lines : List (List ℕ)) (rest : List ℕ) (n : ℕ) → AllGood lines → apart (cut is_lf rest) ≡ true
+    → (block : List Line) × (m : ℕ) × (texts block ≡ lines) × (joined (numbered n (cut is_lf (flat_map folded lines ++ rest))) ≡ block ++ joined (numbered m (cut is_lf rest)))
+lines_read [] rest n g a = ([], n, refl, refl)
+lines_read ([] ∷ lines) rest n g a = absurd g.0
+lines_read ((c ∷ cs) ∷ lines) rest n g a =
+    let behind = flat_map folded lines ++ rest in
+    let here = line_reads c cs behind n g.0.0 (apart-lines lines rest g.1 a) in
+    let later = lines_read lines rest here.0 g.1 a in (
+      (n, c ∷ cs) ∷ later.0,
+      later.1,
+      ap (λ t. (c ∷ cs) ∷ t) later.2,
+      ap (λ t. joined (numbered n (cut is_lf t))) (append_assoc (folded (c ∷ cs)) (flat_map folded lines) rest) ∙ here.1 ∙ ap (λ t. (n, c ∷ cs) ∷ t) later.3,
+    )
+
+glue-empty : (n : ℕ) (rest : List Line) → glue (n, []) rest ≡ (n, []) ∷ rest
+glue-empty n [] = refl
+glue-empty n (r ∷ rs) = refl
+
+abbrev pub block_text : List (List ℕ) → List ℕ
+block_text lines = flat_map folded lines ++ 10 ∷ []
+
+-- a block and its empty line
+block_reads : (lines : List (List ℕ)) (rest : List ℕ) (n : ℕ) → AllGood lines
+    → (block : List Line) × (m : ℕ) × (texts block ≡ lines) × (joined (numbered n (cut is_lf (block_text lines ++ rest))) ≡ block ++ (m, []) ∷ joined (numbered (m + 1) (cut is_lf rest)))
+block_reads lines rest n g =
+    let r = lines_read lines (10 ∷ rest) n g refl in (
+      r.0,
+      r.1,
+      r.2,
+      ap (λ t. joined (numbered n (cut is_lf t))) (append_assoc (flat_map folded lines) (10 ∷ []) rest) ∙ r.3 ∙ ap (λ t. r.0 ++ t) (glue-empty r.1 (joined (numbered (r.1 + 1) (cut is_lf rest)))),
+    )
+
+-- ---- parts
+
+good_short : (n : ℕ) (text : List ℕ) → Good text → is_long (n, text) ≡ false
+good_short n [] g = absurd g
+good_short n (c ∷ cs) g = let within : length (c ∷ cs) ≤ 2097152 = g.3 in grind (arith, nat_tests)
+
+good_kept : (n : ℕ) (text : List ℕ) → Good text → is_comment (n, text) ≡ false
+good_kept n [] g = absurd g
+good_kept n (c ∷ cs) g = g.2
+
+good_some : (text : List ℕ) → Good text → is_empty text ≡ false
+good_some [] g = absurd g
+good_some (c ∷ cs) g = refl
+
+-- a block that has begun, and the empty line behind it
+block_parts : (block held : List Line) (n : ℕ) (rest : List Line) → AllGood (texts block) → parts_from true held (block ++ (n, []) ∷ rest) ≡ give (held ++ block) (parts_from true [] rest)
+block_parts [] held n rest g = ap (λ t. give t (parts_from true [] rest)) (sym (append-nil held))
+block_parts (line ∷ lines) held n rest g =
+    rw (good_short line.0 line.1 g.0, good_kept line.0 line.1 g.0, good_some line.1 g.0)
+    (block_parts lines (held ++ line ∷ []) n rest g.1 ∙ ap (λ t. give t (parts_from true [] rest)) (append_assoc held (line ∷ []) lines))
+
+-- the same where it begins the text
+first_parts : (line : Line) (lines : List Line) (n : ℕ) (rest : List Line) → AllGood (texts (line ∷ lines)) → version_of line.1 ≡ Absent
+    → parts_from false [] ((line ∷ lines) ++ (n, []) ∷ rest) ≡ Ok (line ∷ lines) ∷ parts_from true [] rest
+first_parts line lines n rest g v =
+    rw (good_short line.0 line.1 g.0, good_kept line.0 line.1 g.0, good_some line.1 g.0, v) (block_parts lines (line ∷ []) n rest g.1)
+
+-- a list of blocks, each with lines
+abbrev pub AllBlocks : List (List (List ℕ)) → Type 0
+AllBlocks [] = ⊤
+AllBlocks (lines ∷ others) = AllGood lines × (is_empty lines ≡ false) × AllBlocks others
+
+give-some : (block : List Line) (lines : List (List ℕ)) (rest : List Part) → texts block ≡ lines → is_empty lines ≡ false → give block rest ≡ Ok block ∷ rest
+give-some [] lines rest e some = let none : [] ≡ lines = e in let never : true ≡ false = ap is_empty none ∙ some in cc
+give-some (line ∷ block) lines rest e some = refl
+
+abbrev pub blocks_text : List (List (List ℕ)) → List ℕ
+blocks_text blocks = flat_map block_text blocks
+
+pub blocks_read : (all : List (List (List ℕ))) (n : ℕ) → AllBlocks all
+    → (blocks : List (List Line)) × (map texts blocks ≡ all) × (parts_from true [] (joined (numbered n (cut is_lf (blocks_text all)))) ≡ map (λ (b : List Line). Ok b) blocks)
+blocks_read [] n g = ([], refl, refl)
+blocks_read (lines ∷ others) n g =
+    let here = block_reads lines (blocks_text others) n g.0 in
+    let later = blocks_read others (here.1 + 1) g.2 in
+    let good : AllGood (texts here.0) = subst AllGood (sym here.2) g.0 in
+    let rest = joined (numbered (here.1 + 1) (cut is_lf (blocks_text others))) in (
+      here.0 ∷ later.0,
+      ap (λ t. t ∷ map texts later.0) here.2 ∙ ap (λ t. lines ∷ t) later.1,
+      ap (parts_from true []) here.3 ∙ block_parts here.0 [] here.1 rest good ∙ give-some here.0 lines (parts_from true [] rest) here.2 g.1 ∙ ap (λ t. Ok here.0 ∷ t) later.2,
+    )
