@@ -11,6 +11,7 @@ pub mod PartLemmas
 pub mod ReadingLemmas
 pub mod RecordsLemmas
 pub mod SettledLemmas
+pub mod SpelledLemmas
 pub mod StopsLemmas
 pub mod TextLemmas
 pub mod WholeLemmas

@@ -19,11 +19,11 @@ use Rattle.dir_ldif.proofs.FoldedLemmas.{or_first, or_second, line_reads}
 use Rattle.dir_ldif.specs.Lines.{cut, is_lf, numbered, joined}
 use Rattle.dir_ldif.specs.Laws.{is_refused_in_name, WrittenLineReadsBack}
 
-and_first : (v w : Bool) → (v && w) ≡ true → v ≡ true
+pub and_first : (v w : Bool) → (v && w) ≡ true → v ≡ true
 and_first true w e = refl
 and_first false w e = cc
 
-and_second : (v w : Bool) → (v && w) ≡ true → w ≡ true
+pub and_second : (v w : Bool) → (v && w) ≡ true → w ≡ true
 and_second true w e = e
 and_second false w e = cc
 
@@ -38,7 +38,7 @@ all_at [] i e = refl
 all_at (x ∷ xs) zero e = and_first (is_symbol x) (list_all is_symbol xs) e
 all_at (x ∷ xs) (suc i) e = all_at xs i (and_second (is_symbol x) (list_all is_symbol xs) e)
 
-both : (v w : Bool) → v ≡ true → w ≡ true → (v && w) ≡ true
+pub both : (v w : Bool) → v ≡ true → w ≡ true → (v && w) ≡ true
 both v w p q = rw (p, q) refl
 
 not_so : (v : Bool) → not v ≡ true → v ≡ false
