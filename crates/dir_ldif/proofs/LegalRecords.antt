@@ -84,7 +84,7 @@ from-spelling rows text (kind ∷ options) =
     chosen (is_type kind && list_all is_option options) _ _ (λ (d : Described). d.spelling ≡ text)
     (λ _. chosen (is_reserved kind) _ _ (λ (d : Described). d.spelling ≡ text) (λ _. tt) (λ _. refl)) (λ _. tt)
 
-description_of-spelling : (rows : List TypeRow) (text : List ℕ) → IfOk (description_of rows text) (λ d. d.spelling ≡ text)
+pub description_of-spelling : (rows : List TypeRow) (text : List ℕ) → IfOk (description_of rows text) (λ d. d.spelling ≡ text)
 description_of-spelling rows text =
     chosen (nat_le (length text) 512) _ _ (λ (d : Described). d.spelling ≡ text) (λ _. from-spelling rows text (parts_at 59 text)) (λ _. tt)
 

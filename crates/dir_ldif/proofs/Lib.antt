@@ -9,6 +9,7 @@ pub mod LinesLemmas
 pub mod NextLemmas
 pub mod PartLemmas
 pub mod ReadingLemmas
+pub mod RecordReads
 pub mod RecordsLemmas
 pub mod SettledLemmas
 pub mod SpelledLemmas

@@ -171,7 +171,7 @@ line-clean name value e = list_any-append is_end name (written value) ∙ rw (e,
 
 -- ---- the law
 
-name-colon : (xs : List ℕ) → list_any is_refused_in_name xs ≡ false → list_any is_colon xs ≡ false
+pub name-colon : (xs : List ℕ) → list_any is_refused_in_name xs ≡ false → list_any is_colon xs ≡ false
 name-colon [] e = refl
 name-colon (x ∷ xs) e =
     let here : eqb x 58 ≡ false = or_first (eqb x 58) (is_end x) (or_first (is_refused_in_name x) (list_any is_refused_in_name xs) e) in
