@@ -35,7 +35,7 @@ use Rattle.dir_ldif.proofs.BlockLemmas.{cut-piece}
 use Rattle.dir_ldif.proofs.BlocksRead.{texts}
 use Rattle.dir_ldif.proofs.LegalRecords.{known, description_of-spelling}
 use Rattle.dir_ldif.proofs.SpelledLemmas.{IsSpelling, is_spelled, spelled-allowed, spelling_of}
-use Rattle.dir_ldif.proofs.WrittenLemmas.{and_first, and_second, part_of-line, name-colon, written-tail}
+use Rattle.dir_ldif.proofs.WrittenLemmas.{and_first, and_second, both, part_of-line, name-colon, written-tail}
 
 -- ---- descriptions
 
@@ -103,3 +103,139 @@ dn_line-back : (rows : List TypeRow) (name : SpelledName) (line : Line) → line
 dn_line-back rows name line e back key =
     let part : part_of line.1 ≡ Ok (codes "dn", name_printed name) = ap part_of e ∙ part_of-line 100 (110 ∷ []) (name_printed name) refl back.1 back.2 in
     rw (part, legal_dn-back rows name back key) refl
+
+-- ---- modifications
+
+spelled-byte : (b : ℕ) → is_spelled b ≡ true → b < 256
+spelled-byte b e = grind (arith, nat_tests)
+
+all_bytes : (xs : List ℕ) → list_all is_spelled xs ≡ true → IsBytes xs
+all_bytes [] e i = omega arith
+all_bytes (x ∷ xs) e zero = let here = and_first (is_spelled x) (list_all is_spelled xs) e in spelled-byte x here
+all_bytes (x ∷ xs) e (suc i) = all_bytes xs (and_second (is_spelled x) (list_all is_spelled xs) e) i
+
+abbrev pub mod_value_lines : Described → List (List ℕ) → List (List ℕ)
+mod_value_lines d values = map (λ v. line_of d.spelling v) values
+
+mod_value-back : (rows : List TypeRow) (d : Described) (value : List ℕ) (line : Line) → line.1 ≡ line_of d.spelling value → is_read_under rows d ≡ true → is_short value ≡ true → IsBytes value
+    → mod_value rows d line ≡ Ok value
+mod_value-back rows d value line e read short bytes =
+    let l : value_line rows line ≡ Ok (d, value) = value_line-back rows (d, value) line e (both (is_short value) (is_read_under rows d) short read) bytes in
+    let same : attr_eq d.key d.key ≡ true = (attr_eq_decides d.key d.key).1 refl in
+    rw (l, same) refl
+
+mod_values-back : (rows : List TypeRow) (d : Described) (values : List (List ℕ)) (block : List Line) → texts block ≡ mod_value_lines d values → is_read_under rows d ≡ true → list_all is_short values ≡ true
+    → AllBytes values → all_of (mod_value rows d) block ≡ Ok values
+mod_values-back rows d [] [] e read short bytes = refl
+mod_values-back rows d [] (x ∷ xs) e read short bytes = cc
+mod_values-back rows d (v ∷ vs) [] e read short bytes = cc
+mod_values-back rows d (v ∷ vs) (x ∷ xs) e read short bytes =
+    let here : x.1 ≡ line_of d.spelling v = cc in
+    let rest : texts xs ≡ mod_value_lines d vs = cc in
+    let first = mod_value-back rows d v x here read (and_first (is_short v) (list_all is_short vs) short) bytes.0 in
+    let later = mod_values-back rows d vs xs rest read (and_second (is_short v) (list_all is_short vs) short) bytes.1 in
+    rw (first, later) refl
+
+part_of-op : (o : ModOp) (value : List ℕ) → IsBytes value → length value ≤ 1048576 → part_of (line_of (op_word o) value) ≡ Ok (op_word o, value)
+part_of-op op.Add value bytes short = part_of-line 97 (100 ∷ 100 ∷ []) value refl bytes short
+part_of-op op.Delete value bytes short = part_of-line 100 (101 ∷ 108 ∷ 101 ∷ 116 ∷ 101 ∷ []) value refl bytes short
+part_of-op op.Replace value bytes short = part_of-line 114 (101 ∷ 112 ∷ 108 ∷ 97 ∷ 99 ∷ 101 ∷ []) value refl bytes short
+
+op_of-word : (o : ModOp) → op_of (op_word o) ≡ Some o
+op_of-word op.Add = refl
+op_of-word op.Delete = refl
+op_of-word op.Replace = refl
+
+mod_head-back : (rows : List TypeRow) (o : ModOp) (d : Described) (line : Line) → line.1 ≡ line_of (op_word o) d.spelling → is_read_under rows d ≡ true → mod_head rows line ≡ Ok (o, d)
+mod_head-back rows o d line e read =
+    let known_d = described_back rows d read in
+    let s = spelling_of rows d.spelling d known_d in
+    let short : length d.spelling ≤ 1048576 = omega (arith, s.2) in
+    let part : part_of line.1 ≡ Ok (op_word o, d.spelling) = ap part_of e ∙ part_of-op o d.spelling (all_bytes d.spelling s.0) short in
+    rw (part, op_of-word o, known_d) refl
+
+abbrev pub mod_front : Mod → List (List ℕ)
+mod_front m = line_of (op_word m.op) m.description.spelling ∷ mod_value_lines m.description m.values
+
+mod_of-back : (rows : List TypeRow) (m : Mod) (block : List Line) → texts block ≡ mod_front m → is_legal_mod rows m ≡ true → AllBytes m.values → mod_of rows block ≡ Ok m
+mod_of-back rows m [] e legal bytes = cc
+mod_of-back rows m (x ∷ xs) e legal bytes =
+    let here : x.1 ≡ line_of (op_word m.op) m.description.spelling = cc in
+    let rest : texts xs ≡ mod_value_lines m.description m.values = cc in
+    let read = and_first (is_read_under rows m.description) (list_all is_short m.values) legal in
+    let head = mod_head-back rows m.op m.description x here read in
+    let values = mod_values-back rows m.description m.values xs rest read (and_second (is_read_under rows m.description) (list_all is_short m.values) legal) bytes in
+    rw (head, values) refl
+
+-- a part of a block
+split_texts : (block : List Line) (a b : List (List ℕ)) → texts block ≡ a ++ b → (x : List Line) × (y : List Line) × (block ≡ x ++ y) × (texts x ≡ a) × (texts y ≡ b)
+split_texts block [] b e = ([], block, refl, refl, e)
+split_texts [] (t ∷ a) b e = cc
+split_texts (l ∷ block) (t ∷ a) b e =
+    let here : l.1 ≡ t = cc in
+    let rest : texts block ≡ a ++ b = cc in
+    let r = split_texts block a b rest in
+    (l ∷ r.0, r.1, ap (λ q. l ∷ q) r.2, ap (λ q. q ∷ texts r.0) here ∙ ap (λ q. t ∷ q) r.3, r.4)
+
+dash_tail : (name value : List ℕ) → bytes_eq (name ++ written value) [] ≡ false
+dash_tail [] value = ap (λ t. bytes_eq t []) (written-tail value)
+dash_tail (n ∷ name) value = refl
+
+not_both : (v w : Bool) → w ≡ false → (v && w) ≡ false
+not_both true w e = e
+not_both false w e = refl
+
+not_dash : (line : Line) (name value : List ℕ) → is_empty name ≡ false → line.1 ≡ line_of name value → is_dash line ≡ false
+not_dash line [] value some e = cc
+not_dash line (b ∷ name) value some e = ap (λ t. bytes_eq t (codes "-")) e ∙ not_both (eqb b 45) _ (dash_tail name value)
+
+no_dashes : (d : Described) (values : List (List ℕ)) (block : List Line) → is_empty d.spelling ≡ false → texts block ≡ mod_value_lines d values → list_any is_dash block ≡ false
+no_dashes d [] [] some e = refl
+no_dashes d [] (x ∷ xs) some e = cc
+no_dashes d (v ∷ vs) [] some e = cc
+no_dashes d (v ∷ vs) (x ∷ xs) some e =
+    let here : x.1 ≡ line_of d.spelling v = cc in
+    let rest : texts xs ≡ mod_value_lines d vs = cc in
+    rw (not_dash x d.spelling v some here, no_dashes d vs xs some rest) refl
+
+op_some : (o : ModOp) → is_empty (op_word o) ≡ false
+op_some op.Add = refl
+op_some op.Delete = refl
+op_some op.Replace = refl
+
+front_no_dash : (m : Mod) (block : List Line) → is_empty m.description.spelling ≡ false → texts block ≡ mod_front m → list_any is_dash block ≡ false
+front_no_dash m [] some e = cc
+front_no_dash m (x ∷ xs) some e =
+    let here : x.1 ≡ line_of (op_word m.op) m.description.spelling = cc in
+    let rest : texts xs ≡ mod_value_lines m.description m.values = cc in
+    rw (not_dash x (op_word m.op) m.description.spelling (op_some m.op) here, no_dashes m.description m.values xs some rest) refl
+
+abbrev pub mod_lines : Mod → List (List ℕ)
+mod_lines m = mod_front m ++ codes "-" ∷ []
+
+-- the lines of one modification, its `-`, and the others
+mods_more : (rows : List TypeRow) (m : Mod) (mods : List Mod) (block x : List Line) (dash : Line) (y : List Line) → block ≡ x ++ dash ∷ y → texts x ≡ mod_front m → dash.1 ≡ codes "-"
+    → is_empty m.description.spelling ≡ false → is_legal_mod rows m ≡ true → AllBytes m.values → all_of (mod_of rows) (cut is_dash y) ≡ Ok mods → mods_of rows block ≡ Ok (m ∷ mods)
+mods_more rows m mods block x dash y whole front back some legal bytes later =
+    let piece : cut is_dash block ≡ x ∷ cut is_dash y = ap (cut is_dash) whole ∙ cut-piece is_dash x dash y (front_no_dash m x some front) (ap (λ t. bytes_eq t (codes "-")) back) in
+    let first = mod_of-back rows m x front legal bytes in
+    ap (all_of (mod_of rows)) piece ∙ rw (first, later) refl
+
+-- a first line, if there is one
+first_of_texts : (y : List Line) (t : List ℕ) (ts : List (List ℕ)) → texts y ≡ t ∷ ts → (l : Line) × (ls : List Line) × (y ≡ l ∷ ls) × (l.1 ≡ t) × (texts ls ≡ ts)
+first_of_texts [] t ts e = cc
+first_of_texts (l ∷ ls) t ts e = (l, ls, refl, cc, cc)
+
+pub mods_of-back : (rows : List TypeRow) (mods : List Mod) (block : List Line) → texts block ≡ flat_map mod_lines mods → list_all (is_legal_mod rows) mods ≡ true → ModsAreBytes mods
+    → mods_of rows block ≡ Ok mods
+mods_of-back rows [] [] e legal bytes = refl
+mods_of-back rows [] (x ∷ xs) e legal bytes = cc
+mods_of-back rows (m ∷ mods) block e legal bytes =
+    let legal_here = and_first (is_legal_mod rows m) (list_all (is_legal_mod rows) mods) legal in
+    let read = and_first (is_read_under rows m.description) (list_all is_short m.values) legal_here in
+    let some : is_empty m.description.spelling ≡ false = (spelling_of rows m.description.spelling m.description (described_back rows m.description read)).1 in
+    let whole : texts block ≡ mod_front m ++ (codes "-" ∷ flat_map mod_lines mods) = e ∙ append_assoc (mod_front m) (codes "-" ∷ []) (flat_map mod_lines mods) in
+    let s = split_texts block (mod_front m) (codes "-" ∷ flat_map mod_lines mods) whole in
+    let d = first_of_texts s.1 (codes "-") (flat_map mod_lines mods) s.4 in
+    let later = mods_of-back rows mods d.1 d.4 (and_second (is_legal_mod rows m) (list_all (is_legal_mod rows) mods) legal) bytes.1 in
+    mods_more rows m mods block s.0 d.0 d.1 (s.2 ∙ ap (λ t. s.0 ++ t) d.2) s.3 d.3 some legal_here bytes.0 later
