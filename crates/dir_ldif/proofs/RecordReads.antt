@@ -1,6 +1,6 @@
 -- The lines of a record read back as the record.
 use Rattle.std.proofs.Common.{◌≡◌, ℕ, zero, suc, ◌+◌, ◌<◌, ◌≤◌, Bool, true, false, not, ◌&&◌, ◌||◌, eqb, List, [], ◌∷◌, ◌++◌, length, map, codes, refl, sym, ap, subst, ◌∙◌, append_assoc, Option, None, Some, is_some, Result, Ok, Err, arith}
-use Rattle.std.specs.Prelude.{slice_index, nat_le}
+use Rattle.std.specs.Prelude.{slice_index, nat_le, nat_lt, if◌then◌else◌}
 use Rattle.std.specs.Str.{bytes_eq}
 use Rattle.std.specs.List.{list_any, list_all, flat_map}
 use Rattle.std.proofs.lemmas.Bool.Decides.{nat_tests}
@@ -15,6 +15,7 @@ use Rattle.dir_names.specs.Orders.{attr_eq, attr_eq_decides}
 use Rattle.dir_names.specs.Printing.{name_printed, rdn_printed}
 use Rattle.dir_names.specs.Reading.{name_read, rdn_read, or_bad_dn}
 use Rattle.dir_ldif.specs.declared.faults.RecordFault.{RecordFault}
+use Rattle.dir_ldif.specs.declared.faults.RecordFault.TheVariants.{Control}
 use Rattle.dir_ldif.specs.declared.records.Record.{Record}
 use Rattle.dir_ldif.specs.declared.records.Record.TheVariants as form
 use Rattle.dir_ldif.specs.declared.records.ChangeKind.{ChangeKind}
@@ -239,3 +240,130 @@ mods_of-back rows (m ∷ mods) block e legal bytes =
     let d = first_of_texts s.1 (codes "-") (flat_map mod_lines mods) s.4 in
     let later = mods_of-back rows mods d.1 d.4 (and_second (is_legal_mod rows m) (list_all (is_legal_mod rows) mods) legal) bytes.1 in
     mods_more rows m mods block s.0 d.0 d.1 (s.2 ∙ ap (λ t. s.0 ++ t) d.2) s.3 d.3 some legal_here bytes.0 later
+
+-- ---- renames
+
+abbrev pub superior_lines : Option SpelledName → List (List ℕ)
+superior_lines None = []
+superior_lines (Some name) = line_of (codes "newsuperior") (name_printed name) ∷ []
+
+superior-back : (rows : List TypeRow) (superior : Option SpelledName) (block : List Line) → texts block ≡ superior_lines superior → superior_has_key rows superior ≡ true → SuperiorReadsBack superior
+    → superior_of rows block ≡ Ok superior
+superior-back rows None [] e key back = refl
+superior-back rows None (x ∷ xs) e key back = cc
+superior-back rows (Some name) [] e key back = cc
+superior-back rows (Some name) (x ∷ y ∷ ys) e key back = cc
+superior-back rows (Some name) (x ∷ []) e key back =
+    let here : x.1 ≡ line_of (codes "newsuperior") (name_printed name) = cc in
+    let part : part_of x.1 ≡ Ok (codes "newsuperior", name_printed name) =
+    ap part_of here ∙ part_of-line 110 (101 ∷ 119 ∷ 115 ∷ 117 ∷ 112 ∷ 101 ∷ 114 ∷ 105 ∷ 111 ∷ 114 ∷ []) (name_printed name) refl back.1 back.2 in
+    rw (part, legal_dn-back rows name back key) refl
+
+few_bytes : (xs : List ℕ) → list_all (λ b. nat_lt b 256) xs ≡ true → IsBytes xs
+few_bytes [] e i = omega arith
+few_bytes (x ∷ xs) e zero = let here : nat_lt x 256 ≡ true = and_first (nat_lt x 256) (list_all (λ b. nat_lt b 256) xs) e in grind (arith, nat_tests)
+few_bytes (x ∷ xs) e (suc i) = few_bytes xs (and_second (nat_lt x 256) (list_all (λ b. nat_lt b 256) xs) e) i
+
+flag-bytes : (flag : Bool) → IsBytes (flag_text flag) × (length (flag_text flag) ≤ 1048576) × (flag_of (flag_text flag) ≡ Ok flag)
+flag-bytes true = (few_bytes (codes "1") refl, omega arith, refl)
+flag-bytes false = (few_bytes (codes "0") refl, omega arith, refl)
+
+rename-back : (rows : List TypeRow) (rdn : SpelledRdn) (flag : Bool) (superior : Option SpelledName) (x y : Line) (ys : List Line) → x.1 ≡ line_of (codes "newrdn") (rdn_printed rdn)
+    → y.1 ≡ line_of (codes "deleteoldrdn") (flag_text flag) → texts ys ≡ superior_lines superior → rdn_has_key rows rdn ≡ true → superior_has_key rows superior ≡ true → RdnReadsBack rdn
+    → SuperiorReadsBack superior → rename_of rows (x ∷ y ∷ ys) ≡ Ok (kind.Rename rdn flag superior)
+rename-back rows rdn flag superior x y ys ex ey es key key' back back' =
+    let f = flag-bytes flag in
+    let first : part_of x.1 ≡ Ok (codes "newrdn", rdn_printed rdn) =
+    ap part_of ex ∙ part_of-line 110 (101 ∷ 119 ∷ 114 ∷ 100 ∷ 110 ∷ []) (rdn_printed rdn) refl back.1 back.2 in
+    let second : part_of y.1 ≡ Ok (codes "deleteoldrdn", flag_text flag) =
+    ap part_of ey ∙ part_of-line 100 (101 ∷ 108 ∷ 101 ∷ 116 ∷ 101 ∷ 111 ∷ 108 ∷ 100 ∷ 114 ∷ 100 ∷ 110 ∷ []) (flag_text flag) refl f.0 f.1 in
+    rw (first, legal_rdn-back rows rdn back key, second, f.2, superior-back rows superior ys es key' back') refl
+
+-- ---- changes
+
+abbrev pub kind_lines : ChangeKind → List (List ℕ)
+kind_lines (kind.Add lines) = map value_line_of lines
+kind_lines kind.Delete = []
+kind_lines (kind.Modify mods) = flat_map mod_lines mods
+kind_lines (kind.Rename rdn flag superior) =
+    line_of (codes "newrdn") (rdn_printed rdn) ∷ line_of (codes "deleteoldrdn") (flag_text flag) ∷ superior_lines superior
+
+two_lines : (block : List Line) (a b : List ℕ) (ts : List (List ℕ)) → texts block ≡ a ∷ b ∷ ts
+    → (x : Line) × (y : Line) × (ys : List Line) × (block ≡ x ∷ y ∷ ys) × (x.1 ≡ a) × (y.1 ≡ b) × (texts ys ≡ ts)
+two_lines [] a b ts e = cc
+two_lines (x ∷ []) a b ts e = cc
+two_lines (x ∷ y ∷ ys) a b ts e = (x, y, ys, refl, cc, cc, cc)
+
+pub change_of-back : (rows : List TypeRow) (k : ChangeKind) (block : List Line) → texts block ≡ kind_lines k → is_legal_kind rows k ≡ true → KindReadsBack k → change_of rows (change_word k) block ≡ Ok k
+change_of-back rows (kind.Add lines) block e legal back = let ls = value_lines-back rows lines block e legal back in rw ls refl
+change_of-back rows kind.Delete [] e legal back = refl
+change_of-back rows kind.Delete (x ∷ xs) e legal back = cc
+change_of-back rows (kind.Modify mods) block e legal back = let ms = mods_of-back rows mods block e legal back in rw ms refl
+change_of-back rows (kind.Rename rdn flag superior) block e legal back =
+    let b = two_lines block (line_of (codes "newrdn") (rdn_printed rdn)) (line_of (codes "deleteoldrdn") (flag_text flag)) (superior_lines superior) e in
+    ap (rename_of rows) b.3
+    ∙ rename-back rows rdn flag superior b.0 b.1 b.2 b.4 b.5 b.6 (and_first (rdn_has_key rows rdn) (superior_has_key rows superior) legal)
+    (and_second (rdn_has_key rows rdn) (superior_has_key rows superior) legal) back.0 back.1
+
+-- ---- records
+
+abbrev pub record_lines : Record → List (List ℕ)
+record_lines (form.Content name lines) = line_of (codes "dn") (name_printed name) ∷ map value_line_of lines
+record_lines (form.Change change) =
+    line_of (codes "dn") (name_printed change.dn) ∷ line_of (codes "changetype") (change_word change.kind) ∷ kind_lines change.kind
+
+word-bytes : (k : ChangeKind) → IsBytes (change_word k) × (length (change_word k) ≤ 1048576)
+word-bytes (kind.Add lines) = (few_bytes (change_word (kind.Add lines)) refl, omega arith)
+word-bytes kind.Delete = (few_bytes (change_word kind.Delete) refl, omega arith)
+word-bytes (kind.Modify mods) = (few_bytes (change_word (kind.Modify mods)) refl, omega arith)
+word-bytes (kind.Rename rdn flag superior) = (few_bytes (change_word (kind.Rename rdn flag superior)) refl, omega arith)
+
+content_behind : (rows : List TypeRow) (name : SpelledName) (lines : List (Described × List ℕ)) (x : Line) (xs : List Line) (p : List ℕ × List ℕ) → part_of x.1 ≡ Ok p
+    → is_word p.0 (codes "control") ≡ false → is_word p.0 (codes "changetype") ≡ false → value_lines rows (x ∷ xs) ≡ Ok lines → body_of rows name (x ∷ xs) ≡ Ok (form.Content name lines)
+content_behind rows name lines x xs p part control change e =
+    ap (λ r. then_of r (λ q. if is_word q.0 (codes "control") then Err Control else (if is_word q.0 (codes "changetype") then then_of (change_of rows q.1 xs) (λ k. Ok (form.Change (record { dn = name; kind = k }))) else content_of rows name (x ∷ xs)))) part
+    ∙ (rw (control, change) (ap (λ r. then_of r (λ ls. Ok (form.Content name ls))) e))
+
+-- the second line of a content record is no keyword's
+content-back : (rows : List TypeRow) (name : SpelledName) (lines : List (Described × List ℕ)) (block : List Line) → texts block ≡ map value_line_of lines → list_all (is_legal_line rows) lines ≡ true
+    → ValuesAreBytes lines → body_of rows name block ≡ Ok (form.Content name lines)
+content-back rows name [] [] e legal bytes = refl
+content-back rows name [] (x ∷ xs) e legal bytes = cc
+content-back rows name (l ∷ ls) [] e legal bytes = cc
+content-back rows name (l ∷ ls) (x ∷ xs) e legal bytes =
+    let here : x.1 ≡ value_line_of l = cc in
+    let legal_here = and_first (is_legal_line rows l) (list_all (is_legal_line rows) ls) legal in
+    let d = described_back rows l.0 (and_second (is_short l.1) (is_read_under rows l.0) legal_here) in
+    let s = spelling_of rows l.0.spelling l.0 d in
+    let part : part_of x.1 ≡ Ok (l.0.spelling, l.1) = ap part_of here ∙ part_of-spelled l.0.spelling l.1 s bytes.0 (within l.1 (and_first (is_short l.1) (is_read_under rows l.0) legal_here)) in
+    let whole = value_lines-back rows (l ∷ ls) (x ∷ xs) e legal bytes in
+    content_behind rows name (l ∷ ls) x xs (l.0.spelling, l.1) part s.3 s.4 whole
+
+change-back : (rows : List TypeRow) (name : SpelledName) (k : ChangeKind) (block : List Line) → texts block ≡ line_of (codes "changetype") (change_word k) ∷ kind_lines k → is_legal_kind rows k ≡ true
+    → KindReadsBack k → body_of rows name block ≡ Ok (form.Change (record { dn = name; kind = k }))
+change-back rows name k [] e legal back = cc
+change-back rows name k (x ∷ xs) e legal back =
+    let here : x.1 ≡ line_of (codes "changetype") (change_word k) = cc in
+    let rest : texts xs ≡ kind_lines k = cc in
+    let w = word-bytes k in
+    let part : part_of x.1 ≡ Ok (codes "changetype", change_word k) =
+    ap part_of here ∙ part_of-line 99 (104 ∷ 97 ∷ 110 ∷ 103 ∷ 101 ∷ 116 ∷ 121 ∷ 112 ∷ 101 ∷ []) (change_word k) refl w.0 w.1 in
+    let change = change_of-back rows k xs rest legal back in
+    rw (part, change) refl
+
+pub record_of-back : (rows : List TypeRow) (r : Record) (block : List Line) → texts block ≡ record_lines r → is_legal_record rows r ≡ true → PartsReadBack r → record_of rows block ≡ Ok r
+unfolding record_of
+record_of-back rows (form.Content name lines) [] e legal back = cc
+record_of-back rows (form.Content name lines) (x ∷ xs) e legal back =
+    let here : x.1 ≡ line_of (codes "dn") (name_printed name) = cc in
+    let rest : texts xs ≡ map value_line_of lines = cc in
+    let dn = dn_line-back rows name x here back.0 (and_first (has_key rows name) (list_all (is_legal_line rows) lines) legal) in
+    let body = content-back rows name lines xs rest (and_second (has_key rows name) (list_all (is_legal_line rows) lines) legal) back.1 in
+    ap (λ r. then_of r (λ n. body_of rows n xs)) dn ∙ body
+record_of-back rows (form.Change change) [] e legal back = cc
+record_of-back rows (form.Change change) (x ∷ xs) e legal back =
+    let here : x.1 ≡ line_of (codes "dn") (name_printed change.dn) = cc in
+    let rest : texts xs ≡ line_of (codes "changetype") (change_word change.kind) ∷ kind_lines change.kind = cc in
+    let dn = dn_line-back rows change.dn x here back.0 (and_first (has_key rows change.dn) (is_legal_kind rows change.kind) legal) in
+    let body = change-back rows change.dn change.kind xs rest (and_second (has_key rows change.dn) (is_legal_kind rows change.kind) legal) back.1 in
+    ap (λ r. then_of r (λ n. body_of rows n xs)) dn ∙ body
