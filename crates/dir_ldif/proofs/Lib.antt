@@ -11,6 +11,7 @@ pub mod PartLemmas
 pub mod ReadingLemmas
 pub mod RecordReads
 pub mod RecordsLemmas
+pub mod RoundTrip
 pub mod SettledLemmas
 pub mod SpelledLemmas
 pub mod StopsLemmas

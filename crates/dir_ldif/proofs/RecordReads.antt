@@ -53,13 +53,13 @@ described_back rows d h =
 
 -- ---- parts of lines
 
-refused-none : (xs : List ℕ) → list_all is_spelled xs ≡ true → list_any is_refused_in_name xs ≡ false
+pub refused-none : (xs : List ℕ) → list_all is_spelled xs ≡ true → list_any is_refused_in_name xs ≡ false
 refused-none [] e = refl
 refused-none (x ∷ xs) e =
     let here : is_refused_in_name x ≡ false = (spelled-allowed x (and_first (is_spelled x) (list_all is_spelled xs) e)).0 in
     rw (here, refused-none xs (and_second (is_spelled x) (list_all is_spelled xs) e)) refl
 
-within : (value : List ℕ) → is_short value ≡ true → length value ≤ 1048576
+pub within : (value : List ℕ) → is_short value ≡ true → length value ≤ 1048576
 within value e = grind (arith, nat_tests)
 
 pub part_of-spelled : (text value : List ℕ) → IsSpelling text → IsBytes value → length value ≤ 1048576 → part_of (line_of text value) ≡ Ok (text, value)
@@ -199,7 +199,7 @@ no_dashes d (v ∷ vs) (x ∷ xs) some e =
     let rest : texts xs ≡ mod_value_lines d vs = cc in
     rw (not_dash x d.spelling v some here, no_dashes d vs xs some rest) refl
 
-op_some : (o : ModOp) → is_empty (op_word o) ≡ false
+pub op_some : (o : ModOp) → is_empty (op_word o) ≡ false
 op_some op.Add = refl
 op_some op.Delete = refl
 op_some op.Replace = refl

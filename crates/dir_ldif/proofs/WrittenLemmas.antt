@@ -135,7 +135,7 @@ value_of-tail (b ∷ bs) bytes =
 abbrev is_colon : ℕ → Bool
 is_colon b = eqb b 58
 
-cut_at-name : (name rest : List ℕ) → list_any is_colon name ≡ false → cut_at 58 (name ++ 58 ∷ rest) ≡ Some (name, rest)
+pub cut_at-name : (name rest : List ℕ) → list_any is_colon name ≡ false → cut_at 58 (name ++ 58 ∷ rest) ≡ Some (name, rest)
 cut_at-name [] rest e = refl
 cut_at-name (x ∷ xs) rest e =
     let here : eqb x 58 ≡ false = or_first (eqb x 58) (list_any is_colon xs) e in
@@ -177,7 +177,7 @@ name-colon (x ∷ xs) e =
     let here : eqb x 58 ≡ false = or_first (eqb x 58) (is_end x) (or_first (is_refused_in_name x) (list_any is_refused_in_name xs) e) in
     rw (here, name-colon xs (or_second (is_refused_in_name x) (list_any is_refused_in_name xs) e)) refl
 
-name-end : (xs : List ℕ) → list_any is_refused_in_name xs ≡ false → list_any is_end xs ≡ false
+pub name-end : (xs : List ℕ) → list_any is_refused_in_name xs ≡ false → list_any is_end xs ≡ false
 name-end [] e = refl
 name-end (x ∷ xs) e =
     let here : is_end x ≡ false = or_second (eqb x 58) (is_end x) (or_first (is_refused_in_name x) (list_any is_refused_in_name xs) e) in
