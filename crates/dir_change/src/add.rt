@@ -1,4 +1,5 @@
-ghost use Rattle.std.specs.Prelude.{◌≡◌, IfOk, is_some};
+ghost use Rattle.std.specs.Prelude.{◌≡◌, IfErr, IfOk, OnErr, OnOk, is_some};
+ghost use Rattle.dir_change.specs.Operation.{AddRefused, Adds};
 ghost use Rattle.dir_tree.specs.Dir.{has_parent};
 
 use crate::{Refusal, ResultCode, Undo};
@@ -16,7 +17,11 @@ pub(crate) fn add<D: Directory>(
     name: &Dn,
     key: &DnKey,
     lines: &Lines,
-) -> Result<Undo, Refusal> {
+) -> Result<Undo, Refusal>
+    ensures ok { OnOk result (Adds (D.state directory.old) key.now (D.state directory.new)) }
+    ensures refused { IfErr result (AddRefused (D.state directory.old) key.now) }
+    ensures err { OnErr result (D.state directory.new ≡ D.state directory.old) }
+{
     if !key.at_or_below(directory.suffix()) {
         return Err(Refusal::Code(ResultCode::NoSuchObject));
     }
@@ -44,8 +49,13 @@ pub(crate) fn add<D: Directory>(
 
 /// What stands above a new entry in its name: its parent's name as spelled in the directory, or
 /// nothing for the suffix. None where the parent is missing.
-fn name_above<D: Directory>(alloc: Global, directory: &D, key: &DnKey) -> Result<Option<Dn>, Refusal>
-    ensures { IfOk result (λ above. is_some above ≡ has_parent (D.state directory.now) key.now) }
+fn name_above<D: Directory>(
+    alloc: Global,
+    directory: &D,
+    key: &DnKey,
+) -> Result<Option<Dn>, Refusal>
+    ensures parent { IfOk result (λ above. is_some above ≡ has_parent (D.state directory.now) key.now) }
+    ensures memory { IfErr result (λ e. e ≡ Refusal.Memory) }
 {
     if key == directory.suffix() {
         return Ok(Some(Dn::from_rdns(Vec::new(alloc))?));
@@ -60,7 +70,9 @@ fn name_above<D: Directory>(alloc: Global, directory: &D, key: &DnKey) -> Result
 }
 
 /// The own name and then what stands above it.
-fn joined(alloc: Global, own: &[Rdn], above: Dn) -> Result<Dn, Refusal> {
+fn joined(alloc: Global, own: &[Rdn], above: Dn) -> Result<Dn, Refusal>
+    ensures { IfErr result (λ e. e ≡ Refusal.Memory) }
+{
     let mut rdns = Vec::with_capacity(alloc, own.len())?;
     for rdn in own {
         rdns.push(rdn.try_clone(alloc)?)?;

@@ -1,3 +1,6 @@
+ghost use Rattle.std.specs.Prelude.{◌≡◌, IfErr, OnErr, OnOk};
+ghost use Rattle.dir_change.specs.Operation.{DeleteRefused, Deletes};
+
 use crate::{Refusal, ResultCode, Undo};
 use dir_ldif::{Change, ChangeKind};
 use dir_names::{DnKey, Lines};
@@ -10,7 +13,11 @@ pub(crate) fn delete<D: Directory>(
     alloc: Global,
     directory: &mut D,
     key: &DnKey,
-) -> Result<Undo, Refusal> {
+) -> Result<Undo, Refusal>
+    ensures ok { OnOk result (Deletes (D.state directory.old) key.now (D.state directory.new)) }
+    ensures refused { IfErr result (DeleteRefused (D.state directory.old) key.now) }
+    ensures err { OnErr result (D.state directory.new ≡ D.state directory.old) }
+{
     let Some(entry) = directory.get(key) else {
         return Err(Refusal::Code(ResultCode::NoSuchObject));
     };
@@ -29,7 +36,9 @@ pub(crate) fn delete<D: Directory>(
 }
 
 /// All values of an entry, in the order of its canonical text.
-fn all_lines(alloc: Global, entry: &Entry) -> Result<Lines, Refusal> {
+fn all_lines(alloc: Global, entry: &Entry) -> Result<Lines, Refusal>
+    ensures { IfErr result (λ e. e ≡ Refusal.Memory) }
+{
     let mut lines = Vec::new(alloc);
     for (_, attribute) in entry.attributes() {
         for (_, bytes) in attribute.values() {

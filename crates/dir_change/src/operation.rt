@@ -1,3 +1,7 @@
+ghost use Rattle.std.specs.Prelude.{◌≡◌, OnErr};
+ghost use Rattle.dir_change.specs.declared.operation.Refusal.TheVariants.{Memory};
+ghost use Rattle.dir_change.specs.Operation.{refusal_of};
+
 use crate::add::add;
 use crate::delete::delete;
 use crate::{ResultCode, Undo};
@@ -28,7 +32,9 @@ pub fn apply<D: Directory>(
     schema: &Schema,
     directory: &mut D,
     change: &Change,
-) -> Result<Undo, Refusal> {
+) -> Result<Undo, Refusal>
+    ensures { OnErr result (D.state directory.new ≡ D.state directory.old) }
+{
     let key = change.dn.key(alloc, schema)?;
     match &change.kind {
         ChangeKind::Add(lines) => add(alloc, schema, directory, &change.dn, &key, lines),
@@ -40,18 +46,24 @@ pub fn apply<D: Directory>(
 }
 
 impl From<AllocError> for Refusal {
+    ghost from_gives = { λ _ e. e ≡ Memory };
+
     fn from(_error: AllocError) -> Refusal {
         Refusal::Memory
     }
 }
 
 impl<T: Drop> From<AllocFailed<T>> for Refusal {
+    ghost from_gives = { λ _ e. e ≡ Memory };
+
     fn from(_error: AllocFailed<T>) -> Refusal {
         Refusal::Memory
     }
 }
 
 impl From<Memory> for Refusal {
+    ghost from_gives = { λ _ e. e ≡ Memory };
+
     fn from(_error: Memory) -> Refusal {
         Refusal::Memory
     }
@@ -59,12 +71,16 @@ impl From<Memory> for Refusal {
 
 /// Want of memory: the one fault that a legal change's names and descriptions can meet.
 impl From<NameFault> for Refusal {
+    ghost from_gives = { λ _ e. e ≡ Memory };
+
     fn from(_fault: NameFault) -> Refusal {
         Refusal::Memory
     }
 }
 
 impl From<EntryFault> for Refusal {
+    ghost from_gives = { λ fault refusal. refusal ≡ refusal_of fault };
+
     fn from(fault: EntryFault) -> Refusal {
         match fault {
             EntryFault::BadValue => Refusal::Code(ResultCode::InvalidAttributeSyntax),

@@ -1,6 +1,9 @@
+ghost use Rattle.std.specs.Prelude.{◌≡◌, [], ◌∷◌, IfOk};
+
 use dir_ldif::Change;
 use dir_names::Memory;
 use std::alloc::Global;
+use std::marker::Model;
 
 /// The changes that take one change back, in the order in which they are to be applied.
 #[derive(Debug, Drop)]
@@ -8,12 +11,25 @@ pub struct Undo {
     records: Vec<Change>,
 }
 
+impl Model for Undo {
+    ghost use Rattle.std.specs.Prelude.{List};
+    ghost use Rattle.dir_ldif.specs.declared.records.Change.{Change};
+
+    ghost Value = { List Change };
+
+    ghost view = { λ u. u.records.items };
+}
+
 impl Undo {
-    pub fn records(&self) -> &[Change] {
+    pub fn records(&self) -> &[Change]
+        ensures { result.now ≡ self.now }
+    {
         self.records.as_slice()
     }
 
-    pub(crate) fn one(alloc: Global, change: Change) -> Result<Undo, Memory> {
+    pub(crate) fn one(alloc: Global, change: Change) -> Result<Undo, Memory>
+        ensures { IfOk result (λ u. u ≡ change ∷ []) }
+    {
         let mut records = Vec::with_capacity(alloc, 1)?;
         records.push(change)?;
         Ok(Undo { records })

@@ -1,10 +1,10 @@
 -- ASCII takes a short way through folding.
-use Rattle.std.proofs.Common.{◌≡◌, ℕ, ◌<◌, ◌≤◌, Bool, true, false, List, length, get_or, Ok, Err, refl, ap, sym, ◌∙◌, Decides, MatchBool, arith}
+use Rattle.std.proofs.Common.{◌≡◌, ℕ, ◌<◌, Bool, true, false, List, Ok, Err, refl, ap, sym, ◌∙◌, Decides, MatchBool, arith}
 use Rattle.std.specs.Prelude.{nat_lt, IsAscii, IsUtf8, chars, encode_utf8_all}
 use Rattle.std.specs.Str.{IsNotAscii, is_utf8, str_to_ascii_lowercase}
 use Rattle.std.specs.Char.{to_ascii_lowercase}
-use Rattle.std.specs.List.{All, list_all}
-use Rattle.std.proofs.lemmas.Str.{chars-IsAscii, encodes-IsAscii, IsUtf8-from_ascii, is_utf8-from_IsUtf8, IsUtf8-from_is_utf8, chars_from_encodes, encodes-chars}
+use Rattle.std.specs.List.{All}
+use Rattle.std.proofs.lemmas.Str.{chars-IsAscii, encodes-IsAscii, IsUtf8-from_ascii, is_utf8-from_IsUtf8, IsUtf8-from_is_utf8, chars_from_encodes}
 use Rattle.std.proofs.lemmas.Str.Ascii.{IsAscii-from_all, All-from_ascii, IsAscii-map, lowercase_ascii}
 use Rattle.std.proofs.lemmas.Bool.Decides.{Decides-by_and, Decides-ltb}
 use Rattle.caseless.specs.Caseless.{default_case_fold}

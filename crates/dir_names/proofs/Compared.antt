@@ -1,10 +1,9 @@
 -- What the tests on keys mean.
-use Rattle.std.proofs.Common.{◌≡◌, ℕ, ◌<◌, Bool, true, ◌&&◌, List, [], ◌∷◌, ◌++◌, drop, take, length, refl, sym, ap, subst, ◌∙◌, Decides, arith}
-use Rattle.std.specs.List.{All, Contains, list_all, list_any, HoldsAt, starts_with}
-use Rattle.std.specs.Cmp.Lexicographic.{pointwise}
+use Rattle.std.proofs.Common.{◌≡◌, Bool, [], ◌∷◌, ◌++◌, drop, length, refl, sym, ap, ◌∙◌, Decides}
+use Rattle.std.specs.List.{Contains, list_all, list_any, starts_with}
 use Rattle.std.proofs.lemmas.List.{same_from_push}
 use Rattle.std.proofs.lemmas.List.Elements.{Decides-contains}
-use Rattle.std.proofs.lemmas.Bool.Decides.{Decides-by_and, Decides-by_or, Decides-and, Decides-at}
+use Rattle.std.proofs.lemmas.Bool.Decides.{Decides-by_and, Decides-by_or, Decides-and}
 use Rattle.std.proofs.lemmas.Slice.Eq.{starts_is}
 use Rattle.dir_names.specs.Attr.{Attr}
 use Rattle.dir_names.specs.Covers.{Covers, covers}

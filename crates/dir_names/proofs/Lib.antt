@@ -1,3 +1,4 @@
+pub mod ByteFacts
 pub mod Compared
 pub mod CutLemmas
 pub mod FindLemmas
@@ -10,5 +11,10 @@ pub mod Pairs
 pub mod PieceLemmas
 pub mod Placed
 pub mod PrintLemmas
+pub mod ReadNames
+pub mod ReadValues
+pub mod ReadsSpells
+pub mod SoundLemmas
+pub mod SpellsReads
 pub mod Tidy
 pub mod ValueSteps

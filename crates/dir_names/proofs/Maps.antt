@@ -3,7 +3,7 @@
 --     entries_from_ordered                the entries of such a map, in order
 --     got_ok, got_err, put_ok, put_err, gone_ok, gone_err      a `Vec` of items, each the `pair` of a key and a value, at a place that `place` gives; its view is `from_sorted (map pair items)`
 --     sorted_put_ok, sorted_put_err, sorted_gone               and that it stays in order
-use Rattle.std.proofs.Common.{◌≡◌, ℕ, zero, suc, ◌+◌, ◌<◌, ◌≤◌, Bool, true, false, cond, not, T, List, [], ◌∷◌, ◌++◌, map, length, get_or, set, take, drop, Option, Some, None, Result, Ok, Err, refl, sym, ap, subst, ◌∙◌, arith}
+use Rattle.std.proofs.Common.{◌≡◌, ℕ, zero, suc, ◌<◌, Bool, true, false, cond, not, T, List, [], ◌∷◌, map, length, get_or, set, Some, None, Result, Ok, Err, refl, sym, ap, subst, ◌∙◌, arith}
 use Rattle.std.specs.declared.cmp.Ordering.{Ordering}
 use Rattle.std.specs.declared.cmp.Ordering.TheVariants.{Less, Equal, Greater}
 use Rattle.std.specs.Ordering.{is_eq, is_lt, match_ordering, eq_by_cmp}
@@ -13,11 +13,11 @@ use Rattle.std.specs.List.Sorted.{IsStrictlySortedBy}
 use Rattle.std.specs.Map.{lookup}
 use Rattle.std.specs.BTreeMap.{is_at, insert_entry}
 use Rattle.std.specs.FinMap as map_of
-use Rattle.std.specs.FinMap.{FinMap, IsAntisymmetric, find, put, is_sorted, entries, from_entries, from_sorted, get-from_entries, get-insert, get-remove, get-from_sorted, same_map, entries-from_sorted, entries-insert, same_entries_map}
-use Rattle.std.specs.FinMap.Entries.{find-put, where_key, find-where_key, by_order}
-use Rattle.std.proofs.lemmas.List.{get_or-map, length-map}
+use Rattle.std.specs.FinMap.{FinMap, IsAntisymmetric, find, put, entries, from_entries, from_sorted, get-from_entries, get-insert, get-remove, get-from_sorted, same_map, entries-from_sorted, entries-insert, same_entries_map}
+use Rattle.std.specs.FinMap.Entries.{find-put, find-where_key, by_order}
+use Rattle.std.proofs.lemmas.List.{get_or-map}
 use Rattle.dir_names.specs.Sorted.{later, rises, place}
-use Rattle.dir_names.proofs.Placed.{so, both, keys_of, value_at, put_at, gone_at, is_sorted-keys, put-place, find-place, gone-place, rises-put_at, rises-gone_at}
+use Rattle.dir_names.proofs.Placed.{both, keys_of, value_at, put_at, gone_at, is_sorted-keys, put-place, find-place, gone-place, rises-put_at, rises-gone_at}
 
 module _ {K : Type 0} (R : K → K → Ordering) where
   head_first : (k : K) (ks : List K) → AllByRecursion (λ y. R k y ≡ Less) ks → T (list_all (λ x. is_lt (R k x)) ks)

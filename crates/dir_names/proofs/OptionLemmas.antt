@@ -1,5 +1,5 @@
 -- One option put into the set of those read so far.
-use Rattle.std.proofs.Common.{◌≡◌, ℕ, T, Bool, true, false, List, [], ◌∷◌, map, refl, ap, sym, subst, ◌∙◌}
+use Rattle.std.proofs.Common.{◌≡◌, ℕ, T, Bool, true, false, List, [], ◌∷◌, map, refl, ap, sym, ◌∙◌}
 use Rattle.std.specs.Prelude.{◌&&◌}
 use Rattle.std.specs.List.{list_all, fold}
 use Rattle.std.specs.Str.{str_to_ascii_lowercase}

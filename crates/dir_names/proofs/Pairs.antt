@@ -1,5 +1,5 @@
 -- A pair put into the key of an RDN, by its place.
-use Rattle.std.proofs.Common.{◌≡◌, ℕ, Bool, true, cond, T, List, map, length, Result, Ok, Err, is_some, refl, ap, sym, subst, ◌∙◌}
+use Rattle.std.proofs.Common.{◌≡◌, ℕ, Bool, true, cond, T, List, length, Result, Ok, Err, is_some, refl, ap, sym, subst, ◌∙◌}
 use Rattle.std.specs.List.{insert}
 use Rattle.std.specs.List.Sorted.{IsBinarySearchResult, IsSearchInRange}
 use Rattle.std.specs.FinMap.{find, put}

@@ -1,10 +1,9 @@
 -- A text cut at its first separator that no `\` escapes.
-use Rattle.std.proofs.Common.{◌≡◌, ℕ, ◌+◌, ◌<◌, ◌≤◌, Bool, true, false, cond, not, ◌&&◌, List, [], ◌∷◌, ◌++◌, take, drop, length, get_or, None, refl, sym, ap, ◌∙◌, append_assoc, arith}
+use Rattle.std.proofs.Common.{◌≡◌, ℕ, ◌+◌, ◌<◌, ◌≤◌, Bool, true, false, cond, not, ◌&&◌, List, [], ◌∷◌, ◌++◌, take, drop, length, get_or, None, refl, sym, ap, ◌∙◌, append_assoc}
 use Rattle.std.specs.Prelude.{◌==◌}
 use Rattle.std.specs.List.{onto_first}
 use Rattle.std.proofs.lemmas.List.{append-nil, drop_more, take_more, take_all}
 use Rattle.std.proofs.Math.ListN.{drop_of_length-le}
-use Rattle.std.proofs.Math.Seq.{take-length}
 use Rattle.dir_names.specs.Reading.{pieces, only_rdn}
 
 -- a text before the first piece
@@ -17,7 +16,7 @@ onto_more front b [] = refl
 onto_more front b (piece ∷ rest) = ap (λ p. p ∷ rest) (sym (append_assoc front (b ∷ []) piece))
 
 module _ (separator : ℕ) where
-  some_piece : (e : Bool) (text : List ℕ) → pieces separator e text ≡ onto [] (pieces separator e text)
+  pub some_piece : (e : Bool) (text : List ℕ) → pieces separator e text ≡ onto [] (pieces separator e text)
   some_piece e [] = refl
   some_piece e (b ∷ bs) =
       by (not e && (b == separator)) (pieces separator (not e && (b == 92)) bs)

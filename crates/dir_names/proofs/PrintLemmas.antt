@@ -1,9 +1,9 @@
 -- Printed texts, as they are written piece by piece.
-use Rattle.std.proofs.Common.{◌≡◌, ℕ, Bool, cond, List, [], ◌∷◌, ◌++◌, map, refl, sym, ap, ◌∙◌, append_assoc}
+use Rattle.std.proofs.Common.{◌≡◌, ℕ, cond, List, [], ◌∷◌, ◌++◌, map, refl, sym, ap, ◌∙◌, append_assoc}
 use Rattle.std.specs.Prelude.{◌==◌}
 use Rattle.std.specs.List.{flat_map, join_with_byte}
 use Rattle.std.proofs.lemmas.List.{append-nil}
-use Rattle.dir_names.specs.Printing.{escaped, shown, rest_printed, value_printed}
+use Rattle.dir_names.specs.Printing.{escaped, shown, rest_printed}
 
 pub joined-flat : {A : Type 0} (f : A → List ℕ) (separator : ℕ) (x : A) (xs : List A) → join_with_byte separator (map f (x ∷ xs)) ≡ f x ++ flat_map (λ y. separator ∷ f y) xs
 joined-flat f separator x [] = sym (append-nil (f x))

@@ -1,13 +1,13 @@
 -- A value read byte by byte: what was kept, the spaces that wait, and the rest.
 use Rattle.std.proofs.Common.{◌≡◌, ℕ, ◌<◌, ◌≤◌, ◌+◌, ◌*◌, Bool, true, false, cond, List, [], ◌∷◌, ◌++◌, take, drop, length, get_or, Option, Some, None, refl, sym, ap, subst, ◌∙◌, append_assoc, arith}
 use Rattle.std.specs.Option.{option_map}
-use Rattle.std.proofs.Math.Seq.{take-length, drop-length, take-append_seam, drop-append_seam}
-use Rattle.std.proofs.lemmas.List.{append-nil, take-append-drop, take-append-le, drop-append-le, length-append, drop_more}
+use Rattle.std.proofs.Math.Seq.{take-length, drop-length}
+use Rattle.std.proofs.lemmas.List.{take-append-drop, take-append-le, drop-append-le, length-append, drop_more}
 use Rattle.dir_names.specs.declared.reading.Place.{Place}
 use Rattle.dir_names.specs.declared.reading.Place.TheVariants.{Outside, Behind, Second}
 use Rattle.dir_names.specs.declared.reading.Step.{Step}
 use Rattle.dir_names.specs.declared.reading.Step.TheVariants.{Space, Byte, Inside, Refused}
-use Rattle.dir_names.specs.Reading.{is_hex, hex_of, is_escapable, step_of, with_space, added, at_end, value_from, has_digit, keeps_digit, is_outside}
+use Rattle.dir_names.specs.Reading.{is_hex, hex_of, is_escapable, step_of, with_space, added, value_from, has_digit, keeps_digit, is_outside}
 
 -- the value behind what was kept and the spaces that wait
 abbrev pub behind : List ℕ → List ℕ → Option (List ℕ) → Option (List ℕ)

@@ -1,5 +1,5 @@
 -- When a description covers another (RFC 4512, section 2.5.2.1, with all options taken as tagging options).
-use Rattle.std.specs.Prelude.{◌≡◌, ℕ, Bool, ◌&&◌, List, All, Contains}
+use Rattle.std.specs.Prelude.{◌≡◌, Bool, ◌&&◌, All, Contains}
 use Rattle.std.specs.List.{list_any, list_all}
 use Rattle.dir_names.specs.Attr.{Attr}
 use Rattle.dir_names.specs.Orders.{bytes_eq}

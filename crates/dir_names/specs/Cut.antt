@@ -1,5 +1,5 @@
 -- Texts cut at separators.
-use Rattle.std.specs.Prelude.{ℕ, Bool, cond, nat_lt, List, [], ◌==◌, length, Option, Some, None}
+use Rattle.std.specs.Prelude.{ℕ, cond, nat_lt, List, [], ◌==◌, length, Option, Some, None}
 use Rattle.std.specs.List.{slice_split, position_or_len, after_first}
 
 -- the parts of a text between separators

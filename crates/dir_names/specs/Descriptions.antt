@@ -1,5 +1,5 @@
 -- Attribute descriptions (RFC 4512, sections 1.4 and 2.5): a type, followed by options.
-use Rattle.std.specs.Prelude.{ℕ, Bool, true, false, cond, not, ◌&&◌, ◌||◌, ◌==◌, nat_le, List, [], ◌∷◌, map, length, codes, Result, Ok, Err}
+use Rattle.std.specs.Prelude.{ℕ, Bool, false, cond, not, ◌&&◌, ◌||◌, ◌==◌, nat_le, List, [], ◌∷◌, map, length, codes, Result, Ok, Err}
 use Rattle.std.specs.List.{list_all, list_any}
 use Rattle.std.specs.Str.{str_to_ascii_lowercase, str_eq_ignore_ascii_case}
 use Rattle.dir_names.specs.declared.fault.NameFault.{NameFault}
@@ -36,9 +36,9 @@ is_decimal (b ∷ bs) = (is_digit b && (not (b == 48) || length bs == 0)) && lis
 abbrev pub is_number : List ℕ → Bool
 is_number text = list_any (λ b. b == 46) text && list_all is_decimal (parts_at 46 text)
 
--- a type: its name or its number
+-- a type: its name or its number, of at most 512 bytes
 abbrev pub is_type : List ℕ → Bool
-is_type text = is_name text || is_number text
+is_type text = (is_name text || is_number text) && nat_le (length text) 512
 
 -- option: one or more keychars
 abbrev pub is_option : List ℕ → Bool

@@ -13,7 +13,9 @@ pub mod Printing
 pub mod Reading
 pub mod Rows
 pub mod Sorted
+pub mod Sound
 pub mod Spaces
+pub mod Spells
 pub mod Table
 pub mod ValueKeys
 pub mod Values

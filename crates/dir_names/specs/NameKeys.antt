@@ -1,5 +1,5 @@
 -- The key of a name: the keys of its RDNs, root first, each the set of its pairs of type key and value key.
-use Rattle.std.specs.Prelude.{ℕ, Bool, true, false, cond, not, ◌&&◌, List, [], ◌∷◌, reverse, Option, Some, None, option_map, Result, Ok, Err}
+use Rattle.std.specs.Prelude.{ℕ, Bool, true, cond, not, ◌&&◌, List, [], ◌∷◌, reverse, Option, Some, None, option_map, Result, Ok, Err}
 use Rattle.std.specs.List.{list_any}
 use Rattle.dir_names.specs.declared.fault.NameFault.{NameFault}
 use Rattle.dir_names.specs.declared.fault.NameFault.TheVariants.{BadValue}
@@ -12,7 +12,7 @@ use Rattle.dir_names.specs.Attr.{Attr}
 use Rattle.dir_names.specs.Keys.{RdnKeys, DnKeys}
 use Rattle.dir_names.specs.Names.{SpelledPair, SpelledRdn, SpelledName}
 use Rattle.dir_names.specs.Orders.{attr_eq, pair_cmp}
-use Rattle.dir_names.specs.Reading.{all_of, or_bad_dn, name_read}
+use Rattle.dir_names.specs.Reading.{all_of, name_read}
 use Rattle.dir_names.specs.Sorted.{set_of}
 use Rattle.dir_names.specs.Table.{type_key_of, rule_of}
 use Rattle.dir_names.specs.ValueKeys.{text_key_of}

@@ -1,5 +1,5 @@
 -- The name that a text spells, as it is computed: the text is cut at the separators before which no `\` stands, and each piece is read (RFC 4514, section 3, with spaces allowed around separators). `Spells` has the grammar in its own words.
-use Rattle.std.specs.Prelude.{ℕ, ◌+◌, ◌*◌, ◌-◌, Bool, true, false, cond, not, ◌&&◌, ◌||◌, ◌==◌, nat_le, nat_lt, List, [], ◌∷◌, ◌++◌, length, Option, Some, None, option_map, Result, Ok, Err}
+use Rattle.std.specs.Prelude.{ℕ, ◌+◌, ◌*◌, ◌-◌, Bool, true, false, cond, not, ◌&&◌, ◌||◌, ◌==◌, nat_le, nat_lt, List, [], ◌∷◌, length, Option, Some, None, option_map, Result, Ok, Err}
 use Rattle.std.specs.List.{onto_first, before_first, list_all}
 use Rattle.dir_names.specs.declared.fault.NameFault.{NameFault}
 use Rattle.dir_names.specs.declared.fault.NameFault.TheVariants.{BadDn, NameLimit}
@@ -82,14 +82,10 @@ abbrev pub pieces : ℕ → Bool → List ℕ → List (List ℕ)
 pieces separator escaped [] = [] ∷ []
 pieces separator escaped (b ∷ bs) = cond (not escaped && b == separator) ([] ∷ pieces separator false bs) (onto_first b (pieces separator (not escaped && b == 92) bs))
 
--- a type without options that isn't reserved, of at most 512 bytes
-abbrev pub is_named_type : List ℕ → Bool
-is_named_type kind = (is_type kind && not (is_reserved kind)) && nat_le (length kind) 512
-
 -- a type without spaces at its ends, and the value behind the `=`
 abbrev pub pair_from : List ℕ → Option (List ℕ) → Option SpelledPair
 pair_from kind None = None
-pair_from kind (Some value) = cond (is_named_type kind) (option_map (λ bytes. (kind, bytes)) (value_of (trimmed_front value))) None
+pair_from kind (Some value) = cond (is_type kind && not (is_reserved kind)) (option_map (λ bytes. (kind, bytes)) (value_of (trimmed_front value))) None
 
 abbrev pub pair_of : List ℕ → Option SpelledPair
 pair_of text = pair_from (trimmed_end (trimmed_front (before_first (λ b. b == 61) text))) (behind_first 61 text)

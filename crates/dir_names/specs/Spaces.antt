@@ -1,5 +1,5 @@
 -- Spaces of a text (RFC 4518, section 2.6.1, without its rule for values of spaces alone). A space is U+0020 alone.
-use Rattle.std.specs.Prelude.{ℕ, Bool, true, false, cond, not, ◌&&◌, ◌||◌, ◌==◌, List, [], ◌∷◌, length, filter}
+use Rattle.std.specs.Prelude.{ℕ, Bool, false, cond, not, ◌&&◌, ◌||◌, ◌==◌, List, [], ◌∷◌, length, filter}
 
 -- without its leading spaces
 abbrev pub trimmed_front : List ℕ → List ℕ

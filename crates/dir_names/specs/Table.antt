@@ -1,5 +1,5 @@
 -- What a table of attribute types says of a type.
-use Rattle.std.specs.Prelude.{ℕ, Bool, true, false, List, Option, Some, None, find}
+use Rattle.std.specs.Prelude.{ℕ, Bool, false, List, Option, Some, None, find}
 use Rattle.std.specs.List.{list_any}
 use Rattle.std.specs.Str.{str_to_ascii_lowercase, str_eq_ignore_ascii_case}
 use Rattle.dir_names.specs.declared.schema.Rule.{Rule}

@@ -1,9 +1,9 @@
 -- The order of the keys of values: texts by their bytes, then names, each with its laws as in `Orders`.
-use Rattle.std.specs.Prelude.{◌≡◌, ℕ, Bool, true, false, List, refl, Option, Some, None, Decides}
-use Rattle.std.proofs.Common.{sym, ap, ◌∙◌, true≢false}
+use Rattle.std.specs.Prelude.{◌≡◌, ℕ, Bool, false, List, refl, Option, Some, None, Decides}
+use Rattle.std.proofs.Common.{ap, true≢false}
 use Rattle.std.specs.declared.cmp.Ordering.{Ordering}
 use Rattle.std.specs.declared.cmp.Ordering.TheVariants.{Less, Equal, Greater}
-use Rattle.std.specs.Ordering.{eq_by_cmp, ordering_reverse, is_eq, is_lt, is_gt}
+use Rattle.std.specs.Ordering.{eq_by_cmp, ordering_reverse, is_lt, is_gt}
 use Rattle.std.specs.Cmp.{IsTotalOrder}
 use Rattle.std.specs.FinMap.{IsAntisymmetric}
 use Rattle.dir_names.specs.declared.value.ValueKey.{ValueKey}

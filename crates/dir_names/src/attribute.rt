@@ -1,22 +1,22 @@
-ghost use Rattle.std.specs.Prelude.{◌≡◌, ◌↔◌, IsTrue, Ok, Some, refl};
-ghost use Rattle.std.specs.Ordering.{as_partial_cmp};
 ghost use Rattle.std.specs.Cmp.{partial_order_from_agreeing_total};
-ghost use Rattle.dir_names.specs.Covers.{Covers, covers};
-ghost use Rattle.std.specs.Prelude.{◌==◌, [], ◌∷◌, ◌&&◌, not, map, length, option_copied, position};
-ghost use Rattle.std.specs.List.{before_first};
+ghost use Rattle.std.specs.List.{before_first, list_all, list_any};
+ghost use Rattle.std.specs.Ordering.{as_partial_cmp};
+ghost use Rattle.std.specs.Prelude.{◌≡◌, ◌↔◌, IsTrue, Ok, refl, ◌==◌, [], ◌∷◌, option_copied, position};
 ghost use Rattle.std.specs.Str.{str_to_ascii_lowercase};
+ghost use Rattle.dir_names.specs.Covers.{Covers, covers};
 ghost use Rattle.dir_names.specs.Cut.{behind_first, parts_at, parts_left};
+ghost use Rattle.dir_names.specs.Described.{described_eq, described_eq_laws, partial_described_eq_laws};
 ghost use Rattle.dir_names.specs.Descriptions.{is_digit, is_keychar, is_name, is_decimal, is_number, is_type, is_option, is_reserved, options_read, description_of};
-ghost use Rattle.dir_names.specs.Sorted.{rises, with_member};
-ghost use Rattle.std.specs.List.{list_all, list_any};
 ghost use Rattle.dir_names.specs.Orders.{bytes_cmp, bytes_eq, attr_cmp, attr_eq, attr_cmp_total, attr_cmp_ties, tied_equiv, tied_per};
 ghost use Rattle.dir_names.specs.Outcome.{Gives};
+ghost use Rattle.dir_names.specs.Sorted.{rises, with_member};
 
 use crate::limits::MAX_DESCRIPTION;
 use crate::{Bytes, NameFault, Schema, Texts};
 use std::alloc::Global;
 use std::cmp::Ordering;
 use std::marker::Model;
+use std::rc::Rc;
 
 /// What an attribute description means: the key of its type and the set of its options, in lower
 /// case (RFC 4512, section 2.5).
@@ -122,9 +122,14 @@ fn is_subset(some: &[Bytes], all: &[Bytes]) -> bool
     true
 }
 
-/// An attribute description as it was spelled, with its key.
-#[derive(PartialEq, Eq, Debug, Drop)]
+/// An attribute description as it was spelled, with its key. Copies share its memory.
+#[derive(Debug, Drop)]
 pub struct Description {
+    shared: Rc<Spelled>,
+}
+
+#[derive(Debug, Drop)]
+struct Spelled {
     spelling: Bytes,
     key: AttrKey,
 }
@@ -134,9 +139,7 @@ impl Model for Description {
 
     ghost Value = { Described };
 
-    ghost view = { λ d. record { spelling = d.spelling; key = d.key } };
-
-    ghost inverse = { λ d. record { spelling = d.spelling; key = d.key } };
+    ghost view = { λ d. record { spelling = d.shared.value.spelling; key = d.shared.value.key } };
 }
 
 impl Description {
@@ -148,6 +151,9 @@ impl Description {
     pub fn read(alloc: Global, schema: &Schema, text: &[u8]) -> Result<Description, NameFault>
         ensures { Gives (λ description. description) result (description_of schema.now text.now) }
     {
+        if let Some(ready) = schema.ready(text) {
+            return ready.try_clone(alloc);
+        }
         if text.len() > MAX_DESCRIPTION {
             return Err(NameFault::BadDescription);
         }
@@ -159,35 +165,50 @@ impl Description {
         if is_reserved(kind) {
             return Err(NameFault::ReservedName);
         }
+        let spelling = Bytes::copy_of(alloc, text)?;
+        let key = AttrKey {
+            kind: schema.type_key(alloc, kind)?,
+            options,
+        };
         Ok(Description {
-            spelling: Bytes::copy_of(alloc, text)?,
-            key: AttrKey {
-                kind: schema.type_key(alloc, kind)?,
-                options,
-            },
+            shared: Rc::new(alloc, Spelled { spelling, key })?,
         })
     }
 
     pub fn spelling(&self) -> &[u8]
         ensures { result.now ≡ self.now.spelling }
     {
-        self.spelling.as_slice()
+        self.shared.spelling.as_slice()
     }
 
     pub fn key(&self) -> &AttrKey
         ensures { result.now ≡ self.now.key }
     {
-        &self.key
+        &self.shared.key
     }
 
-    pub fn try_clone(&self, alloc: Global) -> Result<Description, NameFault>
+    /// The same description, in the same memory.
+    pub fn try_clone(&self, _alloc: Global) -> Result<Description, NameFault>
         ensures { Gives (λ description. description) result (Ok self.now) }
     {
         Ok(Description {
-            spelling: self.spelling.try_clone(alloc)?,
-            key: self.key.try_clone(alloc)?,
+            shared: self.shared.clone()?,
         })
     }
+}
+
+impl PartialEq for Description {
+    ghost eq = { described_eq };
+
+    ghost laws = { partial_described_eq_laws };
+
+    fn eq(&self, other: &Description) -> bool {
+        self.spelling() == other.spelling() && self.key() == other.key()
+    }
+}
+
+impl Eq for Description {
+    ghost laws = { described_eq_laws };
 }
 
 /// `option`: one or more letters, digits and hyphens (RFC 4512, section 2.5).
@@ -201,7 +222,7 @@ fn is_option(text: &[u8]) -> bool
 pub(crate) fn is_type(text: &[u8]) -> bool
     ensures { result ≡ is_type text.now }
 {
-    is_name(text) || is_number(text)
+    (is_name(text) || is_number(text)) && text.len() <= MAX_DESCRIPTION
 }
 
 /// `descr`: a letter followed by letters, digits and hyphens (RFC 4512, section 1.4).

@@ -1,6 +1,6 @@
 ghost use Rattle.std.specs.Prelude.{◌≡◌};
-ghost use Rattle.dir_names.specs.declared.fault.NameFault.TheVariants.{Memory};
 ghost use Rattle.dir_names.specs.Outcome.{as_bad_dn};
+ghost use Rattle.dir_names.specs.declared.fault.NameFault.TheVariants.{Memory};
 
 use std::alloc::{AllocError, AllocFailed};
 use thiserror::Error;

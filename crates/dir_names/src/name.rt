@@ -1,10 +1,13 @@
-ghost use Rattle.std.specs.Prelude.{◌≡◌, ◌∷◌, cond, length, nat_le, Ok, Err};
-ghost use Rattle.dir_names.specs.declared.fault.NameFault.TheVariants.{NameLimit};
-ghost use Rattle.dir_names.specs.Names.{name_eq, rdn_eq, name_eq_laws, rdn_eq_laws, partial_name_eq_laws, partial_rdn_eq_laws};
+ghost use Rattle.std.specs.Prelude.{◌≡◌, cond, length, nat_le, Ok, Err, Some, IsTrue, IsFalse, IfOk, IsErrOf};
 ghost use Rattle.dir_names.specs.NameKeys.{pair_key, rdn_key, name_key};
+ghost use Rattle.dir_names.specs.Names.{name_eq, rdn_eq, name_eq_laws, rdn_eq_laws, partial_name_eq_laws, partial_rdn_eq_laws, SpelledRdn, SpelledName};
 ghost use Rattle.dir_names.specs.Outcome.{Gives};
 ghost use Rattle.dir_names.specs.Printing.{rdn_printed, name_printed};
-ghost use Rattle.dir_names.specs.Reading.{or_bad_dn, name_read, rdn_read};
+ghost use Rattle.dir_names.specs.Reading.{or_bad_dn, only_rdn_of, name_of, name_read, rdn_read, is_small, is_within_limits};
+ghost use Rattle.dir_names.specs.Sound.{is_rdn, is_name};
+ghost use Rattle.dir_names.specs.Spells.{Spells, SpellsRdn};
+ghost use Rattle.dir_names.specs.ValueKeys.{is_ascii};
+ghost use Rattle.dir_names.specs.declared.fault.NameFault.TheVariants.{BadDn, NameLimit};
 
 use crate::attribute::AttrKey;
 use crate::fault::as_bad_dn;
@@ -29,6 +32,11 @@ impl Model for Rdn {
     ghost Value = { List (List ℕ × List ℕ) };
 
     ghost view = { λ rdn. rdn.pairs.items };
+
+    ghost use Rattle.std.specs.Prelude.{IsTrue};
+    ghost use Rattle.dir_names.specs.Sound.{is_rdn};
+
+    ghost invariant = { λ rdn. IsTrue (is_rdn rdn.pairs.items) };
 }
 
 impl Rdn {
@@ -38,14 +46,21 @@ impl Rdn {
     ///
     /// `BadDn` where the text is none, `NameLimit` where it prints to more than 4,096 bytes.
     pub fn read(alloc: Global, text: &[u8]) -> Result<Rdn, NameFault>
-        ensures { Gives (λ rdn. rdn) result (rdn_read text.now) }
+        ensures read { Gives (λ rdn. rdn) result (rdn_read text.now) }
+        ensures spelled { IfOk result (λ rdn. SpellsRdn text.now rdn × IsTrue (is_small rdn)) }
+        ensures exact { (rdn : SpelledRdn) → SpellsRdn text.now rdn → IsTrue (is_small rdn) → Gives (λ r. r) result (Ok rdn) }
+        ensures no_name { IsErrOf result BadDn → (rdn : SpelledRdn) → SpellsRdn text.now rdn → ⊥ }
+        ensures past_limits { IsErrOf result NameLimit → (rdn : SpelledRdn) × SpellsRdn text.now rdn × IsFalse (is_small rdn) }
     {
         read_one_rdn(alloc, text)
     }
 
     /// The text of the RDN, in ASCII (RFC 4514, section 2).
     pub fn print(&self, alloc: Global) -> Result<Vec<u8>, NameFault>
-        ensures { Gives (λ text. text.items) result (Ok (rdn_printed self.now)) }
+        ensures text { Gives (λ text. text.items) result (Ok (rdn_printed self.now)) }
+        ensures ascii { IsTrue (is_ascii (rdn_printed self.now)) }
+        ensures back { only_rdn_of (rdn_printed self.now) ≡ Some self.now }
+        ensures spells { SpellsRdn (rdn_printed self.now) self.now }
     {
         let mut out = Vec::new(alloc);
         print_rdn(self, &mut out)?;
@@ -70,7 +85,8 @@ impl Rdn {
 
     /// The pairs of type and value, as spelled.
     pub fn pairs(&self) -> &[(Bytes, Bytes)]
-        ensures { result.now ≡ self.now }
+        ensures value { result.now ≡ self.now }
+        ensures sound { IsTrue (is_rdn self.now) }
     {
         self.pairs.as_slice()
     }
@@ -86,6 +102,7 @@ impl Rdn {
     }
 
     pub(crate) fn from_pairs(pairs: Vec<(Bytes, Bytes)>) -> Rdn
+        requires { IsTrue (is_rdn pairs.items) }
         ensures { result ≡ pairs.items }
     {
         Rdn { pairs }
@@ -134,6 +151,11 @@ impl Model for Dn {
     ghost Value = { List (List (List ℕ × List ℕ)) };
 
     ghost view = { λ name. name.rdns.items };
+
+    ghost use Rattle.std.specs.Prelude.{IsTrue};
+    ghost use Rattle.dir_names.specs.Sound.{is_name};
+
+    ghost invariant = { λ name. IsTrue (is_name name.rdns.items) };
 }
 
 impl Dn {
@@ -144,21 +166,32 @@ impl Dn {
     /// `BadDn` where the text is no name; then `NameLimit` where it has more than 64 RDNs or one that
     /// prints to more than 4,096 bytes.
     pub fn read(alloc: Global, text: &[u8]) -> Result<Dn, NameFault>
-        ensures { Gives (λ name. name) result (name_read text.now) }
+        ensures read { Gives (λ name. name) result (name_read text.now) }
+        ensures spelled { IfOk result (λ name. Spells text.now name × IsTrue (is_within_limits name)) }
+        ensures exact { (name : SpelledName) → Spells text.now name → IsTrue (is_within_limits name) → Gives (λ n. n) result (Ok name) }
+        ensures no_name { IsErrOf result BadDn → (name : SpelledName) → Spells text.now name → ⊥ }
+        ensures past_limits { IsErrOf result NameLimit → (name : SpelledName) × Spells text.now name × IsFalse (is_within_limits name) }
     {
         read_name(alloc, text)
     }
 
     /// The same as `read`, for stored values.
     pub fn read_text(alloc: Global, text: &[u8]) -> Result<Dn, NameFault>
-        ensures { Gives (λ name. name) result (name_read text.now) }
+        ensures read { Gives (λ name. name) result (name_read text.now) }
+        ensures spelled { IfOk result (λ name. Spells text.now name × IsTrue (is_within_limits name)) }
+        ensures exact { (name : SpelledName) → Spells text.now name → IsTrue (is_within_limits name) → Gives (λ n. n) result (Ok name) }
+        ensures no_name { IsErrOf result BadDn → (name : SpelledName) → Spells text.now name → ⊥ }
+        ensures past_limits { IsErrOf result NameLimit → (name : SpelledName) × Spells text.now name × IsFalse (is_within_limits name) }
     {
         Dn::read(alloc, text)
     }
 
     /// The text of the name, in ASCII (RFC 4514, section 2).
     pub fn print(&self, alloc: Global) -> Result<Vec<u8>, NameFault>
-        ensures { Gives (λ text. text.items) result (Ok (name_printed self.now)) }
+        ensures text { Gives (λ text. text.items) result (Ok (name_printed self.now)) }
+        ensures ascii { IsTrue (is_ascii (name_printed self.now)) }
+        ensures back { name_of (name_printed self.now) ≡ Some self.now }
+        ensures spells { Spells (name_printed self.now) self.now }
     {
         let mut out = Vec::new(alloc);
         print_name(self.rdns.as_slice(), &mut out)?;
@@ -184,7 +217,8 @@ impl Dn {
 
     /// The RDNs, leaf first.
     pub fn rdns(&self) -> &[Rdn]
-        ensures { result.now ≡ self.now }
+        ensures value { result.now ≡ self.now }
+        ensures sound { IsTrue (is_name self.now) }
     {
         self.rdns.as_slice()
     }
@@ -206,6 +240,10 @@ impl Dn {
     {
         if rdns.len() > MAX_RDNS {
             return Err(NameFault::NameLimit);
+        }
+        // Each RDN is opened once, so that the proof sees it to be sound.
+        for rdn in rdns.as_slice() {
+            let _pairs = &rdn.pairs;
         }
         Ok(Dn { rdns })
     }

@@ -1,6 +1,7 @@
-ghost use Rattle.std.specs.Prelude.{◌≡◌, ◌<◌, ◌++◌, Ok, cond, flat_map};
+ghost use Rattle.std.specs.Prelude.{◌≡◌, ◌<◌, ◌++◌, Ok, cond, flat_map, IsTrue};
 ghost use Rattle.dir_names.specs.Outcome.{Gives};
 ghost use Rattle.dir_names.specs.Printing.{upper_digit, escaped, is_refused_sign, is_special, shown, rest_printed, value_printed, pair_printed, rdn_printed, name_printed};
+ghost use Rattle.dir_names.specs.Sound.{is_rdn};
 
 use crate::{Bytes, NameFault, Rdn};
 
@@ -21,7 +22,8 @@ pub(crate) fn print_name(rdns: &[Rdn], out: &mut Vec<u8>) -> Result<(), NameFaul
 
 /// Appends the pairs, joined by plus signs.
 pub(crate) fn print_rdn(rdn: &Rdn, out: &mut Vec<u8>) -> Result<(), NameFault>
-    ensures { Gives (λ _. out.new.items) result (Ok (out.old.items ++ rdn_printed rdn.now)) }
+    ensures text { Gives (λ _. out.new.items) result (Ok (out.old.items ++ rdn_printed rdn.now)) }
+    ensures sound { IsTrue (is_rdn rdn.now) }
 {
     let Some((first, rest)) = rdn.pairs().split_first() else {
         return Ok(());

@@ -1,12 +1,10 @@
-ghost use Rattle.std.specs.Prelude.{◌≡◌, ◌<◌, ◌∷◌, Ok, Some, None, false, cond, not, ◌&&◌, ◌==◌, IsTrue, IfSome, option_copied, length};
 ghost use Rattle.std.specs.List.{list_all};
+ghost use Rattle.std.specs.Prelude.{◌≡◌, ◌<◌, ◌∷◌, Ok, Some, None, false, cond, not, ◌&&◌, ◌==◌, IsTrue, IfSome, option_copied, length};
 ghost use Rattle.dir_names.specs.Outcome.{Gives};
-ghost use Rattle.dir_names.specs.Printing.{is_refused_sign};
-ghost use Rattle.dir_names.specs.Reading.{is_hex, hex_of, is_refused, is_escapable, is_outside, has_digit, keeps_digit, step_of, all_of, begins_with_hash, value_of, pieces, pieces_left, is_named_type, pair_of, rdn_of, name_of, only_rdn_of, is_small, or_bad_dn, limited, name_read, rdn_read};
-ghost use Rattle.dir_names.specs.Spaces.{trimmed_front};
+ghost use Rattle.dir_names.specs.Reading.{is_hex, hex_of, is_refused, is_escapable, is_outside, has_digit, keeps_digit, step_of, all_of, begins_with_hash, value_of, pieces, pieces_left, pair_of, rdn_of, name_of, is_small, or_bad_dn, limited, name_read, rdn_read};
 
 use crate::attribute::{cut, is_reserved, is_type};
-use crate::limits::{MAX_DESCRIPTION, MAX_RDN_TEXT};
+use crate::limits::MAX_RDN_TEXT;
 use crate::printing::{is_refused_sign, print_rdn};
 use crate::spaces::{trimmed_end, trimmed_front};
 use crate::{Bytes, Dn, NameFault, Rdn};
@@ -131,18 +129,11 @@ fn read_pair(alloc: Global, text: &[u8]) -> Result<(Bytes, Bytes), NameFault>
         return Err(NameFault::BadDn);
     };
     let kind = trimmed_end(trimmed_front(before));
-    if !is_named_type(kind) {
+    if !is_type(kind) || is_reserved(kind) {
         return Err(NameFault::BadDn);
     }
     let value = read_value(alloc, trimmed_front(behind))?;
     Ok((Bytes::copy_of(alloc, kind)?, Bytes::new(value)))
-}
-
-/// Whether a text may stand as the type of a pair: a type without options that isn't reserved.
-fn is_named_type(kind: &[u8]) -> bool
-    ensures { result ≡ is_named_type kind.now }
-{
-    is_type(kind) && !is_reserved(kind) && kind.len() <= MAX_DESCRIPTION
 }
 
 /// Where a value is being read.

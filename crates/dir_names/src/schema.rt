@@ -1,4 +1,5 @@
-ghost use Rattle.std.specs.Prelude.{◌≡◌, ◌∷◌, Ok, find, map, option_copied};
+ghost use Rattle.std.specs.Prelude.{◌≡◌, ◌∷◌, All, IfErr, IfOk, IfSome, Ok, find, map, option_copied};
+ghost use Rattle.dir_names.specs.Descriptions.{description_of};
 ghost use Rattle.dir_names.specs.Rows.{type_row};
 ghost use Rattle.std.specs.List.{list_any};
 ghost use Rattle.std.specs.Str.{str_eq_ignore_ascii_case};
@@ -6,8 +7,8 @@ ghost use Rattle.dir_names.specs.Orders.{bytes_eq};
 ghost use Rattle.dir_names.specs.Outcome.{Gives};
 
 use crate::attribute::lower;
-use crate::table::{ROWS, Row};
-use crate::{AttrKey, Bytes, NameFault, Texts};
+use crate::table::{FREQUENT, ROWS, Row};
+use crate::{AttrKey, Bytes, Description, NameFault, Texts};
 use std::alloc::Global;
 use std::marker::Model;
 
@@ -47,6 +48,8 @@ pub struct TypeRow {
 #[derive(Debug, Drop)]
 pub struct Schema {
     rows: Vec<TypeRow>,
+    /// Descriptions that need not be read again, each behind its text, in the order of the texts.
+    ready: Vec<(Bytes, Description)>,
 }
 
 impl Model for Schema {
@@ -56,6 +59,11 @@ impl Model for Schema {
     ghost Value = { List TypeRow };
 
     ghost view = { λ schema. schema.rows.items };
+
+    ghost use Rattle.std.specs.Prelude.{◌≡◌, All, Ok};
+    ghost use Rattle.dir_names.specs.Descriptions.{description_of};
+
+    ghost invariant = { λ schema. All (λ p. description_of schema.rows.items p.0 ≡ Ok p.1) schema.ready.items };
 }
 
 impl Schema {
@@ -66,9 +74,28 @@ impl Schema {
     pub fn builtin(alloc: Global) -> Result<Schema, NameFault>
         ensures { Gives (λ schema. schema) result (Ok builtin_rows) }
     {
-        Ok(Schema {
+        let bare = Schema {
             rows: type_rows(alloc, &ROWS)?,
-        })
+            ready: Vec::new(alloc),
+        };
+        let ready = frequent_descriptions(alloc, &bare)?;
+        let Schema { rows, ready: _ } = bare;
+        Ok(Schema { rows, ready })
+    }
+
+    /// The description of a text, where it need not be read again.
+    pub(crate) fn ready(&self, text: &[u8]) -> Option<&Description>
+        ensures { IfSome result (λ d. description_of self.now text.now ≡ Ok d.now) }
+    {
+        let Ok(at) = self.ready.binary_search_by(|p| p.0.as_slice().cmp(text)) else {
+            return None;
+        };
+        let found = &self.ready[at];
+        if found.0.as_slice() == text {
+            Some(&found.1)
+        } else {
+            None
+        }
     }
 
     /// The rule by which values of this type are compared.
@@ -101,6 +128,26 @@ impl Schema {
             None => lower(alloc, kind),
         }
     }
+}
+
+/// The descriptions that copies have most, each behind its text.
+fn frequent_descriptions(
+    alloc: Global,
+    schema: &Schema,
+) -> Result<Vec<(Bytes, Description)>, NameFault>
+    ensures ready { IfOk result (λ ready. All (λ p. description_of schema.now p.0 ≡ Ok p.1) ready.items) }
+    ensures memory { IfErr result (λ e. e ≡ NameFault.Memory) }
+{
+    let mut ready = Vec::with_capacity(alloc, FREQUENT.len())?;
+    for name in &FREQUENT {
+        let text = Bytes::copy_of(alloc, name.as_bytes())?;
+        match Description::read(alloc, schema, text.as_slice()) {
+            Ok(description) => ready.push((text, description))?,
+            Err(NameFault::Memory) => return Err(NameFault::Memory),
+            Err(_) => {}
+        }
+    }
+    Ok(ready)
 }
 
 fn type_rows(alloc: Global, rows: &[Row]) -> Result<Vec<TypeRow>, NameFault>

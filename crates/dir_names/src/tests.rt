@@ -201,3 +201,119 @@ fn limits_of_names_are_exact(rt: HostRuntime) -> Result<(), Fail> {
     }
     Ok(())
 }
+
+/// Vectors of Unicode's CaseFolding and of UAX 15, written as escapes.
+#[test]
+fn values_are_folded_and_normalised(rt: HostRuntime) -> Result<(), Fail> {
+    let alloc = rt.alloc();
+    let schema = Schema::builtin(alloc)?;
+    let rows: [(&str, &str); 14] = [
+        ("\u{1e9e}", "ss"),
+        ("\u{130}", "i\u{307}"),
+        ("\u{fb03}", "ffi"),
+        ("\u{fb05}", "st"),
+        ("\u{ff35}\u{ff34}\u{ff26}", "utf"),
+        ("\u{3a3}\u{391}\u{3c2}", "\u{3c3}\u{3b1}\u{3c3}"),
+        ("\u{390}", "\u{390}"),
+        ("E\u{301}", "\u{e9}"),
+        ("\u{212b}", "\u{e5}"),
+        ("\u{212a}", "k"),
+        ("\u{2102}", "C"),
+        ("\u{1d2c}", "A"),
+        ("\u{a0}x\u{a0}", "x"),
+        ("\u{2461}", "2"),
+    ];
+    for (value, want) in rows {
+        key_text(
+            &rt,
+            alloc,
+            &schema,
+            "cn",
+            value.as_bytes(),
+            Some(want.as_bytes()),
+        );
+    }
+    Ok(())
+}
+
+#[test]
+fn options_are_a_set_in_lower_case(rt: HostRuntime) -> Result<(), Fail> {
+    let alloc = rt.alloc();
+    let schema = Schema::builtin(alloc)?;
+    let one = described(alloc, &schema, "cn;x-b;x-a;X-B")?;
+    let other = described(alloc, &schema, "CN;X-A;x-b")?;
+    assert!(rt; one.key() == other.key());
+    assert_eq!(rt;
+        described(alloc, &schema, "control;x-a").err(),
+        Some(NameFault::ReservedName)
+    );
+    assert_eq!(rt;
+        described(alloc, &schema, "control;x_a").err(),
+        Some(NameFault::BadDescription)
+    );
+    for text in ["1.2", "0.0.1", "x-y-", "a1"] {
+        assert!(rt; described(alloc, &schema, text).is_ok(), "{text}");
+    }
+    for text in ["1", "1.02", "1..2", ".1", "1.", "-a", "a b", ""] {
+        assert_eq!(rt;
+            described(alloc, &schema, text).err(),
+            Some(NameFault::BadDescription),
+            "{text}"
+        );
+    }
+    Ok(())
+}
+
+#[test]
+fn escapes_and_spaces_are_read(rt: HostRuntime) -> Result<(), Fail> {
+    let alloc = rt.alloc();
+    let rows: [(&str, &str); 7] = [
+        ("cn=\\2c\\2C", "cn=\\2C\\2C"),
+        ("cn = a\\  ", "cn=a\\20"),
+        ("cn=a  b", "cn=a  b"),
+        ("cn=\\  a", "cn=\\20 a"),
+        (" cn = a + sn = b , dc = c ", "cn=a+sn=b,dc=c"),
+        ("cn=", "cn="),
+        ("2.5.4.3=a=b", "2.5.4.3=a=b"),
+    ];
+    for (text, want) in rows {
+        let printed = Dn::read(alloc, text.as_bytes())?.print(alloc)?;
+        assert_eq!(rt; printed.as_slice(), want.as_bytes(), "{text}");
+    }
+    for text in [
+        "cn=a\\",
+        "cn=\\2",
+        "cn=\\2g",
+        "cn=\\a",
+        "cn=a,,cn=b",
+        "cn=a+",
+        "control=a",
+        "oid.1.2=a",
+        "1=a",
+    ] {
+        assert_eq!(rt;
+            Dn::read(alloc, text.as_bytes()).err(),
+            Some(NameFault::BadDn),
+            "{text}"
+        );
+    }
+    Ok(())
+}
+
+#[test]
+fn a_name_past_a_limit_is_first_a_name(rt: HostRuntime) -> Result<(), Fail> {
+    let alloc = rt.alloc();
+    for (count, end, want) in [
+        (64, "", None),
+        (65, "", Some(NameFault::NameLimit)),
+        (65, ",cn", Some(NameFault::BadDn)),
+    ] {
+        let mut text = b"cn=a".to_vec(alloc)?;
+        for _ in 1..count {
+            text.extend_from_slice(b",dc=b")?;
+        }
+        text.extend_from_slice(end.as_bytes())?;
+        assert_eq!(rt; Dn::read(alloc, text.as_slice()).err(), want);
+    }
+    Ok(())
+}

@@ -1,13 +1,13 @@
-ghost use Rattle.std.specs.Prelude.{◌≡◌, ◌&&◌, nat_lt, Ok, Some, refl, option_copied};
-ghost use Rattle.std.specs.List.{list_all};
-ghost use Rattle.std.specs.Str.{str_to_ascii_lowercase};
-ghost use Rattle.dir_names.specs.Spaces.{tidied, without_spaces_and_hyphens};
-ghost use Rattle.dir_names.specs.ValueKeys.{folded, is_ascii, is_positive, is_integer, is_object_id, is_text, key_if, text_key_of};
-ghost use Rattle.std.specs.Ordering.{as_partial_cmp};
 ghost use Rattle.std.specs.Cmp.{partial_order_from_agreeing_total};
-ghost use Rattle.dir_names.specs.Values.{value_key_cmp, value_key_eq, value_key_cmp_total, value_key_cmp_ties, text_of, name_of_key};
+ghost use Rattle.std.specs.List.{list_all};
+ghost use Rattle.std.specs.Ordering.{as_partial_cmp};
+ghost use Rattle.std.specs.Prelude.{◌≡◌, ◌&&◌, nat_lt, Ok, refl, option_copied};
+ghost use Rattle.std.specs.Str.{str_to_ascii_lowercase};
 ghost use Rattle.dir_names.specs.Orders.{tied_equiv, tied_per};
 ghost use Rattle.dir_names.specs.Outcome.{Gives};
+ghost use Rattle.dir_names.specs.Spaces.{tidied, without_spaces_and_hyphens};
+ghost use Rattle.dir_names.specs.ValueKeys.{folded, is_ascii, is_positive, is_integer, is_object_id, is_text, key_if, text_key_of};
+ghost use Rattle.dir_names.specs.Values.{value_key_cmp, value_key_eq, value_key_cmp_total, value_key_cmp_ties, text_of, name_of_key};
 
 use crate::attribute::{are_digits, lower};
 use crate::folding::{folded, is_ascii, lowered};

@@ -1,12 +1,15 @@
+ghost use Rattle.std.specs.Prelude.{◌≡◌, None};
+ghost use Rattle.dir_tree.specs.Dir.{entry_at};
+
 use crate::canonical::canonical_text;
 use crate::write::write_text;
 use crate::{Cause, Input, Output, ToolFault};
 use dir_change::{Refusal, ResultCode};
 use dir_ldif::{Record, RecordFault, RecordReader, Sink, Source, StreamFault};
 use dir_names::{Dn, DnKey, Lines, Schema};
-use dir_tree::{Directory, Entry, own_rdns};
+use dir_tree::{Directory, Entry, may_stand, own_rdns};
 use std::alloc::Global;
-use std::collections::BTreeMap;
+use std::collections::{BTreeMap, BTreeSet};
 
 /// Reads a copy of a directory into `empty`, whose map is empty. All records are content records, in
 /// any order; each entry is completed by the values of its own RDN.
@@ -74,8 +77,6 @@ fn refused(line: u64, code: ResultCode) -> ToolFault {
 struct Loading<D: Directory + Drop> {
     directory: D,
     waiting: BTreeMap<DnKey, Waiting>,
-    /// The parent of the entry that was put in last.
-    parent: Option<DnKey>,
 }
 
 /// An entry that came before its parent, and its line.
@@ -90,7 +91,6 @@ impl<D: Directory + Drop> Loading<D> {
         Loading {
             directory,
             waiting: BTreeMap::new(alloc),
-            parent: None,
         }
     }
 
@@ -137,69 +137,80 @@ impl<D: Directory + Drop> Loading<D> {
                 });
             }
         };
-        if is_suffix || self.has_parent(alloc, &key)? {
-            return self.put(&key, entry);
+        if let Some(entry) = put(alloc, &mut self.directory, &key, entry)? {
+            self.waiting.insert(key, Waiting { line, entry })?;
         }
-        self.waiting.insert(key, Waiting { line, entry })?;
         Ok(())
     }
 
-    /// Whether the entry's parent was put in. The parent of the entry before it is looked at first.
-    fn has_parent(&mut self, alloc: Global, key: &DnKey) -> Result<bool, ToolFault> {
-        if let Some(parent) = &self.parent {
-            if parent.is_parent_of(key) {
-                return Ok(true);
-            }
-        }
-        let Some(parent) = key.parent(alloc)? else {
-            return Ok(false);
-        };
-        let is_there = self.directory.get(&parent).is_some();
-        if is_there {
-            self.parent = Some(parent);
-        }
-        Ok(is_there)
-    }
-
-    fn put(&mut self, key: &DnKey, entry: Entry) -> Result<(), ToolFault> {
-        match self.directory.insert(key, entry) {
-            Ok(()) => Ok(()),
-            Err(_) => Err(ToolFault::Memory),
-        }
-    }
-
-    /// The whole directory, once no parent is missing.
+    /// The whole directory, once each entry that waited has found its parent. Parents come before what
+    /// is below them in the order of keys.
     fn finish(self, alloc: Global) -> Result<D, ToolFault> {
-        if let Some(line) = self.first_orphan(alloc)? {
-            return Err(refused(line, ResultCode::NoSuchObject));
-        }
         let Loading {
             mut directory,
             waiting,
-            parent: _,
         } = self;
+        let mut orphans = Orphans::new(alloc);
         for (key, waiting) in waiting {
-            let Waiting { line: _, entry } = waiting;
-            if directory.insert(&key, entry).is_err() {
-                return Err(ToolFault::Memory);
+            let Waiting { line, entry } = waiting;
+            if directory.get(&key).is_some() {
+                return Err(refused(line, ResultCode::EntryAlreadyExists));
+            }
+            if put(alloc, &mut directory, &key, entry)?.is_some() {
+                orphans.add(alloc, key, line)?;
             }
         }
-        Ok(directory)
+        match orphans.first {
+            Some(line) => Err(refused(line, ResultCode::NoSuchObject)),
+            None => Ok(directory),
+        }
+    }
+}
+
+/// Puts an entry at a free key. It comes back where its parent isn't there.
+fn put<D: Directory>(
+    alloc: Global,
+    directory: &mut D,
+    key: &DnKey,
+    entry: Entry,
+) -> Result<Option<Entry>, ToolFault>
+    requires { entry_at (D.state directory.old) key.now ≡ None }
+{
+    if !may_stand(alloc, directory, key)? {
+        return Ok(Some(entry));
+    }
+    match directory.insert(key, entry) {
+        Ok(()) => Ok(None),
+        Err(_) => Err(ToolFault::Memory),
+    }
+}
+
+/// The entries of a copy that have no parent in it, and those below them.
+#[derive(Drop)]
+struct Orphans {
+    keys: BTreeSet<DnKey>,
+    /// The line of the first record in the text whose parent stands nowhere.
+    first: Option<u64>,
+}
+
+impl Orphans {
+    fn new(alloc: Global) -> Orphans {
+        Orphans {
+            keys: BTreeSet::new(alloc),
+            first: None,
+        }
     }
 
-    /// The line of the first record in the text whose parent stood nowhere.
-    fn first_orphan(&self, alloc: Global) -> Result<Option<u64>, ToolFault> {
-        let mut first = None;
-        for (key, waiting) in &self.waiting {
-            let has_parent = match key.parent(alloc)? {
-                Some(parent) => self.directory.get(&parent).is_some()
-                    || self.waiting.contains_key(&parent),
-                None => false,
-            };
-            if !has_parent && first.is_none_or(|line| waiting.line < line) {
-                first = Some(waiting.line);
-            }
+    /// Adds an entry that found no parent, in the order of keys.
+    fn add(&mut self, alloc: Global, key: DnKey, line: u64) -> Result<(), ToolFault> {
+        let is_below = match key.parent(alloc)? {
+            Some(parent) => self.keys.contains(&parent),
+            None => false,
+        };
+        if !is_below && self.first.is_none_or(|first| line < first) {
+            self.first = Some(line);
         }
-        Ok(first)
+        self.keys.insert(key)?;
+        Ok(())
     }
 }

@@ -147,8 +147,9 @@ impl AttributeMap {
         match place_of(self.items.as_slice(), description.key()) {
             Ok(at) => self.items[at].add(key, bytes),
             Err(at) => {
-                let mut values = ValueMap::empty(alloc);
-                values.insert(key, bytes)?;
+                let Ok(values) = ValueMap::one(alloc, key, bytes) else {
+                    return Err(EntryFault::Memory);
+                };
                 self.items.insert(
                     at,
                     Attribute {

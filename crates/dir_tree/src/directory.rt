@@ -1,8 +1,9 @@
-ghost use Rattle.std.specs.Prelude.{◌≡◌, ◌↔◌, IfErr, IsSome, IsTrue, None, OnErr, OnOk, Some, option_copied};
+ghost use Rattle.std.specs.Prelude.{◌≡◌, ◌↔◌, IfErr, IfOk, IsSome, IsTrue, None, OnErr, OnOk, Some, option_copied};
 ghost use Rattle.dir_tree.specs.Dir.{Dir, HasChild, IsClosed, entry_at, has_parent, put_entry, without};
 
 use crate::Entry;
-use dir_names::{Dn, DnKey, Memory};
+use dir_names::{Dn, DnKey, Memory, NameFault};
+use std::alloc::Global;
 
 /// A directory: a suffix, and a map from the keys of names to entries. Each entry but the suffix's
 /// has its parent in the map.
@@ -56,4 +57,21 @@ pub trait Directory {
     ///
     /// Want of memory alone.
     fn walk(&self) -> Result<Vec<(Dn, &Entry)>, Memory>;
+}
+
+/// Whether a key may take an entry: it is the suffix, or its parent is in the map.
+///
+/// # Errors
+///
+/// Want of memory alone.
+pub fn may_stand<D: Directory>(alloc: Global, directory: &D, key: &DnKey) -> Result<bool, NameFault>
+    ensures { IfOk result (λ b. b ≡ has_parent (D.state directory.now) key.now) }
+{
+    if key == directory.suffix() {
+        return Ok(true);
+    }
+    match key.parent(alloc)? {
+        Some(parent) => Ok(directory.get(&parent).is_some()),
+        None => Ok(false),
+    }
 }

@@ -10,7 +10,7 @@ mod lines;
 mod values;
 
 pub use attributes::{Attribute, AttributeMap, Attributes};
-pub use directory::Directory;
+pub use directory::{Directory, may_stand};
 pub use entry::{Entry, own_rdns};
 pub use fault::EntryFault;
 pub use flat::FlatDirectory;

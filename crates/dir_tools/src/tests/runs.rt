@@ -181,7 +181,7 @@ fn a_copy_may_have_children_before_their_parents(rt: HostRuntime) -> Result<(), 
 #[test]
 fn a_fault_that_ends_the_run_is_named_and_nothing_is_written(rt: HostRuntime) -> Result<(), Fail> {
     let alloc = rt.alloc();
-    let rows: [(&str, &[u8], &[u8], &str); 10] = [
+    let rows: [(&str, &[u8], &[u8], &str); 11] = [
         ("", COM, b"", "bad question: suffix"),
         ("cn", COM, b"", "bad question: suffix"),
         (
@@ -189,6 +189,12 @@ fn a_fault_that_ends_the_run_is_named_and_nothing_is_written(rt: HostRuntime) ->
             b"dn: cn=a,dc=com\n",
             b"",
             "copy, line 1: 32 noSuchObject",
+        ),
+        (
+            "dc=com",
+            b"dn: cn=b,cn=a,dc=com\n\ndn: cn=a,dc=com\n",
+            b"",
+            "copy, line 3: 32 noSuchObject",
         ),
         (
             "dc=com",

@@ -1,6 +1,5 @@
-use Rattle.std.proofs.Common.{◌≡◌, ◌+◌, Some, drop, take, length, ap, sym, ◌∙◌, arith, rules}
+use Rattle.std.proofs.Common.{arith, rules}
 use Rattle.std.proofs.lemmas.Grind.{common_steps}
-use Rattle.dir_names.specs.Cut.{parts_at}
 use Rattle.dir_names.proofs.CutLemmas.{parts_found, parts_none}
 use Rattle.dir_names.proofs.attribute.cut.Goals as goal
 

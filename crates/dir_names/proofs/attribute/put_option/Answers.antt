@@ -1,4 +1,4 @@
-use Rattle.std.proofs.Common.{◌≡◌, ap, sym, subst, ◌∙◌, Ok, Err, rules}
+use Rattle.std.proofs.Common.{◌≡◌, ap, sym, subst, ◌∙◌, Ok, rules}
 use Rattle.std.specs.List.Sorted.{IsBinarySearchResult}
 use Rattle.dir_names.specs.Sorted.{place}
 use Rattle.dir_names.specs.Orders.{bytes_cmp, bytes_cmp_total}

@@ -1,4 +1,4 @@
-use Rattle.std.proofs.Common.{◌≡◌, ℕ, List, Ok, Result, Vec, Global, subst, sym, ap, ◌∙◌, rules}
+use Rattle.std.proofs.Common.{ℕ, List, Ok, Result, Vec, Global, subst, sym, ap, ◌∙◌}
 use Rattle.dir_names.specs.declared.fault.NameFault.{NameFault}
 use Rattle.dir_names.specs.Outcome.{Gives}
 use Rattle.dir_names.specs.ValueKeys.{folded}

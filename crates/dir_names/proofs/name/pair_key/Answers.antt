@@ -1,7 +1,6 @@
 use Rattle.std.proofs.Common.{◌≡◌, ℕ, List, Ok, Result, ap, sym, subst, ◌∙◌, rules}
 use Rattle.dir_names.specs.declared.fault.NameFault.{NameFault}
-use Rattle.dir_names.specs.declared.schema.Rule.{Rule}
-use Rattle.dir_names.specs.NameKeys.{attr_of, pair_key}
+use Rattle.dir_names.specs.NameKeys.{attr_of}
 use Rattle.dir_names.specs.Outcome.{Fails}
 use Rattle.dir_names.specs.Table.{rule_of}
 use Rattle.dir_names.specs.ValueKeys.{text_key_of}

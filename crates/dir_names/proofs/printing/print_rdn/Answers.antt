@@ -5,8 +5,8 @@ use Rattle.dir_names.specs.Printing.{pair_printed, rdn_printed}
 use Rattle.dir_names.proofs.PrintLemmas.{written}
 use Rattle.dir_names.proofs.printing.print_rdn.Goals as goal
 
-pub returns : goal.returns
-returns c =
+pub returns-clause-text : goal.returns-clause-text
+returns-clause-text c =
     let old = c.args.out.now.items in
     let parted : c.args.rdn.now ≡ c.in-Some.first.now ∷ c.in-Some.rest.now = search rules in
     let first : c.print_pair.new.out.items ≡ old ++ pair_printed c.in-Some.first.now = search rules in

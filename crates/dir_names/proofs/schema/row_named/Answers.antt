@@ -1,4 +1,4 @@
-use Rattle.std.proofs.Common.{◌≡◌, Bool, true, false, arith, rules}
+use Rattle.std.proofs.Common.{◌≡◌, true, false, arith, rules}
 use Rattle.std.specs.List.{list_any}
 use Rattle.std.specs.Str.{str_eq_ignore_ascii_case}
 use Rattle.dir_names.specs.declared.schema.TypeRow.{TypeRow}

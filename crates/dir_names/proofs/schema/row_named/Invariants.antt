@@ -1,7 +1,6 @@
 use Rattle.std.proofs.Common.{◌≡◌, drop}
 use Rattle.std.specs.List.{list_any, find}
 use Rattle.std.specs.Str.{str_eq_ignore_ascii_case}
-use Rattle.dir_names.specs.declared.schema.TypeRow.{TypeRow}
 use Rattle.dir_names.proofs.schema.row_named.Given as goal
 
 abbrev pub invariant-loop-row : goal.invariant-loop-row

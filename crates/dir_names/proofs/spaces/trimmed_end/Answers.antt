@@ -1,4 +1,4 @@
-use Rattle.std.proofs.Common.{◌≡◌, ◌-◌, take, ap, sym, ◌∙◌, arith}
+use Rattle.std.proofs.Common.{◌≡◌, take, ap, sym, ◌∙◌, arith}
 use Rattle.dir_names.specs.Spaces.{trimmed_end}
 use Rattle.dir_names.proofs.Tidy.{end_falls, end_stays}
 use Rattle.dir_names.proofs.spaces.trimmed_end.Goals as goal

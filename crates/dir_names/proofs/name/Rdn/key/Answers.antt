@@ -1,6 +1,5 @@
-use Rattle.std.proofs.Common.{◌≡◌, ◌+◌, [], ◌∷◌, drop, Ok, ap, sym, ◌∙◌, arith, rules}
+use Rattle.std.proofs.Common.{◌+◌, drop, sym, ◌∙◌, arith}
 use Rattle.std.proofs.lemmas.Result.{err_from_is_err_and}
-use Rattle.dir_names.specs.Keys.{with_pair}
 use Rattle.dir_names.specs.NameKeys.{pair_key, rdn_key}
 use Rattle.dir_names.proofs.AllLemmas.{ok_some, fails_through}
 use Rattle.dir_names.proofs.KeyLemmas.{key_from, key_none, key_more, key_twice, key_fails, key_at, twice_through}

@@ -17,6 +17,6 @@ invariant_of-self c =
 pub invariant_of-self-in-Err : goal.invariant_of-self-in-Err
 invariant_of-self-in-Err c =
     let at : c.place_of.result ≡ place attr_cmp c.key.result.now (keys_in attr_cmp_total attribute_pair c.self.inside.items.items) = subst (λ xs. c.place_of.result ≡ place attr_cmp c.key.result.now (keys_in attr_cmp_total attribute_pair xs)) c.as_slice.ensures.value c.place_of.ensures.place in
-    let new : Keyed = record { key = c.args.description.key; stored = record { spelling = c.args.description.spelling; values = c.insert.new.self } } in
+    let new : Keyed = record { key = c.args.description.key; stored = record { spelling = c.args.description.spelling; values = c.in-Ok-one.values } } in
     let kept = still_rises attr_cmp_total attribute_pair c.self.inside.items.items c.self.invariant c.key.result.now c.place_of.result at c.in-Err.at c.in-Err.is new (sym c.key.ensures) in
     search rules
