@@ -50,7 +50,7 @@ lines_read ((c ∷ cs) ∷ lines) rest n g a =
       ap (λ t. joined (numbered n (cut is_lf t))) (append_assoc (folded (c ∷ cs)) (flat_map folded lines) rest) ∙ here.1 ∙ ap (λ t. (n, c ∷ cs) ∷ t) later.3,
     )
 
-glue-empty : (n : ℕ) (rest : List Line) → glue (n, []) rest ≡ (n, []) ∷ rest
+pub glue-empty : (n : ℕ) (rest : List Line) → glue (n, []) rest ≡ (n, []) ∷ rest
 glue-empty n [] = refl
 glue-empty n (r ∷ rs) = refl
 
@@ -58,7 +58,7 @@ abbrev pub block_text : List (List ℕ) → List ℕ
 block_text lines = flat_map folded lines ++ 10 ∷ []
 
 -- a block and its empty line
-block_reads : (lines : List (List ℕ)) (rest : List ℕ) (n : ℕ) → AllGood lines
+pub block_reads : (lines : List (List ℕ)) (rest : List ℕ) (n : ℕ) → AllGood lines
     → (block : List Line) × (m : ℕ) × (texts block ≡ lines) × (joined (numbered n (cut is_lf (block_text lines ++ rest))) ≡ block ++ (m, []) ∷ joined (numbered (m + 1) (cut is_lf rest)))
 block_reads lines rest n g =
     let r = lines_read lines (10 ∷ rest) n g refl in (
@@ -83,14 +83,14 @@ good_some [] g = absurd g
 good_some (c ∷ cs) g = refl
 
 -- a block that has begun, and the empty line behind it
-block_parts : (block held : List Line) (n : ℕ) (rest : List Line) → AllGood (texts block) → parts_from true held (block ++ (n, []) ∷ rest) ≡ give (held ++ block) (parts_from true [] rest)
+pub block_parts : (block held : List Line) (n : ℕ) (rest : List Line) → AllGood (texts block) → parts_from true held (block ++ (n, []) ∷ rest) ≡ give (held ++ block) (parts_from true [] rest)
 block_parts [] held n rest g = ap (λ t. give t (parts_from true [] rest)) (sym (append-nil held))
 block_parts (line ∷ lines) held n rest g =
     rw (good_short line.0 line.1 g.0, good_kept line.0 line.1 g.0, good_some line.1 g.0)
     (block_parts lines (held ++ line ∷ []) n rest g.1 ∙ ap (λ t. give t (parts_from true [] rest)) (append_assoc held (line ∷ []) lines))
 
 -- the same where it begins the text
-first_parts : (line : Line) (lines : List Line) (n : ℕ) (rest : List Line) → AllGood (texts (line ∷ lines)) → version_of line.1 ≡ Absent
+pub first_parts : (line : Line) (lines : List Line) (n : ℕ) (rest : List Line) → AllGood (texts (line ∷ lines)) → version_of line.1 ≡ Absent
     → parts_from false [] ((line ∷ lines) ++ (n, []) ∷ rest) ≡ Ok (line ∷ lines) ∷ parts_from true [] rest
 first_parts line lines n rest g v =
     rw (good_short line.0 line.1 g.0, good_kept line.0 line.1 g.0, good_some line.1 g.0, v) (block_parts lines (line ∷ []) n rest g.1)
@@ -100,7 +100,7 @@ abbrev pub AllBlocks : List (List (List ℕ)) → Type 0
 AllBlocks [] = ⊤
 AllBlocks (lines ∷ others) = AllGood lines × (is_empty lines ≡ false) × AllBlocks others
 
-give-some : (block : List Line) (lines : List (List ℕ)) (rest : List Part) → texts block ≡ lines → is_empty lines ≡ false → give block rest ≡ Ok block ∷ rest
+pub give-some : (block : List Line) (lines : List (List ℕ)) (rest : List Part) → texts block ≡ lines → is_empty lines ≡ false → give block rest ≡ Ok block ∷ rest
 give-some [] lines rest e some = let none : [] ≡ lines = e in let never : true ≡ false = ap is_empty none ∙ some in cc
 give-some (line ∷ block) lines rest e some = refl
 

@@ -24,16 +24,16 @@ use Rattle.dir_ldif.specs.Block.{named, all_of, legal_dn, legal_rdn, dn_line, va
 use Rattle.dir_ldif.specs.Legal.{has_key, rdn_has_key, has_this_key, is_read_under, is_short, is_legal_line, is_legal_mod, superior_has_key, is_legal_kind, is_legal, is_legal_record}
 use Rattle.dir_ldif.proofs.BytesLemmas.{true_or_false}
 
-after : {A B E : Type 0} (r : Result A E) (next : A → Result B E) (P : B → Type 0) → ((x : A) → r ≡ Ok x → IfOk (next x) P) → IfOk (then_of r next) P
+pub after : {A B E : Type 0} (r : Result A E) (next : A → Result B E) (P : B → Type 0) → ((x : A) → r ≡ Ok x → IfOk (next x) P) → IfOk (then_of r next) P
 after (Ok x) next P h = h x refl
 after (Err e) next P h = tt
 
 -- a fact of the value, where there is one
-known : {A E : Type 0} (r : Result A E) (P : A → Type 0) (x : A) → IfOk r P → r ≡ Ok x → P x
+pub known : {A E : Type 0} (r : Result A E) (P : A → Type 0) (x : A) → IfOk r P → r ≡ Ok x → P x
 known (Ok y) P x h e = let same : y ≡ x = cc in subst P same h
 known (Err f) P x h e = cc
 
-chosen : {B E : Type 0} (v : Bool) (r q : Result B E) (P : B → Type 0) → (v ≡ true → IfOk r P) → (v ≡ false → IfOk q P) → IfOk (cond v r q) P
+pub chosen : {B E : Type 0} (v : Bool) (r q : Result B E) (P : B → Type 0) → (v ≡ true → IfOk r P) → (v ≡ false → IfOk q P) → IfOk (cond v r q) P
 chosen true r q P g h = g refl
 chosen false r q P g h = h refl
 
@@ -84,7 +84,7 @@ from-spelling rows text (kind ∷ options) =
     chosen (is_type kind && list_all is_option options) _ _ (λ (d : Described). d.spelling ≡ text)
     (λ _. chosen (is_reserved kind) _ _ (λ (d : Described). d.spelling ≡ text) (λ _. tt) (λ _. refl)) (λ _. tt)
 
-description_of-spelling : (rows : List TypeRow) (text : List ℕ) → IfOk (description_of rows text) (λ d. d.spelling ≡ text)
+pub description_of-spelling : (rows : List TypeRow) (text : List ℕ) → IfOk (description_of rows text) (λ d. d.spelling ≡ text)
 description_of-spelling rows text =
     chosen (nat_le (length text) 512) _ _ (λ (d : Described). d.spelling ≡ text) (λ _. from-spelling rows text (parts_at 59 text)) (λ _. tt)
 

@@ -9,8 +9,11 @@ pub mod LinesLemmas
 pub mod NextLemmas
 pub mod PartLemmas
 pub mod ReadingLemmas
+pub mod RecordReads
 pub mod RecordsLemmas
+pub mod RoundTrip
 pub mod SettledLemmas
+pub mod SpelledLemmas
 pub mod StopsLemmas
 pub mod TextLemmas
 pub mod WholeLemmas

@@ -19,11 +19,11 @@ use Rattle.dir_ldif.proofs.FoldedLemmas.{or_first, or_second, line_reads}
 use Rattle.dir_ldif.specs.Lines.{cut, is_lf, numbered, joined}
 use Rattle.dir_ldif.specs.Laws.{is_refused_in_name, WrittenLineReadsBack}
 
-and_first : (v w : Bool) → (v && w) ≡ true → v ≡ true
+pub and_first : (v w : Bool) → (v && w) ≡ true → v ≡ true
 and_first true w e = refl
 and_first false w e = cc
 
-and_second : (v w : Bool) → (v && w) ≡ true → w ≡ true
+pub and_second : (v w : Bool) → (v && w) ≡ true → w ≡ true
 and_second true w e = e
 and_second false w e = cc
 
@@ -38,7 +38,7 @@ all_at [] i e = refl
 all_at (x ∷ xs) zero e = and_first (is_symbol x) (list_all is_symbol xs) e
 all_at (x ∷ xs) (suc i) e = all_at xs i (and_second (is_symbol x) (list_all is_symbol xs) e)
 
-both : (v w : Bool) → v ≡ true → w ≡ true → (v && w) ≡ true
+pub both : (v w : Bool) → v ≡ true → w ≡ true → (v && w) ≡ true
 both v w p q = rw (p, q) refl
 
 not_so : (v : Bool) → not v ≡ true → v ≡ false
@@ -135,7 +135,7 @@ value_of-tail (b ∷ bs) bytes =
 abbrev is_colon : ℕ → Bool
 is_colon b = eqb b 58
 
-cut_at-name : (name rest : List ℕ) → list_any is_colon name ≡ false → cut_at 58 (name ++ 58 ∷ rest) ≡ Some (name, rest)
+pub cut_at-name : (name rest : List ℕ) → list_any is_colon name ≡ false → cut_at 58 (name ++ 58 ∷ rest) ≡ Some (name, rest)
 cut_at-name [] rest e = refl
 cut_at-name (x ∷ xs) rest e =
     let here : eqb x 58 ≡ false = or_first (eqb x 58) (list_any is_colon xs) e in
@@ -171,13 +171,13 @@ line-clean name value e = list_any-append is_end name (written value) ∙ rw (e,
 
 -- ---- the law
 
-name-colon : (xs : List ℕ) → list_any is_refused_in_name xs ≡ false → list_any is_colon xs ≡ false
+pub name-colon : (xs : List ℕ) → list_any is_refused_in_name xs ≡ false → list_any is_colon xs ≡ false
 name-colon [] e = refl
 name-colon (x ∷ xs) e =
     let here : eqb x 58 ≡ false = or_first (eqb x 58) (is_end x) (or_first (is_refused_in_name x) (list_any is_refused_in_name xs) e) in
     rw (here, name-colon xs (or_second (is_refused_in_name x) (list_any is_refused_in_name xs) e)) refl
 
-name-end : (xs : List ℕ) → list_any is_refused_in_name xs ≡ false → list_any is_end xs ≡ false
+pub name-end : (xs : List ℕ) → list_any is_refused_in_name xs ≡ false → list_any is_end xs ≡ false
 name-end [] e = refl
 name-end (x ∷ xs) e =
     let here : is_end x ≡ false = or_second (eqb x 58) (is_end x) (or_first (is_refused_in_name x) (list_any is_refused_in_name xs) e) in
