@@ -77,7 +77,7 @@ type_all kind e =
     ⊎_elim
     (λ (yes : is_name kind ≡ true). letters_all kind (name_all kind yes))
     (λ (other : is_name kind ≡ false).
-    let number : is_number kind ≡ true = rw other at e in
+    let number : is_number kind ≡ true = rw other at (and_first (is_name kind || is_number kind) (nat_le (length kind) 512) e) in
     split_all (λ b. eqb b 46) is_keychar kind (decimals_all (parts_at 46 kind) (and_second (list_any (λ b. eqb b 46) kind) (list_all is_decimal (parts_at 46 kind)) number)))
     (true_or_false (is_name kind))
 
