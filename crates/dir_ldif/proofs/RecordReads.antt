@@ -1,6 +1,6 @@
 -- The lines of a record read back as the record.
-use Rattle.std.proofs.Common.{◌≡◌, ℕ, zero, suc, ◌+◌, ◌<◌, ◌≤◌, Bool, true, false, not, ◌&&◌, ◌||◌, eqb, List, [], ◌∷◌, ◌++◌, length, map, codes, refl, sym, ap, subst, ◌∙◌, append_assoc, Option, None, Some, is_some, Result, Ok, Err, arith}
-use Rattle.std.specs.Prelude.{slice_index, nat_le, nat_lt, if◌then◌else◌}
+use Rattle.std.proofs.Common.{◌≡◌, ℕ, zero, suc, ◌<◌, ◌≤◌, Bool, true, false, ◌&&◌, eqb, List, [], ◌∷◌, ◌++◌, length, map, codes, refl, ap, ◌∙◌, append_assoc, Option, None, Some, is_some, Result, Ok, Err, arith}
+use Rattle.std.specs.Prelude.{nat_lt, if◌then◌else◌}
 use Rattle.std.specs.Str.{bytes_eq}
 use Rattle.std.specs.List.{list_any, list_all, flat_map}
 use Rattle.std.proofs.lemmas.Bool.Decides.{nat_tests}
@@ -13,8 +13,7 @@ use Rattle.dir_names.specs.Names.{SpelledName, SpelledRdn}
 use Rattle.dir_names.specs.NameKeys.{name_key, rdn_key}
 use Rattle.dir_names.specs.Orders.{attr_eq, attr_eq_decides}
 use Rattle.dir_names.specs.Printing.{name_printed, rdn_printed}
-use Rattle.dir_names.specs.Reading.{name_read, rdn_read, or_bad_dn}
-use Rattle.dir_ldif.specs.declared.faults.RecordFault.{RecordFault}
+use Rattle.dir_names.specs.Reading.{or_bad_dn}
 use Rattle.dir_ldif.specs.declared.faults.RecordFault.TheVariants.{Control}
 use Rattle.dir_ldif.specs.declared.records.Record.{Record}
 use Rattle.dir_ldif.specs.declared.records.Record.TheVariants as form
@@ -27,7 +26,7 @@ use Rattle.dir_ldif.specs.Bytes.{is_empty}
 use Rattle.dir_ldif.specs.Lines.{Line, cut}
 use Rattle.dir_ldif.specs.Outcome.{then_of}
 use Rattle.dir_ldif.specs.Part.{part_of}
-use Rattle.dir_ldif.specs.Block.{named, all_of, is_word, legal_dn, legal_rdn, dn_line, value_line, value_lines, is_dash, op_of, head_of, mod_head, mod_value, mod_of, mods_of, rename_line, flag_of, superior_of, rename_behind_rdn, rename_of, change_of, content_of, body_of, record_of}
+use Rattle.dir_ldif.specs.Block.{named, all_of, is_word, legal_dn, legal_rdn, dn_line, value_line, value_lines, is_dash, op_of, mod_head, mod_value, mod_of, mods_of, flag_of, superior_of, rename_of, change_of, content_of, body_of, record_of}
 use Rattle.dir_ldif.specs.Legal.{has_key, rdn_has_key, has_this_key, is_read_under, is_short, is_legal_line, is_legal_mod, superior_has_key, is_legal_kind, is_legal_record}
 use Rattle.dir_ldif.specs.Laws.{is_refused_in_name, NameIsSound, RdnIsSound, ValuesAreBytes, AllBytes, ModsAreBytes, SuperiorIsSound, KindIsSound, PartsAreSound}
 use Rattle.dir_ldif.specs.RecordText.{op_word, change_word, flag_text}

@@ -1,9 +1,7 @@
 -- The texts of legal records read back as the records.
-use Rattle.std.proofs.Common.{◌≡◌, ℕ, zero, suc, ◌+◌, ◌*◌, ◌/◌, ◌%◌, ◌<◌, ◌≤◌, Bool, true, false, not, ◌&&◌, eqb, List, [], ◌∷◌, ◌++◌, length, map, replicate, codes, refl, sym, ap, subst, ⊎_elim, ◌∙◌, append_assoc, append-nil, length-append, Option, None, Some, Result, Ok, Err, arith}
-use Rattle.std.specs.Bool.{⊤}
+use Rattle.std.proofs.Common.{◌≡◌, ℕ, zero, suc, ◌+◌, ◌≤◌, Bool, true, false, eqb, List, [], ◌∷◌, ◌++◌, length, map, replicate, codes, refl, sym, ap, subst, ⊎_elim, ◌∙◌, append_assoc, append-nil, length-append, Option, None, Some, Ok, arith}
 use Rattle.std.specs.Prelude.{if◌then◌else◌}
 use Rattle.std.specs.List.{list_any, list_all, flat_map}
-use Rattle.std.proofs.lemmas.Bool.Decides.{nat_tests}
 use Rattle.std.proofs.lemmas.Grind.{flat_map-append}
 use Rattle.std.proofs.lemmas.List.Folds.{flat_map-map}
 use Rattle.base64.specs.Engines.{standard}
@@ -20,21 +18,21 @@ use Rattle.dir_ldif.specs.declared.records.ChangeKind.TheVariants as kind
 use Rattle.dir_ldif.specs.declared.records.Mod.{Mod}
 use Rattle.dir_ldif.specs.declared.records.ModOp.{ModOp}
 use Rattle.dir_ldif.specs.declared.records.ModOp.TheVariants as op
-use Rattle.dir_ldif.specs.declared.version.Version.TheVariants.{Absent, One, Other}
+use Rattle.dir_ldif.specs.declared.version.Version.TheVariants.{Absent}
 use Rattle.dir_ldif.specs.Bytes.{is_empty, cut_at}
-use Rattle.dir_ldif.specs.Legal.{has_key, rdn_has_key, is_read_under, is_short, is_legal_line, is_legal_mod, superior_has_key, is_legal_kind, is_legal_record}
+use Rattle.dir_ldif.specs.Legal.{has_key, is_read_under, is_short, is_legal_line, is_legal_mod, is_legal_kind, is_legal_record}
 use Rattle.dir_ldif.specs.Lines.{Line, cut, is_lf, numbered, glue, joined}
-use Rattle.dir_ldif.specs.Parts.{Part, parts_from, parts_of, version_of, version_of_cut}
-use Rattle.dir_ldif.specs.Records.{Answer, answers_on, records_of}
-use Rattle.dir_ldif.specs.RecordText.{op_word, mod_text, change_word, flag_text, superior_text, kind_text, value_text, record_text_of}
+use Rattle.dir_ldif.specs.Parts.{parts_from, parts_of, version_of, version_of_cut}
+use Rattle.dir_ldif.specs.Records.{answers_on, records_of}
+use Rattle.dir_ldif.specs.RecordText.{op_word, mod_text, change_word, flag_text, superior_text, kind_text, record_text_of}
 use Rattle.dir_ldif.specs.Text.{fold_from, folded, is_plain, base64_of, written, line_of, written_line}
 use Rattle.dir_ldif.specs.Laws.{is_refused_in_name, NameIsSound, SuperiorIsSound, KindIsSound, PartsAreSound, AllAreSound, without_line, records_text, RecordsReadBack}
 use Rattle.dir_ldif.proofs.BytesLemmas.{true_or_false}
 use Rattle.dir_ldif.proofs.BlocksRead.{Good, AllGood, AllBlocks, texts, block_text, blocks_text, block_reads, blocks_read, first_parts, glue-empty}
-use Rattle.dir_ldif.proofs.RecordReads.{described_back, refused-none, within, op_some, value_line_of, mod_value_lines, mod_front, mod_lines, superior_lines, kind_lines, record_lines, record_of-back}
+use Rattle.dir_ldif.proofs.RecordReads.{described_back, refused-none, within, value_line_of, mod_value_lines, mod_front, mod_lines, superior_lines, kind_lines, record_lines, record_of-back}
 use Rattle.dir_ldif.proofs.SoundNames.{name_short, rdn_short}
 use Rattle.dir_ldif.proofs.SpelledLemmas.{IsSpelling, is_spelled, spelled-allowed, spelling_of}
-use Rattle.dir_ldif.proofs.WrittenLemmas.{and_first, and_second, cut_at-name, name-end, line-clean, written-tail, tail_of}
+use Rattle.dir_ldif.proofs.WrittenLemmas.{and_first, and_second, name-end, line-clean, written-tail}
 
 -- ---- the text of a record is that of its lines
 

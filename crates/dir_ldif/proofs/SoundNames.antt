@@ -1,12 +1,12 @@
 -- Names that are sound and within the limits print to texts that read back.
-use Rattle.std.proofs.Common.{◌≡◌, ℕ, zero, suc, ◌+◌, ◌*◌, ◌<◌, ◌≤◌, Bool, true, ◌&&◌, List, [], ◌∷◌, ◌++◌, length, length-append, Ok, arith}
+use Rattle.std.proofs.Common.{◌≡◌, ℕ, zero, suc, ◌*◌, ◌≤◌, true, List, [], ◌∷◌, length, length-append, Ok, arith}
 use Rattle.std.specs.Prelude.{nat_le, nat_lt}
 use Rattle.std.specs.List.{list_all}
 use Rattle.std.proofs.lemmas.Bool.Decides.{nat_tests}
 use Rattle.base64.specs.GeneralPurpose.{IsBytes}
 use Rattle.dir_names.specs.Names.{SpelledName, SpelledRdn}
 use Rattle.dir_names.specs.Printing.{name_printed, rdn_printed}
-use Rattle.dir_names.specs.Reading.{is_small, is_within_limits, name_read, rdn_read}
+use Rattle.dir_names.specs.Reading.{is_small, name_read, rdn_read}
 use Rattle.dir_names.specs.ValueKeys.{is_ascii}
 use Rattle.dir_names.proofs.ReadNames.{name_ascii, rdn_ascii, name_read_back, rdn_read_back}
 use Rattle.dir_ldif.specs.Laws.{NameIsSound, RdnIsSound}
