@@ -1,5 +1,5 @@
 -- Lemmas on lists of lines.
-use Rattle.std.proofs.Common.{◌≡◌, ℕ, zero, suc, ◌+◌, ◌-◌, ◌<◌, ◌≤◌, Bool, true, false, List, [], ◌∷◌, ◌++◌, length, get_or, take, drop, refl, sym, ap, subst, ⊎_elim, ◌∙◌, append_assoc, append-nil, add-one, drop-cons, codes, Result, Ok, Err, arith}
+use Rattle.std.proofs.Common.{◌≡◌, ℕ, suc, ◌+◌, ◌-◌, ◌<◌, ◌≤◌, Bool, true, false, List, [], ◌∷◌, ◌++◌, length, get_or, take, drop, refl, sym, ap, subst, ⊎_elim, ◌∙◌, append_assoc, drop-cons, codes, Result, Ok, Err, arith}
 use Rattle.std.specs.List.{list_any, onto_first}
 use Rattle.std.proofs.lemmas.List.{take-append-drop, take_rest, take_all}
 use Rattle.std.proofs.Math.Seq.{drop-length}

@@ -1,9 +1,9 @@
 -- The written lines of records read back as their blocks.
-use Rattle.std.proofs.Common.{◌≡◌, ℕ, ◌+◌, ◌<◌, ◌≤◌, Bool, true, false, not, ◌&&◌, eqb, List, [], ◌∷◌, ◌++◌, length, map, refl, sym, ap, subst, ◌∙◌, append_assoc, append-nil, Ok, nat_lt, arith}
+use Rattle.std.proofs.Common.{◌≡◌, ℕ, ◌+◌, ◌≤◌, true, false, not, eqb, List, [], ◌∷◌, ◌++◌, length, map, refl, sym, ap, subst, ◌∙◌, append_assoc, append-nil, Ok, arith}
 use Rattle.std.specs.Bool.{⊤}
 use Rattle.std.specs.List.{list_any, flat_map}
 use Rattle.std.proofs.lemmas.Bool.Decides.{nat_tests}
-use Rattle.dir_ldif.specs.declared.version.Version.TheVariants.{Absent, One, Other}
+use Rattle.dir_ldif.specs.declared.version.Version.TheVariants.{Absent}
 use Rattle.dir_ldif.specs.Bytes.{is_empty, begins_with, without_last}
 use Rattle.dir_ldif.specs.Clean.{is_end}
 use Rattle.dir_ldif.specs.Lines.{Line, cut, is_lf, numbered, glue, joined, is_comment, is_long}

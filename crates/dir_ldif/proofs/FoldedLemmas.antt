@@ -1,11 +1,10 @@
 -- A written line reads back.
-use Rattle.std.proofs.Common.{◌≡◌, ℕ, zero, suc, ◌+◌, ◌<◌, ◌≤◌, Bool, true, false, not, ◌||◌, eqb, List, [], ◌∷◌, ◌++◌, length, refl, sym, ap, subst, ⊎_elim, ◌∙◌, append_assoc, append-nil, arith}
-use Rattle.std.specs.List.{list_any, onto_first}
-use Rattle.dir_ldif.specs.Bytes.{is_empty, begins_with, without_last}
-use Rattle.dir_ldif.specs.Lines.{Line, cut, is_lf, numbered, glue, joined}
+use Rattle.std.proofs.Common.{◌≡◌, ℕ, zero, suc, ◌+◌, Bool, true, false, not, ◌||◌, eqb, List, [], ◌∷◌, ◌++◌, refl, sym, ap, ◌∙◌, append_assoc, append-nil}
+use Rattle.std.specs.List.{list_any}
+use Rattle.dir_ldif.specs.Bytes.{begins_with, without_last}
+use Rattle.dir_ldif.specs.Lines.{cut, is_lf, numbered, glue, joined}
 use Rattle.dir_ldif.specs.Text.{fold_from, folded}
 use Rattle.dir_ldif.specs.Clean.{is_end}
-use Rattle.dir_ldif.proofs.BytesLemmas.{true_or_false}
 use Rattle.dir_ldif.proofs.LinesLemmas.{glue-continued, joined-apart}
 
 -- ---- tests

@@ -1,11 +1,11 @@
 -- Lemmas on what a joiner has still to give.
-use Rattle.std.proofs.Common.{◌≡◌, ℕ, ◌+◌, Bool, true, false, eqb, ◌≤◌, List, [], ◌∷◌, ◌++◌, length, refl, sym, ap, subst, ◌∙◌, Option, None, Some, Result, Ok, Err, MatchOption, if◌then◌else◌, append_assoc, length-append, arith}
+use Rattle.std.proofs.Common.{◌≡◌, ℕ, ◌+◌, Bool, true, false, eqb, ◌≤◌, List, [], ◌∷◌, ◌++◌, length, refl, sym, ap, subst, ◌∙◌, Option, None, Some, Result, Ok, MatchOption, append_assoc, length-append, arith}
 use Rattle.std.specs.List.{list_any}
 use Rattle.dir_ldif.specs.declared.faults.StreamFault.{StreamFault}
 use Rattle.dir_ldif.specs.declared.lines.Joiner.{Joiner}
 use Rattle.dir_ldif.specs.Bytes.{is_empty, without_last, cut_at}
-use Rattle.dir_ldif.specs.Lines.{Line, cut, is_lf, numbered, joined}
-use Rattle.dir_ldif.specs.Parts.{Part, give, parts_from, Ends}
+use Rattle.dir_ldif.specs.Lines.{Line, cut, is_lf, numbered}
+use Rattle.dir_ldif.specs.Parts.{give, parts_from, Ends}
 use Rattle.dir_ldif.specs.Joining.{behind, parts_before, parts_behind_block, to_come, Joins}
 use Rattle.dir_ldif.proofs.BytesLemmas.{cut_at-text}
 use Rattle.dir_ldif.proofs.LinesLemmas.{line_first, line_alone}

@@ -1,5 +1,5 @@
 -- The record of a block is legal.
-use Rattle.std.proofs.Common.{◌≡◌, ℕ, Bool, true, false, cond, ◌&&◌, List, [], ◌∷◌, length, codes, refl, sym, ap, subst, ⊎_elim, ◌∙◌, Option, None, Some, is_some, Result, Ok, Err, IfOk, arith, nat_le, nat_lt, eqb}
+use Rattle.std.proofs.Common.{◌≡◌, ℕ, Bool, true, false, cond, ◌&&◌, List, [], ◌∷◌, length, codes, refl, ap, subst, ◌∙◌, Option, None, Some, is_some, Result, Ok, Err, IfOk, arith, nat_le, nat_lt}
 use Rattle.std.specs.List.{list_all}
 use Rattle.std.proofs.lemmas.Bool.Decides.{nat_tests}
 use Rattle.dir_names.specs.declared.fault.NameFault.{NameFault}
@@ -14,15 +14,13 @@ use Rattle.dir_names.specs.Reading.{name_read, rdn_read, or_bad_dn}
 use Rattle.dir_ldif.specs.declared.faults.RecordFault.{RecordFault}
 use Rattle.dir_ldif.specs.declared.records.Record.{Record}
 use Rattle.dir_ldif.specs.declared.records.ChangeKind.{ChangeKind}
-use Rattle.dir_ldif.specs.declared.records.Mod.{Mod}
 use Rattle.dir_ldif.specs.declared.records.ModOp.{ModOp}
 use Rattle.dir_ldif.specs.Bytes.{cut_at}
 use Rattle.dir_ldif.specs.Lines.{Line, cut}
 use Rattle.dir_ldif.specs.Outcome.{then_of}
 use Rattle.dir_ldif.specs.Part.{value_of, limited, part_of_cut, part_of_parts, part_of}
 use Rattle.dir_ldif.specs.Block.{named, all_of, legal_dn, legal_rdn, dn_line, value_line, value_lines, is_dash, is_word, op_of, head_of, mod_head, mod_value, mod_of, mods_of, rename_line, flag_of, no_further, superior_of, rename_behind_rdn, rename_of, deletion_of, change_of, content_of, body_of, record_of}
-use Rattle.dir_ldif.specs.Legal.{has_key, rdn_has_key, has_this_key, is_read_under, is_short, is_legal_line, is_legal_mod, superior_has_key, is_legal_kind, is_legal, is_legal_record}
-use Rattle.dir_ldif.proofs.BytesLemmas.{true_or_false}
+use Rattle.dir_ldif.specs.Legal.{has_key, rdn_has_key, has_this_key, is_read_under, is_short, is_legal_line, is_legal_mod, superior_has_key, is_legal_kind, is_legal_record}
 
 pub after : {A B E : Type 0} (r : Result A E) (next : A → Result B E) (P : B → Type 0) → ((x : A) → r ≡ Ok x → IfOk (next x) P) → IfOk (then_of r next) P
 after (Ok x) next P h = h x refl

@@ -1,5 +1,5 @@
 -- Lemmas on the lines of a text that comes in pieces.
-use Rattle.std.proofs.Common.{◌≡◌, ℕ, ◌+◌, ◌<◌, ◌≤◌, Bool, true, false, not, ◌&&◌, eqb, List, [], ◌∷◌, ◌++◌, length, drop, refl, sym, ap, ⊎_elim, ◌∙◌, append_assoc, append-nil, length-append, if◌then◌else◌, nat_lt, subst, Option, None, Some, Result, Ok, Err, arith}
+use Rattle.std.proofs.Common.{◌≡◌, ℕ, ◌+◌, ◌<◌, ◌≤◌, Bool, true, false, not, ◌&&◌, eqb, List, [], ◌∷◌, ◌++◌, length, drop, refl, sym, ap, ⊎_elim, ◌∙◌, append_assoc, append-nil, length-append, if◌then◌else◌, nat_lt, subst, Option, None, Some, Result, Err, arith}
 use Rattle.std.specs.List.{list_any, onto_first}
 use Rattle.std.proofs.lemmas.Bool.{eqb-true}
 use Rattle.std.proofs.lemmas.List.Folds.{list_any-append}
@@ -12,7 +12,7 @@ use Rattle.dir_ldif.specs.Lines.{Line, cut, is_lf, numbered, glue, joined, is_lo
 use Rattle.dir_ldif.specs.Parts.{parts_from, Ends}
 use Rattle.dir_ldif.specs.Joining.{behind, Joins}
 use Rattle.dir_ldif.specs.Kept.{is_kept}
-use Rattle.dir_ldif.proofs.BytesLemmas.{true_or_false, begins_with-append}
+use Rattle.dir_ldif.proofs.BytesLemmas.{true_or_false}
 
 -- the first piece ends at the first LF
 pub cut-line : (xs ys : List ℕ) → list_any is_lf xs ≡ false → cut is_lf (xs ++ 10 ∷ ys) ≡ xs ∷ cut is_lf ys

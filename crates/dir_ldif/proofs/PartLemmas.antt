@@ -1,9 +1,8 @@
 -- Lemmas on the name and the value of a line.
-use Rattle.std.proofs.Common.{◌≡◌, ℕ, zero, suc, ◌<◌, ◌≤◌, Bool, true, false, eqb, List, [], ◌∷◌, length, get_or, refl, sym, ap, subst, ⊎_elim, ◌∙◌, Option, None, Some, is_some, Result, Ok, Err, arith}
+use Rattle.std.proofs.Common.{◌≡◌, ℕ, zero, suc, ◌<◌, Bool, true, false, eqb, List, [], ◌∷◌, length, get_or, refl, sym, ap, ⊎_elim, Option, None, Some, is_some, Ok, Err, arith}
 use Rattle.std.specs.List.{list_any}
 use Rattle.std.proofs.lemmas.Bool.{eqb-true}
 use Rattle.memchr.specs.Find.{IsFirstByte}
-use Rattle.dir_ldif.specs.declared.faults.RecordFault.{RecordFault}
 use Rattle.dir_ldif.specs.declared.faults.RecordFault.TheVariants.{BadLine}
 use Rattle.dir_ldif.specs.declared.faults.Refusal.{Refusal}
 use Rattle.dir_ldif.specs.declared.faults.Refusal.TheVariants.{Fault, Memory}

@@ -1,6 +1,6 @@
 -- The lines of a record read back as the record.
-use Rattle.std.proofs.Common.{◌≡◌, ℕ, zero, suc, ◌+◌, ◌<◌, ◌≤◌, Bool, true, false, not, ◌&&◌, ◌||◌, eqb, List, [], ◌∷◌, ◌++◌, length, map, codes, refl, sym, ap, subst, ◌∙◌, append_assoc, Option, None, Some, is_some, Result, Ok, Err, arith}
-use Rattle.std.specs.Prelude.{slice_index, nat_le, nat_lt, if◌then◌else◌}
+use Rattle.std.proofs.Common.{◌≡◌, ℕ, zero, suc, ◌<◌, ◌≤◌, Bool, true, false, ◌&&◌, eqb, List, [], ◌∷◌, ◌++◌, length, map, codes, refl, ap, ◌∙◌, append_assoc, Option, None, Some, is_some, Result, Ok, Err, arith}
+use Rattle.std.specs.Prelude.{nat_lt, if◌then◌else◌}
 use Rattle.std.specs.Str.{bytes_eq}
 use Rattle.std.specs.List.{list_any, list_all, flat_map}
 use Rattle.std.proofs.lemmas.Bool.Decides.{nat_tests}
@@ -13,8 +13,7 @@ use Rattle.dir_names.specs.Names.{SpelledName, SpelledRdn}
 use Rattle.dir_names.specs.NameKeys.{name_key, rdn_key}
 use Rattle.dir_names.specs.Orders.{attr_eq, attr_eq_decides}
 use Rattle.dir_names.specs.Printing.{name_printed, rdn_printed}
-use Rattle.dir_names.specs.Reading.{name_read, rdn_read, or_bad_dn}
-use Rattle.dir_ldif.specs.declared.faults.RecordFault.{RecordFault}
+use Rattle.dir_names.specs.Reading.{or_bad_dn}
 use Rattle.dir_ldif.specs.declared.faults.RecordFault.TheVariants.{Control}
 use Rattle.dir_ldif.specs.declared.records.Record.{Record}
 use Rattle.dir_ldif.specs.declared.records.Record.TheVariants as form
@@ -27,14 +26,15 @@ use Rattle.dir_ldif.specs.Bytes.{is_empty}
 use Rattle.dir_ldif.specs.Lines.{Line, cut}
 use Rattle.dir_ldif.specs.Outcome.{then_of}
 use Rattle.dir_ldif.specs.Part.{part_of}
-use Rattle.dir_ldif.specs.Block.{named, all_of, is_word, legal_dn, legal_rdn, dn_line, value_line, value_lines, is_dash, op_of, head_of, mod_head, mod_value, mod_of, mods_of, rename_line, flag_of, superior_of, rename_behind_rdn, rename_of, change_of, content_of, body_of, record_of}
+use Rattle.dir_ldif.specs.Block.{named, all_of, is_word, legal_dn, legal_rdn, dn_line, value_line, value_lines, is_dash, op_of, mod_head, mod_value, mod_of, mods_of, flag_of, superior_of, rename_of, change_of, content_of, body_of, record_of}
 use Rattle.dir_ldif.specs.Legal.{has_key, rdn_has_key, has_this_key, is_read_under, is_short, is_legal_line, is_legal_mod, superior_has_key, is_legal_kind, is_legal_record}
-use Rattle.dir_ldif.specs.Laws.{is_refused_in_name, NameReadsBack, RdnReadsBack, ValuesAreBytes, AllBytes, ModsAreBytes, SuperiorReadsBack, KindReadsBack, PartsReadBack}
+use Rattle.dir_ldif.specs.Laws.{is_refused_in_name, NameIsSound, RdnIsSound, ValuesAreBytes, AllBytes, ModsAreBytes, SuperiorIsSound, KindIsSound, PartsAreSound}
 use Rattle.dir_ldif.specs.RecordText.{op_word, change_word, flag_text}
 use Rattle.dir_ldif.specs.Text.{line_of, written}
 use Rattle.dir_ldif.proofs.BlockLemmas.{cut-piece}
 use Rattle.dir_ldif.proofs.BlocksRead.{texts}
 use Rattle.dir_ldif.proofs.LegalRecords.{known, description_of-spelling}
+use Rattle.dir_ldif.proofs.SoundNames.{name_short, name_bytes, name_back, rdn_short, rdn_bytes, rdn_back}
 use Rattle.dir_ldif.proofs.SpelledLemmas.{IsSpelling, is_spelled, spelled-allowed, spelling_of}
 use Rattle.dir_ldif.proofs.WrittenLemmas.{and_first, and_second, both, part_of-line, name-colon, written-tail}
 
@@ -94,15 +94,15 @@ key-known : {A : Type 0} (o : Option A) → is_some o ≡ true → (k : A) × (n
 key-known None e = cc
 key-known (Some k) e = (k, refl)
 
-legal_dn-back : (rows : List TypeRow) (name : SpelledName) → NameReadsBack name → has_key rows name ≡ true → legal_dn rows (name_printed name) ≡ Ok name
-legal_dn-back rows name back key = let k = key-known (name_key rows name) key in rw (back.0, k.1) refl
+legal_dn-back : (rows : List TypeRow) (name : SpelledName) → NameIsSound name → has_key rows name ≡ true → legal_dn rows (name_printed name) ≡ Ok name
+legal_dn-back rows name back key = let k = key-known (name_key rows name) key in let read = name_back name back in rw (read, k.1) refl
 
-legal_rdn-back : (rows : List TypeRow) (rdn : SpelledRdn) → RdnReadsBack rdn → rdn_has_key rows rdn ≡ true → legal_rdn rows (rdn_printed rdn) ≡ Ok rdn
-legal_rdn-back rows rdn back key = let k = key-known (rdn_key rows rdn) key in rw (back.0, k.1) refl
+legal_rdn-back : (rows : List TypeRow) (rdn : SpelledRdn) → RdnIsSound rdn → rdn_has_key rows rdn ≡ true → legal_rdn rows (rdn_printed rdn) ≡ Ok rdn
+legal_rdn-back rows rdn back key = let k = key-known (rdn_key rows rdn) key in let read = rdn_back rdn back in rw (read, k.1) refl
 
-dn_line-back : (rows : List TypeRow) (name : SpelledName) (line : Line) → line.1 ≡ line_of (codes "dn") (name_printed name) → NameReadsBack name → has_key rows name ≡ true → dn_line rows line ≡ Ok name
+dn_line-back : (rows : List TypeRow) (name : SpelledName) (line : Line) → line.1 ≡ line_of (codes "dn") (name_printed name) → NameIsSound name → has_key rows name ≡ true → dn_line rows line ≡ Ok name
 dn_line-back rows name line e back key =
-    let part : part_of line.1 ≡ Ok (codes "dn", name_printed name) = ap part_of e ∙ part_of-line 100 (110 ∷ []) (name_printed name) refl back.1 back.2 in
+    let part : part_of line.1 ≡ Ok (codes "dn", name_printed name) = ap part_of e ∙ part_of-line 100 (110 ∷ []) (name_printed name) refl (name_bytes name back) (name_short name back) in
     rw (part, legal_dn-back rows name back key) refl
 
 -- ---- modifications
@@ -247,7 +247,7 @@ abbrev pub superior_lines : Option SpelledName → List (List ℕ)
 superior_lines None = []
 superior_lines (Some name) = line_of (codes "newsuperior") (name_printed name) ∷ []
 
-superior-back : (rows : List TypeRow) (superior : Option SpelledName) (block : List Line) → texts block ≡ superior_lines superior → superior_has_key rows superior ≡ true → SuperiorReadsBack superior
+superior-back : (rows : List TypeRow) (superior : Option SpelledName) (block : List Line) → texts block ≡ superior_lines superior → superior_has_key rows superior ≡ true → SuperiorIsSound superior
     → superior_of rows block ≡ Ok superior
 superior-back rows None [] e key back = refl
 superior-back rows None (x ∷ xs) e key back = cc
@@ -256,7 +256,7 @@ superior-back rows (Some name) (x ∷ y ∷ ys) e key back = cc
 superior-back rows (Some name) (x ∷ []) e key back =
     let here : x.1 ≡ line_of (codes "newsuperior") (name_printed name) = cc in
     let part : part_of x.1 ≡ Ok (codes "newsuperior", name_printed name) =
-    ap part_of here ∙ part_of-line 110 (101 ∷ 119 ∷ 115 ∷ 117 ∷ 112 ∷ 101 ∷ 114 ∷ 105 ∷ 111 ∷ 114 ∷ []) (name_printed name) refl back.1 back.2 in
+    ap part_of here ∙ part_of-line 110 (101 ∷ 119 ∷ 115 ∷ 117 ∷ 112 ∷ 101 ∷ 114 ∷ 105 ∷ 111 ∷ 114 ∷ []) (name_printed name) refl (name_bytes name back) (name_short name back) in
     rw (part, legal_dn-back rows name back key) refl
 
 few_bytes : (xs : List ℕ) → list_all (λ b. nat_lt b 256) xs ≡ true → IsBytes xs
@@ -269,12 +269,12 @@ flag-bytes true = (few_bytes (codes "1") refl, omega arith, refl)
 flag-bytes false = (few_bytes (codes "0") refl, omega arith, refl)
 
 rename-back : (rows : List TypeRow) (rdn : SpelledRdn) (flag : Bool) (superior : Option SpelledName) (x y : Line) (ys : List Line) → x.1 ≡ line_of (codes "newrdn") (rdn_printed rdn)
-    → y.1 ≡ line_of (codes "deleteoldrdn") (flag_text flag) → texts ys ≡ superior_lines superior → rdn_has_key rows rdn ≡ true → superior_has_key rows superior ≡ true → RdnReadsBack rdn
-    → SuperiorReadsBack superior → rename_of rows (x ∷ y ∷ ys) ≡ Ok (kind.Rename rdn flag superior)
+    → y.1 ≡ line_of (codes "deleteoldrdn") (flag_text flag) → texts ys ≡ superior_lines superior → rdn_has_key rows rdn ≡ true → superior_has_key rows superior ≡ true → RdnIsSound rdn
+    → SuperiorIsSound superior → rename_of rows (x ∷ y ∷ ys) ≡ Ok (kind.Rename rdn flag superior)
 rename-back rows rdn flag superior x y ys ex ey es key key' back back' =
     let f = flag-bytes flag in
     let first : part_of x.1 ≡ Ok (codes "newrdn", rdn_printed rdn) =
-    ap part_of ex ∙ part_of-line 110 (101 ∷ 119 ∷ 114 ∷ 100 ∷ 110 ∷ []) (rdn_printed rdn) refl back.1 back.2 in
+    ap part_of ex ∙ part_of-line 110 (101 ∷ 119 ∷ 114 ∷ 100 ∷ 110 ∷ []) (rdn_printed rdn) refl (rdn_bytes rdn back) (rdn_short rdn back) in
     let second : part_of y.1 ≡ Ok (codes "deleteoldrdn", flag_text flag) =
     ap part_of ey ∙ part_of-line 100 (101 ∷ 108 ∷ 101 ∷ 116 ∷ 101 ∷ 111 ∷ 108 ∷ 100 ∷ 114 ∷ 100 ∷ 110 ∷ []) (flag_text flag) refl f.0 f.1 in
     rw (first, legal_rdn-back rows rdn back key, second, f.2, superior-back rows superior ys es key' back') refl
@@ -294,7 +294,7 @@ two_lines [] a b ts e = cc
 two_lines (x ∷ []) a b ts e = cc
 two_lines (x ∷ y ∷ ys) a b ts e = (x, y, ys, refl, cc, cc, cc)
 
-pub change_of-back : (rows : List TypeRow) (k : ChangeKind) (block : List Line) → texts block ≡ kind_lines k → is_legal_kind rows k ≡ true → KindReadsBack k → change_of rows (change_word k) block ≡ Ok k
+pub change_of-back : (rows : List TypeRow) (k : ChangeKind) (block : List Line) → texts block ≡ kind_lines k → is_legal_kind rows k ≡ true → KindIsSound k → change_of rows (change_word k) block ≡ Ok k
 change_of-back rows (kind.Add lines) block e legal back = let ls = value_lines-back rows lines block e legal back in rw ls refl
 change_of-back rows kind.Delete [] e legal back = refl
 change_of-back rows kind.Delete (x ∷ xs) e legal back = cc
@@ -340,7 +340,7 @@ content-back rows name (l ∷ ls) (x ∷ xs) e legal bytes =
     content_behind rows name (l ∷ ls) x xs (l.0.spelling, l.1) part s.3 s.4 whole
 
 change-back : (rows : List TypeRow) (name : SpelledName) (k : ChangeKind) (block : List Line) → texts block ≡ line_of (codes "changetype") (change_word k) ∷ kind_lines k → is_legal_kind rows k ≡ true
-    → KindReadsBack k → body_of rows name block ≡ Ok (form.Change (record { dn = name; kind = k }))
+    → KindIsSound k → body_of rows name block ≡ Ok (form.Change (record { dn = name; kind = k }))
 change-back rows name k [] e legal back = cc
 change-back rows name k (x ∷ xs) e legal back =
     let here : x.1 ≡ line_of (codes "changetype") (change_word k) = cc in
@@ -351,7 +351,7 @@ change-back rows name k (x ∷ xs) e legal back =
     let change = change_of-back rows k xs rest legal back in
     rw (part, change) refl
 
-pub record_of-back : (rows : List TypeRow) (r : Record) (block : List Line) → texts block ≡ record_lines r → is_legal_record rows r ≡ true → PartsReadBack r → record_of rows block ≡ Ok r
+pub record_of-back : (rows : List TypeRow) (r : Record) (block : List Line) → texts block ≡ record_lines r → is_legal_record rows r ≡ true → PartsAreSound r → record_of rows block ≡ Ok r
 unfolding record_of
 record_of-back rows (form.Content name lines) [] e legal back = cc
 record_of-back rows (form.Content name lines) (x ∷ xs) e legal back =

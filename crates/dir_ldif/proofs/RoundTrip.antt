@@ -1,9 +1,7 @@
 -- The texts of legal records read back as the records.
-use Rattle.std.proofs.Common.{◌≡◌, ℕ, zero, suc, ◌+◌, ◌*◌, ◌/◌, ◌%◌, ◌<◌, ◌≤◌, Bool, true, false, not, ◌&&◌, eqb, List, [], ◌∷◌, ◌++◌, length, map, replicate, codes, refl, sym, ap, subst, ⊎_elim, ◌∙◌, append_assoc, append-nil, length-append, Option, None, Some, Result, Ok, Err, arith}
-use Rattle.std.specs.Bool.{⊤}
+use Rattle.std.proofs.Common.{◌≡◌, ℕ, zero, suc, ◌+◌, ◌≤◌, Bool, true, false, eqb, List, [], ◌∷◌, ◌++◌, length, map, replicate, codes, refl, sym, ap, subst, ⊎_elim, ◌∙◌, append_assoc, append-nil, length-append, Option, None, Some, Ok, arith}
 use Rattle.std.specs.Prelude.{if◌then◌else◌}
 use Rattle.std.specs.List.{list_any, list_all, flat_map}
-use Rattle.std.proofs.lemmas.Bool.Decides.{nat_tests}
 use Rattle.std.proofs.lemmas.Grind.{flat_map-append}
 use Rattle.std.proofs.lemmas.List.Folds.{flat_map-map}
 use Rattle.base64.specs.Engines.{standard}
@@ -20,20 +18,21 @@ use Rattle.dir_ldif.specs.declared.records.ChangeKind.TheVariants as kind
 use Rattle.dir_ldif.specs.declared.records.Mod.{Mod}
 use Rattle.dir_ldif.specs.declared.records.ModOp.{ModOp}
 use Rattle.dir_ldif.specs.declared.records.ModOp.TheVariants as op
-use Rattle.dir_ldif.specs.declared.version.Version.TheVariants.{Absent, One, Other}
+use Rattle.dir_ldif.specs.declared.version.Version.TheVariants.{Absent}
 use Rattle.dir_ldif.specs.Bytes.{is_empty, cut_at}
-use Rattle.dir_ldif.specs.Legal.{has_key, rdn_has_key, is_read_under, is_short, is_legal_line, is_legal_mod, superior_has_key, is_legal_kind, is_legal_record}
+use Rattle.dir_ldif.specs.Legal.{has_key, is_read_under, is_short, is_legal_line, is_legal_mod, is_legal_kind, is_legal_record}
 use Rattle.dir_ldif.specs.Lines.{Line, cut, is_lf, numbered, glue, joined}
-use Rattle.dir_ldif.specs.Parts.{Part, parts_from, parts_of, version_of, version_of_cut}
-use Rattle.dir_ldif.specs.Records.{Answer, answers_on, records_of}
-use Rattle.dir_ldif.specs.RecordText.{op_word, mod_text, change_word, flag_text, superior_text, kind_text, value_text, record_text_of}
+use Rattle.dir_ldif.specs.Parts.{parts_from, parts_of, version_of, version_of_cut}
+use Rattle.dir_ldif.specs.Records.{answers_on, records_of}
+use Rattle.dir_ldif.specs.RecordText.{op_word, mod_text, change_word, flag_text, superior_text, kind_text, record_text_of}
 use Rattle.dir_ldif.specs.Text.{fold_from, folded, is_plain, base64_of, written, line_of, written_line}
-use Rattle.dir_ldif.specs.Laws.{is_refused_in_name, NameReadsBack, SuperiorReadsBack, KindReadsBack, PartsReadBack, AllReadBack, without_line, records_text, RecordsReadBack}
+use Rattle.dir_ldif.specs.Laws.{is_refused_in_name, NameIsSound, SuperiorIsSound, KindIsSound, PartsAreSound, AllAreSound, without_line, records_text, RecordsReadBack}
 use Rattle.dir_ldif.proofs.BytesLemmas.{true_or_false}
 use Rattle.dir_ldif.proofs.BlocksRead.{Good, AllGood, AllBlocks, texts, block_text, blocks_text, block_reads, blocks_read, first_parts, glue-empty}
-use Rattle.dir_ldif.proofs.RecordReads.{described_back, refused-none, within, op_some, value_line_of, mod_value_lines, mod_front, mod_lines, superior_lines, kind_lines, record_lines, record_of-back}
+use Rattle.dir_ldif.proofs.RecordReads.{described_back, refused-none, within, value_line_of, mod_value_lines, mod_front, mod_lines, superior_lines, kind_lines, record_lines, record_of-back}
+use Rattle.dir_ldif.proofs.SoundNames.{name_short, rdn_short}
 use Rattle.dir_ldif.proofs.SpelledLemmas.{IsSpelling, is_spelled, spelled-allowed, spelling_of}
-use Rattle.dir_ldif.proofs.WrittenLemmas.{and_first, and_second, cut_at-name, name-end, line-clean, written-tail, tail_of}
+use Rattle.dir_ldif.proofs.WrittenLemmas.{and_first, and_second, name-end, line-clean, written-tail}
 
 -- ---- the text of a record is that of its lines
 
@@ -150,20 +149,20 @@ good_mods rows (m ∷ mods) e =
     good-append (mod_lines m) (flat_map mod_lines mods) (good-append (mod_front m) (codes "-" ∷ []) (good_op m.op m.description.spelling short, values) (dash, tt))
     (good_mods rows mods (and_second (is_legal_mod rows m) (list_all (is_legal_mod rows) mods) e))
 
-good_superior : (superior : Option SpelledName) → SuperiorReadsBack superior → AllGood (superior_lines superior)
+good_superior : (superior : Option SpelledName) → SuperiorIsSound superior → AllGood (superior_lines superior)
 good_superior None back = tt
-good_superior (Some name) back = (good_line 110 (101 ∷ 119 ∷ 115 ∷ 117 ∷ 112 ∷ 101 ∷ 114 ∷ 105 ∷ 111 ∷ 114 ∷ []) (name_printed name) refl refl refl (omega arith) back.2, tt)
+good_superior (Some name) back = (good_line 110 (101 ∷ 119 ∷ 115 ∷ 117 ∷ 112 ∷ 101 ∷ 114 ∷ 105 ∷ 111 ∷ 114 ∷ []) (name_printed name) refl refl refl (omega arith) (name_short name back), tt)
 
 flag-short : (flag : Bool) → length (flag_text flag) ≤ 1048576
 flag-short true = omega arith
 flag-short false = omega arith
 
-good_kind : (rows : List TypeRow) (k : ChangeKind) → is_legal_kind rows k ≡ true → KindReadsBack k → AllGood (kind_lines k)
+good_kind : (rows : List TypeRow) (k : ChangeKind) → is_legal_kind rows k ≡ true → KindIsSound k → AllGood (kind_lines k)
 good_kind rows (kind.Add lines) legal back = good_values rows lines legal
 good_kind rows kind.Delete legal back = tt
 good_kind rows (kind.Modify mods) legal back = good_mods rows mods legal
 good_kind rows (kind.Rename rdn flag superior) legal back = (
-  good_line 110 (101 ∷ 119 ∷ 114 ∷ 100 ∷ 110 ∷ []) (rdn_printed rdn) refl refl refl (omega arith) back.0.2,
+  good_line 110 (101 ∷ 119 ∷ 114 ∷ 100 ∷ 110 ∷ []) (rdn_printed rdn) refl refl refl (omega arith) (rdn_short rdn back.0),
   (
     good_line 100 (101 ∷ 108 ∷ 101 ∷ 116 ∷ 101 ∷ 111 ∷ 108 ∷ 100 ∷ 114 ∷ 100 ∷ 110 ∷ []) (flag_text flag) refl refl refl (omega arith) (flag-short flag),
     good_superior superior back.1,
@@ -176,10 +175,10 @@ word-short kind.Delete = omega arith
 word-short (kind.Modify mods) = omega arith
 word-short (kind.Rename rdn flag superior) = omega arith
 
-good_dn : (name : SpelledName) → NameReadsBack name → Good (line_of (codes "dn") (name_printed name))
-good_dn name back = good_line 100 (110 ∷ []) (name_printed name) refl refl refl (omega arith) back.2
+good_dn : (name : SpelledName) → NameIsSound name → Good (line_of (codes "dn") (name_printed name))
+good_dn name back = good_line 100 (110 ∷ []) (name_printed name) refl refl refl (omega arith) (name_short name back)
 
-good_record : (rows : List TypeRow) (r : Record) → is_legal_record rows r ≡ true → PartsReadBack r → AllGood (record_lines r)
+good_record : (rows : List TypeRow) (r : Record) → is_legal_record rows r ≡ true → PartsAreSound r → AllGood (record_lines r)
 good_record rows (form.Content name lines) legal back = (good_dn name back.0, good_values rows lines (and_second (has_key rows name) (list_all (is_legal_line rows) lines) legal))
 good_record rows (form.Change change) legal back = (
   good_dn change.dn back.0,
@@ -193,7 +192,7 @@ some_lines : (r : Record) → is_empty (record_lines r) ≡ false
 some_lines (form.Content name lines) = refl
 some_lines (form.Change change) = refl
 
-good_all : (rows : List TypeRow) (records : List Record) → AllReadBack rows records → AllBlocks (map record_lines records)
+good_all : (rows : List TypeRow) (records : List Record) → AllAreSound rows records → AllBlocks (map record_lines records)
 good_all rows [] back = tt
 good_all rows (r ∷ rs) back = (good_record rows r back.0 back.1, some_lines r, good_all rows rs back.2)
 
@@ -213,7 +212,7 @@ first_block (form.Change change) (x ∷ xs) n rest e g =
     let here : x.1 ≡ line_of (codes "dn") (name_printed change.dn) = cc in
     first_parts x xs n rest (subst AllGood (sym e) g) (ap version_of here ∙ version-plain (name_printed change.dn))
 
-answers-back : (rows : List TypeRow) (records : List Record) (blocks : List (List Line)) → map texts blocks ≡ map record_lines records → AllReadBack rows records
+answers-back : (rows : List TypeRow) (records : List Record) (blocks : List (List Line)) → map texts blocks ≡ map record_lines records → AllAreSound rows records
     → map without_line (answers_on rows (map (λ (b : List Line). Ok b) blocks)) ≡ map (λ (r : Record). Ok (Ok r)) records
 answers-back rows [] [] e back = refl
 answers-back rows [] (b ∷ bs) e back = cc
@@ -223,7 +222,7 @@ answers-back rows (r ∷ rs) (b ∷ bs) e back =
     let rest : map texts bs ≡ map record_lines rs = cc in
     ap (λ t. Ok t ∷ map without_line (answers_on rows (map (λ (c : List Line). Ok c) bs))) (record_of-back rows r b here back.0 back.1) ∙ ap (λ t. Ok (Ok r) ∷ t) (answers-back rows rs bs rest back.2)
 
-plain_read : (rows : List TypeRow) (records : List Record) → AllReadBack rows records
+plain_read : (rows : List TypeRow) (records : List Record) → AllAreSound rows records
     → map without_line (records_of rows (blocks_text (map record_lines records))) ≡ map (λ (r : Record). Ok (Ok r)) records
 plain_read rows [] back = refl
 plain_read rows (r ∷ rs) back =
@@ -237,7 +236,7 @@ plain_read rows (r ∷ rs) back =
     ap (λ p. map without_line (answers_on rows p)) parts
     ∙ answers-back rows (r ∷ rs) (here.0 ∷ later.0) (ap (λ t. t ∷ map texts later.0) here.2 ∙ ap (λ t. record_lines r ∷ t) later.1) back
 
-version_read : (rows : List TypeRow) (records : List Record) → AllReadBack rows records
+version_read : (rows : List TypeRow) (records : List Record) → AllAreSound rows records
     → map without_line (records_of rows (codes "version: 1\n\n" ++ blocks_text (map record_lines records))) ≡ map (λ (r : Record). Ok (Ok r)) records
 version_read rows records back =
     let all = map record_lines records in

@@ -1,5 +1,5 @@
 -- No answer on a block is settled while its last line may still go on.
-use Rattle.std.proofs.Common.{◌≡◌, ℕ, zero, suc, ◌+◌, ◌<◌, ◌≤◌, Bool, true, false, eqb, List, [], ◌∷◌, ◌++◌, length, replicate, refl, sym, ap, subst, ⊎_elim, ◌∙◌, append-nil, length-append, Option, None, Some, Ok, Err, arith, lit≤}
+use Rattle.std.proofs.Common.{◌≡◌, ℕ, zero, suc, ◌+◌, ◌<◌, ◌≤◌, Bool, true, false, List, [], ◌∷◌, ◌++◌, length, replicate, refl, sym, ap, subst, ⊎_elim, ◌∙◌, append-nil, length-append, Option, None, Some, Err, arith, lit≤}
 use Rattle.std.specs.List.{list_any}
 use Rattle.std.proofs.lemmas.List.Folds.{list_any-append}
 use Rattle.dir_ldif.specs.declared.faults.StreamFault.{StreamFault}
@@ -8,9 +8,9 @@ use Rattle.dir_ldif.specs.declared.version.Version.{Version}
 use Rattle.dir_ldif.specs.declared.version.Version.TheVariants.{Absent, One, Other}
 use Rattle.dir_ldif.specs.declared.lines.Joiner.{Joiner}
 use Rattle.dir_ldif.specs.Bytes.{is_empty, begins_with, without_last}
-use Rattle.dir_ldif.specs.Lines.{Line, cut, is_lf, numbered, joined, is_comment, is_long}
+use Rattle.dir_ldif.specs.Lines.{Line, cut, is_lf, numbered, is_comment, is_long}
 use Rattle.dir_ldif.specs.Kept.{is_kept}
-use Rattle.dir_ldif.specs.Parts.{Part, give, parts_from, by_version, version_of}
+use Rattle.dir_ldif.specs.Parts.{Part, parts_from, by_version, version_of}
 use Rattle.dir_ldif.specs.Joining.{behind, parts_before, to_come}
 use Rattle.dir_ldif.specs.Reading.{MayFail}
 use Rattle.dir_ldif.proofs.BytesLemmas.{true_or_false}

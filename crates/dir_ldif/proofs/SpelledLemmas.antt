@@ -1,9 +1,8 @@
 -- What a description's spelling has in it.
-use Rattle.std.proofs.Common.{◌≡◌, ℕ, ◌+◌, ◌<◌, ◌≤◌, Bool, true, false, cond, not, ◌&&◌, ◌||◌, eqb, nat_le, List, [], ◌∷◌, ◌++◌, length, map, codes, refl, sym, ap, subst, ⊎_elim, ◌∙◌, Result, Ok, Err, IfOk, arith}
+use Rattle.std.proofs.Common.{◌≡◌, ℕ, ◌≤◌, Bool, true, false, not, ◌&&◌, ◌||◌, eqb, nat_le, List, [], ◌∷◌, length, codes, refl, sym, ap, ⊎_elim, ◌∙◌, Ok, IfOk, arith}
 use Rattle.std.specs.List.{list_any, list_all, slice_split, onto_first}
 use Rattle.std.specs.Str.{str_to_ascii_lowercase, str_eq_ignore_ascii_case}
 use Rattle.std.proofs.lemmas.Bool.Decides.{nat_tests}
-use Rattle.dir_names.specs.declared.fault.NameFault.{NameFault}
 use Rattle.dir_names.specs.declared.schema.TypeRow.{TypeRow}
 use Rattle.dir_names.specs.Cut.{parts_at}
 use Rattle.dir_names.specs.Described.{Described}
@@ -77,7 +76,7 @@ type_all kind e =
     ⊎_elim
     (λ (yes : is_name kind ≡ true). letters_all kind (name_all kind yes))
     (λ (other : is_name kind ≡ false).
-    let number : is_number kind ≡ true = rw other at e in
+    let number : is_number kind ≡ true = rw other at (and_first (is_name kind || is_number kind) (nat_le (length kind) 512) e) in
     split_all (λ b. eqb b 46) is_keychar kind (decimals_all (parts_at 46 kind) (and_second (list_any (λ b. eqb b 46) kind) (list_all is_decimal (parts_at 46 kind)) number)))
     (true_or_false (is_name kind))
 

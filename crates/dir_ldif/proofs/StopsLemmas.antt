@@ -1,5 +1,5 @@
 -- Lemmas on why no block was found.
-use Rattle.std.proofs.Common.{◌≡◌, ℕ, ◌+◌, ◌≤◌, List, [], ◌∷◌, ◌++◌, length, refl, sym, ap, subst, ◌∙◌, append-nil, Option, None, Some, arith}
+use Rattle.std.proofs.Common.{◌≡◌, ℕ, ◌+◌, ◌≤◌, List, [], ◌++◌, length, sym, ap, subst, ◌∙◌, append-nil, Option, None, Some, arith}
 use Rattle.std.specs.Io.KnownBytes.{Consumes, IsAtEnd}
 use Rattle.std.proofs.KnownBytes.{Consumes-trans}
 use Rattle.dir_ldif.specs.declared.faults.StreamFault.{StreamFault}
@@ -8,7 +8,7 @@ use Rattle.dir_ldif.specs.declared.faults.StreamFault.TheVariants.{Ended as Afte
 use Rattle.dir_ldif.specs.declared.lines.Joiner.{Joiner}
 use Rattle.dir_ldif.specs.declared.reader.Core.{Core}
 use Rattle.dir_ldif.specs.Device.{FailsToRead}
-use Rattle.dir_ldif.specs.Parts.{Part, Ends}
+use Rattle.dir_ldif.specs.Parts.{Ends}
 use Rattle.dir_ldif.specs.Joining.{to_come}
 use Rattle.dir_ldif.specs.Reading.{coming, hand, Stops, MayFail}
 use Rattle.dir_ldif.proofs.SettledLemmas.{may_fail}

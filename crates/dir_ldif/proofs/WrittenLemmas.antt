@@ -1,18 +1,17 @@
 -- A written line has its name and its value.
-use Rattle.std.proofs.Common.{◌≡◌, ℕ, zero, suc, ◌+◌, ◌*◌, ◌/◌, ◌%◌, ◌<◌, ◌≤◌, Bool, true, false, not, ◌&&◌, ◌||◌, eqb, List, [], ◌∷◌, ◌++◌, length, replicate, refl, sym, ap, subst, ⊎_elim, ◌∙◌, Option, Some, None, Ok, Err, get_or, append-nil, arith}
+use Rattle.std.proofs.Common.{◌≡◌, ℕ, zero, suc, ◌+◌, ◌*◌, ◌/◌, ◌%◌, ◌≤◌, Bool, true, false, not, ◌&&◌, eqb, List, [], ◌∷◌, ◌++◌, length, replicate, refl, sym, ap, ⊎_elim, ◌∙◌, Some, Ok, append-nil, arith}
 use Rattle.std.specs.List.{list_any, list_all}
-use Rattle.std.specs.Option.{option_map}
 use Rattle.std.specs.Prelude.{slice_index, if◌then◌else◌, nat_lt}
 use Rattle.std.proofs.lemmas.Bool.Decides.{nat_tests}
 use Rattle.std.proofs.lemmas.List.Folds.{list_all-append, list_any-append}
 use Rattle.base64.specs.Engines.{standard}
-use Rattle.base64.specs.GeneralPurpose.{encode_of, decode_of, IsBytes}
-use Rattle.base64.specs.Rfc4648.{encode_symbols, encode_one, encode_two, encode_group, padding_len}
+use Rattle.base64.specs.GeneralPurpose.{IsBytes}
+use Rattle.base64.specs.Rfc4648.{encode_symbols, padding_len}
 use Rattle.base64.proofs.EngineFacts.{decode_of-encode_of}
-use Rattle.dir_ldif.specs.Bytes.{cut_at, without_front, ends_in}
+use Rattle.dir_ldif.specs.Bytes.{cut_at, without_front}
 use Rattle.dir_ldif.specs.Clean.{is_end}
 use Rattle.dir_ldif.specs.Outcome.{then_of}
-use Rattle.dir_ldif.specs.Part.{or_bad, decoded, is_refused, plain, value_of, limited, part_of_cut, part_of_parts, part_of}
+use Rattle.dir_ldif.specs.Part.{or_bad, decoded, is_refused, value_of, limited, part_of_cut, part_of}
 use Rattle.dir_ldif.specs.Text.{is_safe, is_safe_first, is_plain, base64_of, written, line_of, folded}
 use Rattle.dir_ldif.proofs.BytesLemmas.{true_or_false}
 use Rattle.dir_ldif.proofs.FoldedLemmas.{or_first, or_second, line_reads}

@@ -5,8 +5,8 @@ use Rattle.base64.specs.GeneralPurpose.{IsBytes}
 use Rattle.dir_names.specs.declared.schema.TypeRow.{TypeRow}
 use Rattle.dir_names.specs.Described.{Described}
 use Rattle.dir_names.specs.Names.{SpelledName, SpelledRdn}
-use Rattle.dir_names.specs.Printing.{name_printed, rdn_printed}
-use Rattle.dir_names.specs.Reading.{name_read, rdn_read}
+use Rattle.dir_names.specs.Reading.{is_small, is_within_limits}
+use Rattle.dir_names.specs.Sound.{is_name, is_rdn}
 use Rattle.dir_ldif.specs.declared.faults.RecordFault.{RecordFault}
 use Rattle.dir_ldif.specs.declared.faults.StreamFault.{StreamFault}
 use Rattle.dir_ldif.specs.declared.records.Record.{Record}
@@ -33,12 +33,12 @@ WrittenLineReadsBack = (b : ℕ) (name value : List ℕ) → list_any is_refused
 
 -- ---- records
 
--- the printed name reads back; the names layer proves it of the names that it reads
-abbrev pub NameReadsBack : SpelledName → Type 0
-NameReadsBack name = (name_read (name_printed name) ≡ Ok name) × IsBytes (name_printed name) × (length (name_printed name) ≤ 1048576)
+-- the name is sound and within the limits of a name, as each name that is read
+abbrev pub NameIsSound : SpelledName → Type 0
+NameIsSound name = (is_name name ≡ true) × (is_within_limits name ≡ true)
 
-abbrev pub RdnReadsBack : SpelledRdn → Type 0
-RdnReadsBack rdn = (rdn_read (rdn_printed rdn) ≡ Ok rdn) × IsBytes (rdn_printed rdn) × (length (rdn_printed rdn) ≤ 1048576)
+abbrev pub RdnIsSound : SpelledRdn → Type 0
+RdnIsSound rdn = (is_rdn rdn ≡ true) × (is_small rdn ≡ true)
 
 abbrev pub ValuesAreBytes : List (Described × List ℕ) → Type 0
 ValuesAreBytes [] = ⊤
@@ -52,24 +52,24 @@ abbrev pub ModsAreBytes : List Mod → Type 0
 ModsAreBytes [] = ⊤
 ModsAreBytes (m ∷ mods) = AllBytes m.values × ModsAreBytes mods
 
-abbrev pub SuperiorReadsBack : Option SpelledName → Type 0
-SuperiorReadsBack None = ⊤
-SuperiorReadsBack (Some name) = NameReadsBack name
+abbrev pub SuperiorIsSound : Option SpelledName → Type 0
+SuperiorIsSound None = ⊤
+SuperiorIsSound (Some name) = NameIsSound name
 
--- the names of a change print to texts that read back, and its values are bytes
-abbrev pub KindReadsBack : ChangeKind → Type 0
-KindReadsBack (kind.Add lines) = ValuesAreBytes lines
-KindReadsBack kind.Delete = ⊤
-KindReadsBack (kind.Modify mods) = ModsAreBytes mods
-KindReadsBack (kind.Rename rdn flag superior) = RdnReadsBack rdn × SuperiorReadsBack superior
+-- the names of a change are sound, and its values are bytes
+abbrev pub KindIsSound : ChangeKind → Type 0
+KindIsSound (kind.Add lines) = ValuesAreBytes lines
+KindIsSound kind.Delete = ⊤
+KindIsSound (kind.Modify mods) = ModsAreBytes mods
+KindIsSound (kind.Rename rdn flag superior) = RdnIsSound rdn × SuperiorIsSound superior
 
-abbrev pub PartsReadBack : Record → Type 0
-PartsReadBack (form.Content name lines) = NameReadsBack name × ValuesAreBytes lines
-PartsReadBack (form.Change change) = NameReadsBack change.dn × KindReadsBack change.kind
+abbrev pub PartsAreSound : Record → Type 0
+PartsAreSound (form.Content name lines) = NameIsSound name × ValuesAreBytes lines
+PartsAreSound (form.Change change) = NameIsSound change.dn × KindIsSound change.kind
 
-abbrev pub AllReadBack : List TypeRow → List Record → Type 0
-AllReadBack rows [] = ⊤
-AllReadBack rows (r ∷ rs) = (is_legal_record rows r ≡ true) × PartsReadBack r × AllReadBack rows rs
+abbrev pub AllAreSound : List TypeRow → List Record → Type 0
+AllAreSound rows [] = ⊤
+AllAreSound rows (r ∷ rs) = (is_legal_record rows r ≡ true) × PartsAreSound r × AllAreSound rows rs
 
 -- an answer without its line
 abbrev pub without_line : Answer → Result (Result Record RecordFault) StreamFault
@@ -81,6 +81,6 @@ records_text records = flat_map record_text_of records
 
 -- legal records, written one after the other, read back as they are, with or without a version line
 abbrev pub RecordsReadBack : Type 0
-RecordsReadBack = (rows : List TypeRow) (records : List Record) → AllReadBack rows records
+RecordsReadBack = (rows : List TypeRow) (records : List Record) → AllAreSound rows records
     → (map without_line (records_of rows (records_text records)) ≡ map (λ (r : Record). Ok (Ok r)) records)
     × (map without_line (records_of rows (codes "version: 1\n\n" ++ records_text records)) ≡ map (λ (r : Record). Ok (Ok r)) records)

@@ -5,7 +5,7 @@ pub fn written_lines_read_back()
     ensures { WrittenLineReadsBack }
 {}
 
-/// A law: legal records whose names read back and whose values are bytes, written one after the other,
+/// A law: legal records of sound names, and of values that are bytes, written one after the other,
 /// read back as they are, with or without a version line before them.
 pub fn written_records_read_back()
     ensures { RecordsReadBack }

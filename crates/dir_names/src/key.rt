@@ -1,6 +1,6 @@
 ghost use Rattle.std.specs.Cmp.{partial_order_from_agreeing_total};
 ghost use Rattle.std.specs.Ordering.{as_partial_cmp};
-ghost use Rattle.std.specs.Prelude.{◌≡◌, ◌↔◌, [], ◌∷◌, ◌++◌, IsTrue, Ok, refl, length};
+ghost use Rattle.std.specs.Prelude.{◌≡◌, ◌↔◌, [], ◌∷◌, ◌++◌, IfErr, IfOk, IsTrue, Ok, refl, length};
 ghost use Rattle.dir_names.specs.Keys.{is_rdn_key, with_pair, IsAtOrBelow, IsParent, parent_of};
 ghost use Rattle.dir_names.specs.Orders.{rdn_key_cmp, rdn_key_eq, rdn_key_cmp_total, rdn_key_cmp_ties, dn_key_cmp, dn_key_eq, dn_key_cmp_total, dn_key_cmp_ties, tied_equiv, tied_per};
 ghost use Rattle.dir_names.specs.Outcome.{Gives};
@@ -49,12 +49,14 @@ impl RdnKey {
         Ok(RdnKey { pairs })
     }
 
-    pub(crate) fn empty(alloc: Global) -> RdnKey
-        ensures { result ≡ [] }
+    /// The key of no pair, with room for so many.
+    pub(crate) fn with_room(alloc: Global, room: usize) -> Result<RdnKey, NameFault>
+        ensures empty { IfOk result (λ key. key ≡ []) }
+        ensures memory { IfErr result (λ e. e ≡ NameFault.Memory) }
     {
-        RdnKey {
-            pairs: Vec::new(alloc),
-        }
+        Ok(RdnKey {
+            pairs: Vec::with_capacity(alloc, room)?,
+        })
     }
 
     /// Puts a pair in its place, unless its type is there.

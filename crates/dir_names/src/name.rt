@@ -75,7 +75,7 @@ impl Rdn {
     pub fn key(&self, alloc: Global, schema: &Schema) -> Result<RdnKey, NameFault>
         ensures { Gives (λ key. key) result (or_bad_dn (rdn_key schema.now self.now)) }
     {
-        let mut key = RdnKey::empty(alloc);
+        let mut key = RdnKey::with_room(alloc, self.pairs.len())?;
         for pair in self.pairs.as_slice() {
             let (attr, value) = pair_key(alloc, schema, pair)?;
             key.put(attr, value)?;

@@ -90,7 +90,7 @@ fn read_rdns(alloc: Global, text: &[u8]) -> Result<Vec<Rdn>, NameFault>
 fn read_rdn(alloc: Global, text: &[u8]) -> Result<Rdn, NameFault>
     ensures { Gives (λ rdn. rdn) result (or_bad_dn (rdn_of text.now)) }
 {
-    let mut pairs = Vec::new(alloc);
+    let mut pairs = Vec::with_capacity(alloc, 1)?;
     let mut rest = Some(text);
     while let Some(more) = rest {
         let (piece, after) = cut_unescaped(more, b'+');

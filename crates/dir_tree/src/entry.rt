@@ -43,7 +43,9 @@ impl Entry {
         spelled: Vec<Rdn>,
         values: Lines,
     ) -> Result<Entry, EntryFault> {
-        let Some(leaf) = spelled.first() else {
+        let mut own = spelled;
+        own.shrink_to_fit();
+        let Some(leaf) = own.first() else {
             return Err(EntryFault::NotNamed);
         };
         let key = leaf.key(alloc, schema)?;
@@ -54,7 +56,7 @@ impl Entry {
             return Err(EntryFault::Single);
         }
         Ok(Entry {
-            own: spelled,
+            own,
             key,
             attributes,
         })

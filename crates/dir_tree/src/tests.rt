@@ -1,6 +1,7 @@
 use super::*;
 use dir_names::{Dn, DnKey, Lines, Schema};
 use std::alloc::Global;
+use std::process::Abort;
 use std::test::Fail;
 
 fn bare(alloc: Global, schema: &Schema, text: &[u8]) -> Result<(DnKey, Entry), Fail> {
@@ -14,6 +15,21 @@ fn bare(alloc: Global, schema: &Schema, text: &[u8]) -> Result<(DnKey, Entry), F
     ))
 }
 
+fn put(
+    rt: &impl Abort,
+    alloc: Global,
+    directory: &mut FlatDirectory,
+    key: &DnKey,
+    entry: Entry,
+) -> Result<(), Fail> {
+    let is_free = directory.get(key).is_none();
+    assert!(rt; is_free);
+    let stands = may_stand(alloc, directory, key)?;
+    assert!(rt; stands);
+    assert!(rt; directory.insert(key, entry).is_ok());
+    Ok(())
+}
+
 #[test]
 fn a_flat_directory_holds_entries_parents_first(rt: HostRuntime) -> Result<(), Fail> {
     let alloc = rt.alloc();
@@ -21,8 +37,8 @@ fn a_flat_directory_holds_entries_parents_first(rt: HostRuntime) -> Result<(), F
     let (com, top) = bare(alloc, &schema, b"dc=com")?;
     let (below, leaf) = bare(alloc, &schema, b"cn=A,dc=com")?;
     let mut directory = FlatDirectory::new(alloc, com.try_clone(alloc)?);
-    assert!(rt; directory.insert(&com, top).is_ok());
-    assert!(rt; directory.insert(&below, leaf.try_clone(alloc)?).is_ok());
+    put(&rt, alloc, &mut directory, &com, top)?;
+    put(&rt, alloc, &mut directory, &below, leaf.try_clone(alloc)?)?;
     assert!(rt; directory.has_child(&com));
     let walked = directory.walk()?;
     let names = [b"dc=com".as_slice(), b"cn=A,dc=com".as_slice()];
@@ -33,5 +49,12 @@ fn a_flat_directory_holds_entries_parents_first(rt: HostRuntime) -> Result<(), F
     }
     let text = directory.spelled(&below)?.print(alloc)?;
     assert_eq!(rt; text.as_slice(), b"cn=A,dc=com".as_slice());
+    let is_there = directory.get(&below).is_some();
+    assert!(rt; is_there);
+    let is_inner = directory.has_child(&below);
+    assert!(rt; !is_inner);
+    let removed = directory.remove_leaf(&below);
+    assert_eq!(rt; removed.own().len(), 1);
+    assert!(rt; !directory.has_child(&com));
     Ok(())
 }

@@ -1,4 +1,4 @@
-use Rattle.std.proofs.Common.{◌≡◌, Ok, sym, ap, subst, ◌∙◌}
+use Rattle.std.proofs.Common.{Ok, sym, ap, subst, ◌∙◌}
 use Rattle.dir_ldif.specs.declared.records.Record.TheVariants as form
 use Rattle.dir_ldif.specs.Block.{change_of}
 use Rattle.dir_ldif.specs.Outcome.{Tells, then_of}

@@ -1,8 +1,8 @@
-use Rattle.std.proofs.Common.{◌≡◌, ◌+◌, ◌-◌, length, take, drop, ◌∷◌, sym, ap, ◌∙◌}
-use Rattle.std.proofs.lemmas.List.{take-append-drop, take_rest}
+use Rattle.std.proofs.Common.{◌+◌, take, ◌∷◌, sym, ap, ◌∙◌}
+use Rattle.std.proofs.lemmas.List.{take_rest}
 use Rattle.dir_ldif.specs.Block.{is_dash}
 use Rattle.dir_ldif.specs.Lines.{cut}
-use Rattle.dir_ldif.proofs.BlockLemmas.{cut-piece, cut-only, cut_at_index, cut_whole}
+use Rattle.dir_ldif.proofs.BlockLemmas.{cut_at_index, cut_whole}
 use Rattle.dir_ldif.proofs.block.cut_dash.Goals as goal
 
 pub returns-then-is_dash-clause-cut : goal.returns-then-is_dash-clause-cut

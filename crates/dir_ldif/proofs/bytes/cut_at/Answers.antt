@@ -1,4 +1,4 @@
-use Rattle.std.proofs.Common.{◌≤◌, arith, sym}
+use Rattle.std.proofs.Common.{arith, sym}
 use Rattle.std.proofs.lemmas.List.{take_rest}
 use Rattle.dir_ldif.proofs.BytesLemmas.{cut_at-first, cut_at-none, false_from_not}
 use Rattle.dir_ldif.proofs.bytes.cut_at.Goals as goal

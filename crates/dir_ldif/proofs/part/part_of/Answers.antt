@@ -1,4 +1,4 @@
-use Rattle.std.proofs.Common.{◌≡◌, sym, subst, ◌∙◌}
+use Rattle.std.proofs.Common.{sym, subst, ◌∙◌}
 use Rattle.dir_ldif.specs.Outcome.{Refuses}
 use Rattle.dir_ldif.proofs.PartLemmas.{part_of-none, part_of-cut, part_of_parts-nameless, part_of_parts-value, part_of_parts-refuses}
 use Rattle.dir_ldif.proofs.part.part_of.Goals as goal

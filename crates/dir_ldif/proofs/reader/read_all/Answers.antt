@@ -1,5 +1,4 @@
 use Rattle.std.proofs.Common.{[]}
-use Rattle.dir_ldif.specs.Joining.{to_come}
 use Rattle.dir_ldif.proofs.RecordsLemmas.{ends_in}
 use Rattle.dir_ldif.proofs.reader.read_all.Goals as goal
 

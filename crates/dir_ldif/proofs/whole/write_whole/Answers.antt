@@ -1,5 +1,4 @@
-use Rattle.std.proofs.Common.{◌≡◌, ◌++◌, List, ℕ, drop, sym, ap, subst, ◌∙◌}
-use Rattle.std.specs.Io.KnownBytes.{Appends}
+use Rattle.std.proofs.Common.{◌++◌, drop, sym, ap, ◌∙◌}
 use Rattle.dir_ldif.proofs.WholeLemmas.{front_of, front_kept, front_grown}
 use Rattle.dir_ldif.proofs.whole.write_whole.Goals as goal
 

@@ -1,4 +1,4 @@
-use Rattle.std.proofs.Common.{◌≡◌, ℕ, ◌+◌, ◌-◌, ◌<◌, ◌≤◌, List, ◌++◌, length, sym, rules, arith}
+use Rattle.std.proofs.Common.{sym, rules, arith}
 use Rattle.dir_ldif.proofs.TextLemmas.{fold_from-turn, fold_from-end}
 use Rattle.dir_ldif.proofs.writer.push_folded.Goals as goal
 

@@ -1,5 +1,4 @@
-use Rattle.std.proofs.Common.{◌≡◌, ℕ, ◌+◌, ◌<◌, List, Some, None, length, sym, ap, ◌∙◌, arith}
-use Rattle.dir_ldif.specs.Bytes.{without_last, begins_with}
+use Rattle.std.proofs.Common.{length, ap, arith}
 use Rattle.dir_ldif.proofs.LinesLemmas.{too_long_alone, too_long_continued, too_long_Ends, too_long_behind}
 use Rattle.dir_ldif.proofs.lines.Joiner.check_partial.Goals as goal
 

@@ -1,4 +1,3 @@
-use Rattle.std.proofs.Common.{◌≡◌, List, sym, ◌∙◌}
 use Rattle.std.proofs.lemmas.Result.{on_ok_weaker}
 use Rattle.dir_ldif.proofs.JoinerLemmas.{closed_end}
 use Rattle.dir_ldif.proofs.lines.Joiner.close_last.Goals as goal

@@ -1,4 +1,3 @@
-use Rattle.std.proofs.Common.{◌≡◌, sym, ◌∙◌}
 use Rattle.dir_ldif.proofs.JoinerLemmas.{ended_text, ended_text_Ends, some_of_count}
 use Rattle.dir_ldif.proofs.lines.Joiner.end_partial.Goals as goal
 

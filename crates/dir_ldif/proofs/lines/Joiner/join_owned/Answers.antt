@@ -1,4 +1,3 @@
-use Rattle.std.proofs.Common.{◌≡◌, Some, sym, ◌∙◌}
 use Rattle.dir_ldif.proofs.LinesLemmas.{Ends-apart, Joins-continued}
 use Rattle.dir_ldif.proofs.lines.Joiner.join_owned.Goals as goal
 

@@ -1,4 +1,4 @@
-use Rattle.std.proofs.Common.{refl, ◌≡◌, Some, sym, ◌∙◌}
+use Rattle.std.proofs.Common.{refl}
 use Rattle.dir_ldif.proofs.LinesLemmas.{Ends-apart, Joins-continued}
 use Rattle.dir_ldif.proofs.lines.Joiner.join_slice.Goals as goal
 

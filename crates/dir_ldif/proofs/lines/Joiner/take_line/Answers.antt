@@ -1,4 +1,4 @@
-use Rattle.std.proofs.Common.{◌≡◌, ap, sym, ◌∙◌}
+use Rattle.std.proofs.Common.{ap, ◌∙◌}
 use Rattle.dir_ldif.proofs.JoinerLemmas.{line_goes_on, line_Ends, line_ends_block}
 use Rattle.dir_ldif.proofs.lines.Joiner.take_line.Goals as goal
 

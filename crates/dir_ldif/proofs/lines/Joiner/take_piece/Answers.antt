@@ -1,4 +1,4 @@
-use Rattle.std.proofs.Common.{◌≡◌, ◌++◌, ap, sym, subst, ◌∙◌, length, arith}
+use Rattle.std.proofs.Common.{◌++◌, ap, sym, subst, ◌∙◌, arith}
 use Rattle.dir_ldif.specs.Joining.{to_come}
 use Rattle.dir_ldif.specs.Parts.{Ends}
 use Rattle.dir_ldif.proofs.BytesLemmas.{cut_at-text, cut_at-lacks}

@@ -1,4 +1,4 @@
-use Rattle.std.proofs.Common.{◌≡◌, ℕ, ◌+◌, ◌<◌, ◌≤◌, Ok, List, ◌++◌, length, sym, ap, subst, ◌∙◌, length-append, rules, arith}
+use Rattle.std.proofs.Common.{◌≡◌, ℕ, ◌<◌, Ok, List, ◌++◌, length, sym, ap, subst, ◌∙◌, length-append, arith}
 use Rattle.dir_ldif.specs.Joining.{to_come}
 use Rattle.dir_ldif.specs.Reading.{coming, hand}
 use Rattle.dir_ldif.specs.Device.{FailsToRead}

@@ -6,7 +6,7 @@ use Rattle.dir_names.proofs.KeyLemmas.{key_from, key_none, key_more, key_twice, 
 use Rattle.dir_names.proofs.name.Rdn.key.Goals as goal
 
 pub loop-pair-init : goal.loop-pair-init
-loop-pair-init c = key_none c.args.schema.now c.args.self.now ∙ (λ i. key_from c.args.schema.now (sym c.empty-key.ensures i) ((sym c.self.view_is ∙ sym c.as_slice-pair-items.ensures.value) i))
+loop-pair-init c = key_none c.args.schema.now c.args.self.now ∙ (λ i. key_from c.args.schema.now (sym c.in_ok-key.ensures.empty i) ((sym c.self.view_is ∙ sym c.as_slice-pair-items.ensures.value) i))
 
 pub returns-in_err-attr : goal.returns-in_err-attr
 returns-in_err-attr c =
@@ -14,7 +14,7 @@ returns-in_err-attr c =
     let pairs = c.as_slice-pair-items.result.now in
     let so_far = key_at rows (rdn_key rows c.args.self.now) c.loop-pair.key pairs c.loop-pair.pair-index c.pair-item.result (omega arith) c.pair-item.is c.loop-pair.invariant in
     let through = key_fails rows _ c.loop-pair.key c.pair-item.result (drop (c.loop-pair.pair-index + 1) pairs) so_far in
-    let e = err_from_is_err_and c.from_residual.result c.from_residual.ensures.1 in
+    let e = err_from_is_err_and c.from_residual-in_err-attr.result c.from_residual-in_err-attr.ensures.1 in
     rw (e.1, e.2) (fails_through c.in_err-attr.field-0.0 (pair_key rows c.pair-item.result) (rdn_key rows c.args.self.now) through c.in_err-attr.ensures)
 
 pub returns-in_err-put : goal.returns-in_err-put

@@ -1,0 +1,53 @@
+-- Names that are sound and within the limits print to texts that read back.
+use Rattle.std.proofs.Common.{◌≡◌, ℕ, zero, suc, ◌*◌, ◌≤◌, true, List, [], ◌∷◌, length, length-append, Ok, arith}
+use Rattle.std.specs.Prelude.{nat_le, nat_lt}
+use Rattle.std.specs.List.{list_all}
+use Rattle.std.proofs.lemmas.Bool.Decides.{nat_tests}
+use Rattle.base64.specs.GeneralPurpose.{IsBytes}
+use Rattle.dir_names.specs.Names.{SpelledName, SpelledRdn}
+use Rattle.dir_names.specs.Printing.{name_printed, rdn_printed}
+use Rattle.dir_names.specs.Reading.{is_small, name_read, rdn_read}
+use Rattle.dir_names.specs.ValueKeys.{is_ascii}
+use Rattle.dir_names.proofs.ReadNames.{name_ascii, rdn_ascii, name_read_back, rdn_read_back}
+use Rattle.dir_ldif.specs.Laws.{NameIsSound, RdnIsSound}
+use Rattle.dir_ldif.proofs.WrittenLemmas.{and_first, and_second}
+
+ascii_bytes : (xs : List ℕ) → is_ascii xs ≡ true → IsBytes xs
+ascii_bytes [] e i = omega arith
+ascii_bytes (x ∷ xs) e zero = let here : nat_lt x 128 ≡ true = and_first (nat_lt x 128) (is_ascii xs) e in grind (arith, nat_tests)
+ascii_bytes (x ∷ xs) e (suc i) = ascii_bytes xs (and_second (nat_lt x 128) (is_ascii xs) e) i
+
+small_within : (rdn : SpelledRdn) → is_small rdn ≡ true → length (rdn_printed rdn) ≤ 4096
+small_within rdn e = grind (arith, nat_tests)
+
+joined_within : (name : SpelledName) → list_all is_small name ≡ true → length (name_printed name) ≤ length name * 4097
+joined_within [] e = omega arith
+joined_within (r ∷ []) e = let here = small_within r (and_first (is_small r) true e) in omega (arith, here)
+joined_within (r ∷ s ∷ rest) e =
+    let here = small_within r (and_first (is_small r) (list_all is_small (s ∷ rest)) e) in
+    let later = joined_within (s ∷ rest) (and_second (is_small r) (list_all is_small (s ∷ rest)) e) in
+    omega (arith, here, later, length-append (rdn_printed r) (44 ∷ name_printed (s ∷ rest)))
+
+few_parts : (name : SpelledName) → nat_le (length name) 64 ≡ true → length name ≤ 64
+few_parts name e = grind (arith, nat_tests)
+
+pub name_short : (name : SpelledName) → NameIsSound name → length (name_printed name) ≤ 1048576
+name_short name sound =
+    let few = few_parts name (and_first (nat_le (length name) 64) (list_all is_small name) sound.1) in
+    let long = joined_within name (and_second (nat_le (length name) 64) (list_all is_small name) sound.1) in
+    omega (arith, few, long)
+
+pub name_bytes : (name : SpelledName) → NameIsSound name → IsBytes (name_printed name)
+name_bytes name sound = ascii_bytes (name_printed name) (name_ascii name sound.0)
+
+pub name_back : (name : SpelledName) → NameIsSound name → name_read (name_printed name) ≡ Ok name
+name_back name sound = name_read_back name sound.0 sound.1
+
+pub rdn_short : (rdn : SpelledRdn) → RdnIsSound rdn → length (rdn_printed rdn) ≤ 1048576
+rdn_short rdn sound = let here = small_within rdn sound.1 in omega (arith, here)
+
+pub rdn_bytes : (rdn : SpelledRdn) → RdnIsSound rdn → IsBytes (rdn_printed rdn)
+rdn_bytes rdn sound = ascii_bytes (rdn_printed rdn) (rdn_ascii rdn sound.0)
+
+pub rdn_back : (rdn : SpelledRdn) → RdnIsSound rdn → rdn_read (rdn_printed rdn) ≡ Ok rdn
+rdn_back rdn sound = rdn_read_back rdn sound.0 sound.1
