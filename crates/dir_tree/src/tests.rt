@@ -30,6 +30,17 @@ fn put(
     Ok(())
 }
 
+fn assert_walked(rt: &impl Abort, alloc: Global, directory: &FlatDirectory) -> Result<(), Fail> {
+    let walked = directory.walk()?;
+    let names = [b"dc=com".as_slice(), b"cn=A,dc=com".as_slice()];
+    assert_eq!(rt; walked.len(), 2);
+    for (item, want) in walked.iter().zip(names.iter()) {
+        let text = item.0.print(alloc)?;
+        assert_eq!(rt; text.as_slice(), *want);
+    }
+    Ok(())
+}
+
 #[test]
 fn a_flat_directory_holds_entries_parents_first(rt: HostRuntime) -> Result<(), Fail> {
     let alloc = rt.alloc();
@@ -40,13 +51,7 @@ fn a_flat_directory_holds_entries_parents_first(rt: HostRuntime) -> Result<(), F
     put(&rt, alloc, &mut directory, &com, top)?;
     put(&rt, alloc, &mut directory, &below, leaf.try_clone(alloc)?)?;
     assert!(rt; directory.has_child(&com));
-    let walked = directory.walk()?;
-    let names = [b"dc=com".as_slice(), b"cn=A,dc=com".as_slice()];
-    assert_eq!(rt; walked.len(), 2);
-    for (item, want) in walked.iter().zip(names.iter()) {
-        let text = item.0.print(alloc)?;
-        assert_eq!(rt; text.as_slice(), *want);
-    }
+    assert_walked(&rt, alloc, &directory)?;
     let text = directory.spelled(&below)?.print(alloc)?;
     assert_eq!(rt; text.as_slice(), b"cn=A,dc=com".as_slice());
     let is_there = directory.get(&below).is_some();
