@@ -1,5 +1,5 @@
 -- Items in rising order of their keys, kept in a `Vec` and seen as a finite map. `place` is what a binary search answers.
-use Rattle.std.proofs.Common.{◌≡◌, ℕ, zero, suc, set, ◌<◌, ◌≤◌, Bool, true, List, [], ◌∷◌, map, length, get_or, Option, Some, None, is_some, Result, Ok, Err, is_ok, refl, sym, ap, subst, ◌∙◌, IsTrue, T}
+use Rattle.std.proofs.Common.{◌≡◌, ℕ, suc, set, Bool, true, List, [], ◌∷◌, map, length, get_or, Some, None, Result, Ok, Err, refl, sym, ap, subst, ◌∙◌, IsTrue, T}
 use Rattle.std.specs.declared.cmp.Ordering.{Ordering}
 use Rattle.std.specs.declared.cmp.Ordering.TheVariants.{Less, Equal, Greater}
 use Rattle.std.specs.Ordering.{match_ordering}
@@ -11,7 +11,7 @@ use Rattle.std.specs.List.Sorted.{IsBinarySearchResult, IsSearchInRange}
 use Rattle.std.proofs.lemmas.List.{length-map}
 use Rattle.dir_names.specs.Sorted.{rises, place, later}
 use Rattle.dir_names.proofs.Placed.{so, place_from_search, is_sorted-keys, keys_of}
-use Rattle.dir_names.proofs.Maps.{got_ok, got_err, put_err, sorted_put_err, sorted_put_ok}
+use Rattle.dir_names.proofs.Maps.{got_ok, got_err, put_err, put_ok, sorted_put_err, sorted_put_ok}
 
 truth : {b : Bool} → T b → b ≡ true
 truth {b} t = elim b as (λ b. T b → b ≡ true) [ true ↦ λ _. refl | _ ↦ λ f. absurd f ] t
@@ -51,6 +51,9 @@ module _ {I K X : Type 0} {R : K → K → Ordering} (o : IsTotalOrder R) (pair 
 
       pub put : r ≡ Err i → (item : I) → (pair item).0 ≡ k → fin.insert (map_in items) k (pair item).1 ≡ map_in (insert items i item)
       put is item same = put_err o pair items (so _ in_order) k i item (sym at ∙ is) same
+
+      pub put_over : r ≡ Ok i → (item : I) → (pair item).0 ≡ (pair (get_or items i item)).0 → fin.insert (map_in items) k (pair item).1 ≡ map_in (set items i item)
+      put_over is item same = put_ok o pair items (so _ in_order) k i item (sym at ∙ is) same
 
       pub rises_over : r ≡ Ok i → (item : I) → (pair item).0 ≡ (pair (get_or items i item)).0 → IsTrue (rises R (keys_in (set items i item)))
       rises_over is item same = truth (sorted_put_ok o pair items (so _ in_order) k i item (sym at ∙ is) same)

@@ -3,7 +3,6 @@ use Rattle.std.specs.Prelude.{ℕ, Bool, List, map, Option, Some, None, false, r
 use Rattle.std.specs.FinMap as fin
 use Rattle.std.specs.Coded.{Coded, code_by, coded×, coded_list, coded_ℕ}
 use Rattle.dir_names.specs.Attr.{Attr}
-use Rattle.dir_names.specs.Described.{Described}
 use Rattle.dir_names.specs.Orders.{attr_cmp}
 use Rattle.dir_names.specs.Sorted.{rises}
 use Rattle.dir_names.specs.Values.{value_key_cmp}

@@ -1,10 +1,15 @@
-ghost use Rattle.std.specs.Prelude.{◌≡◌, IfOk, IfSome, IsTrue, length, map, option_copied};
+ghost use Rattle.std.specs.Prelude.{◌≡◌, ◌&&◌, IfErr, IfOk, IfSome, IsSome, IsTrue, OnOk, Some, false, length, map, nat_lt, option_copied};
+ghost use Rattle.std.specs.List.{list_any};
+ghost use Rattle.dir_names.specs.Sound.{is_pair};
+ghost use Rattle.dir_names.specs.Table.{single_of};
 ghost use Rattle.std.specs.Option.{option_map};
 ghost use Rattle.std.specs.FinMap as fin;
 ghost use Rattle.std.specs.List.Sorted.{IsSearchInRange};
 ghost use Rattle.dir_names.specs.Orders.{attr_cmp};
 ghost use Rattle.dir_names.specs.Sorted.{place};
 ghost use Rattle.dir_tree.specs.Content.{attribute_pair, attributes_rise, has_value};
+ghost use Rattle.dir_tree.specs.Made.{IsTwice, gained_by, is_crowded, pair_line, rdn_lines, with_description, with_line};
+ghost use Rattle.dir_tree.specs.declared.fault.EntryFault.TheVariants as EntryFault;
 
 use crate::EntryFault;
 use crate::values::{ValueMap, Values};
@@ -63,13 +68,18 @@ impl Attribute {
     }
 
     fn add(&mut self, key: ValueKey, bytes: Bytes) -> Result<(), EntryFault>
-        ensures { self.new.key ≡ self.old.key }
+        ensures key { self.new.key ≡ self.old.key }
+        ensures ok { OnOk result (self.new.stored ≡ record { spelling = self.old.stored.spelling; values = fin.insert self.old.stored.values key bytes }) }
+        ensures free { OnOk result (fin.contains_key self.old.stored.values key ≡ false) }
+        ensures fault { IfErr result (λ e. IsTwice e (fin.contains_key self.old.stored.values key)) }
     {
         self.values.insert(key, bytes)
     }
 
     /// Whether there is more than one value.
-    fn has_many(&self) -> bool {
+    fn has_many(&self) -> bool
+        ensures { result ≡ nat_lt 1 (fin.len self.now.stored.values) }
+    {
         self.values.len() > 1
     }
 }
@@ -143,7 +153,11 @@ impl AttributeMap {
         description: Description,
         key: ValueKey,
         bytes: Bytes,
-    ) -> Result<(), EntryFault> {
+    ) -> Result<(), EntryFault>
+        ensures ok { OnOk result (self.new ≡ with_line self.old (record { description = description; key = key; bytes = bytes })) }
+        ensures free { OnOk result (has_value self.old description.key key ≡ false) }
+        ensures fault { IfErr result (λ e. IsTwice e (has_value self.old description.key key)) }
+    {
         match place_of(self.items.as_slice(), description.key()) {
             Ok(at) => self.items[at].add(key, bytes),
             Err(at) => {
@@ -167,7 +181,10 @@ impl AttributeMap {
         &mut self,
         alloc: Global,
         description: &Description,
-    ) -> Result<(), EntryFault> {
+    ) -> Result<(), EntryFault>
+        ensures ok { OnOk result (self.new ≡ with_description self.old description.now) }
+        ensures memory { IfErr result (λ e. e ≡ EntryFault.Memory) }
+    {
         if let Err(at) = place_of(self.items.as_slice(), description.key()) {
             let description = description.try_clone(alloc)?;
             let values = ValueMap::empty(alloc);
@@ -188,10 +205,13 @@ impl AttributeMap {
         alloc: Global,
         schema: &Schema,
         rdn: &Rdn,
-    ) -> Result<(), EntryFault> {
+    ) -> Result<(), EntryFault>
+        requires { IsSome (rdn_lines schema.now rdn.now) }
+        ensures ok { OnOk result (self.new ≡ gained_by self.old (rdn_lines schema.now rdn.now)) }
+        ensures memory { IfErr result (λ e. e ≡ EntryFault.Memory) }
+    {
         for pair in rdn.pairs() {
-            let description = Description::read(alloc, schema, pair.0.as_slice())?;
-            let key = schema.value_key(alloc, description.key(), pair.1.as_slice())?;
+            let (description, key) = described_pair(alloc, schema, pair)?;
             if !self.has(description.key(), &key) {
                 self.add(alloc, description, key, pair.1.try_clone(alloc)?)?;
             }
@@ -217,10 +237,39 @@ impl AttributeMap {
     }
 
     /// Whether an attribute of a single type has more than one value.
-    pub(crate) fn is_crowded(&self, schema: &Schema) -> bool {
-        self.items.iter().any(|attribute| attribute.has_many()
-            && schema.single(attribute.description.key()))
+    pub(crate) fn is_crowded(&self, schema: &Schema) -> bool
+        ensures { result ≡ is_crowded schema.now self.now }
+    {
+        are_crowded(self.items.as_slice(), schema)
     }
+}
+
+/// Whether one of the attributes is of a single type and has more than one value.
+fn are_crowded(items: &[Attribute], schema: &Schema) -> bool
+    ensures { result ≡ list_any (λ a. nat_lt 1 (fin.len a.stored.values) && single_of schema.now a.key) items.now }
+{
+    for attribute in items {
+        if attribute.has_many() && schema.single(attribute.description.key()) {
+            return true;
+        }
+    }
+    false
+}
+
+/// A pair of an RDN as a description and the key of its value.
+fn described_pair(
+    alloc: Global,
+    schema: &Schema,
+    pair: &(Bytes, Bytes),
+) -> Result<(Description, ValueKey), EntryFault>
+    requires sound { IsTrue (is_pair pair.now) }
+    requires keyed { IsSome (pair_line schema.now pair.now) }
+    ensures ok { IfOk result (λ found. pair_line schema.now pair.now ≡ Some (record { description = found.0; key = found.1; bytes = pair.now.1 })) }
+    ensures memory { IfErr result (λ e. e ≡ EntryFault.Memory) }
+{
+    let description = Description::read(alloc, schema, pair.0.as_slice())?;
+    let key = schema.value_key(alloc, description.key(), pair.1.as_slice())?;
+    Ok((description, key))
 }
 
 /// Where the attribute with this key stands, or where it would be put.

@@ -1,12 +1,15 @@
-ghost use Rattle.std.specs.Prelude.{◌≡◌, IfOk, IfSome, option_copied};
+ghost use Rattle.std.specs.Prelude.{◌≡◌, IfOk, IfSome, cond, option_copied, take};
 ghost use Rattle.std.specs.Option.{option_map};
 ghost use Rattle.std.specs.FinMap as fin;
+ghost use Rattle.dir_names.specs.NameKeys.{rdn_key};
 ghost use Rattle.dir_tree.specs.Content.{has_value};
+ghost use Rattle.dir_tree.specs.Made.{Makes, made, or_else_fault};
+ghost use Rattle.dir_tree.specs.declared.fault.EntryFault.TheVariants as EntryFault;
 
 use crate::EntryFault;
 use crate::attributes::{Attribute, AttributeMap, Attributes};
 use crate::lines::attributes_of;
-use dir_names::{AttrKey, Dn, Lines, Memory, Rdn, RdnKey, Schema, ValueKey};
+use dir_names::{AttrKey, Dn, Lines, Memory, NameFault, Rdn, RdnKey, Schema, ValueKey};
 use std::alloc::Global;
 use std::marker::Model;
 
@@ -35,20 +38,23 @@ impl Entry {
     ///
     /// # Errors
     ///
-    /// `BadValue` where a listed value has no key; then `Twice` where an attribute is given a value
+    /// `NotNamed` where the own name has no RDN, or its leaf RDN has no key; then `BadValue` where a
+    /// listed value has none; then `Twice` where an attribute is given a value
     /// twice; then `Single` where an attribute of a single type has two.
     pub fn make(
         alloc: Global,
         schema: &Schema,
         spelled: Vec<Rdn>,
         values: Lines,
-    ) -> Result<Entry, EntryFault> {
+    ) -> Result<Entry, EntryFault>
+        ensures { Makes (λ entry. entry) result (made schema.now spelled.items values) }
+    {
         let mut own = spelled;
         own.shrink_to_fit();
         let Some(leaf) = own.first() else {
             return Err(EntryFault::NotNamed);
         };
-        let key = leaf.key(alloc, schema)?;
+        let key = leaf_key(alloc, schema, leaf)?;
         let mut attributes = attributes_of(alloc, schema, values)?;
         attributes.gain(alloc, schema, leaf)?;
         attributes.shrink();
@@ -112,8 +118,21 @@ impl Entry {
     }
 }
 
+/// The key of an entry's own RDN.
+fn leaf_key(alloc: Global, schema: &Schema, leaf: &Rdn) -> Result<RdnKey, EntryFault>
+    ensures { Makes (λ key. key) result (or_else_fault EntryFault.NotNamed (rdn_key schema.now leaf.now)) }
+{
+    match leaf.key(alloc, schema) {
+        Ok(key) => Ok(key),
+        Err(NameFault::Memory) => Err(EntryFault::Memory),
+        Err(_) => Err(EntryFault::NotNamed),
+    }
+}
+
 /// What an entry keeps of its name: all of the suffix, or else the leaf RDN.
-pub fn own_rdns(name: Dn, is_suffix: bool) -> Vec<Rdn> {
+pub fn own_rdns(name: Dn, is_suffix: bool) -> Vec<Rdn>
+    ensures { result.items ≡ cond is_suffix name (take 1 name) }
+{
     let mut rdns = name.into_rdns();
     if !is_suffix {
         rdns.truncate(1);

@@ -1,3 +1,7 @@
+ghost use Rattle.std.specs.Prelude.{◌≡◌};
+ghost use Rattle.dir_tree.specs.declared.fault.EntryFault.TheVariants.{Memory};
+ghost use Rattle.dir_tree.specs.Made.{entry_fault_of};
+
 use dir_names::NameFault;
 use std::alloc::{AllocError, AllocFailed};
 use thiserror::Error;
@@ -23,12 +27,16 @@ pub enum EntryFault {
 }
 
 impl From<AllocError> for EntryFault {
+    ghost from_gives = { λ _ e. e ≡ Memory };
+
     fn from(_error: AllocError) -> EntryFault {
         EntryFault::Memory
     }
 }
 
 impl<T: Drop> From<AllocFailed<T>> for EntryFault {
+    ghost from_gives = { λ _ e. e ≡ Memory };
+
     fn from(_error: AllocFailed<T>) -> EntryFault {
         EntryFault::Memory
     }
@@ -36,6 +44,8 @@ impl<T: Drop> From<AllocFailed<T>> for EntryFault {
 
 /// What stands in the way of a value's key: the value itself, or memory.
 impl From<NameFault> for EntryFault {
+    ghost from_gives = { λ fault e. e ≡ entry_fault_of fault };
+
     fn from(fault: NameFault) -> EntryFault {
         match fault {
             NameFault::Memory => EntryFault::Memory,

@@ -1,9 +1,10 @@
-ghost use Rattle.std.specs.Prelude.{◌≡◌, IfOk, IsTrue, length, map, option_copied};
+ghost use Rattle.std.specs.Prelude.{◌≡◌, IfErr, IfOk, IsTrue, OnErr, OnOk, false, length, map, option_copied};
 ghost use Rattle.std.specs.FinMap as fin;
 ghost use Rattle.std.specs.List.Sorted.{IsSearchInRange};
 ghost use Rattle.dir_names.specs.Sorted.{place};
 ghost use Rattle.dir_names.specs.Values.{value_key_cmp};
 ghost use Rattle.dir_tree.specs.Content.{value_pair, are_rising};
+ghost use Rattle.dir_tree.specs.Made.{IsTwice};
 
 use crate::EntryFault;
 use dir_names::{Bytes, Memory, ValueKey};
@@ -76,7 +77,12 @@ impl ValueMap {
     /// # Errors
     ///
     /// `Twice` where its key is there, and want of memory. The map is as it was.
-    pub(crate) fn insert(&mut self, key: ValueKey, bytes: Bytes) -> Result<(), EntryFault> {
+    pub(crate) fn insert(&mut self, key: ValueKey, bytes: Bytes) -> Result<(), EntryFault>
+        ensures ok { OnOk result (self.new ≡ fin.insert self.old key bytes) }
+        ensures free { OnOk result (fin.contains_key self.old key ≡ false) }
+        ensures err { OnErr result (self.new ≡ self.old) }
+        ensures fault { IfErr result (λ e. IsTwice e (fin.contains_key self.old key)) }
+    {
         match place_of(self.items.as_slice(), &key) {
             Ok(_) => Err(EntryFault::Twice),
             Err(at) => {
