@@ -1,5 +1,5 @@
-ghost use Rattle.std.specs.Prelude.{◌≡◌, IfErr, IfOk, OnErr, OnOk, is_some};
-ghost use Rattle.dir_change.specs.Operation.{AddRefused, Adds};
+ghost use Rattle.std.specs.Prelude.{◌≡◌, IfErr, IfOk, Ok, OnErr, OnOk, is_some};
+ghost use Rattle.dir_change.specs.Operation.{IsRefused, added};
 ghost use Rattle.dir_tree.specs.Dir.{has_parent};
 
 use crate::{Refusal, ResultCode, Undo};
@@ -18,8 +18,8 @@ pub(crate) fn add<D: Directory>(
     key: &DnKey,
     lines: &Lines,
 ) -> Result<Undo, Refusal>
-    ensures ok { OnOk result (Adds (D.state directory.old) key.now (D.state directory.new)) }
-    ensures refused { IfErr result (AddRefused (D.state directory.old) key.now) }
+    ensures ok { OnOk result (added schema.now (D.state directory.old) key.now name.now lines.now ≡ Ok (D.state directory.new)) }
+    ensures refused { IfErr result (λ e. IsRefused e (added schema.now (D.state directory.old) key.now name.now lines.now)) }
     ensures err { OnErr result (D.state directory.new ≡ D.state directory.old) }
 {
     if !key.at_or_below(directory.suffix()) {

@@ -1,5 +1,5 @@
-ghost use Rattle.std.specs.Prelude.{◌≡◌, IfErr, OnErr, OnOk};
-ghost use Rattle.dir_change.specs.Operation.{DeleteRefused, Deletes};
+ghost use Rattle.std.specs.Prelude.{◌≡◌, IfErr, Ok, OnErr, OnOk};
+ghost use Rattle.dir_change.specs.Operation.{IsRefused, deleted};
 
 use crate::{Refusal, ResultCode, Undo};
 use dir_ldif::{Change, ChangeKind};
@@ -14,8 +14,8 @@ pub(crate) fn delete<D: Directory>(
     directory: &mut D,
     key: &DnKey,
 ) -> Result<Undo, Refusal>
-    ensures ok { OnOk result (Deletes (D.state directory.old) key.now (D.state directory.new)) }
-    ensures refused { IfErr result (DeleteRefused (D.state directory.old) key.now) }
+    ensures ok { OnOk result (deleted (D.state directory.old) key.now ≡ Ok (D.state directory.new)) }
+    ensures refused { IfErr result (λ e. IsRefused e (deleted (D.state directory.old) key.now)) }
     ensures err { OnErr result (D.state directory.new ≡ D.state directory.old) }
 {
     let Some(entry) = directory.get(key) else {

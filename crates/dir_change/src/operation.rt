@@ -1,12 +1,13 @@
-ghost use Rattle.std.specs.Prelude.{◌≡◌, OnErr};
+ghost use Rattle.std.specs.Prelude.{◌≡◌, IfErr, IfOk, Ok, OnErr, OnOk, Some};
 ghost use Rattle.dir_change.specs.declared.operation.Refusal.TheVariants.{Memory};
-ghost use Rattle.dir_change.specs.Operation.{refusal_of};
+ghost use Rattle.dir_change.specs.Operation.{IsKeyless, IsRefused, refusal_of, step};
+ghost use Rattle.dir_names.specs.NameKeys.{name_key};
 
 use crate::add::add;
 use crate::delete::delete;
 use crate::{ResultCode, Undo};
 use dir_ldif::{Change, ChangeKind};
-use dir_names::{Memory, NameFault, Schema};
+use dir_names::{Dn, DnKey, Memory, NameFault, Schema};
 use dir_tree::{Directory, EntryFault};
 use std::alloc::{AllocError, AllocFailed, Global};
 
@@ -33,15 +34,29 @@ pub fn apply<D: Directory>(
     directory: &mut D,
     change: &Change,
 ) -> Result<Undo, Refusal>
-    ensures { OnErr result (D.state directory.new ≡ D.state directory.old) }
+    ensures ok { OnOk result (step schema.now (D.state directory.old) change.now ≡ Ok (D.state directory.new)) }
+    ensures refused { IfErr result (λ e. IsRefused e (step schema.now (D.state directory.old) change.now)) }
+    ensures err { OnErr result (D.state directory.new ≡ D.state directory.old) }
 {
-    let key = change.dn.key(alloc, schema)?;
+    let key = key_of(alloc, schema, &change.dn)?;
     match &change.kind {
         ChangeKind::Add(lines) => add(alloc, schema, directory, &change.dn, &key, lines),
         ChangeKind::Delete => delete(alloc, directory, &key),
         ChangeKind::Modify(_) | ChangeKind::Rename { .. } => Err(Refusal::Code(
             ResultCode::UnwillingToPerform,
         )),
+    }
+}
+
+/// The key of a name; at a name without one nothing stands.
+fn key_of(alloc: Global, schema: &Schema, name: &Dn) -> Result<DnKey, Refusal>
+    ensures ok { IfOk result (λ key. name_key schema.now name.now ≡ Some key) }
+    ensures refused { IfErr result (λ e. IsKeyless e (name_key schema.now name.now)) }
+{
+    match name.key(alloc, schema) {
+        Ok(key) => Ok(key),
+        Err(NameFault::Memory) => Err(Refusal::Memory),
+        Err(_) => Err(Refusal::Code(ResultCode::NoSuchObject)),
     }
 }
 

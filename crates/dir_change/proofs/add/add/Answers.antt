@@ -1,5 +1,77 @@
-use Rattle.std.proofs.Common.{rules}
+use Rattle.std.proofs.Common.{◌≡◌, true, false, cond, take, Option, Some, None, is_some, Result, Ok, refl, sym, ap, subst, ◌∙◌, true≢false, Bor}
+use Rattle.std.specs.Option.{option_copied}
+use Rattle.std.proofs.lemmas.Result.{err_from_is_err_and}
+use Rattle.dir_names.specs.Keys.{DnKeys, IsAtOrBelow}
+use Rattle.dir_names.specs.Orders.{dn_key_eq}
+use Rattle.dir_tree.specs.Content.{Content}
+use Rattle.dir_tree.specs.Dir.{Dir, entry_at, has_parent}
+use Rattle.dir_tree.specs.Made.{Fails, made}
+use Rattle.dir_tree.specs.declared.fault.EntryFault.{EntryFault}
+use Rattle.dir_tree.specs.declared.fault.EntryFault.TheVariants.{BadValue, Twice, NotNamed, Single, Memory}
+use Rattle.dir_change.specs.Operation.{IsRefused, added, is_at_or_below, own_of, placed, refusal_of}
+use Rattle.dir_change.proofs.Tests.{below_true, below_false, add_outside, add_taken, add_placed}
 use Rattle.dir_change.proofs.add.add.Goals as goal
 
+copied_some : {A : Type 0} (o : Option (Bor A)) → is_some o ≡ true → is_some (option_copied o) ≡ true
+copied_some None e = e
+copied_some (Some x) e = refl
+
+copied_none : {A : Type 0} (o : Option (Bor A)) → is_some o ≡ false → is_some (option_copied o) ≡ false
+copied_none None e = refl
+copied_none (Some x) e = e
+
+-- an entry that isn't made is refused with its code
+fails_refused : (d : Dir) (k : DnKeys) (fault : EntryFault) (wanted : Result Content EntryFault) → Fails fault wanted → IsRefused (refusal_of fault) (placed d k wanted)
+fails_refused d k BadValue wanted e = ap (placed d k) e
+fails_refused d k Twice wanted e = ap (placed d k) e
+fails_refused d k NotNamed wanted e = ap (placed d k) e
+fails_refused d k Single wanted e = ap (placed d k) e
+fails_refused d k Memory wanted e = tt
+
+pub returns-then-not-at_or_below-clause-refused : goal.returns-then-not-at_or_below-clause-refused
+returns-then-not-at_or_below-clause-refused g c =
+    let d = g.D.Directory.state c.args.directory.now in
+    let k = c.args.key.now in
+    let outside : is_at_or_below k d.suffix ≡ false = below_false k d.suffix (λ below. true≢false (sym (c.if-not-at_or_below.ensures.1 (subst (λ z. IsAtOrBelow k z) (sym c.suffix.ensures.key) below)))) in
+    add_outside d k c.args.schema.now c.args.name.now c.args.lines.now outside
+
+pub returns-then-is_some-clause-refused : goal.returns-then-is_some-clause-refused
+returns-then-is_some-clause-refused g c =
+    let d = g.D.Directory.state c.args.directory.now in
+    let k = c.args.key.now in
+    let below : is_at_or_below k d.suffix ≡ true = below_true k d.suffix (subst (λ z. IsAtOrBelow k z) c.suffix.ensures.key (c.if-not-at_or_below.ensures.0 refl)) in
+    let there : is_some (entry_at d k) ≡ true = ap is_some (sym c.get.ensures) ∙ copied_some c.get.result (sym c.if-is_some.ensures) in
+    add_taken d k c.args.schema.now c.args.name.now c.args.lines.now below there
+
+pub returns-in_err-entry-clause-refused : goal.returns-in_err-entry-clause-refused
+returns-in_err-entry-clause-refused g c =
+    let d = g.D.Directory.state c.args.directory.now in
+    let k = c.args.key.now in
+    let below : is_at_or_below k d.suffix ≡ true = below_true k d.suffix (subst (λ z. IsAtOrBelow k z) c.suffix.ensures.key (c.if-not-at_or_below.ensures.0 refl)) in
+    let free : is_some (entry_at d k) ≡ false = ap is_some (sym c.get.ensures) ∙ copied_none c.get.result (sym c.if-is_some.ensures) in
+    let parent : has_parent d k ≡ true = sym c.in_ok-above.ensures.parent ∙ ap is_some c.in-Some.is in
+    let name_cloned = c.in_ok-try_clone.ensures in
+    let same_name : c.args.name.now ≡ c.in_ok-try_clone.field-0 = cc in
+    let lines_cloned = c.in_ok-try_clone-2.ensures in
+    let same_lines : c.args.lines.now ≡ c.in_ok-try_clone-2.field-0 = cc in
+    let own : c.own_rdns-own.result.items ≡ own_of d.suffix k c.args.name.now = c.own_rdns-own.ensures ∙ (λ i. cond ((c.eq.ensures ∙ ap (dn_key_eq k) c.suffix-2.ensures.key) i) (sym same_name i) (take 1 (sym same_name i))) in
+    let at_place = add_placed d k c.args.schema.now c.args.name.now c.args.lines.now below free parent in
+    let fails : Fails c.in_err-entry.field-0.0 (made c.args.schema.now (own_of d.suffix k c.args.name.now) c.args.lines.now) = subst (λ ls. Fails c.in_err-entry.field-0.0 (made c.args.schema.now (own_of d.suffix k c.args.name.now) ls)) (sym same_lines) (subst (λ o. Fails c.in_err-entry.field-0.0 (made c.args.schema.now o c.in_ok-try_clone-2.field-0)) own c.in_err-entry.ensures) in
+    let e = err_from_is_err_and c.from_residual-in_err-entry.result c.from_residual-in_err-entry.ensures.1 in
+    rw e.1 (subst (λ r. IsRefused r (added c.args.schema.now d k c.args.name.now c.args.lines.now)) (sym e.2) (subst (λ w. IsRefused (refusal_of c.in_err-entry.field-0.0) w) (sym at_place) (fails_refused d k c.in_err-entry.field-0.0 (made c.args.schema.now (own_of d.suffix k c.args.name.now) c.args.lines.now) fails)))
+
 pub returns-in-Ok-clause-ok : goal.returns-in-Ok-clause-ok
-returns-in-Ok-clause-ok g c = ((search rules, search rules, search rules), c.in_ok-entry.entry, search rules)
+returns-in-Ok-clause-ok g c =
+    let d = g.D.Directory.state c.args.directory.now in
+    let k = c.args.key.now in
+    let below : is_at_or_below k d.suffix ≡ true = below_true k d.suffix (subst (λ z. IsAtOrBelow k z) c.suffix.ensures.key (c.if-not-at_or_below.ensures.0 refl)) in
+    let free : is_some (entry_at d k) ≡ false = ap is_some (sym c.get.ensures) ∙ copied_none c.get.result (sym c.if-is_some.ensures) in
+    let parent : has_parent d k ≡ true = sym c.in_ok-above.ensures.parent ∙ ap is_some c.in-Some.is in
+    let name_cloned = c.in_ok-try_clone.ensures in
+    let same_name : c.args.name.now ≡ c.in_ok-try_clone.field-0 = cc in
+    let lines_cloned = c.in_ok-try_clone-2.ensures in
+    let same_lines : c.args.lines.now ≡ c.in_ok-try_clone-2.field-0 = cc in
+    let own : c.own_rdns-own.result.items ≡ own_of d.suffix k c.args.name.now = c.own_rdns-own.ensures ∙ (λ i. cond ((c.eq.ensures ∙ ap (dn_key_eq k) c.suffix-2.ensures.key) i) (sym same_name i) (take 1 (sym same_name i))) in
+    let at_place = add_placed d k c.args.schema.now c.args.name.now c.args.lines.now below free parent in
+    let given : made c.args.schema.now (own_of d.suffix k c.args.name.now) c.args.lines.now ≡ Ok c.in_ok-entry.entry = (λ i. made c.args.schema.now (sym own i) (same_lines i)) ∙ c.in_ok-entry.ensures in
+    at_place ∙ ap (placed d k) given ∙ ap Ok (sym c.in-Ok.ensures.ok)
