@@ -1,7 +1,9 @@
 pub mod DirLemmas
 pub mod Faults
 pub mod Kept
+pub mod MadeAgain
 pub mod NextKey
 pub mod Orderless
 pub mod OwnLines
+pub mod Relisted
 pub mod Ties
