@@ -1,3 +1,5 @@
+pub mod Climb
 pub mod DirLemmas
 pub mod Kept
 pub mod NextKey
+pub mod SpelledLemmas

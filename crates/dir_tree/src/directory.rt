@@ -1,5 +1,6 @@
-ghost use Rattle.std.specs.Prelude.{◌≡◌, ◌↔◌, IfErr, IfOk, IsSome, IsTrue, None, OnErr, OnOk, Some, option_copied};
+ghost use Rattle.std.specs.Prelude.{◌≡◌, ◌≤◌, ◌↔◌, IfErr, IfOk, IsSome, IsTrue, None, OnErr, OnOk, Some, length, option_copied};
 ghost use Rattle.dir_tree.specs.Dir.{Dir, HasChild, IsClosed, entry_at, has_parent, put_entry, without};
+ghost use Rattle.dir_tree.specs.Spelled.{spelled_name};
 
 use crate::Entry;
 use dir_names::{Dn, DnKey, Memory, NameFault};
@@ -42,13 +43,16 @@ pub trait Directory {
         ensures err { OnErr result (state self.new ≡ state self.old) }
         ensures value_returned { IfErr result (λ e. e ≡ entry) };
 
-    /// The name of an entry as spelled on its path: the own names of the entries from it up to the
-    /// suffix's, joined. They have at most 64 RDNs in all.
+    /// The name of an entry that is there, as spelled on its path: the own names of the entries from
+    /// it up to the suffix's, joined, leaf first. They have at most 64 RDNs in all.
     ///
     /// # Errors
     ///
     /// Want of memory alone.
-    fn spelled(&self, key: &DnKey) -> Result<Dn, Memory>;
+    fn spelled(&self, key: &DnKey) -> Result<Dn, Memory>
+        requires there { IsSome (entry_at (state self.now) key.now) }
+        requires short { length (spelled_name (state self.now) key.now) ≤ 64 }
+        ensures { IfOk result (λ name. name ≡ spelled_name (state self.now) key.now) };
 
     /// Every entry with its name as spelled, in order of keys, so that a parent comes before what is
     /// below it. Each path has at most 64 RDNs in all.

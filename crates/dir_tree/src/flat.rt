@@ -1,4 +1,4 @@
-ghost use Rattle.std.specs.Prelude.{◌≡◌, IfNone, IfSome, IsSome, None, false};
+ghost use Rattle.std.specs.Prelude.{◌≡◌, ◌≤◌, ◌++◌, IfNone, IfSome, IsSome, None, OnOk, false, length};
 ghost use Rattle.std.specs.BTreeMap.{get};
 ghost use Rattle.std.specs.Ordering.{is_gt};
 ghost use Rattle.std.specs.declared.cmp.Ordering.TheVariants.{Less};
@@ -81,21 +81,21 @@ impl Directory for FlatDirectory {
 
     fn spelled(&self, key: &DnKey) -> Result<Dn, Memory> {
         let mut rdns = Vec::new(self.alloc);
-        let Ok(mut at) = key.try_clone(self.alloc) else {
+        let Ok(key) = key.try_clone(self.alloc) else {
             return Err(Memory);
         };
-        for _ in 0..key.depth() {
-            let Some(entry) = self.entries.get(&at) else {
+        let mut above = Some(key);
+        while let Some(key) = above {
+            let Some(entry) = self.entries.get(&key) else {
                 break;
             };
             push_clones(&mut rdns, entry.own(), self.alloc)?;
-            match at.parent(self.alloc) {
-                Ok(Some(parent)) => at = parent,
-                Ok(None) => break,
-                Err(_) => return Err(Memory),
-            }
+            let Ok(parent) = key.parent(self.alloc) else {
+                return Err(Memory);
+            };
+            above = parent;
         }
-        named(rdns)
+        Ok(named(rdns))
     }
 
     fn walk(&self) -> Result<Vec<(Dn, &Entry)>, Memory> {
@@ -109,7 +109,10 @@ impl Directory for FlatDirectory {
             for own in path.iter().rev() {
                 push_clones(&mut rdns, own, self.alloc)?;
             }
-            walked.push((named(rdns)?, entry))?;
+            let Ok(name) = Dn::from_rdns(rdns) else {
+                return Err(Memory);
+            };
+            walked.push((name, entry))?;
         }
         Ok(walked)
     }
@@ -129,7 +132,10 @@ fn first_after<'m>(entries: &'m BTreeMap<DnKey, Entry>, key: &DnKey) -> Option<&
     Some(next)
 }
 
-fn push_clones(rdns: &mut Vec<Rdn>, more: &[Rdn], alloc: Global) -> Result<(), Memory> {
+/// Clones RDNs onto the end of a list.
+fn push_clones(rdns: &mut Vec<Rdn>, more: &[Rdn], alloc: Global) -> Result<(), Memory>
+    ensures { OnOk result (rdns.new.items ≡ rdns.old.items ++ more.now) }
+{
     for rdn in more {
         let Ok(copy) = rdn.try_clone(alloc) else {
             return Err(Memory);
@@ -139,9 +145,10 @@ fn push_clones(rdns: &mut Vec<Rdn>, more: &[Rdn], alloc: Global) -> Result<(), M
     Ok(())
 }
 
-fn named(rdns: Vec<Rdn>) -> Result<Dn, Memory> {
-    match Dn::from_rdns(rdns) {
-        Ok(name) => Ok(name),
-        Err(_) => Err(Memory),
-    }
+/// The name with these RDNs, leaf first, which are no more than a name may have.
+fn named(rdns: Vec<Rdn>) -> Dn
+    requires { length rdns.items ≤ 64 }
+    ensures { result ≡ rdns.items }
+{
+    Dn::from_rdns(rdns).unwrap()
 }
