@@ -3,3 +3,4 @@ pub mod DirLemmas
 pub mod Kept
 pub mod NextKey
 pub mod SpelledLemmas
+pub mod Walk

@@ -16,7 +16,7 @@ use Rattle.dir_tree.proofs.NextKey.{or_cases, parent_snoc, reaches}
 
 -- ---- from a key to what is directly below it
 
-same_below : {A : Type 0} (f g : ℕ → A) (a n : ℕ) → ((i : ℕ) → i < a + n → f i ≡ g i) → map f (range_with_len a n) ≡ map g (range_with_len a n)
+pub same_below : {A : Type 0} (f g : ℕ → A) (a n : ℕ) → ((i : ℕ) → i < a + n → f i ≡ g i) → map f (range_with_len a n) ≡ map g (range_with_len a n)
 same_below f g a zero h = refl
 same_below f g a (suc n) h = λ i. h a (omega arith) i ∷ same_below f g (a + 1) n (λ j l. h j (omega arith)) i
 

@@ -1,6 +1,6 @@
-ghost use Rattle.std.specs.Prelude.{◌≡◌, ◌≤◌, ◌↔◌, IfErr, IfOk, IsSome, IsTrue, None, OnErr, OnOk, Some, length, option_copied};
+ghost use Rattle.std.specs.Prelude.{◌≡◌, ◌≤◌, ◌↔◌, IfErr, IfOk, IsSome, IsTrue, None, OnErr, OnOk, Some, length, map, option_copied};
 ghost use Rattle.dir_tree.specs.Dir.{Dir, HasChild, IsClosed, entry_at, has_parent, put_entry, without};
-ghost use Rattle.dir_tree.specs.Spelled.{spelled_name};
+ghost use Rattle.dir_tree.specs.Spelled.{HasShortNames, spelled_name, walked};
 
 use crate::Entry;
 use dir_names::{Dn, DnKey, Memory, NameFault};
@@ -60,7 +60,9 @@ pub trait Directory {
     /// # Errors
     ///
     /// Want of memory alone.
-    fn walk(&self) -> Result<Vec<(Dn, &Entry)>, Memory>;
+    fn walk(&self) -> Result<Vec<(Dn, &Entry)>, Memory>
+        requires { HasShortNames (state self.now) }
+        ensures { IfOk result (λ walk. map (λ item. (item.0, item.1.now)) walk.items ≡ walked (state self.now)) };
 }
 
 /// Whether a key may take an entry: it is the suffix, or its parent is in the map.

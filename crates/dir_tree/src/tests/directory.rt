@@ -95,6 +95,26 @@ fn assert_spelled(
     Ok(())
 }
 
+/// Asserts that a walk meets entries of these names, in this order.
+fn assert_walked(
+    rt: &impl Abort,
+    alloc: Global,
+    directory: &FlatDirectory,
+    names: &[&[u8]],
+) -> Result<(), Fail>
+    requires depths { HasOwnDepths directory.now }
+    requires shallow { IsShallow directory.now }
+{
+    let _suffix = directory.suffix();
+    let walk = directory.walk()?;
+    assert_eq!(rt; walk.len(), names.len());
+    for (item, name) in walk.iter().zip(names.iter()) {
+        let text = item.0.print(alloc)?;
+        assert_eq!(rt; text.as_slice(), *name);
+    }
+    Ok(())
+}
+
 #[test]
 fn a_flat_directory_spells_names_as_its_entries_do(rt: HostRuntime) -> Result<(), Fail> {
     let alloc = rt.alloc();
@@ -108,8 +128,86 @@ fn a_flat_directory_spells_names_as_its_entries_do(rt: HostRuntime) -> Result<()
         alloc,
         &schema,
         &directory,
-        b"CN=B,cn=A,dc=com",
+        b"CN=B,cn=a,dc=COM",
         b"cn=b,cn=A,dc=com",
     )?;
     assert_spelled(&rt, alloc, &schema, &directory, b"DC=com", b"dc=com")
+}
+
+#[test]
+fn a_flat_directory_is_walked_parents_first(rt: HostRuntime) -> Result<(), Fail> {
+    let alloc = rt.alloc();
+    let schema = Schema::builtin(alloc)?;
+    let mut directory = empty(alloc, &schema, b"dc=com")?;
+    assert_walked(&rt, alloc, &directory, &[])?;
+    add(alloc, &schema, &mut directory, b"dc=com")?;
+    add(alloc, &schema, &mut directory, b"cn=c,dc=com")?;
+    add(alloc, &schema, &mut directory, b"cn=A,dc=com")?;
+    add(alloc, &schema, &mut directory, b"cn=b,cn=a,dc=com")?;
+    let names: [&[u8]; 4] = [
+        b"dc=com",
+        b"cn=A,dc=com",
+        b"cn=b,cn=A,dc=com",
+        b"cn=c,dc=com",
+    ];
+    assert_walked(&rt, alloc, &directory, &names)
+}
+
+#[test]
+fn a_suffix_of_two_rdns_is_spelled_whole(rt: HostRuntime) -> Result<(), Fail> {
+    let alloc = rt.alloc();
+    let schema = Schema::builtin(alloc)?;
+    let mut directory = empty(alloc, &schema, b"dc=example,dc=com")?;
+    add(alloc, &schema, &mut directory, b"DC=Example, dc=com")?;
+    add(alloc, &schema, &mut directory, b"cn=A,dc=example,dc=com")?;
+    let names: [&[u8]; 2] = [b"DC=Example,dc=com", b"cn=A,DC=Example,dc=com"];
+    assert_walked(&rt, alloc, &directory, &names)?;
+    assert_spelled(
+        &rt,
+        alloc,
+        &schema,
+        &directory,
+        b"cn=a,dc=example,dc=com",
+        b"cn=A,DC=Example,dc=com",
+    )
+}
+
+#[test]
+fn a_name_of_64_rdns_is_spelled_whole(rt: HostRuntime) -> Result<(), Fail> {
+    let alloc = rt.alloc();
+    let schema = Schema::builtin(alloc)?;
+    let mut directory = empty(alloc, &schema, b"dc=com")?;
+    let mut name = format!(in alloc; "dc=com")?;
+    add(alloc, &schema, &mut directory, name.as_bytes())?;
+    for level in 2..65 {
+        name = format!(in alloc; "cn={level},{name}")?;
+        add(alloc, &schema, &mut directory, name.as_bytes())?;
+    }
+    assert_spelled(
+        &rt,
+        alloc,
+        &schema,
+        &directory,
+        name.as_bytes(),
+        name.as_bytes(),
+    )?;
+    assert_last_walked(&rt, alloc, &directory, name.as_bytes())
+}
+
+/// Asserts that a walk ends at the entry of this name.
+fn assert_last_walked(
+    rt: &impl Abort,
+    alloc: Global,
+    directory: &FlatDirectory,
+    name: &[u8],
+) -> Result<(), Fail>
+    requires depths { HasOwnDepths directory.now }
+    requires shallow { IsShallow directory.now }
+{
+    let _suffix = directory.suffix();
+    let walk = directory.walk()?;
+    let last = walk.last().ok_or("nothing is walked")?;
+    let text = last.0.print(alloc)?;
+    assert_eq!(rt; text.as_slice(), name);
+    Ok(())
 }
