@@ -4,3 +4,4 @@ pub mod Kept
 pub mod NextKey
 pub mod SpelledLemmas
 pub mod Walk
+pub mod Written

@@ -24,6 +24,12 @@ pub trait Directory {
     fn has_child(&self, key: &DnKey) -> bool
         ensures { IsTrue result ↔ HasChild (state self.now) key.now };
 
+    /// Puts an entry in the place of the one at a key that is there. The old one comes back.
+    fn replace(&mut self, key: &DnKey, entry: Entry) -> Entry
+        requires { IsSome (entry_at (state self.old) key.now) }
+        ensures old { entry_at (state self.old) key.now ≡ Some result }
+        ensures new { state self.new ≡ put_entry (state self.old) key.now entry };
+
     /// Takes out the entry at a key that is there and has no child.
     fn remove_leaf(&mut self, key: &DnKey) -> Entry
         requires there { IsSome (entry_at (state self.old) key.now) }

@@ -14,6 +14,7 @@ use dir_names::{Dn, DnKey, Memory, Rdn};
 use std::alloc::Global;
 use std::collections::BTreeMap;
 use std::marker::Model;
+use std::mem;
 use std::ops::Bound;
 
 /// A directory in one ordered map from the keys of names to entries.
@@ -67,6 +68,10 @@ impl Directory for FlatDirectory {
         }
     }
 
+    fn replace(&mut self, key: &DnKey, entry: Entry) -> Entry {
+        mem::replace(self.entries.get_mut(key).unwrap(), entry)
+    }
+
     fn remove_leaf(&mut self, key: &DnKey) -> Entry {
         self.entries.remove(key).unwrap()
     }
@@ -82,7 +87,7 @@ impl Directory for FlatDirectory {
     }
 
     fn spelled(&self, key: &DnKey) -> Result<Dn, Memory> {
-        let mut rdns = Vec::new(self.alloc);
+        let mut rdns = Vec::with_capacity(self.alloc, key.depth())?;
         let Ok(key) = key.try_clone(self.alloc) else {
             return Err(Memory);
         };

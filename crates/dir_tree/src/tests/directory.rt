@@ -30,11 +30,22 @@ fn add(
     ensures depths { HasOwnDepths directory.new }
     ensures shallow { IsShallow directory.new }
 {
+    let (key, entry) = bare(alloc, schema, directory, name)?;
+    put(alloc, directory, &key, entry)
+}
+
+/// The entry of this name that has no values but those of its RDN, and its key.
+fn bare(
+    alloc: Global,
+    schema: &Schema,
+    directory: &FlatDirectory,
+    name: &[u8],
+) -> Result<(DnKey, Entry), Fail> {
     let name = Dn::read(alloc, name)?;
     let key = name.key(alloc, schema)?;
     let own = own_rdns(name, &key == directory.suffix());
     let entry = Entry::make(alloc, schema, own, Lines::new(Vec::new(alloc)))?;
-    put(alloc, directory, &key, entry)
+    Ok((key, entry))
 }
 
 /// Puts an entry at a key that may take it.
@@ -60,6 +71,38 @@ fn put(alloc: Global, directory: &mut FlatDirectory, key: &DnKey, entry: Entry) 
         Ok(()) => Ok(()),
         Err(_) => Err(Memory.into()),
     }
+}
+
+/// Puts an entry in the place of the one at a key.
+fn exchange(directory: &mut FlatDirectory, key: &DnKey, entry: Entry) -> Result<Entry, Fail>
+    requires depths { HasOwnDepths directory.old }
+    requires shallow { IsShallow directory.old }
+    ensures depths { HasOwnDepths directory.new }
+    ensures shallow { IsShallow directory.new }
+{
+    if entry.own().len() != own_depth(directory, key) {
+        return Err("not named by its key".into());
+    }
+    let Some(_) = directory.get(key) else {
+        return Err("not there".into());
+    };
+    Ok(directory.replace(key, entry))
+}
+
+/// Takes out the entry at a key.
+fn take(directory: &mut FlatDirectory, key: &DnKey) -> Result<Entry, Fail>
+    requires depths { HasOwnDepths directory.old }
+    requires shallow { IsShallow directory.old }
+    ensures depths { HasOwnDepths directory.new }
+    ensures shallow { IsShallow directory.new }
+{
+    let Some(_) = directory.get(key) else {
+        return Err("not there".into());
+    };
+    if directory.has_child(key) {
+        return Err("has a child".into());
+    }
+    Ok(directory.remove_leaf(key))
 }
 
 /// How many RDNs the own name of an entry has to have.
@@ -209,5 +252,48 @@ fn assert_last_walked(
     let last = walk.last().ok_or("nothing is walked")?;
     let text = last.0.print(alloc)?;
     assert_eq!(rt; text.as_slice(), name);
+    Ok(())
+}
+
+/// Asserts that an entry's own name is spelled so.
+fn assert_own(rt: &impl Abort, alloc: Global, entry: &Entry, own: &[u8]) -> Result<(), Fail> {
+    let rdn = entry.own().first().ok_or("no own name")?;
+    let text = rdn.print(alloc)?;
+    assert_eq!(rt; text.as_slice(), own);
+    Ok(())
+}
+
+#[test]
+fn an_entry_that_is_replaced_comes_back(rt: HostRuntime) -> Result<(), Fail> {
+    let alloc = rt.alloc();
+    let schema = Schema::builtin(alloc)?;
+    let mut directory = empty(alloc, &schema, b"dc=com")?;
+    add(alloc, &schema, &mut directory, b"dc=com")?;
+    add(alloc, &schema, &mut directory, b"cn=A,dc=com")?;
+    add(alloc, &schema, &mut directory, b"cn=b,cn=a,dc=com")?;
+    let (key, entry) = bare(alloc, &schema, &directory, b"CN=a,dc=com")?;
+    let old = exchange(&mut directory, &key, entry)?;
+    assert_own(&rt, alloc, &old, b"cn=A")?;
+    let names: [&[u8]; 3] = [b"dc=com", b"CN=a,dc=com", b"cn=b,CN=a,dc=com"];
+    assert_walked(&rt, alloc, &directory, &names)
+}
+
+#[test]
+fn a_leaf_is_taken_out(rt: HostRuntime) -> Result<(), Fail> {
+    let alloc = rt.alloc();
+    let schema = Schema::builtin(alloc)?;
+    let mut directory = empty(alloc, &schema, b"dc=com")?;
+    add(alloc, &schema, &mut directory, b"dc=com")?;
+    add(alloc, &schema, &mut directory, b"cn=A,dc=com")?;
+    let com = key_of(alloc, &schema, b"dc=com")?;
+    let below = key_of(alloc, &schema, b"cn=a,dc=com")?;
+    let is_inner = directory.has_child(&com);
+    assert!(rt; is_inner);
+    let old = take(&mut directory, &below)?;
+    assert_own(&rt, alloc, &old, b"cn=A")?;
+    let names: [&[u8]; 1] = [b"dc=com"];
+    assert_walked(&rt, alloc, &directory, &names)?;
+    let is_inner = directory.has_child(&com);
+    assert!(rt; !is_inner);
     Ok(())
 }
