@@ -1,3 +1,4 @@
+pub mod Climb
 pub mod DirLemmas
 pub mod Faults
 pub mod Kept
@@ -6,4 +7,7 @@ pub mod NextKey
 pub mod Orderless
 pub mod OwnLines
 pub mod Relisted
+pub mod SpelledLemmas
 pub mod Ties
+pub mod Walk
+pub mod Written

@@ -1,12 +1,12 @@
 -- The key that comes next after another in a closed directory: it is directly below that one exactly where an entry is.
-use Rattle.std.proofs.Common.{◌≡◌, ℕ, zero, suc, ◌+◌, ◌<◌, ◌≤◌, Bool, true, false, ◌||◌, List, [], ◌∷◌, ◌++◌, length, take, Option, Some, None, is_some, refl, sym, ap, subst, ◌∙◌, arith, append_assoc, length-append, true≢false}
+use Rattle.std.proofs.Common.{◌≡◌, ℕ, zero, suc, ◌+◌, ◌≤◌, Bool, true, false, ◌||◌, [], ◌∷◌, ◌++◌, length, take, Option, Some, None, is_some, refl, sym, ap, subst, ◌∙◌, arith, append_assoc, length-append, true≢false}
 use Rattle.std.specs.declared.cmp.Ordering.{Ordering}
 use Rattle.std.specs.declared.cmp.Ordering.TheVariants.{Less, Equal, Greater}
-use Rattle.std.specs.Ordering.{ordering_then, ordering_reverse, is_gt, is_lt}
+use Rattle.std.specs.Ordering.{ordering_then, ordering_reverse, is_gt}
 use Rattle.std.specs.Cmp.{tied_itself}
 use Rattle.dir_names.specs.Keys.{DnKeys, RdnKeys, parent_of}
 use Rattle.dir_names.specs.Orders.{rdn_key_cmp, rdn_key_cmp_total, rdn_key_cmp_exact, dn_key_cmp, dn_key_cmp_total, dn_key_eq, dn_key_eq_decides}
-use Rattle.dir_tree.specs.Dir.{Dir, entry_at, is_there, has_parent, IsClosed, HasChild}
+use Rattle.dir_tree.specs.Dir.{Dir, entry_at, is_there, IsClosed, HasChild}
 use Rattle.dir_tree.proofs.DirLemmas.{last_part, parent_child}
 
 not_greater : is_gt Greater ≡ false → ⊥
@@ -45,7 +45,7 @@ between (a ∷ k) (b ∷ n) p l g = by (between k n p) (rdn_key_cmp a b) refl
     by rest Greater e = absurd (greater_is_not (sym (ap (λ o. ordering_then o (dn_key_cmp k n)) e) ∙ l))
 
 module _ (d : Dir) (closed : IsClosed d) where
-  or_cases : {A : Type 0} (a b : Bool) → (a ≡ true → A) → (b ≡ true → A) → (a || b) ≡ true → A
+  pub or_cases : {A : Type 0} (a b : Bool) → (a ≡ true → A) → (b ≡ true → A) → (a || b) ≡ true → A
   or_cases true b f g h = f refl
   or_cases false b f g h = g h
 
@@ -56,7 +56,7 @@ module _ (d : Dir) (closed : IsClosed d) where
   at_suffix q e = let same : q ≡ d.suffix = (dn_key_eq_decides q d.suffix).0 e in subst (λ z. length d.suffix ≤ length z) (sym same) (omega arith)
 
   -- an entry's key is no shorter than the suffix
-  reaches : (n : ℕ) (q : DnKeys) → length q ≤ n → is_some (entry_at d q) ≡ true → length d.suffix ≤ length q
+  pub reaches : (n : ℕ) (q : DnKeys) → length q ≤ n → is_some (entry_at d q) ≡ true → length d.suffix ≤ length q
   reaches zero q bound there = or_cases (dn_key_eq q d.suffix) (is_there d (parent_of q)) (at_suffix q) (above (parent_of q) refl) (closed q there)
     where
       above : (o : Option DnKeys) → parent_of q ≡ o → is_there d o ≡ true → length d.suffix ≤ length q
@@ -71,7 +71,7 @@ module _ (d : Dir) (closed : IsClosed d) where
           let low = rest p (omega (arith, long, bound)) h in
           omega (arith, long, low)
 
-  parent_snoc : (p : DnKeys) (z : RdnKeys) → (o : Option DnKeys) → parent_of (p ++ z ∷ []) ≡ o → o ≡ Some p
+  pub parent_snoc : (p : DnKeys) (z : RdnKeys) → (o : Option DnKeys) → parent_of (p ++ z ∷ []) ≡ o → o ≡ Some p
   parent_snoc p z o e = sym e ∙ whole p z
     where
       all_but : (p : DnKeys) (z : RdnKeys) → take (length p) (p ++ z ∷ []) ≡ p

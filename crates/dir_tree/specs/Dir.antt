@@ -10,6 +10,10 @@ pub record Dir : Type 0 where
   pub suffix : DnKeys
   pub entries : fin.FinMap dn_key_cmp Content
 
+-- the directory of these entries, as an ordered map lists them
+abbrev pub dir_over : DnKeys → List (DnKeys × Content) → Dir
+dir_over suffix entries = record { suffix = suffix; entries = fin.from_entries entries }
+
 -- the entry at a key, if there is one
 abbrev pub entry_at : Dir → DnKeys → Option Content
 entry_at d k = fin.get d.entries k

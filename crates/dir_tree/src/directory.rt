@@ -1,5 +1,6 @@
-ghost use Rattle.std.specs.Prelude.{◌≡◌, ◌↔◌, IfErr, IfOk, IsSome, IsTrue, None, OnErr, OnOk, Some, option_copied};
+ghost use Rattle.std.specs.Prelude.{◌≡◌, ◌≤◌, ◌↔◌, IfErr, IfOk, IsSome, IsTrue, None, OnErr, OnOk, Some, length, map, option_copied};
 ghost use Rattle.dir_tree.specs.Dir.{Dir, HasChild, IsClosed, entry_at, has_parent, put_entry, without};
+ghost use Rattle.dir_tree.specs.Spelled.{HasShortNames, spelled_name, walked};
 
 use crate::Entry;
 use dir_names::{Dn, DnKey, Memory, NameFault};
@@ -23,6 +24,12 @@ pub trait Directory {
     fn has_child(&self, key: &DnKey) -> bool
         ensures { IsTrue result ↔ HasChild (state self.now) key.now };
 
+    /// Puts an entry in the place of the one at a key that is there. The old one comes back.
+    fn replace(&mut self, key: &DnKey, entry: Entry) -> Entry
+        requires { IsSome (entry_at (state self.old) key.now) }
+        ensures old { entry_at (state self.old) key.now ≡ Some result }
+        ensures new { state self.new ≡ put_entry (state self.old) key.now entry };
+
     /// Takes out the entry at a key that is there and has no child.
     fn remove_leaf(&mut self, key: &DnKey) -> Entry
         requires there { IsSome (entry_at (state self.old) key.now) }
@@ -42,13 +49,14 @@ pub trait Directory {
         ensures err { OnErr result (state self.new ≡ state self.old) }
         ensures value_returned { IfErr result (λ e. e ≡ entry) };
 
-    /// The name of an entry as spelled on its path: the own names of the entries from it up to the
-    /// suffix's, joined. They have at most 64 RDNs in all.
+    /// The name of an entry that is there, as spelled on its path: the own names of the entries from
+    /// it up to the suffix's, joined, leaf first. They have at most 64 RDNs in all.
     ///
     /// # Errors
     ///
     /// Want of memory alone.
-    fn spelled(&self, key: &DnKey) -> Result<Dn, Memory>;
+    fn spelled(&self, key: &DnKey) -> Result<Dn, Memory>
+        ensures { IfOk result (λ name. name ≡ spelled_name (state self.now) key.now) };
 
     /// Every entry with its name as spelled, in order of keys, so that a parent comes before what is
     /// below it. Each path has at most 64 RDNs in all.
@@ -56,7 +64,8 @@ pub trait Directory {
     /// # Errors
     ///
     /// Want of memory alone.
-    fn walk(&self) -> Result<Vec<(Dn, &Entry)>, Memory>;
+    fn walk(&self) -> Result<Vec<(Dn, &Entry)>, Memory>
+        ensures { IfOk result (λ walk. map (λ item. (item.0, item.1.now)) walk.items ≡ walked (state self.now)) };
 }
 
 /// Whether a key may take an entry: it is the suffix, or its parent is in the map.

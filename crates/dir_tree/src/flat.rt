@@ -1,16 +1,20 @@
-ghost use Rattle.std.specs.Prelude.{◌≡◌, IfNone, IfSome, IsSome, None, false};
+ghost use Rattle.std.specs.Prelude.{◌≡◌, ◌≤◌, ◌++◌, IfNone, IfOk, IfSome, IsSome, None, OnOk, false, length, map, reverse};
+ghost use Rattle.std.specs.List.{flat_map};
 ghost use Rattle.std.specs.BTreeMap.{get};
 ghost use Rattle.std.specs.Ordering.{is_gt};
 ghost use Rattle.std.specs.declared.cmp.Ordering.TheVariants.{Less};
 ghost use Rattle.dir_names.specs.Keys.{DnKeys};
 ghost use Rattle.dir_names.specs.Orders.{dn_key_cmp};
 ghost use Rattle.std.specs.FinMap as fin;
+ghost use Rattle.dir_tree.specs.Dir.{IsClosed, dir_over};
+ghost use Rattle.dir_tree.specs.Spelled.{HasShortNames, walked};
 
 use crate::{Directory, Entry};
 use dir_names::{Dn, DnKey, Memory, Rdn};
 use std::alloc::Global;
 use std::collections::BTreeMap;
 use std::marker::Model;
+use std::mem;
 use std::ops::Bound;
 
 /// A directory in one ordered map from the keys of names to entries.
@@ -22,16 +26,15 @@ pub struct FlatDirectory {
 }
 
 impl Model for FlatDirectory {
-    ghost use Rattle.std.specs.FinMap as fin;
-    ghost use Rattle.dir_tree.specs.Dir.{Dir, IsClosed, dir_code};
+    ghost use Rattle.dir_tree.specs.Dir.{Dir, IsClosed, dir_code, dir_over};
 
     ghost Value = { Dir };
 
     ghost coded = { dir_code };
 
-    ghost view = { λ d. record { suffix = d.suffix; entries = fin.from_entries d.entries.entries } };
+    ghost view = { λ d. dir_over d.suffix d.entries.entries };
 
-    ghost invariant = { λ d. IsClosed (record { suffix = d.suffix; entries = fin.from_entries d.entries.entries }) };
+    ghost invariant = { λ d. IsClosed (dir_over d.suffix d.entries.entries) };
 }
 
 impl FlatDirectory {
@@ -65,6 +68,10 @@ impl Directory for FlatDirectory {
         }
     }
 
+    fn replace(&mut self, key: &DnKey, entry: Entry) -> Entry {
+        mem::replace(self.entries.get_mut(key).unwrap(), entry)
+    }
+
     fn remove_leaf(&mut self, key: &DnKey) -> Entry {
         self.entries.remove(key).unwrap()
     }
@@ -80,39 +87,49 @@ impl Directory for FlatDirectory {
     }
 
     fn spelled(&self, key: &DnKey) -> Result<Dn, Memory> {
-        let mut rdns = Vec::new(self.alloc);
-        let Ok(mut at) = key.try_clone(self.alloc) else {
+        let mut rdns = Vec::with_capacity(self.alloc, key.depth())?;
+        let Ok(key) = key.try_clone(self.alloc) else {
             return Err(Memory);
         };
-        for _ in 0..key.depth() {
-            let Some(entry) = self.entries.get(&at) else {
+        let mut above = Some(key);
+        while let Some(key) = above {
+            let Some(entry) = self.entries.get(&key) else {
                 break;
             };
             push_clones(&mut rdns, entry.own(), self.alloc)?;
-            match at.parent(self.alloc) {
-                Ok(Some(parent)) => at = parent,
-                Ok(None) => break,
-                Err(_) => return Err(Memory),
-            }
+            let Ok(parent) = key.parent(self.alloc) else {
+                return Err(Memory);
+            };
+            above = parent;
         }
         named(rdns)
     }
 
     fn walk(&self) -> Result<Vec<(Dn, &Entry)>, Memory> {
-        let mut walked = Vec::with_capacity(self.alloc, self.entries.len())?;
-        let mut path: Vec<&[Rdn]> = Vec::new(self.alloc);
-        let above = self.suffix.depth();
-        for (key, entry) in &self.entries {
-            path.truncate(key.depth().saturating_sub(above));
-            path.push(entry.own())?;
-            let mut rdns = Vec::new(self.alloc);
-            for own in path.iter().rev() {
-                push_clones(&mut rdns, own, self.alloc)?;
-            }
-            walked.push((named(rdns)?, entry))?;
-        }
-        Ok(walked)
+        walk_over(&self.entries, &self.suffix, self.alloc)
     }
+}
+
+/// The entries of a directory with their names as spelled, in order of keys. The entries on the path
+/// of each one are those that were met last.
+fn walk_over<'m>(
+    entries: &'m BTreeMap<DnKey, Entry>,
+    suffix: &DnKey,
+    alloc: Global,
+) -> Result<Vec<(Dn, &'m Entry)>, Memory>
+    requires closed { IsClosed (dir_over suffix.now entries.now.entries) }
+    ensures { IfOk result (λ walk. map (λ item. (item.0, item.1.now)) walk.items ≡ walked (dir_over suffix.now entries.now.entries)) }
+{
+    let mut walk = Vec::with_capacity(alloc, entries.len())?;
+    let mut path: Vec<&[Rdn]> = Vec::new(alloc);
+    for (key, entry) in entries {
+        path.truncate(key.depth() - suffix.depth());
+        path.push(entry.own())?;
+        let mut rdns = Vec::with_capacity(alloc, key.depth())?;
+        push_joined(&mut rdns, path.as_slice(), alloc)?;
+        walk.push((named(rdns)?, entry))?;
+    }
+    Ok(walk)
 }
 
 /// The first key of the map that is greater than this one.
@@ -129,7 +146,20 @@ fn first_after<'m>(entries: &'m BTreeMap<DnKey, Entry>, key: &DnKey) -> Option<&
     Some(next)
 }
 
-fn push_clones(rdns: &mut Vec<Rdn>, more: &[Rdn], alloc: Global) -> Result<(), Memory> {
+/// Clones the own names on a path onto the end of a list, the last first.
+fn push_joined(rdns: &mut Vec<Rdn>, path: &[&[Rdn]], alloc: Global) -> Result<(), Memory>
+    ensures { OnOk result (rdns.new.items ≡ rdns.old.items ++ flat_map (λ own. own) (reverse (map (λ own. own.now) path.now))) }
+{
+    for own in path.iter().rev() {
+        push_clones(rdns, own, alloc)?;
+    }
+    Ok(())
+}
+
+/// Clones RDNs onto the end of a list.
+fn push_clones(rdns: &mut Vec<Rdn>, more: &[Rdn], alloc: Global) -> Result<(), Memory>
+    ensures { OnOk result (rdns.new.items ≡ rdns.old.items ++ more.now) }
+{
     for rdn in more {
         let Ok(copy) = rdn.try_clone(alloc) else {
             return Err(Memory);
@@ -139,7 +169,10 @@ fn push_clones(rdns: &mut Vec<Rdn>, more: &[Rdn], alloc: Global) -> Result<(), M
     Ok(())
 }
 
-fn named(rdns: Vec<Rdn>) -> Result<Dn, Memory> {
+/// The name with these RDNs, leaf first.
+fn named(rdns: Vec<Rdn>) -> Result<Dn, Memory>
+    ensures { IfOk result (λ name. name ≡ rdns.items) }
+{
     match Dn::from_rdns(rdns) {
         Ok(name) => Ok(name),
         Err(_) => Err(Memory),

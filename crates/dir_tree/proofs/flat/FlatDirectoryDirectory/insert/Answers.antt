@@ -1,12 +1,10 @@
-use Rattle.std.proofs.Common.{◌≡◌, true, false, List, [], ◌∷◌, ◌++◌, is_some, None, Some, rules, sym, ap, ◌∙◌, subst, refl, cond}
+use Rattle.std.proofs.Common.{◌≡◌, true, sym, ap, ◌∙◌, subst}
 use Rattle.std.specs.FinMap as fin
-use Rattle.dir_names.specs.Keys.{DnKeys}
 use Rattle.dir_names.specs.Orders.{dn_key_cmp, dn_key_cmp_total, dn_key_cmp_exact}
-use Rattle.dir_names.proofs.Maps.{get_entries, one_put, one_gone}
+use Rattle.dir_names.proofs.Maps.{one_put}
 use Rattle.dir_tree.specs.Content.{Content}
-use Rattle.dir_tree.specs.Dir.{Dir, IsClosed, HasChild, entry_at, has_parent, put_entry, without}
-use Rattle.dir_tree.proofs.DirLemmas.{closed_put, closed_without}
-use Rattle.dir_tree.proofs.NextKey.{next_is_child, before_below}
+use Rattle.dir_tree.specs.Dir.{Dir, IsClosed, has_parent, put_entry}
+use Rattle.dir_tree.proofs.DirLemmas.{closed_put}
 use Rattle.dir_tree.proofs.flat.FlatDirectoryDirectory.insert.Goals as goal
 
 pub invariant_of-self : goal.invariant_of-self
