@@ -97,7 +97,7 @@ one_attribute xs a none some = by (fin.entries a.1.values) refl some
         ap (λ ys. with_lines ys (map (keyed_of a) vs)) (first_value xs a v none)
         ∙ more_values xs a (record { spelling = a.1.spelling; values = fin.insert fin.empty v.0 v.1 }) vs
         ∙ ap (λ values. fin.insert xs a.0 (record { spelling = a.1.spelling; values = values }))
-            (ap (inserted value_key_cmp_total value_key_cmp_exact fin.empty) (sym t) ∙ inserted_whole value_key_cmp_total value_key_cmp_exact a.1.values)
+        (ap (inserted value_key_cmp_total value_key_cmp_exact fin.empty) (sym t) ∙ inserted_whole value_key_cmp_total value_key_cmp_exact a.1.values)
 
 one_free : (xs : StoredAttributes) (a : Attr × Stored) → fin.get xs a.0 ≡ None → are_free xs (keyed_attribute a) ≡ true
 one_free xs a none = by (fin.entries a.1.values) refl
@@ -136,9 +136,10 @@ module _ (rows : List TypeRow) where
   all_attributes xs (a ∷ es) sound new =
       let none = not_there xs a.0 (left _ (are_new attr_cmp_total attr_cmp_exact (fin.insert xs a.0 a.1) es) new) in
       let one = one_attribute xs a none sound.0.1 in
-      let rest = all_attributes (fin.insert xs a.0 a.1) es sound.1 (right (not (fin.contains_key xs a.0)) _ new) in
-      (with_append xs (keyed_attribute a) (flat_map keyed_attribute es) ∙ ap (λ ys. with_lines ys (flat_map keyed_attribute es)) one ∙ rest.0,
-      free_append xs (keyed_attribute a) (flat_map keyed_attribute es) ∙ (λ i. one_free xs a none i && (ap (λ ys. are_free ys (flat_map keyed_attribute es)) one ∙ rest.1) i))
+      let rest = all_attributes (fin.insert xs a.0 a.1) es sound.1 (right (not (fin.contains_key xs a.0)) _ new) in (
+        with_append xs (keyed_attribute a) (flat_map keyed_attribute es) ∙ ap (λ ys. with_lines ys (flat_map keyed_attribute es)) one ∙ rest.0,
+        free_append xs (keyed_attribute a) (flat_map keyed_attribute es) ∙ (λ i. one_free xs a none i && (ap (λ ys. are_free ys (flat_map keyed_attribute es)) one ∙ rest.1) i),
+      )
 
 -- ---- the values of the own RDN are there
 

@@ -50,20 +50,22 @@ pub trait Directory {
         ensures value_returned { IfErr result (λ e. e ≡ entry) };
 
     /// The name of an entry that is there, as spelled on its path: the own names of the entries from
-    /// it up to the suffix's, joined, leaf first. They have at most 64 RDNs in all.
+    /// it up to the suffix's, joined, leaf first.
     ///
     /// # Errors
     ///
-    /// Want of memory alone.
+    /// Want of memory. A path of more than 64 RDNs in all, which no directory within the limits of
+    /// names has, is answered so too.
     fn spelled(&self, key: &DnKey) -> Result<Dn, Memory>
+        requires { IsSome (entry_at (state self.now) key.now) }
         ensures { IfOk result (λ name. name ≡ spelled_name (state self.now) key.now) };
 
     /// Every entry with its name as spelled, in order of keys, so that a parent comes before what is
-    /// below it. Each path has at most 64 RDNs in all.
+    /// below it.
     ///
     /// # Errors
     ///
-    /// Want of memory alone.
+    /// As for `spelled`.
     fn walk(&self) -> Result<Vec<(Dn, &Entry)>, Memory>
         ensures { IfOk result (λ walk. map (λ item. (item.0, item.1.now)) walk.items ≡ walked (state self.now)) };
 }

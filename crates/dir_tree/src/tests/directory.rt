@@ -1,6 +1,3 @@
-ghost use Rattle.std.specs.Prelude.{◌≡◌, IfOk};
-ghost use Rattle.dir_tree.specs.Spelled.{own_depth, HasOwnDepths, IsShallow};
-
 use crate::{Directory, Entry, FlatDirectory, may_stand, own_rdns};
 use dir_names::{Dn, DnKey, Lines, Memory, Schema};
 use std::alloc::Global;
@@ -11,10 +8,7 @@ fn key_of(alloc: Global, schema: &Schema, text: &[u8]) -> Result<DnKey, Fail> {
     Ok(Dn::read(alloc, text)?.key(alloc, schema)?)
 }
 
-fn empty(alloc: Global, schema: &Schema, suffix: &[u8]) -> Result<FlatDirectory, Fail>
-    ensures depths { IfOk result (λ d. HasOwnDepths d) }
-    ensures shallow { IfOk result (λ d. IsShallow d) }
-{
+fn empty(alloc: Global, schema: &Schema, suffix: &[u8]) -> Result<FlatDirectory, Fail> {
     Ok(FlatDirectory::new(alloc, key_of(alloc, schema, suffix)?))
 }
 
@@ -24,12 +18,7 @@ fn add(
     schema: &Schema,
     directory: &mut FlatDirectory,
     name: &[u8],
-) -> Result<(), Fail>
-    requires depths { HasOwnDepths directory.old }
-    requires shallow { IsShallow directory.old }
-    ensures depths { HasOwnDepths directory.new }
-    ensures shallow { IsShallow directory.new }
-{
+) -> Result<(), Fail> {
     let (key, entry) = bare(alloc, schema, directory, name)?;
     put(alloc, directory, &key, entry)
 }
@@ -49,18 +38,12 @@ fn bare(
 }
 
 /// Puts an entry at a key that may take it.
-fn put(alloc: Global, directory: &mut FlatDirectory, key: &DnKey, entry: Entry) -> Result<(), Fail>
-    requires depths { HasOwnDepths directory.old }
-    requires shallow { IsShallow directory.old }
-    ensures depths { HasOwnDepths directory.new }
-    ensures shallow { IsShallow directory.new }
-{
-    if key.depth() > 64 {
-        return Err("too deep".into());
-    }
-    if entry.own().len() != own_depth(directory, key) {
-        return Err("not named by its key".into());
-    }
+fn put(
+    alloc: Global,
+    directory: &mut FlatDirectory,
+    key: &DnKey,
+    entry: Entry,
+) -> Result<(), Fail> {
     if directory.get(key).is_some() {
         return Err("there already".into());
     }
@@ -74,15 +57,7 @@ fn put(alloc: Global, directory: &mut FlatDirectory, key: &DnKey, entry: Entry) 
 }
 
 /// Puts an entry in the place of the one at a key.
-fn exchange(directory: &mut FlatDirectory, key: &DnKey, entry: Entry) -> Result<Entry, Fail>
-    requires depths { HasOwnDepths directory.old }
-    requires shallow { IsShallow directory.old }
-    ensures depths { HasOwnDepths directory.new }
-    ensures shallow { IsShallow directory.new }
-{
-    if entry.own().len() != own_depth(directory, key) {
-        return Err("not named by its key".into());
-    }
+fn exchange(directory: &mut FlatDirectory, key: &DnKey, entry: Entry) -> Result<Entry, Fail> {
     let Some(_) = directory.get(key) else {
         return Err("not there".into());
     };
@@ -90,12 +65,7 @@ fn exchange(directory: &mut FlatDirectory, key: &DnKey, entry: Entry) -> Result<
 }
 
 /// Takes out the entry at a key.
-fn take(directory: &mut FlatDirectory, key: &DnKey) -> Result<Entry, Fail>
-    requires depths { HasOwnDepths directory.old }
-    requires shallow { IsShallow directory.old }
-    ensures depths { HasOwnDepths directory.new }
-    ensures shallow { IsShallow directory.new }
-{
+fn take(directory: &mut FlatDirectory, key: &DnKey) -> Result<Entry, Fail> {
     let Some(_) = directory.get(key) else {
         return Err("not there".into());
     };
@@ -103,17 +73,6 @@ fn take(directory: &mut FlatDirectory, key: &DnKey) -> Result<Entry, Fail>
         return Err("has a child".into());
     }
     Ok(directory.remove_leaf(key))
-}
-
-/// How many RDNs the own name of an entry has to have.
-fn own_depth(directory: &FlatDirectory, key: &DnKey) -> usize
-    ensures { result ≡ own_depth directory.now key.now }
-{
-    if key == directory.suffix() {
-        key.depth()
-    } else {
-        1
-    }
 }
 
 /// Asserts that the entry of this name is spelled so.
@@ -124,10 +83,7 @@ fn assert_spelled(
     directory: &FlatDirectory,
     name: &[u8],
     spelled: &[u8],
-) -> Result<(), Fail>
-    requires depths { HasOwnDepths directory.now }
-    requires shallow { IsShallow directory.now }
-{
+) -> Result<(), Fail> {
     let key = key_of(alloc, schema, name)?;
     let _suffix = directory.suffix();
     let Some(_) = directory.get(&key) else {
@@ -144,10 +100,7 @@ fn assert_walked(
     alloc: Global,
     directory: &FlatDirectory,
     names: &[&[u8]],
-) -> Result<(), Fail>
-    requires depths { HasOwnDepths directory.now }
-    requires shallow { IsShallow directory.now }
-{
+) -> Result<(), Fail> {
     let _suffix = directory.suffix();
     let walk = directory.walk()?;
     assert_eq!(rt; walk.len(), names.len());
@@ -243,10 +196,7 @@ fn assert_last_walked(
     alloc: Global,
     directory: &FlatDirectory,
     name: &[u8],
-) -> Result<(), Fail>
-    requires depths { HasOwnDepths directory.now }
-    requires shallow { IsShallow directory.now }
-{
+) -> Result<(), Fail> {
     let _suffix = directory.suffix();
     let walk = directory.walk()?;
     let last = walk.last().ok_or("nothing is walked")?;

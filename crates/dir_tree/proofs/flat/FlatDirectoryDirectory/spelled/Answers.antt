@@ -1,4 +1,4 @@
-use Rattle.std.proofs.Common.{◌≡◌, [], ◌++◌, ◌<◌, Some, None, is_some, sym, ap, ◌∙◌, subst}
+use Rattle.std.proofs.Common.{◌≡◌, [], ◌++◌, ◌<◌, Some, None, is_some, Result, Ok, Err, IfOk, sym, ap, ◌∙◌, subst}
 use Rattle.dir_names.specs.Keys.{parent_of}
 use Rattle.dir_names.specs.Orders.{dn_key_cmp_total}
 use Rattle.dir_names.proofs.Maps.{get_entries}
@@ -7,6 +7,10 @@ use Rattle.dir_tree.specs.Dir.{IsClosed, entry_at}
 use Rattle.dir_tree.proofs.Climb.{left_above, IsOnPath, steps_left, given, climbed, still_on_path, climbed_past, fewer_steps}
 use Rattle.dir_tree.proofs.flat.FlatDirectoryDirectory.spelled.Goals as goal
 use Rattle.dir_tree.proofs.flat.FlatDirectoryDirectory.spelled.Goals.{in-Some+in_default-get, in_default-above}
+
+if_ok : {A E : Type 0} {P Q : A → Type 0} → (r : Result A E) → ((x : A) → P x → Q x) → IfOk r P → IfOk r Q
+if_ok (Ok x) f p = f x p
+if_ok (Err e) f p = p
 
 pub loop-above-smaller : goal.loop-above-smaller
 loop-above-smaller c =
@@ -36,4 +40,4 @@ returns c =
           ap (left_above c.args.self.now) w.in-Some.is ∙ climbed_past c.args.self.now closed w.in-Some.key (subst (IsOnPath c.args.self.now) w.in-Some.is c.loop-above.invariant.on_path) none
       | in_default-above w ↦ ap (left_above c.args.self.now) w.in_default-above.is
     ] in
-    c.named.ensures ∙ sym (append-nil c.loop-above.rdns.items) ∙ ap (λ names. c.loop-above.rdns.items ++ names) (sym nothing) ∙ c.loop-above.invariant.so_far
+    if_ok c.named.result (λ name e. e ∙ sym (append-nil c.loop-above.rdns.items) ∙ ap (λ names. c.loop-above.rdns.items ++ names) (sym nothing) ∙ c.loop-above.invariant.so_far) c.named.ensures
