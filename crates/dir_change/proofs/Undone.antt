@@ -1,7 +1,6 @@
 -- The changes that take an add and a delete back.
-use Rattle.std.proofs.Common.{◌≡◌, ℕ, zero, suc, ◌+◌, ◌<◌, ◌≤◌, Bool, true, false, cond, not, ◌||◌, List, [], ◌∷◌, ◌++◌, length, take, reverse, Option, Some, None, is_some, Result, Ok, Err, refl, sym, ap, subst, ◌∙◌, true≢false, arith, length-append, append_assoc}
+use Rattle.std.proofs.Common.{◌≡◌, ℕ, suc, ◌+◌, Bool, true, false, cond, not, ◌||◌, List, [], ◌∷◌, ◌++◌, length, take, reverse, Option, Some, None, is_some, Result, Ok, Err, refl, sym, ap, ◌∙◌, true≢false, arith, length-append, append_assoc}
 use Rattle.std.proofs.lemmas.List.{append-nil, reverse-append, length-reverse}
-use Rattle.std.specs.FinMap as fin
 use Rattle.std.specs.FinMap.{same_map}
 use Rattle.std.specs.Ordering.{eq_by_cmp, is_eq}
 use Rattle.std.specs.Cmp.{tied_itself}
@@ -341,12 +340,12 @@ add_taken_back rows d closed names k name lines named new is =
 pub delete_taken_back : (rows : List TypeRow) (d : Dir) → IsWellFormed rows d → (k : DnKeys) (new : Dir) → deleted d k ≡ Ok new → TakesBack rows d new (undo_of d new k kind.Delete)
 delete_taken_back rows d well k new is =
     ap (λ r. undo.and_then r (λ e. Ok e))
-      (step_at_key rows new again k key
-      ∙ ap (λ ls. added rows new k (spelled_name d k) ls) (ap lines_in known.1)
-      ∙ ap (λ z. added rows z k (spelled_name d k) (all_lines e.attributes)) known.3
-      ∙ add_placed (without d k) k rows (spelled_name d k) (all_lines e.attributes) below free parent
-      ∙ ap (placed (without d k) k) (ap (λ own. made rows own (all_lines e.attributes)) own ∙ made_again rows e (well.2 k e known.1).0)
-      ∙ ap Ok (out_put d k e known.1))
+    (step_at_key rows new again k key
+    ∙ ap (λ ls. added rows new k (spelled_name d k) ls) (ap lines_in known.1)
+    ∙ ap (λ z. added rows z k (spelled_name d k) (all_lines e.attributes)) known.3
+    ∙ add_placed (without d k) k rows (spelled_name d k) (all_lines e.attributes) below free parent
+    ∙ ap (placed (without d k) k) (ap (λ own. made rows own (all_lines e.attributes)) own ∙ made_again rows e (well.2 k e known.1).0)
+    ∙ ap Ok (out_put d k e known.1))
   where
     known : (e : Content) × (entry_at d k ≡ Some e) × (has_child d k ≡ false) × (new ≡ without d k)
     known = deleted_is d k new is
@@ -398,3 +397,11 @@ delete_taken_back rows d well k new is =
                 let child = parent_child k above p in
                 let part : name_key rows e.own ≡ Some (child.0 ∷ []) = (well.2 k e known.1).1 ∙ ap (λ b. Some (cond b k (take 1 (reverse k)))) t ∙ ap (λ z. Some (take 1 (reverse z))) child.1 ∙ ap Some (last_of above child.0) in
                 ap (take 1) (spelled_here d well.1 k there ∙ ap (λ z. z ++ name_above d k) here) ∙ front_own rows e.own (name_above d k) child.0 part
+
+-- the name of an added entry: its own name, and what stands above
+pub add_spelled : (rows : List TypeRow) (d : Dir) → IsClosed d → (k : DnKeys) (own : SpelledName) (lines : List (Described × List ℕ)) (e : Content) → has_parent d k ≡ true → made rows own lines ≡ Ok e → spelled_name (put_entry d k e) k ≡ own ++ name_above d k
+add_spelled rows d closed k own lines e parent is =
+    let there : is_some (entry_at (put_entry d k e) k) ≡ true = ap is_some (get_put d k e k) ∙ ap (λ b. is_some (cond b (Some e) (entry_at d k))) (itself k) in
+    let stands : entry_at (put_entry d k e) k ≡ Some e = get_put d k e k ∙ ap (λ b. cond b (Some e) (entry_at d k)) (itself k) in
+    spelled_here (put_entry d k e) (closed_put d k e closed parent) k there
+    ∙ (λ i. (ap spelled.own_of stands ∙ made_own rows own lines e is) i ++ above_put d k e i)

@@ -1,4 +1,6 @@
-ghost use Rattle.std.specs.Prelude.{◌≡◌, IfErr, IfOk, Ok, OnErr, OnOk, is_some};
+ghost use Rattle.std.specs.Prelude.{◌≡◌, ◌++◌, IfErr, IfOk, IfSome, Ok, OnErr, OnOk, is_some};
+ghost use Rattle.dir_ldif.specs.declared.records.ChangeKind.TheVariants as kind;
+ghost use Rattle.dir_change.specs.Undo.{name_above, undo_of};
 ghost use Rattle.dir_change.specs.Operation.{IsRefused, added};
 ghost use Rattle.dir_tree.specs.Dir.{has_parent};
 
@@ -21,6 +23,7 @@ pub(crate) fn add<D: Directory>(
     ensures ok { OnOk result (added schema.now (D.state directory.old) key.now name.now lines.now ≡ Ok (D.state directory.new)) }
     ensures refused { IfErr result (λ e. IsRefused e (added schema.now (D.state directory.old) key.now name.now lines.now)) }
     ensures err { OnErr result (D.state directory.new ≡ D.state directory.old) }
+    ensures undo { IfOk result (λ undo. undo ≡ undo_of (D.state directory.old) (D.state directory.new) key.now (kind.Add lines.now)) }
 {
     if !key.at_or_below(directory.suffix()) {
         return Err(Refusal::Code(ResultCode::NoSuchObject));
@@ -55,6 +58,7 @@ fn name_above<D: Directory>(
     key: &DnKey,
 ) -> Result<Option<Dn>, Refusal>
     ensures parent { IfOk result (λ above. is_some above ≡ has_parent (D.state directory.now) key.now) }
+    ensures name { IfOk result (λ above. IfSome above (λ name. name ≡ name_above (D.state directory.now) key.now)) }
     ensures memory { IfErr result (λ e. e ≡ Refusal.Memory) }
 {
     if key == directory.suffix() {
@@ -71,7 +75,8 @@ fn name_above<D: Directory>(
 
 /// The own name and then what stands above it.
 fn joined(alloc: Global, own: &[Rdn], above: Dn) -> Result<Dn, Refusal>
-    ensures { IfErr result (λ e. e ≡ Refusal.Memory) }
+    ensures ok { IfOk result (λ name. name ≡ own.now ++ above) }
+    ensures memory { IfErr result (λ e. e ≡ Refusal.Memory) }
 {
     let mut rdns = Vec::with_capacity(alloc, own.len())?;
     for rdn in own {

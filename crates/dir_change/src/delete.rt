@@ -1,10 +1,13 @@
-ghost use Rattle.std.specs.Prelude.{◌≡◌, IfErr, Ok, OnErr, OnOk};
+ghost use Rattle.std.specs.Prelude.{◌≡◌, ◌++◌, IfErr, IfOk, Ok, OnErr, OnOk};
+ghost use Rattle.dir_ldif.specs.declared.records.ChangeKind.TheVariants as kind;
+ghost use Rattle.dir_tree.specs.WellFormed.{all_lines, attribute_lines};
+ghost use Rattle.dir_change.specs.Undo.{undo_of};
 ghost use Rattle.dir_change.specs.Operation.{IsRefused, deleted};
 
 use crate::{Refusal, ResultCode, Undo};
 use dir_ldif::{Change, ChangeKind};
-use dir_names::{DnKey, Lines};
-use dir_tree::{Directory, Entry};
+use dir_names::{Bytes, Description, DnKey, Lines};
+use dir_tree::{Attribute, Directory, Entry};
 use std::alloc::Global;
 
 /// Deletes an entry (RFC 4511, section 4.8): 32 where it is missing, 66 where it has a child. An add
@@ -17,6 +20,7 @@ pub(crate) fn delete<D: Directory>(
     ensures ok { OnOk result (deleted (D.state directory.old) key.now ≡ Ok (D.state directory.new)) }
     ensures refused { IfErr result (λ e. IsRefused e (deleted (D.state directory.old) key.now)) }
     ensures err { OnErr result (D.state directory.new ≡ D.state directory.old) }
+    ensures undo { IfOk result (λ undo. undo ≡ undo_of (D.state directory.old) (D.state directory.new) key.now kind.Delete) }
 {
     let Some(entry) = directory.get(key) else {
         return Err(Refusal::Code(ResultCode::NoSuchObject));
@@ -37,16 +41,30 @@ pub(crate) fn delete<D: Directory>(
 
 /// All values of an entry, in the order of its canonical text.
 fn all_lines(alloc: Global, entry: &Entry) -> Result<Lines, Refusal>
-    ensures { IfErr result (λ e. e ≡ Refusal.Memory) }
+    ensures ok { IfOk result (λ lines. lines ≡ all_lines entry.now.attributes) }
+    ensures memory { IfErr result (λ e. e ≡ Refusal.Memory) }
 {
     let mut lines = Vec::new(alloc);
     for (_, attribute) in entry.attributes() {
-        for (_, bytes) in attribute.values() {
-            lines.push((
-                attribute.description().try_clone(alloc)?,
-                bytes.try_clone(alloc)?,
-            ))?;
-        }
+        push_values(alloc, &mut lines, attribute)?;
     }
     Ok(Lines::new(lines))
+}
+
+/// Appends the values of an attribute, each with the attribute's description.
+fn push_values(
+    alloc: Global,
+    lines: &mut Vec<(Description, Bytes)>,
+    attribute: &Attribute,
+) -> Result<(), Refusal>
+    ensures ok { OnOk result (lines.new.items ≡ lines.old.items ++ attribute_lines (attribute.now.key, attribute.now.stored)) }
+    ensures memory { IfErr result (λ e. e ≡ Refusal.Memory) }
+{
+    for (_, bytes) in attribute.values() {
+        lines.push((
+            attribute.description().try_clone(alloc)?,
+            bytes.try_clone(alloc)?,
+        ))?;
+    }
+    Ok(())
 }

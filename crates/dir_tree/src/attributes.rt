@@ -303,10 +303,11 @@ impl<'a> Model for Attributes<'a> {
 
 impl<'a> Iterator for Attributes<'a> {
     ghost use Rattle.std.specs.Iterator.{YieldsFirstBy, item_count};
+    ghost use Rattle.std.specs.Prelude.{◌≡◌, IfSome};
 
     type Item = (&'a AttrKey, &'a Attribute);
 
-    ghost next_gives = { YieldsFirstBy (λ item. (item.0.now, item.1.now.stored)) (λ rest. rest) };
+    ghost next_gives = { λ s item t. YieldsFirstBy (λ item. (item.0.now, item.1.now.stored)) (λ rest. rest) s item t × IfSome item (λ item. item.1.now.key ≡ item.0.now) };
 
     ghost remaining = { item_count (λ rest. rest) };
 

@@ -1,4 +1,4 @@
-use Rattle.std.proofs.Common.{◌≡◌, true, false, cond, take, Option, Some, None, is_some, Result, Ok, refl, sym, ap, subst, ◌∙◌, true≢false, Bor}
+use Rattle.std.proofs.Common.{◌≡◌, true, false, cond, take, [], ◌∷◌, ◌++◌, IfSome, Option, Some, None, is_some, Result, Ok, refl, sym, ap, subst, ◌∙◌, true≢false, Bor}
 use Rattle.std.specs.Option.{option_copied}
 use Rattle.std.proofs.lemmas.Result.{err_from_is_err_and}
 use Rattle.dir_names.specs.Keys.{DnKeys, IsAtOrBelow}
@@ -9,6 +9,11 @@ use Rattle.dir_tree.specs.Made.{Fails, made}
 use Rattle.dir_tree.specs.declared.fault.EntryFault.{EntryFault}
 use Rattle.dir_tree.specs.declared.fault.EntryFault.TheVariants.{BadValue, Twice, NotNamed, Single, Memory}
 use Rattle.dir_change.specs.Operation.{IsRefused, added, is_at_or_below, own_of, placed, refusal_of}
+use Rattle.dir_names.specs.Names.{SpelledName}
+use Rattle.dir_ldif.specs.declared.records.ChangeKind.TheVariants as kind
+use Rattle.dir_tree.specs.Spelled.{spelled_name}
+use Rattle.dir_change.specs.Undo.{name_above}
+use Rattle.dir_change.proofs.Undone.{add_spelled}
 use Rattle.dir_change.proofs.Tests.{below_true, below_false, add_outside, add_taken, add_placed}
 use Rattle.dir_change.proofs.add.add.Goals as goal
 
@@ -27,6 +32,10 @@ fails_refused d k Twice wanted e = ap (placed d k) e
 fails_refused d k NotNamed wanted e = ap (placed d k) e
 fails_refused d k Single wanted e = ap (placed d k) e
 fails_refused d k Memory wanted e = tt
+
+some_name : (o : Option SpelledName) (x y : SpelledName) → o ≡ Some x → IfSome o (λ name. name ≡ y) → x ≡ y
+some_name None x y e h = absurd (cc)
+some_name (Some z) x y e h = let same : z ≡ x = cc in sym same ∙ h
 
 pub returns-then-not-at_or_below-clause-refused : goal.returns-then-not-at_or_below-clause-refused
 returns-then-not-at_or_below-clause-refused g c =
@@ -75,3 +84,25 @@ returns-in-Ok-clause-ok g c =
     let at_place = add_placed d k c.args.schema.now c.args.name.now c.args.lines.now below free parent in
     let given : made c.args.schema.now (own_of d.suffix k c.args.name.now) c.args.lines.now ≡ Ok c.in_ok-entry.entry = (λ i. made c.args.schema.now (sym own i) (same_lines i)) ∙ c.in_ok-entry.ensures in
     at_place ∙ ap (placed d k) given ∙ ap Ok (sym c.in-Ok.ensures.ok)
+
+pub returns-in-Ok-clause-undo : goal.returns-in-Ok-clause-undo
+returns-in-Ok-clause-undo g c =
+    let d = g.D.Directory.state c.args.directory.now in
+    let k = c.args.key.now in
+    let below : is_at_or_below k d.suffix ≡ true = below_true k d.suffix (subst (λ z. IsAtOrBelow k z) c.suffix.ensures.key (c.if-not-at_or_below.ensures.0 refl)) in
+    let free : is_some (entry_at d k) ≡ false = ap is_some (sym c.get.ensures) ∙ copied_none c.get.result (sym c.if-is_some.ensures) in
+    let parent : has_parent d k ≡ true = sym c.in_ok-above.ensures.parent ∙ ap is_some c.in-Some.is in
+    let name_cloned = c.in_ok-try_clone.ensures in
+    let same_name : c.args.name.now ≡ c.in_ok-try_clone.field-0 = cc in
+    let lines_cloned = c.in_ok-try_clone-2.ensures in
+    let same_lines : c.args.lines.now ≡ c.in_ok-try_clone-2.field-0 = cc in
+    let own : c.own_rdns-own.result.items ≡ own_of d.suffix k c.args.name.now = c.own_rdns-own.ensures ∙ (λ i. cond ((c.eq.ensures ∙ ap (dn_key_eq k) c.suffix-2.ensures.key) i) (sym same_name i) (take 1 (sym same_name i))) in
+    let given : made c.args.schema.now (own_of d.suffix k c.args.name.now) c.args.lines.now ≡ Ok c.in_ok-entry.entry = (λ i. made c.args.schema.now (sym own i) (same_lines i)) ∙ c.in_ok-entry.ensures in
+    let above : c.in-Some.above ≡ name_above d k = some_name c.in_ok-above.field-0 c.in-Some.above (name_above d k) c.in-Some.is c.in_ok-above.ensures.name in
+    let spelled : spelled_name (g.D.Directory.state c.insert.new.self) k ≡ c.in_ok-spelled.spelled =
+    ap (λ z. spelled_name z k) c.in-Ok.ensures.ok
+    ∙ add_spelled c.args.schema.now d c.suffix.ensures.closed k (own_of d.suffix k c.args.name.now) c.args.lines.now c.in_ok-entry.entry parent given
+    ∙ (λ i. sym own i ++ sym above i)
+    ∙ ap (λ o. o ++ c.in-Some.above) (sym c.as_slice.ensures.value)
+    ∙ sym c.in_ok-spelled.ensures.ok in
+    c.in_ok-undo.ensures ∙ ap (λ n. record { dn = n; kind = kind.Delete } ∷ []) (sym spelled)

@@ -1,0 +1,25 @@
+use Rattle.std.proofs.Common.{Result, Ok, Err, OnOk, IfOk, sym, subst}
+use Rattle.dir_change.specs.Undo.{TakesBack}
+use Rattle.dir_change.proofs.Undone.{add_taken_back, delete_taken_back}
+use Rattle.dir_change.proofs.operation.apply.Goals as goal
+
+-- what holds of an accepted change's group, from what is known of it
+if_both : {A E P : Type 0} {Q R : A → Type 0} → (r : Result A E) → OnOk r P → IfOk r Q → ((x : A) → P → Q x → R x) → IfOk r R
+if_both (Ok x) p q f = f x p q
+if_both (Err e) p q f = tt
+
+pub returns-in-Add-clause-back : goal.returns-in-Add-clause-back
+returns-in-Add-clause-back g c =
+    let rows = c.args.schema.now in
+    let d = g.D.Directory.state c.args.directory.now in
+    let new = g.D.Directory.state c.add.new.directory in
+    if_both c.add.result c.add.ensures.ok c.add.ensures.undo (λ undo is group well.
+    subst (TakesBack rows d new) (sym group) (add_taken_back rows d well.1 (λ q x h. (well.2 q x h).1) c.in_ok-key.key c.args.change.now.dn c.in-Add.lines c.in_ok-key.ensures.ok new is))
+
+pub returns-in-Delete-clause-back : goal.returns-in-Delete-clause-back
+returns-in-Delete-clause-back g c =
+    let rows = c.args.schema.now in
+    let d = g.D.Directory.state c.args.directory.now in
+    let new = g.D.Directory.state c.delete.new.directory in
+    if_both c.delete.result c.delete.ensures.ok c.delete.ensures.undo (λ undo is group well.
+    subst (TakesBack rows d new) (sym group) (delete_taken_back rows d well c.in_ok-key.key new is))
