@@ -1,2 +1,4 @@
+pub mod Kept
+pub mod TakenBack
 pub mod Tests
 pub mod Undone

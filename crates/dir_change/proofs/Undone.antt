@@ -222,7 +222,7 @@ above_put d k e = by (parent_of k) refl
 
 -- ---- what is known where an operation is accepted
 
-made_own : (rows : List TypeRow) (own : SpelledName) (lines : List (Described × List ℕ)) (e : Content) → made rows own lines ≡ Ok e → e.own ≡ own
+pub made_own : (rows : List TypeRow) (own : SpelledName) (lines : List (Described × List ℕ)) (e : Content) → made rows own lines ≡ Ok e → e.own ≡ own
 made_own rows own lines e is = by (leaf_key rows own) (attributes_of rows lines) is
   where
     last : (key : RdnKeys) (xs : StoredAttributes) (b : Bool) → cond b (Err Single) (Ok (record { own = own; key = key; attributes = gained_by xs (leaf_lines rows own) })) ≡ Ok e → e.own ≡ own

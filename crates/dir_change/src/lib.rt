@@ -4,11 +4,13 @@
 mod add;
 mod delete;
 mod history;
+mod laws;
 mod operation;
 mod result_code;
 mod undo;
 
 pub use history::History;
+pub use laws::runs_are_taken_back;
 pub use operation::{Refusal, apply};
 pub use result_code::ResultCode;
 pub use undo::Undo;

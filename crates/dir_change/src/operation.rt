@@ -1,10 +1,11 @@
-ghost use Rattle.std.specs.Prelude.{◌≡◌, IfErr, IfOk, Ok, OnErr, OnOk, Some};
+ghost use Rattle.std.specs.Prelude.{◌≡◌, IfErr, IfOk, IsOk, Ok, OnErr, OnOk, Some};
 ghost use Rattle.dir_change.specs.declared.operation.Refusal.TheVariants.{Memory};
 ghost use Rattle.dir_change.specs.Operation.{IsKeyless, IsRefused, refusal_of, step};
-ghost use Rattle.dir_names.specs.Keys.{DnKeys};
 ghost use Rattle.dir_names.specs.NameKeys.{name_key};
 ghost use Rattle.dir_tree.specs.WellFormed.{IsWellFormed};
-ghost use Rattle.dir_change.specs.Undo.{TakesBack, undo_of};
+ghost use Rattle.dir_change.specs.Runs.{group_of};
+ghost use Rattle.dir_change.specs.Sound.{IsSoundChange};
+ghost use Rattle.dir_change.specs.Undo.{TakesBack};
 
 use crate::add::add;
 use crate::delete::delete;
@@ -40,7 +41,8 @@ pub fn apply<D: Directory>(
     ensures ok { OnOk result (step schema.now (D.state directory.old) change.now ≡ Ok (D.state directory.new)) }
     ensures refused { IfErr result (λ e. IsRefused e (step schema.now (D.state directory.old) change.now)) }
     ensures err { OnErr result (D.state directory.new ≡ D.state directory.old) }
-    ensures undo { IfOk result (λ undo. (k : DnKeys) → name_key schema.now change.now.dn ≡ Some k → undo ≡ undo_of (D.state directory.old) (D.state directory.new) k change.now.kind) }
+    ensures kept { IsOk result → IsWellFormed schema.now (D.state directory.old) → IsSoundChange schema.now change.now → IsWellFormed schema.now (D.state directory.new) }
+    ensures undo { IfOk result (λ undo. undo ≡ group_of schema.now (D.state directory.old) (D.state directory.new) change.now) }
     ensures back { IfOk result (λ undo. IsWellFormed schema.now (D.state directory.old) → TakesBack schema.now (D.state directory.old) (D.state directory.new) undo) }
 {
     let key = key_of(alloc, schema, &change.dn)?;

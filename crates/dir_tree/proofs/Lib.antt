@@ -7,6 +7,7 @@ pub mod NextKey
 pub mod Orderless
 pub mod OwnLines
 pub mod Relisted
+pub mod SoundMade
 pub mod SpelledLemmas
 pub mod Ties
 pub mod Walk

@@ -173,7 +173,7 @@ value_eq_turned a b = by (value_key_eq a b) refl (value_key_eq b a) refl
     by false e true f = sym e ∙ (value_key_eq_decides a b).1 (sym ((value_key_eq_decides b a).0 f))
 
 -- the values that are there after a line
-has_after : (xs : StoredAttributes) (l m : KeyedLine) → has_value (with_line xs l) m.description.key m.key ≡ gives_alike l m || has_value xs m.description.key m.key
+pub has_after : (xs : StoredAttributes) (l m : KeyedLine) → has_value (with_line xs l) m.description.key m.key ≡ gives_alike l m || has_value xs m.description.key m.key
 has_after xs l m =
     has_as_value m.key (fin.get (with_line xs l) m.description.key)
     ∙ ap is_some (value_line xs l m.description.key m.key)
@@ -252,7 +252,7 @@ given_same k v l e = by (is_under k l) refl (has_key v l) refl e
     by true s false t h = absurd (true≢false (sym h))
     by false s b t h = absurd (true≢false (sym h))
 
-given_itself : (l : KeyedLine) → gives_alike l l ≡ true
+pub given_itself : (l : KeyedLine) → gives_alike l l ≡ true
 given_itself l = λ i. (attr_eq_decides l.description.key l.description.key).1 refl i && (value_key_eq_decides l.key l.key).1 refl i
 
 and_left : (a b : Bool) → (a && b) ≡ true → a ≡ true

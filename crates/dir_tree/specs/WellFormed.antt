@@ -9,7 +9,9 @@ use Rattle.dir_names.specs.Described.{Described}
 use Rattle.dir_names.specs.Descriptions.{description_of}
 use Rattle.dir_names.specs.Keys.{DnKeys}
 use Rattle.dir_names.specs.NameKeys.{name_key, value_key_of}
+use Rattle.dir_names.specs.Names.{SpelledPair}
 use Rattle.dir_names.specs.Orders.{dn_key_eq}
+use Rattle.dir_names.specs.Sound.{is_pair}
 use Rattle.dir_tree.specs.declared.lines.KeyedLine.{KeyedLine}
 use Rattle.dir_tree.specs.Content.{Content, Stored, StoredAttributes, has_value}
 use Rattle.dir_tree.specs.Dir.{Dir, IsClosed, entry_at}
@@ -52,6 +54,16 @@ IsSoundEntry rows e =
     × Each (IsSoundAttribute rows) (fin.entries e.attributes)
     × (has_each e.attributes (leaf_lines rows e.own) ≡ true)
     × (is_crowded rows e.attributes ≡ false)
+
+-- ---- what a sound entry is made of
+
+-- a line whose description was read under the schema, of a value within the limit
+abbrev pub IsLegalLine : List TypeRow → Described × List ℕ → Type 0
+IsLegalLine rows line = (description_of rows line.0.spelling ≡ Ok line.0) × (length line.1 ≤ 1048576)
+
+-- a pair of a name, of a value within the limit
+abbrev pub IsLegalPair : SpelledPair → Type 0
+IsLegalPair p = (is_pair p ≡ true) × (length p.1 ≤ 1048576)
 
 -- ---- directories
 

@@ -1,5 +1,7 @@
-use Rattle.std.proofs.Common.{Result, Ok, Err, OnOk, IfOk, sym, subst}
+use Rattle.std.proofs.Common.{◌≡◌, ap, ◌∙◌, true≢false, Result, Ok, Err, OnOk, IfOk, IsOk, sym, subst}
 use Rattle.dir_change.specs.Undo.{TakesBack}
+use Rattle.dir_change.specs.Operation.{at_key, performed, step}
+use Rattle.dir_change.proofs.Kept.{step_keeps}
 use Rattle.dir_change.proofs.Undone.{add_taken_back, delete_taken_back}
 use Rattle.dir_change.proofs.operation.apply.Goals as goal
 
@@ -23,3 +25,29 @@ returns-in-Delete-clause-back g c =
     let new = g.D.Directory.state c.delete.new.directory in
     if_both c.delete.result c.delete.ensures.ok c.delete.ensures.undo (λ undo is group well.
     subst (TakesBack rows d new) (sym group) (delete_taken_back rows d well c.in_ok-key.key new is))
+
+known_of : {A E P : Type 0} → (r : Result A E) → IsOk r → OnOk r P → P
+known_of (Ok x) ok p = p
+known_of (Err e) ok p = absurd (true≢false (sym ok))
+
+pub returns-in-Add-clause-kept : goal.returns-in-Add-clause-kept
+returns-in-Add-clause-kept g c ok well sound =
+    let rows = c.args.schema.now in
+    let d = g.D.Directory.state c.args.directory.now in
+    let new = g.D.Directory.state c.add.new.directory in
+    let is : step rows d c.args.change.now ≡ Ok new =
+    ap (at_key rows d c.args.change.now) c.in_ok-key.ensures.ok
+    ∙ ap (performed rows d c.in_ok-key.key c.args.change.now.dn) c.in-Add.is
+    ∙ known_of c.add.result ok c.add.ensures.ok in
+    step_keeps rows d c.args.change.now well sound new is
+
+pub returns-in-Delete-clause-kept : goal.returns-in-Delete-clause-kept
+returns-in-Delete-clause-kept g c ok well sound =
+    let rows = c.args.schema.now in
+    let d = g.D.Directory.state c.args.directory.now in
+    let new = g.D.Directory.state c.delete.new.directory in
+    let is : step rows d c.args.change.now ≡ Ok new =
+    ap (at_key rows d c.args.change.now) c.in_ok-key.ensures.ok
+    ∙ ap (performed rows d c.in_ok-key.key c.args.change.now.dn) c.in-Delete.is
+    ∙ known_of c.delete.result ok c.delete.ensures.ok in
+    step_keeps rows d c.args.change.now well sound new is

@@ -1,0 +1,193 @@
+-- A sound change leaves a directory in good order.
+use Rattle.std.proofs.Common.{◌≡◌, ℕ, suc, ◌≤◌, Bool, true, false, cond, not, ◌&&◌, ◌||◌, ◌==◌, nat_le, List, [], ◌∷◌, ◌++◌, length, Option, Some, None, is_some, Result, Ok, Err, refl, sym, ap, subst, ◌∙◌, true≢false, arith, length-append}
+use Rattle.std.specs.List.{list_all}
+use Rattle.std.proofs.lemmas.Bool.Decides.{nat_tests}
+use Rattle.std.specs.Ordering.{eq_by_cmp}
+use Rattle.dir_names.specs.declared.fault.NameFault.{NameFault}
+use Rattle.dir_names.specs.declared.fault.NameFault.TheVariants.{BadDescription, ReservedName}
+use Rattle.dir_names.specs.declared.schema.TypeRow.{TypeRow}
+use Rattle.dir_names.specs.Attr.{Attr}
+use Rattle.dir_names.specs.Cut.{parts_at}
+use Rattle.dir_names.specs.Described.{Described}
+use Rattle.dir_names.specs.Descriptions.{description_from, description_of, is_option, is_reserved, is_type}
+use Rattle.dir_names.specs.Keys.{DnKeys}
+use Rattle.dir_names.specs.Names.{SpelledName, SpelledPair, SpelledRdn}
+use Rattle.dir_names.specs.NameKeys.{name_key}
+use Rattle.dir_names.specs.Orders.{attr_eq_decides, dn_key_cmp, dn_key_eq}
+use Rattle.dir_names.specs.Printing.{escaped, is_special, pair_printed, rdn_printed, rest_printed, shown, value_printed}
+use Rattle.dir_names.specs.Reading.{is_small, is_within_limits}
+use Rattle.dir_names.specs.Sound.{is_name, is_pair, is_rdn}
+use Rattle.dir_ldif.specs.declared.records.Change.{Change}
+use Rattle.dir_ldif.specs.declared.records.ChangeKind.{ChangeKind}
+use Rattle.dir_ldif.specs.declared.records.ChangeKind.TheVariants as kind
+use Rattle.dir_ldif.specs.Legal.{has_this_key, is_legal_kind, is_legal_line, is_read_under, is_short}
+use Rattle.dir_tree.specs.Content.{Content}
+use Rattle.dir_tree.specs.Dir.{Dir, entry_at, has_parent, put_entry, without}
+use Rattle.dir_tree.specs.Made.{leaf_of}
+use Rattle.dir_tree.specs.WellFormed.{Each, IsLegalLine, IsLegalPair, IsSoundEntry, IsWellFormed, own_part}
+use Rattle.dir_tree.proofs.DirLemmas.{closed_put, closed_without, get_put, get_without, same_key}
+use Rattle.dir_tree.proofs.SoundMade.{made_sound}
+use Rattle.dir_change.specs.Operation.{at_key, has_child, own_of, performed, step}
+use Rattle.dir_change.specs.Sound.{IsSoundChange}
+use Rattle.dir_change.proofs.Tests.{child_true}
+use Rattle.dir_change.proofs.Undone.{added_is, deleted_is, made_own, own_named}
+
+left : (a b : Bool) → (a && b) ≡ true → a ≡ true
+left true b h = refl
+left false b h = h
+
+right : (a b : Bool) → (a && b) ≡ true → b ≡ true
+right true b h = h
+right false b h = absurd (true≢false (sym h))
+
+-- ---- lines
+
+-- a description that was read is spelled as the text
+spelled_as_read : (rows : List TypeRow) (text : List ℕ) (d : Described) → description_of rows text ≡ Ok d → d.spelling ≡ text
+spelled_as_read rows text d e = by (nat_le (length text) 512) (parts_at 59 text) e
+  where
+    ok : (kind : List ℕ) (options : List (List ℕ)) (a b : Bool) (k : Attr) → cond a (cond b (Err ReservedName) (Ok (record { spelling = text; key = k }))) (Err BadDescription) ≡ Ok d → d.spelling ≡ text
+    ok kind options false b k h = absurd (cc)
+    ok kind options true true k h = absurd (cc)
+    ok kind options true false k h =
+        let whole : Described = record { spelling = text; key = k } in
+        let same : whole ≡ d = cc in
+        ap (λ (d : Described). d.spelling) (sym same)
+
+    by : (b : Bool) (parts : List (List ℕ)) → cond b (description_from rows text parts) (Err BadDescription) ≡ Ok d → d.spelling ≡ text
+    by false parts h = absurd (cc)
+    by true [] h = absurd (cc)
+    by true (kind ∷ options) h = ok kind options (is_type kind && list_all is_option options) (is_reserved kind) _ h
+
+read_under : (rows : List TypeRow) (d : Described) → is_read_under rows d ≡ true → description_of rows d.spelling ≡ Ok d
+read_under rows d e = by (description_of rows d.spelling) refl e
+  where
+    by : (r : Result Described NameFault) → description_of rows d.spelling ≡ r → has_this_key d.key r ≡ true → r ≡ Ok d
+    by (Ok x) t h =
+        let spelling = spelled_as_read rows d.spelling x t in
+        let key = (attr_eq_decides x.key d.key).0 h in
+        λ i. Ok (record { spelling = spelling i; key = key i })
+    by (Err fault) t h = absurd (true≢false (sym h))
+
+legal_lines : (rows : List TypeRow) (lines : List (Described × List ℕ)) → list_all (is_legal_line rows) lines ≡ true → Each (IsLegalLine rows) lines
+legal_lines rows [] e = tt
+legal_lines rows (line ∷ lines) e =
+    let first = left (is_legal_line rows line) _ e in
+    ((read_under rows line.0 (right (is_short line.1) _ first), grind (arith, nat_tests)), legal_lines rows lines (right (is_legal_line rows line) _ e))
+
+-- ---- pairs
+
+three : (b : ℕ) → length (escaped b) ≡ 3
+three b = refl
+
+shown_long : (b : ℕ) → 1 ≤ length (shown b)
+shown_long b = by (is_special b)
+  where
+    by : (t : Bool) → 1 ≤ length (cond t (escaped b) (b ∷ []))
+    by true = omega arith
+    by false = omega arith
+
+rest_long : (bs : List ℕ) → length bs ≤ length (rest_printed bs)
+rest_long [] = omega arith
+rest_long (b ∷ []) = by (b == 32)
+  where
+    by : (t : Bool) → 1 ≤ length (cond t (escaped b) (shown b))
+    by true = omega arith
+    by false = shown_long b
+rest_long (b ∷ c ∷ bs) =
+    let first = shown_long b in
+    let rest = rest_long (c ∷ bs) in
+    let whole = length-append (shown b) (rest_printed (c ∷ bs)) in
+    omega (arith, first, rest, whole)
+
+value_long : (bs : List ℕ) → length bs ≤ length (value_printed bs)
+value_long [] = omega arith
+value_long (b ∷ bs) = by (b == 32 || b == 35)
+  where
+    by : (t : Bool) → suc (length bs) ≤ length (cond t (escaped b) (shown b) ++ rest_printed bs)
+    by true = let rest = rest_long bs in omega (arith, rest)
+    by false =
+        let first = shown_long b in
+        let rest = rest_long bs in
+        let whole = length-append (shown b) (rest_printed bs) in
+        omega (arith, first, rest, whole)
+
+pair_long : (p : SpelledPair) → length p.1 ≤ length (pair_printed p)
+pair_long p =
+    let value = value_long p.1 in
+    let whole = length-append p.0 (61 ∷ value_printed p.1) in
+    omega (arith, value, whole)
+
+small_pairs : (n : ℕ) (rdn : SpelledRdn) → length (rdn_printed rdn) ≤ n → Each (λ (p : SpelledPair). length p.1 ≤ n) rdn
+small_pairs n [] h = tt
+small_pairs n (p ∷ []) h = let long = pair_long p in (omega (arith, long, h), tt)
+small_pairs n (p ∷ q ∷ ps) h =
+    let long = pair_long p in
+    let whole = length-append (pair_printed p) (43 ∷ rdn_printed (q ∷ ps)) in
+    (omega (arith, long, whole, h), small_pairs n (q ∷ ps) (omega (arith, whole, h)))
+
+legal_pairs : (rdn : SpelledRdn) → list_all is_pair rdn ≡ true → Each (λ (p : SpelledPair). length p.1 ≤ 4096) rdn → Each IsLegalPair rdn
+legal_pairs [] e h = tt
+legal_pairs (p ∷ ps) e h = let short = h.0 in ((left (is_pair p) _ e, omega (arith, short)), legal_pairs ps (right (is_pair p) _ e) h.1)
+
+legal_rdn : (rdn : SpelledRdn) → is_rdn rdn ≡ true → is_small rdn ≡ true → Each IsLegalPair rdn
+legal_rdn rdn sound small = legal_pairs rdn (right (not (length rdn == 0)) _ sound) (small_pairs 4096 rdn (grind (arith, nat_tests)))
+
+-- the own RDN of a name within the limits
+legal_leaf : (suffix k : DnKeys) (name : SpelledName) → is_name name ≡ true → is_within_limits name ≡ true → (leaf : SpelledRdn) → leaf_of (own_of suffix k name) ≡ Some leaf → Each IsLegalPair leaf
+legal_leaf suffix k [] sound small leaf e = by (dn_key_eq k suffix) e
+  where
+    by : (b : Bool) → leaf_of (cond b [] []) ≡ Some leaf → Each IsLegalPair leaf
+    by true h = absurd (cc)
+    by false h = absurd (cc)
+legal_leaf suffix k (rdn ∷ rdns) sound small leaf e = by (dn_key_eq k suffix) e
+  where
+    here : rdn ≡ leaf → Each IsLegalPair leaf
+    here same = subst (Each IsLegalPair) same (legal_rdn rdn (left (is_rdn rdn) _ sound) (left (is_small rdn) _ (right (nat_le (length (rdn ∷ rdns)) 64) _ small)))
+
+    by : (b : Bool) → leaf_of (cond b (rdn ∷ rdns) (rdn ∷ [])) ≡ Some leaf → Each IsLegalPair leaf
+    by true h = here (cc)
+    by false h = here (cc)
+
+-- ---- the directory
+
+keeps_without : (rows : List TypeRow) (d : Dir) (k : DnKeys) → IsWellFormed rows d → has_child d k ≡ false → IsWellFormed rows (without d k)
+keeps_without rows d k well leaf =
+    (well.0, closed_without d k well.1 (λ child. true≢false (sym (child_true d k child) ∙ leaf)), λ q e there. by q e (eq_by_cmp dn_key_cmp q k) (sym (get_without d k q) ∙ there))
+  where
+    by : (q : DnKeys) (e : Content) (b : Bool) → cond b None (entry_at d q) ≡ Some e → IsSoundEntry rows e × (name_key rows e.own ≡ Some (own_part d.suffix q))
+    by q e true h = absurd (cc)
+    by q e false h = well.2 q e h
+
+keeps_put : (rows : List TypeRow) (d : Dir) (k : DnKeys) (x : Content) → IsWellFormed rows d → has_parent d k ≡ true → IsSoundEntry rows x → name_key rows x.own ≡ Some (own_part d.suffix k) → IsWellFormed rows (put_entry d k x)
+keeps_put rows d k x well parent sound named =
+    (well.0, closed_put d k x well.1 parent, λ q e there. by q e (eq_by_cmp dn_key_cmp q k) refl (sym (get_put d k x q) ∙ there))
+  where
+    by : (q : DnKeys) (e : Content) (b : Bool) → eq_by_cmp dn_key_cmp q k ≡ b → cond b (Some x) (entry_at d q) ≡ Some e → IsSoundEntry rows e × (name_key rows e.own ≡ Some (own_part d.suffix q))
+    by q e false t h = well.2 q e h
+    by q e true t h =
+        let same : x ≡ e = cc in
+        (subst (IsSoundEntry rows) same sound, ap (λ (c : Content). name_key rows c.own) (sym same) ∙ named ∙ ap (λ z. Some (own_part d.suffix z)) (sym (same_key q k t)))
+
+pub step_keeps : (rows : List TypeRow) (d : Dir) (change : Change) → IsWellFormed rows d → IsSoundChange rows change → (new : Dir) → step rows d change ≡ Ok new → IsWellFormed rows new
+step_keeps rows d change well sound new is = by (name_key rows change.dn) refl is
+  where
+    name_sound : (is_name change.dn ≡ true) × (is_within_limits change.dn ≡ true)
+    name_sound = sound.1.0
+
+    done : (k : DnKeys) → name_key rows change.dn ≡ Some k → (c : ChangeKind) → is_legal_kind rows c ≡ true → performed rows d k change.dn c ≡ Ok new → IsWellFormed rows new
+    done k t (kind.Add lines) legal h =
+        let known = added_is rows d k change.dn lines new h in
+        let entry = known.3 in
+        let made_so = made_sound rows (own_of d.suffix k change.dn) lines entry (legal_leaf d.suffix k change.dn name_sound.0 name_sound.1) (legal_lines rows lines legal) known.4 in
+        let named = ap (name_key rows) (made_own rows (own_of d.suffix k change.dn) lines entry known.4) ∙ own_named rows d.suffix k change.dn t in
+        subst (IsWellFormed rows) (sym known.5) (keeps_put rows d k entry well known.2 made_so named)
+    done k t kind.Delete legal h =
+        let known = deleted_is d k new h in
+        subst (IsWellFormed rows) (sym known.3) (keeps_without rows d k well known.2)
+    done k t (kind.Modify mods) legal h = absurd (cc)
+    done k t (kind.Rename rdn delete_old superior) legal h = absurd (cc)
+
+    by : (o : Option DnKeys) → name_key rows change.dn ≡ o → at_key rows d change o ≡ Ok new → IsWellFormed rows new
+    by None t h = absurd (cc)
+    by (Some k) t h = done k t change.kind (right (is_some (name_key rows change.dn)) (is_legal_kind rows change.kind) sound.0) h

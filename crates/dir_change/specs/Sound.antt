@@ -1,0 +1,12 @@
+-- Changes that leave a directory in good order.
+use Rattle.std.specs.Prelude.{◌≡◌, true}
+use Rattle.dir_names.specs.declared.schema.TypeRow.{TypeRow}
+use Rattle.std.specs.Prelude.{List}
+use Rattle.dir_ldif.specs.declared.records.Change.{Change}
+use Rattle.dir_ldif.specs.declared.records.Record.TheVariants as form
+use Rattle.dir_ldif.specs.Legal.{is_legal}
+use Rattle.dir_ldif.specs.Laws.{PartsAreSound}
+
+-- a legal change, of a name within the limits
+abbrev pub IsSoundChange : List TypeRow → Change → Type 0
+IsSoundChange rows change = (is_legal rows change ≡ true) × PartsAreSound (form.Change change)
