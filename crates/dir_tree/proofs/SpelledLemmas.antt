@@ -1,18 +1,16 @@
 -- Laws of the name as spelled: from a name to the one below it, what stands above the suffix, and what a write leaves.
-use Rattle.std.proofs.Common.{◌≡◌, ℕ, zero, suc, ◌+◌, ◌<◌, ◌≤◌, Bool, true, false, cond, [], ◌∷◌, ◌++◌, map, reverse, length, take, Option, Some, None, is_some, refl, sym, ap, subst, ◌∙◌, arith, append_assoc, length-append, true≢false, ◌||◌}
+use Rattle.std.proofs.Common.{◌≡◌, ℕ, zero, suc, ◌+◌, ◌<◌, ◌≤◌, Bool, true, false, cond, [], ◌∷◌, ◌++◌, map, reverse, length, take, Option, Some, None, is_some, refl, sym, ap, subst, ◌∙◌, arith, append_assoc, length-append}
 use Rattle.std.specs.List.{flat_map, range_with_len}
-use Rattle.std.specs.FinMap as fin
-use Rattle.std.specs.FinMap.{get-empty}
 use Rattle.std.specs.Ordering.{eq_by_cmp}
 use Rattle.std.proofs.lemmas.List.{append-nil, take-append-le, take_all, length-take-le, reverse-append}
 use Rattle.std.proofs.lemmas.List.FromFn.{map-range_with_len_more}
 use Rattle.dir_names.specs.Keys.{DnKeys, RdnKeys, IsAtOrBelow, parent_of}
-use Rattle.dir_names.specs.Orders.{dn_key_cmp, dn_key_eq, dn_key_eq_decides}
+use Rattle.dir_names.specs.Orders.{dn_key_cmp}
 use Rattle.dir_tree.specs.Content.{Content}
-use Rattle.dir_tree.specs.Dir.{Dir, entry_at, put_entry, without, is_there, IsClosed}
-use Rattle.dir_tree.specs.Spelled.{prefixes, own_of, own_at, own_depth, spelled_name, HasOwnDepths, IsShallow, HasShortNames}
+use Rattle.dir_tree.specs.Dir.{Dir, entry_at, put_entry, without, IsClosed}
+use Rattle.dir_tree.specs.Spelled.{prefixes, own_of, own_at, spelled_name}
 use Rattle.dir_tree.proofs.DirLemmas.{same_key, get_put, get_without, last_part, parent_child}
-use Rattle.dir_tree.proofs.NextKey.{or_cases, parent_snoc, reaches}
+use Rattle.dir_tree.proofs.NextKey.{reaches}
 
 -- ---- from a key to what is directly below it
 
@@ -87,41 +85,6 @@ spelled_suffix d closed =
     ∙ ap (λ names. own_at d (p ++ part ∷ []) ++ names) (spelled_above d closed p (omega (arith, count, long)))
     ∙ append-nil (own_at d (p ++ part ∷ [])))
 
--- ---- how many RDNs
-
--- a name as spelled has as many RDNs as its key
-pub length_spelled : (d : Dir) → IsClosed d → HasOwnDepths d → (k : DnKeys) → is_some (entry_at d k) ≡ true → length (spelled_name d k) ≡ length k
-length_spelled d closed depths =
-    by_last (λ k. is_some (entry_at d k) ≡ true → length (spelled_name d k) ≡ length k)
-    (λ there. ap length (spelled_root d) ∙ own [] (entry_at d []) refl there ∙ root (dn_key_eq [] d.suffix) refl (closed [] there))
-    (λ p part rest there. below p part rest there (dn_key_eq (p ++ part ∷ []) d.suffix) refl)
-  where
-    own : (k : DnKeys) (o : Option Content) → entry_at d k ≡ o → is_some o ≡ true → length (own_of o) ≡ own_depth d k
-    own k None e there = absurd (true≢false (sym there))
-    own k (Some x) e there = depths k x e
-
-    -- an entry without a name is the suffix's
-    root : (b : Bool) → dn_key_eq [] d.suffix ≡ b → (b || false) ≡ true → ◌≡◌ {A = ℕ} (cond b 0 1) 0
-    root true t h = refl
-    root false t h = absurd (true≢false (sym h))
-
-    below : (p : DnKeys) (part : RdnKeys) → (is_some (entry_at d p) ≡ true → length (spelled_name d p) ≡ length p) → is_some (entry_at d (p ++ part ∷ [])) ≡ true →
-        (b : Bool) → dn_key_eq (p ++ part ∷ []) d.suffix ≡ b → length (spelled_name d (p ++ part ∷ [])) ≡ length (p ++ part ∷ [])
-    below p part rest there true t =
-        let q : DnKeys = p ++ part ∷ [] in
-        ap length (spelled_suffix d closed q ((dn_key_eq_decides q d.suffix).0 t)) ∙ own q (entry_at d q) refl there ∙ ap (λ b. cond b (length q) 1) t
-    below p part rest there false t =
-        let q : DnKeys = p ++ part ∷ [] in
-        let above : is_some (entry_at d p) ≡ true = or_cases d closed (dn_key_eq q d.suffix) (is_there d (parent_of q)) (λ u. absurd (true≢false (sym u ∙ t))) (λ u. sym (ap (is_there d) (parent_snoc d closed p part _ refl)) ∙ u) (closed q there) in
-        let one : length (own_at d q) ≡ 1 = own q (entry_at d q) refl there ∙ ap (λ b. cond b (length q) 1) t in
-        let more = rest above in
-        let count = length-append p (part ∷ []) in
-        let sum = ap length (spelled_child d p part) ∙ length-append (own_at d q) (spelled_name d p) in
-        omega (arith, one, more, count, sum)
-
-pub short_names : (d : Dir) → IsClosed d → HasOwnDepths d → IsShallow d → HasShortNames d
-short_names d closed depths shallow k there = let count = length_spelled d closed depths k there in let low = shallow k there in omega (arith, count, low)
-
 -- ---- after a write
 
 -- a name is made of the own names on its path alone
@@ -171,47 +134,3 @@ spelled_put_same d k e own q = spelled_same (put_entry d k e) d q (λ x lies. ow
     by : (x : DnKeys) (b : Bool) → eq_by_cmp dn_key_cmp x k ≡ b → cond b e.own (own_at d x) ≡ own_at d x
     by x true t = sym own ∙ ap (own_at d) (sym (same_key x k t))
     by x false t = refl
-
--- ---- own names after a write have the lengths that their keys give them
-
-pub depths_empty : (suffix : DnKeys) → HasOwnDepths (record { suffix = suffix; entries = fin.empty })
-depths_empty suffix k e at = absurd (no (sym (get-empty dn_key_cmp k) ∙ at))
-  where
-    no : ◌≡◌ {A = Option Content} None (Some e) → ⊥
-    no h = cc
-
-pub depths_put : (d : Dir) (k : DnKeys) (e : Content) → HasOwnDepths d → length e.own ≡ own_depth d k → HasOwnDepths (put_entry d k e)
-depths_put d k e depths own q x at = by _ refl (sym (get_put d k e q) ∙ at)
-  where
-    by : (b : Bool) → eq_by_cmp dn_key_cmp q k ≡ b → cond b (Some e) (entry_at d q) ≡ Some x → length x.own ≡ own_depth d q
-    by true t h = let same : e ≡ x = cc in ap (λ z. length z.own) (sym same) ∙ own ∙ ap (own_depth d) (sym (same_key q k t))
-    by false t h = depths q x h
-
-pub depths_without : (d : Dir) (k : DnKeys) → HasOwnDepths d → HasOwnDepths (without d k)
-depths_without d k depths q x at = by _ (sym (get_without d k q) ∙ at)
-  where
-    by : (b : Bool) → cond b None (entry_at d q) ≡ Some x → length x.own ≡ own_depth d q
-    by true h = absurd (cc)
-    by false h = depths q x h
-
--- ---- keys after a write
-
-none_there : (k : DnKeys) → is_some (entry_at (record { suffix = []; entries = fin.empty }) k) ≡ true → ⊥
-none_there k there = true≢false (sym there ∙ ap is_some (get-empty dn_key_cmp k))
-
-pub shallow_empty : (suffix : DnKeys) → IsShallow (record { suffix = suffix; entries = fin.empty })
-shallow_empty suffix k there = absurd (none_there k there)
-
-pub shallow_put : (d : Dir) (k : DnKeys) (e : Content) → IsShallow d → length k ≤ 64 → IsShallow (put_entry d k e)
-shallow_put d k e shallow low q there = by _ refl (sym (ap is_some (get_put d k e q)) ∙ there)
-  where
-    by : (b : Bool) → eq_by_cmp dn_key_cmp q k ≡ b → is_some (cond b (Some e) (entry_at d q)) ≡ true → length q ≤ 64
-    by true t h = subst (λ z. length z ≤ 64) (sym (same_key q k t)) low
-    by false t h = shallow q h
-
-pub shallow_without : (d : Dir) (k : DnKeys) → IsShallow d → IsShallow (without d k)
-shallow_without d k shallow q there = by _ (sym (ap is_some (get_without d k q)) ∙ there)
-  where
-    by : (b : Bool) → is_some (cond b None (entry_at d q)) ≡ true → length q ≤ 64
-    by true h = absurd (true≢false (sym h))
-    by false h = shallow q h

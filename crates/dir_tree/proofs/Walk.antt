@@ -290,9 +290,6 @@ module _ (suffix : DnKeys) (entries : Entries) (closed : IsClosed (dir_over suff
     ahead_here : Ahead (dir_over suffix entries) path ((k, e) ∷ es)
     ahead_here = subst (Ahead (dir_over suffix entries) path) next ahead
 
-    pub stands : is_some (entry_at (dir_over suffix entries) k) ≡ true
-    stands = ap is_some ahead_here.0
-
     pub next_name : (own : List SpelledName) → own ≡ take (length k - length suffix) path ++ e.own ∷ [] → flat_map (λ own. own) (reverse own) ≡ spelled_name (dir_over suffix entries) k
     next_name own is = ap (λ names. flat_map (λ own. own) (reverse names)) (is ∙ past (dir_over suffix entries) path (k, e) es ahead_here) ∙ owns_joined (dir_over suffix entries) closed k
 

@@ -1,10 +1,9 @@
 -- The name of an entry as spelled: an entry keeps only its own name, and the entries above it have the rest.
-use Rattle.std.specs.Prelude.{◌≡◌, ℕ, ◌+◌, ◌≤◌, cond, List, [], map, reverse, take, length, Option, Some, None, IsSome}
+use Rattle.std.specs.Prelude.{◌+◌, List, [], map, reverse, take, length, Option, Some, None}
 use Rattle.std.specs.List.{flat_map, range_with_len}
 use Rattle.std.specs.FinMap as fin
 use Rattle.dir_names.specs.Keys.{DnKeys}
 use Rattle.dir_names.specs.Names.{SpelledName}
-use Rattle.dir_names.specs.Orders.{dn_key_eq}
 use Rattle.dir_tree.specs.Content.{Content}
 use Rattle.dir_tree.specs.Dir.{Dir, entry_at}
 
@@ -24,22 +23,6 @@ own_at d k = own_of (entry_at d k)
 -- the name of an entry as spelled on its path: the own names of the entries from it up to the suffix's, joined, leaf first
 abbrev pub spelled_name : Dir → DnKeys → SpelledName
 spelled_name d k = flat_map (own_at d) (prefixes k)
-
--- how many RDNs the own name of the entry at a key has: all of the suffix's, or else one
-abbrev pub own_depth : Dir → DnKeys → ℕ
-own_depth d k = cond (dn_key_eq k d.suffix) (length k) 1
-
--- each own name has so many; then a name as spelled has as many as its key
-abbrev pub HasOwnDepths : Dir → Type 0
-HasOwnDepths d = (k : DnKeys) → (e : Content) → entry_at d k ≡ Some e → length e.own ≡ own_depth d k
-
--- each entry's key has no more parts than a name may have RDNs
-abbrev pub IsShallow : Dir → Type 0
-IsShallow d = (k : DnKeys) → IsSome (entry_at d k) → length k ≤ 64
-
--- each entry's name as spelled has no more RDNs than a name may have
-abbrev pub HasShortNames : Dir → Type 0
-HasShortNames d = (k : DnKeys) → IsSome (entry_at d k) → length (spelled_name d k) ≤ 64
 
 -- every entry with its name as spelled, in order of keys
 abbrev pub walked : Dir → List (SpelledName × Content)

@@ -1,6 +1,6 @@
-ghost use Rattle.std.specs.Prelude.{◌≡◌, ◌≤◌, ◌↔◌, IfErr, IfOk, IsSome, IsTrue, None, OnErr, OnOk, Some, length, map, option_copied};
+ghost use Rattle.std.specs.Prelude.{◌≡◌, ◌↔◌, IfErr, IfOk, IsSome, IsTrue, None, OnErr, OnOk, Some, map, option_copied};
 ghost use Rattle.dir_tree.specs.Dir.{Dir, HasChild, IsClosed, entry_at, has_parent, put_entry, without};
-ghost use Rattle.dir_tree.specs.Spelled.{HasShortNames, spelled_name, walked};
+ghost use Rattle.dir_tree.specs.Spelled.{spelled_name, walked};
 
 use crate::Entry;
 use dir_names::{Dn, DnKey, Memory, NameFault};

@@ -1,4 +1,4 @@
-ghost use Rattle.std.specs.Prelude.{◌≡◌, ◌≤◌, ◌++◌, IfNone, IfOk, IfSome, IsSome, None, OnOk, false, length, map, reverse};
+ghost use Rattle.std.specs.Prelude.{◌≡◌, ◌++◌, IfNone, IfOk, IfSome, IsSome, None, OnOk, false, map, reverse};
 ghost use Rattle.std.specs.List.{flat_map};
 ghost use Rattle.std.specs.BTreeMap.{get};
 ghost use Rattle.std.specs.Ordering.{is_gt};
@@ -7,7 +7,7 @@ ghost use Rattle.dir_names.specs.Keys.{DnKeys};
 ghost use Rattle.dir_names.specs.Orders.{dn_key_cmp};
 ghost use Rattle.std.specs.FinMap as fin;
 ghost use Rattle.dir_tree.specs.Dir.{IsClosed, dir_over};
-ghost use Rattle.dir_tree.specs.Spelled.{HasShortNames, walked};
+ghost use Rattle.dir_tree.specs.Spelled.{walked};
 
 use crate::{Directory, Entry};
 use dir_names::{Dn, DnKey, Memory, Rdn};
@@ -106,16 +106,16 @@ impl Directory for FlatDirectory {
     }
 
     fn walk(&self) -> Result<Vec<(Dn, &Entry)>, Memory> {
-        walk_over(&self.entries, &self.suffix, self.alloc)
+        walk_over(self.alloc, &self.entries, &self.suffix)
     }
 }
 
 /// The entries of a directory with their names as spelled, in order of keys. The entries on the path
 /// of each one are those that were met last.
 fn walk_over<'m>(
+    alloc: Global,
     entries: &'m BTreeMap<DnKey, Entry>,
     suffix: &DnKey,
-    alloc: Global,
 ) -> Result<Vec<(Dn, &'m Entry)>, Memory>
     requires closed { IsClosed (dir_over suffix.now entries.now.entries) }
     ensures { IfOk result (λ walk. map (λ item. (item.0, item.1.now)) walk.items ≡ walked (dir_over suffix.now entries.now.entries)) }

@@ -85,7 +85,6 @@ fn assert_spelled(
     spelled: &[u8],
 ) -> Result<(), Fail> {
     let key = key_of(alloc, schema, name)?;
-    let _suffix = directory.suffix();
     let Some(_) = directory.get(&key) else {
         return Err("not there".into());
     };
@@ -101,7 +100,6 @@ fn assert_walked(
     directory: &FlatDirectory,
     names: &[&[u8]],
 ) -> Result<(), Fail> {
-    let _suffix = directory.suffix();
     let walk = directory.walk()?;
     assert_eq!(rt; walk.len(), names.len());
     for (item, name) in walk.iter().zip(names.iter()) {
@@ -190,6 +188,31 @@ fn a_name_of_64_rdns_is_spelled_whole(rt: HostRuntime) -> Result<(), Fail> {
     assert_last_walked(&rt, alloc, &directory, name.as_bytes())
 }
 
+/// Own names that no directory within the limits has: 64 RDNs below a suffix of one.
+#[test]
+fn a_name_of_65_rdns_is_not_spelled(rt: HostRuntime) -> Result<(), Fail> {
+    let alloc = rt.alloc();
+    let schema = Schema::builtin(alloc)?;
+    let mut directory = empty(alloc, &schema, b"dc=com")?;
+    add(alloc, &schema, &mut directory, b"dc=com")?;
+    let mut name = format!(in alloc; "cn=1")?;
+    for level in 2..65 {
+        name = format!(in alloc; "cn={level},{name}")?;
+    }
+    let own = Dn::read(alloc, name.as_bytes())?.into_rdns();
+    let entry = Entry::make(alloc, &schema, own, Lines::new(Vec::new(alloc)))?;
+    let key = key_of(alloc, &schema, b"cn=64,dc=com")?;
+    put(alloc, &mut directory, &key, entry)?;
+    let Some(_) = directory.get(&key) else {
+        return Err("not there".into());
+    };
+    let spelled = directory.spelled(&key);
+    assert!(rt; spelled.is_err());
+    let walk = directory.walk();
+    assert!(rt; walk.is_err());
+    Ok(())
+}
+
 /// Asserts that a walk ends at the entry of this name.
 fn assert_last_walked(
     rt: &impl Abort,
@@ -197,7 +220,6 @@ fn assert_last_walked(
     directory: &FlatDirectory,
     name: &[u8],
 ) -> Result<(), Fail> {
-    let _suffix = directory.suffix();
     let walk = directory.walk()?;
     let last = walk.last().ok_or("nothing is walked")?;
     let text = last.0.print(alloc)?;

@@ -1,9 +1,9 @@
-use Rattle.std.proofs.Common.{◌≡◌, ◌-◌, ◌≤◌, List, [], ◌∷◌, ◌++◌, map, reverse, take, length, sym, ap, subst, ◌∙◌}
+use Rattle.std.proofs.Common.{◌≡◌, ◌-◌, List, [], ◌∷◌, ◌++◌, map, reverse, take, length, sym, ap, subst, ◌∙◌}
 use Rattle.std.specs.List.{flat_map}
 use Rattle.dir_names.specs.Names.{SpelledName}
 use Rattle.dir_tree.specs.Dir.{Dir, dir_over}
 use Rattle.dir_tree.specs.Spelled.{spelled_name}
-use Rattle.dir_tree.proofs.Walk.{Ahead, one_more, stacked, start_ahead, all_left, stands, next_name, next_ahead}
+use Rattle.dir_tree.proofs.Walk.{Ahead, one_more, stacked, start_ahead, all_left, next_name, next_ahead}
 use Rattle.dir_tree.proofs.flat.walk_over.Goals as goal
 use Rattle.dir_tree.proofs.flat.walk_over.Goals.{In_ok-push_joined}
 
