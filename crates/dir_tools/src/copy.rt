@@ -1,4 +1,9 @@
-ghost use Rattle.std.specs.Prelude.{◌≡◌, None};
+ghost use Rattle.std.specs.Prelude.{◌≡◌, ◌⊎◌, Err, IfErr, None};
+ghost use Rattle.dir_ldif.specs.Device.{HasFailed};
+ghost use Rattle.dir_tools.specs.Canonical.{canonical_of};
+ghost use Rattle.dir_tools.specs.Written.{CopyWritten, IsUnwritten};
+ghost use Rattle.dir_tools.specs.declared.fault.Output.TheVariants as Output;
+ghost use Rattle.dir_tools.specs.declared.fault.ToolFault.TheVariants as ToolFault;
 ghost use Rattle.dir_tree.specs.Dir.{entry_at};
 
 use crate::canonical::canonical_text;
@@ -27,6 +32,7 @@ pub fn read_copy<R: Source, D: Directory>(
 ) -> Result<D, ToolFault>
 where
     D: Drop,
+    ensures { IfErr result (λ e. IsUnwritten e) }
 {
     let mut loading = Loading::new(alloc, empty);
     let mut records = match RecordReader::new(alloc, schema, copy) {
@@ -52,7 +58,10 @@ pub fn write_copy<D: Directory, W: Sink>(
     alloc: Global,
     directory: &D,
     out: &mut W,
-) -> Result<(), ToolFault> {
+) -> Result<(), ToolFault>
+    ensures text { CopyWritten result (W.taken out.old, W.taken out.new) (canonical_of (D.state directory.now)) }
+    ensures cause { result ≡ Err (ToolFault.Write Output.Out) → HasFailed (W.failures out.old) (W.failures out.new) ⊎ W.may_stall out.new }
+{
     let Ok(text) = canonical_text(alloc, directory) else {
         return Err(ToolFault::Memory);
     };
@@ -60,7 +69,9 @@ pub fn write_copy<D: Directory, W: Sink>(
 }
 
 /// What a fault that ends a copy's text means.
-fn ended(fault: StreamFault) -> ToolFault {
+fn ended(fault: StreamFault) -> ToolFault
+    ensures { IsUnwritten result }
+{
     match fault {
         StreamFault::Read => ToolFault::Read(Input::Copy),
         StreamFault::Memory => ToolFault::Memory,
@@ -68,7 +79,9 @@ fn ended(fault: StreamFault) -> ToolFault {
     }
 }
 
-fn refused(line: u64, code: ResultCode) -> ToolFault {
+fn refused(line: u64, code: ResultCode) -> ToolFault
+    ensures { IsUnwritten result }
+{
     ToolFault::BadCopy(line, Cause::Code(code))
 }
 
@@ -101,7 +114,9 @@ impl<D: Directory + Drop> Loading<D> {
         schema: &Schema,
         line: u64,
         record: Result<Record, RecordFault>,
-    ) -> Result<(), ToolFault> {
+    ) -> Result<(), ToolFault>
+        ensures { IfErr result (λ e. IsUnwritten e) }
+    {
         match record {
             Ok(Record::Content { dn, lines }) => self.take_entry(alloc, schema, line, dn, lines),
             Ok(Record::Change(_)) => Err(ToolFault::BadCopy(
@@ -119,7 +134,9 @@ impl<D: Directory + Drop> Loading<D> {
         line: u64,
         name: Dn,
         lines: Lines,
-    ) -> Result<(), ToolFault> {
+    ) -> Result<(), ToolFault>
+        ensures { IfErr result (λ e. IsUnwritten e) }
+    {
         let key = name.key(alloc, schema)?;
         if !key.at_or_below(self.directory.suffix()) {
             return Err(refused(line, ResultCode::NoSuchObject));
@@ -145,7 +162,9 @@ impl<D: Directory + Drop> Loading<D> {
 
     /// The whole directory, once each entry that waited has found its parent. Parents come before what
     /// is below them in the order of keys.
-    fn finish(self, alloc: Global) -> Result<D, ToolFault> {
+    fn finish(self, alloc: Global) -> Result<D, ToolFault>
+        ensures { IfErr result (λ e. IsUnwritten e) }
+    {
         let Loading {
             mut directory,
             waiting,
@@ -175,6 +194,7 @@ fn put<D: Directory>(
     entry: Entry,
 ) -> Result<Option<Entry>, ToolFault>
     requires { entry_at (D.state directory.old) key.now ≡ None }
+    ensures { IfErr result (λ e. IsUnwritten e) }
 {
     if !may_stand(alloc, directory, key)? {
         return Ok(Some(entry));
@@ -202,7 +222,9 @@ impl Orphans {
     }
 
     /// Adds an entry that found no parent, in the order of keys.
-    fn add(&mut self, alloc: Global, key: DnKey, line: u64) -> Result<(), ToolFault> {
+    fn add(&mut self, alloc: Global, key: DnKey, line: u64) -> Result<(), ToolFault>
+        ensures { IfErr result (λ e. IsUnwritten e) }
+    {
         let is_below = match key.parent(alloc)? {
             Some(parent) => self.keys.contains(&parent),
             None => false,

@@ -1,3 +1,6 @@
+ghost use Rattle.std.specs.Prelude.{◌≡◌};
+ghost use Rattle.dir_tools.specs.declared.fault.ToolFault.TheVariants.{Memory};
+
 use dir_change::ResultCode;
 use dir_ldif::{RecordFault, StreamFault};
 use dir_names::{Memory, NameFault};
@@ -80,18 +83,24 @@ pub enum Item {
 
 /// Want of memory: the one fault that names which were read once can meet.
 impl From<NameFault> for ToolFault {
+    ghost from_gives = { λ _ e. e ≡ Memory };
+
     fn from(_fault: NameFault) -> ToolFault {
         ToolFault::Memory
     }
 }
 
 impl From<Memory> for ToolFault {
+    ghost from_gives = { λ _ e. e ≡ Memory };
+
     fn from(_error: Memory) -> ToolFault {
         ToolFault::Memory
     }
 }
 
 impl<T: Drop> From<AllocFailed<T>> for ToolFault {
+    ghost from_gives = { λ _ e. e ≡ Memory };
+
     fn from(_error: AllocFailed<T>) -> ToolFault {
         ToolFault::Memory
     }

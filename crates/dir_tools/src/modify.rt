@@ -1,3 +1,7 @@
+ghost use Rattle.std.specs.Prelude.{◌≡◌, IfErr, IfOk};
+ghost use Rattle.dir_tools.specs.RunTexts.{is_dry, texts_of};
+ghost use Rattle.dir_tools.specs.Written.{IsUnwritten, Texts, Written};
+
 use crate::canonical::canonical_text;
 use crate::copy::read_copy;
 use crate::report::Report;
@@ -48,19 +52,33 @@ pub fn run_modify<R: Source, R2: Source, W: Sink, W2: Sink, W3: Sink>(
     undo: &mut W,
     out: &mut W2,
     report: &mut W3,
-) -> Result<Summary, ToolFault> {
+) -> Result<Summary, ToolFault>
+    ensures { (s : Texts) × Written options.dry result s (W.taken undo.old, W.taken undo.new) (W2.taken out.old, W2.taken out.new) (W3.taken report.old, W3.taken report.new) }
+{
     let texts = make_texts(alloc, schema, suffix, options, copy, changes)?;
+    write_texts(&texts, undo, out, report)?;
+    Ok(texts.summary)
+}
+
+/// Writes the texts of a run one after the other.
+fn write_texts<W: Sink, W2: Sink, W3: Sink>(
+    texts: &RunTexts,
+    undo: &mut W,
+    out: &mut W2,
+    report: &mut W3,
+) -> Result<(), ToolFault>
+    ensures { Written (is_dry texts.now) result (texts_of texts.now) (W.taken undo.old, W.taken undo.new) (W2.taken out.old, W2.taken out.new) (W3.taken report.old, W3.taken report.new) }
+{
     if let Some(files) = &texts.files {
         write_text(undo, files.undo.as_slice(), Output::Undo)?;
         write_text(out, files.out.as_slice(), Output::Out)?;
     }
-    write_text(report, texts.report.as_slice(), Output::Report)?;
-    Ok(texts.summary)
+    write_text(report, texts.report.as_slice(), Output::Report)
 }
 
 /// What a run writes.
 #[derive(Drop)]
-struct Texts {
+struct RunTexts {
     /// None in a dry run.
     files: Option<Files>,
     report: Vec<u8>,
@@ -81,7 +99,10 @@ fn make_texts<R: Source, R2: Source>(
     options: ModifyOptions,
     copy: &mut R,
     changes: &mut R2,
-) -> Result<Texts, ToolFault> {
+) -> Result<RunTexts, ToolFault>
+    ensures unwritten { IfErr result (λ e. IsUnwritten e) }
+    ensures dry { IfOk result (λ texts. is_dry texts ≡ options.dry) }
+{
     let suffix = suffix_key(alloc, schema, suffix)?;
     let directory = read_copy(alloc, schema, FlatDirectory::new(alloc, suffix), copy)?;
     let mut run = Run::new(alloc, directory, options);
@@ -89,7 +110,9 @@ fn make_texts<R: Source, R2: Source>(
     run.finish(alloc)
 }
 
-fn suffix_key(alloc: Global, schema: &Schema, text: &[u8]) -> Result<DnKey, ToolFault> {
+fn suffix_key(alloc: Global, schema: &Schema, text: &[u8]) -> Result<DnKey, ToolFault>
+    ensures { IfErr result (λ e. IsUnwritten e) }
+{
     let key = match Dn::read(alloc, text) {
         Ok(name) => name.key(alloc, schema),
         Err(fault) => Err(fault),
@@ -112,7 +135,9 @@ struct Run<D: Directory + Drop> {
 }
 
 impl<D: Directory + Drop> Run<D> {
-    fn new(alloc: Global, directory: D, options: ModifyOptions) -> Run<D> {
+    fn new(alloc: Global, directory: D, options: ModifyOptions) -> Run<D>
+        ensures { result.options ≡ options }
+    {
         Run {
             directory,
             history: History::new(alloc),
@@ -131,7 +156,10 @@ impl<D: Directory + Drop> Run<D> {
         alloc: Global,
         schema: &Schema,
         changes: &mut R,
-    ) -> Result<(), ToolFault> {
+    ) -> Result<(), ToolFault>
+        ensures unwritten { IfErr result (λ e. IsUnwritten e) }
+        ensures options { self.new.options ≡ self.old.options }
+    {
         let mut records = match RecordReader::new(alloc, schema, changes) {
             Ok(records) => records,
             Err(fault) => return Err(ended(fault)),
@@ -158,7 +186,10 @@ impl<D: Directory + Drop> Run<D> {
         schema: &Schema,
         line: u64,
         record: Result<Record, RecordFault>,
-    ) -> Result<bool, ToolFault> {
+    ) -> Result<bool, ToolFault>
+        ensures unwritten { IfErr result (λ e. IsUnwritten e) }
+        ensures options { self.new.options ≡ self.old.options }
+    {
         match self.outcome(alloc, schema, record)? {
             None => {
                 self.report.accept(line)?;
@@ -179,7 +210,10 @@ impl<D: Directory + Drop> Run<D> {
         alloc: Global,
         schema: &Schema,
         record: Result<Record, RecordFault>,
-    ) -> Result<Option<Cause>, ToolFault> {
+    ) -> Result<Option<Cause>, ToolFault>
+        ensures unwritten { IfErr result (λ e. IsUnwritten e) }
+        ensures options { self.new.options ≡ self.old.options }
+    {
         match record {
             Ok(Record::Change(change)) => self.change(alloc, schema, &change),
             Ok(Record::Content { .. }) => Ok(Some(Cause::Fault(RecordFault::BadChangetype))),
@@ -192,7 +226,10 @@ impl<D: Directory + Drop> Run<D> {
         alloc: Global,
         schema: &Schema,
         change: &Change,
-    ) -> Result<Option<Cause>, ToolFault> {
+    ) -> Result<Option<Cause>, ToolFault>
+        ensures unwritten { IfErr result (λ e. IsUnwritten e) }
+        ensures options { self.new.options ≡ self.old.options }
+    {
         match apply(alloc, schema, &mut self.directory, change) {
             Ok(undo) => match self.history.push(undo) {
                 Ok(()) => Ok(None),
@@ -204,7 +241,10 @@ impl<D: Directory + Drop> Run<D> {
     }
 
     /// The texts of the run.
-    fn finish(self, alloc: Global) -> Result<Texts, ToolFault> {
+    fn finish(self, alloc: Global) -> Result<RunTexts, ToolFault>
+        ensures unwritten { IfErr result (λ e. IsUnwritten e) }
+        ensures dry { IfOk result (λ texts. is_dry texts ≡ self.options.dry) }
+    {
         let Run {
             directory,
             history,
@@ -220,7 +260,7 @@ impl<D: Directory + Drop> Run<D> {
                 out: canonical_text(alloc, &directory)?,
             })
         };
-        Ok(Texts {
+        Ok(RunTexts {
             files,
             report: report.close(summary)?,
             summary,
@@ -229,7 +269,9 @@ impl<D: Directory + Drop> Run<D> {
 }
 
 /// What a fault that ends the text of changes means.
-fn ended(fault: StreamFault) -> ToolFault {
+fn ended(fault: StreamFault) -> ToolFault
+    ensures { IsUnwritten result }
+{
     match fault {
         StreamFault::Read => ToolFault::Read(Input::Changes),
         StreamFault::Memory => ToolFault::Memory,

@@ -1,3 +1,8 @@
+ghost use Rattle.std.specs.Prelude.{◌≡◌, ◌⊎◌, ℕ, IfErr, OnErr, OnOk};
+ghost use Rattle.std.specs.Io.KnownBytes.{Appends};
+ghost use Rattle.dir_ldif.specs.Device.{AppendsFront, HasFailed};
+ghost use Rattle.dir_tools.specs.declared.fault.ToolFault.TheVariants as ToolFault;
+
 use crate::{Output, ToolFault};
 use dir_ldif::{Sink, write_whole};
 
@@ -10,9 +15,17 @@ pub(crate) fn write_text<W: Sink>(
     writer: &mut W,
     text: &[u8],
     output: Output,
-) -> Result<(), ToolFault> {
-    if write_whole(writer, text).is_err() || writer.flush().is_err() {
+) -> Result<(), ToolFault>
+    ensures ok { OnOk result (Appends (W.taken writer.old) (W.taken writer.new) text.now) }
+    ensures front { (n : ℕ) × AppendsFront (W.taken writer.old) (W.taken writer.new) text.now n }
+    ensures fault { IfErr result (λ e. e ≡ ToolFault.Write output) }
+    ensures err { OnErr result (HasFailed (W.failures writer.old) (W.failures writer.new) ⊎ W.may_stall writer.new) }
+{
+    if write_whole(writer, text).is_err() {
         return Err(ToolFault::Write(output));
     }
-    Ok(())
+    match writer.flush() {
+        Ok(()) => Ok(()),
+        Err(_) => Err(ToolFault::Write(output)),
+    }
 }

@@ -1,0 +1,23 @@
+-- The texts of a run, as they are made.
+use Rattle.std.specs.Prelude.{ℕ, Bool, true, false, List, [], Option, None, Some}
+use Rattle.dir_tools.specs.declared.modify.Files.{Files}
+use Rattle.dir_tools.specs.declared.modify.RunTexts as made
+use Rattle.dir_tools.specs.Written.{Texts}
+
+abbrev pub undo_in : Option Files → List ℕ
+undo_in None = []
+undo_in (Some files) = files.undo.items
+
+abbrev pub out_in : Option Files → List ℕ
+out_in None = []
+out_in (Some files) = files.out.items
+
+abbrev pub texts_of : made.RunTexts → Texts
+texts_of t = record { undo = undo_in t.files; out = out_in t.files; report = t.report.items }
+
+abbrev pub has_no_files : Option Files → Bool
+has_no_files None = true
+has_no_files (Some files) = false
+
+abbrev pub is_dry : made.RunTexts → Bool
+is_dry t = has_no_files t.files
