@@ -398,6 +398,15 @@ delete_taken_back rows d well k new is =
                 let part : name_key rows e.own ≡ Some (child.0 ∷ []) = (well.2 k e known.1).1 ∙ ap (λ b. Some (cond b k (take 1 (reverse k)))) t ∙ ap (λ z. Some (take 1 (reverse z))) child.1 ∙ ap Some (last_of above child.0) in
                 ap (take 1) (spelled_here d well.1 k there ∙ ap (λ z. z ++ name_above d k) here) ∙ front_own rows e.own (name_above d k) child.0 part
 
+-- the key of an added entry's name as spelled
+pub added_key : (rows : List TypeRow) (d : Dir) → IsClosed d → HasOwnNames rows d → (k : DnKeys) (name : SpelledName) (lines : List (Described × List ℕ)) → name_key rows name ≡ Some k → (new : Dir) → added rows d k name lines ≡ Ok new → name_key rows (spelled_name new k) ≡ Some k
+added_key rows d closed names k name lines named new is =
+    let known = added_is rows d k name lines new is in
+    let e = known.3 in
+    let own = ap (name_key rows) (made_own rows (own_of d.suffix k name) lines e known.4) ∙ own_named rows d.suffix k name named in
+    let there : is_some (entry_at (put_entry d k e) k) ≡ true = ap is_some (get_put d k e k) ∙ ap (λ b. is_some (cond b (Some e) (entry_at d k))) (itself k) in
+    ap (λ z. name_key rows (spelled_name z k)) known.5 ∙ spelled_key rows (put_entry d k e) (closed_put d k e closed known.2) (names_put rows d k e names own) k there
+
 -- the name of an added entry: its own name, and what stands above
 pub add_spelled : (rows : List TypeRow) (d : Dir) → IsClosed d → (k : DnKeys) (own : SpelledName) (lines : List (Described × List ℕ)) (e : Content) → has_parent d k ≡ true → made rows own lines ≡ Ok e → spelled_name (put_entry d k e) k ≡ own ++ name_above d k
 add_spelled rows d closed k own lines e parent is =

@@ -1,8 +1,9 @@
-ghost use Rattle.std.specs.Prelude.{◌≡◌, IfErr, IfOk, IsOk, Ok, OnErr, OnOk, Some};
+ghost use Rattle.std.specs.Prelude.{◌≡◌, IfErr, IfOk, IsOk, IsTrue, Ok, OnErr, OnOk, Some};
+ghost use Rattle.dir_ldif.specs.Legal.{is_legal};
 ghost use Rattle.dir_change.specs.declared.operation.Refusal.TheVariants.{Memory};
 ghost use Rattle.dir_change.specs.Operation.{IsKeyless, IsRefused, refusal_of, step};
 ghost use Rattle.dir_names.specs.NameKeys.{name_key};
-ghost use Rattle.dir_tree.specs.WellFormed.{IsWellFormed};
+ghost use Rattle.dir_tree.specs.WellFormed.{Each, IsWellFormed};
 ghost use Rattle.dir_change.specs.Runs.{group_of};
 ghost use Rattle.dir_change.specs.Sound.{IsSoundChange};
 ghost use Rattle.dir_change.specs.Undo.{TakesBack};
@@ -43,6 +44,7 @@ pub fn apply<D: Directory>(
     ensures err { OnErr result (D.state directory.new ≡ D.state directory.old) }
     ensures kept { IsOk result → IsWellFormed schema.now (D.state directory.old) → IsSoundChange schema.now change.now → IsWellFormed schema.now (D.state directory.new) }
     ensures undo { IfOk result (λ undo. undo ≡ group_of schema.now (D.state directory.old) (D.state directory.new) change.now) }
+    ensures legal { IfOk result (λ undo. IsWellFormed schema.now (D.state directory.old) → Each (λ c. IsTrue (is_legal schema.now c)) undo) }
     ensures back { IfOk result (λ undo. IsWellFormed schema.now (D.state directory.old) → TakesBack schema.now (D.state directory.old) (D.state directory.new) undo) }
 {
     let key = key_of(alloc, schema, &change.dn)?;

@@ -1,6 +1,11 @@
-use Rattle.std.proofs.Common.{◌≡◌, ap, ◌∙◌, true≢false, Result, Ok, Err, OnOk, IfOk, IsOk, sym, subst}
+use Rattle.std.proofs.Common.{true, ◌≡◌, ap, ◌∙◌, true≢false, Result, Ok, Err, OnOk, IfOk, IsOk, sym, subst}
 use Rattle.dir_change.specs.Undo.{TakesBack}
 use Rattle.dir_change.specs.Operation.{at_key, performed, step}
+use Rattle.dir_ldif.specs.Legal.{is_legal}
+use Rattle.dir_tree.specs.WellFormed.{Each}
+use Rattle.dir_change.specs.Runs.{group_at, group_of}
+use Rattle.dir_change.specs.Undo.{undo_of}
+use Rattle.dir_change.proofs.LegalUndo.{group_legal}
 use Rattle.dir_change.proofs.Kept.{step_keeps}
 use Rattle.dir_change.proofs.Undone.{add_taken_back, delete_taken_back}
 use Rattle.dir_change.proofs.operation.apply.Goals as goal
@@ -51,3 +56,29 @@ returns-in-Delete-clause-kept g c ok well sound =
     ∙ ap (performed rows d c.in_ok-key.key c.args.change.now.dn) c.in-Delete.is
     ∙ known_of c.delete.result ok c.delete.ensures.ok in
     step_keeps rows d c.args.change.now well sound new is
+
+pub returns-in-Add-clause-legal : goal.returns-in-Add-clause-legal
+returns-in-Add-clause-legal g c =
+    let rows = c.args.schema.now in
+    let d = g.D.Directory.state c.args.directory.now in
+    let new = g.D.Directory.state c.add.new.directory in
+    if_both c.add.result c.add.ensures.ok c.add.ensures.undo (λ undo is group well.
+    let whole : step rows d c.args.change.now ≡ Ok new =
+      ap (at_key rows d c.args.change.now) c.in_ok-key.ensures.ok
+      ∙ ap (performed rows d c.in_ok-key.key c.args.change.now.dn) c.in-Add.is
+      ∙ is in
+    let named : group_of rows d new c.args.change.now ≡ undo = ap (group_at d new c.args.change.now) c.in_ok-key.ensures.ok ∙ ap (undo_of d new c.in_ok-key.key) c.in-Add.is ∙ sym group in
+    subst (Each (λ x. is_legal rows x ≡ true)) named (group_legal rows d c.args.change.now well new whole))
+
+pub returns-in-Delete-clause-legal : goal.returns-in-Delete-clause-legal
+returns-in-Delete-clause-legal g c =
+    let rows = c.args.schema.now in
+    let d = g.D.Directory.state c.args.directory.now in
+    let new = g.D.Directory.state c.delete.new.directory in
+    if_both c.delete.result c.delete.ensures.ok c.delete.ensures.undo (λ undo is group well.
+    let whole : step rows d c.args.change.now ≡ Ok new =
+      ap (at_key rows d c.args.change.now) c.in_ok-key.ensures.ok
+      ∙ ap (performed rows d c.in_ok-key.key c.args.change.now.dn) c.in-Delete.is
+      ∙ is in
+    let named : group_of rows d new c.args.change.now ≡ undo = ap (group_at d new c.args.change.now) c.in_ok-key.ensures.ok ∙ ap (undo_of d new c.in_ok-key.key) c.in-Delete.is ∙ sym group in
+    subst (Each (λ x. is_legal rows x ≡ true)) named (group_legal rows d c.args.change.now well new whole))

@@ -1,0 +1,65 @@
+-- The changes that take a change back are legal.
+use Rattle.std.proofs.Common.{◌≡◌, ℕ, ◌≤◌, Bool, true, false, ◌&&◌, nat_le, List, [], ◌∷◌, ◌++◌, length, map, Option, Some, None, is_some, Result, Ok, Err, refl, sym, ap, subst, ◌∙◌, true≢false, arith}
+use Rattle.std.specs.List.{flat_map, list_all}
+use Rattle.std.proofs.lemmas.Bool.Decides.{nat_tests}
+use Rattle.std.specs.FinMap as fin
+use Rattle.dir_names.specs.declared.schema.TypeRow.{TypeRow}
+use Rattle.dir_names.specs.declared.value.ValueKey.{ValueKey}
+use Rattle.dir_names.specs.Attr.{Attr}
+use Rattle.dir_names.specs.Described.{Described}
+use Rattle.dir_names.specs.Keys.{DnKeys}
+use Rattle.dir_names.specs.NameKeys.{name_key}
+use Rattle.dir_names.specs.Orders.{attr_eq_decides}
+use Rattle.dir_ldif.specs.declared.records.Change.{Change}
+use Rattle.dir_ldif.specs.declared.records.ChangeKind.{ChangeKind}
+use Rattle.dir_ldif.specs.declared.records.ChangeKind.TheVariants as kind
+use Rattle.dir_ldif.specs.Legal.{has_this_key, is_legal, is_legal_line, is_read_under, is_short}
+use Rattle.dir_tree.specs.Content.{Content, Stored}
+use Rattle.dir_tree.specs.Dir.{Dir, entry_at}
+use Rattle.dir_tree.specs.Spelled.{spelled_name}
+use Rattle.dir_tree.specs.WellFormed.{Each, IsSoundAttribute, IsSoundValue, IsWellFormed, all_lines, attribute_lines}
+use Rattle.dir_change.specs.Operation.{at_key, performed, step}
+use Rattle.dir_change.specs.Runs.{group_at, group_of}
+use Rattle.dir_change.specs.Undo.{lines_in, undo_of}
+use Rattle.dir_change.proofs.Undone.{added_key, deleted_is, spelled_key}
+
+module _ (rows : List TypeRow) where
+  all_append : {A : Type 0} (p : A → Bool) (xs ys : List A) → list_all p xs ≡ true → list_all p ys ≡ true → list_all p (xs ++ ys) ≡ true
+  all_append p [] ys e h = h
+  all_append p (x ∷ xs) ys e h = by (p x) e (λ t. all_append p xs ys t h)
+    where
+      by : (b : Bool) → (b && list_all p xs) ≡ true → (list_all p xs ≡ true → list_all p (xs ++ ys) ≡ true) → (b && list_all p (xs ++ ys)) ≡ true
+      by true t rest = rest t
+      by false t rest = t
+
+  legal_values : (a : Attr × Stored) (vs : List (ValueKey × List ℕ)) → is_read_under rows (record { spelling = a.1.spelling; key = a.0 }) ≡ true → Each (IsSoundValue rows a.0) vs →
+      list_all (is_legal_line rows) (map (λ v. (record { spelling = a.1.spelling; key = a.0 }, v.1)) vs) ≡ true
+  legal_values a [] read sound = refl
+  legal_values a (v ∷ vs) read sound =
+      let low = sound.0.1 in
+      let short : is_short v.1 ≡ true = grind (arith, nat_tests) in
+      λ i. (short i && read i) && legal_values a vs read sound.1 i
+
+  legal_attribute : (a : Attr × Stored) → IsSoundAttribute rows a → list_all (is_legal_line rows) (attribute_lines a) ≡ true
+  legal_attribute a sound = legal_values a (fin.entries a.1.values) (ap (has_this_key a.0) sound.0 ∙ (attr_eq_decides a.0 a.0).1 refl) sound.2
+
+  legal_attributes : (es : List (Attr × Stored)) → Each (IsSoundAttribute rows) es → list_all (is_legal_line rows) (flat_map attribute_lines es) ≡ true
+  legal_attributes [] sound = refl
+  legal_attributes (a ∷ es) sound = all_append (is_legal_line rows) (attribute_lines a) (flat_map attribute_lines es) (legal_attribute a sound.0) (legal_attributes es sound.1)
+
+  pub group_legal : (d : Dir) (change : Change) → IsWellFormed rows d → (new : Dir) → step rows d change ≡ Ok new → Each (λ c. is_legal rows c ≡ true) (group_of rows d new change)
+  group_legal d change well new is = by (name_key rows change.dn) refl is
+    where
+      done : (k : DnKeys) → name_key rows change.dn ≡ Some k → (c : ChangeKind) → performed rows d k change.dn c ≡ Ok new → Each (λ c. is_legal rows c ≡ true) (undo_of d new k c)
+      done k t (kind.Add lines) h = (ap (λ o. is_some o && true) (added_key rows d well.1 (λ q x there. (well.2 q x there).1) k change.dn lines t new h), tt)
+      done k t kind.Delete h =
+          let known = deleted_is d k new h in
+          let key = spelled_key rows d well.1 (λ q x there. (well.2 q x there).1) k (ap is_some known.1) in
+          let lines = ap (list_all (is_legal_line rows)) (ap lines_in known.1) ∙ legal_attributes (fin.entries known.0.attributes) (well.2 k known.0 known.1).0.1 in
+          (λ i. is_some (key i) && lines i, tt)
+      done k t (kind.Modify mods) h = absurd (cc)
+      done k t (kind.Rename rdn delete_old superior) h = absurd (cc)
+
+      by : (o : Option DnKeys) → name_key rows change.dn ≡ o → at_key rows d change o ≡ Ok new → Each (λ c. is_legal rows c ≡ true) (group_at d new change o)
+      by None t h = absurd (cc)
+      by (Some k) t h = done k t change.kind h
