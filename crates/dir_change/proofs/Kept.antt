@@ -29,7 +29,7 @@ use Rattle.dir_tree.proofs.DirLemmas.{closed_put, closed_without, get_put, get_w
 use Rattle.dir_tree.proofs.SoundMade.{made_sound}
 use Rattle.dir_change.specs.Operation.{at_key, has_child, own_of, performed, step}
 use Rattle.dir_change.specs.Sound.{IsSoundChange}
-use Rattle.dir_change.proofs.Tests.{child_true}
+use Rattle.dir_change.proofs.Conditions.{child_true}
 use Rattle.dir_change.proofs.Undone.{added_is, deleted_is, made_own, own_named}
 
 left : (a b : Bool) → (a && b) ≡ true → a ≡ true

@@ -1,5 +1,5 @@
+pub mod Conditions
 pub mod Kept
 pub mod LegalUndo
 pub mod TakenBack
-pub mod Tests
 pub mod Undone

@@ -28,7 +28,7 @@ use Rattle.dir_change.specs.declared.result_code.ResultCode.TheVariants.{NoSuchO
 use Rattle.dir_change.specs.Operation.{added, at_key, deleted, has_child, is_at_or_below, own_of, performed, placed, step, unless}
 use Rattle.dir_change.specs.Undo as undo
 use Rattle.dir_change.specs.Undo.{TakesBack, lines_in, name_above, spelled_if, undo_of}
-use Rattle.dir_change.proofs.Tests.{add_placed, below_is, below_true, child_false, delete_leaf, parent_snoc}
+use Rattle.dir_change.proofs.Conditions.{add_placed, below_is, below_true, child_false, delete_leaf, parent_snoc}
 
 same_dir : (d e : Dir) → d.suffix ≡ e.suffix → ((q : DnKeys) → entry_at d q ≡ entry_at e q) → d ≡ e
 same_dir d e s h = let entries = same_map dn_key_cmp_total dn_key_cmp_exact d.entries e.entries h in λ i. record { suffix = s i; entries = entries i }

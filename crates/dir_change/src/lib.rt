@@ -14,3 +14,6 @@ pub use laws::runs_are_taken_back;
 pub use operation::{Refusal, apply};
 pub use result_code::ResultCode;
 pub use undo::Undo;
+
+#[cfg(test)]
+mod tests;

@@ -1,4 +1,4 @@
-ghost use Rattle.std.specs.Prelude.{◌≡◌, ◌⊎◌, Err, IfErr, None};
+ghost use Rattle.std.specs.Prelude.{◌≡◌, ◌⊎◌, Err, IfErr, None, OnOk};
 ghost use Rattle.dir_ldif.specs.Device.{HasFailed};
 ghost use Rattle.dir_tools.specs.Canonical.{canonical_of};
 ghost use Rattle.dir_tools.specs.Written.{CopyWritten, IsUnwritten};
@@ -60,6 +60,7 @@ pub fn write_copy<D: Directory, W: Sink>(
     out: &mut W,
 ) -> Result<(), ToolFault>
     ensures text { CopyWritten result (W.taken out.old, W.taken out.new) (canonical_of (D.state directory.now)) }
+    ensures unfailed { OnOk result (W.failures out.new ≡ W.failures out.old) }
     ensures cause { result ≡ Err (ToolFault.Write Output.Out) → HasFailed (W.failures out.old) (W.failures out.new) ⊎ W.may_stall out.new }
 {
     let Ok(text) = canonical_text(alloc, directory) else {

@@ -1,4 +1,4 @@
-ghost use Rattle.std.specs.Prelude.{◌≡◌, IfErr, IfOk};
+ghost use Rattle.std.specs.Prelude.{◌≡◌, IfErr, IfOk, OnOk};
 ghost use Rattle.dir_tools.specs.RunTexts.{is_dry, texts_of};
 ghost use Rattle.dir_tools.specs.Written.{IsUnwritten, Texts, Written};
 
@@ -53,7 +53,8 @@ pub fn run_modify<R: Source, R2: Source, W: Sink, W2: Sink, W3: Sink>(
     out: &mut W2,
     report: &mut W3,
 ) -> Result<Summary, ToolFault>
-    ensures { (s : Texts) × Written options.dry result s (W.taken undo.old, W.taken undo.new) (W2.taken out.old, W2.taken out.new) (W3.taken report.old, W3.taken report.new) }
+    ensures unfailed { OnOk result ((W.failures undo.new ≡ W.failures undo.old) × (W2.failures out.new ≡ W2.failures out.old) × (W3.failures report.new ≡ W3.failures report.old)) }
+    ensures texts { (s : Texts) × Written options.dry result s (W.taken undo.old, W.taken undo.new) (W2.taken out.old, W2.taken out.new) (W3.taken report.old, W3.taken report.new) }
 {
     let texts = make_texts(alloc, schema, suffix, options, copy, changes)?;
     write_texts(&texts, undo, out, report)?;
@@ -67,7 +68,8 @@ fn write_texts<W: Sink, W2: Sink, W3: Sink>(
     out: &mut W2,
     report: &mut W3,
 ) -> Result<(), ToolFault>
-    ensures { Written (is_dry texts.now) result (texts_of texts.now) (W.taken undo.old, W.taken undo.new) (W2.taken out.old, W2.taken out.new) (W3.taken report.old, W3.taken report.new) }
+    ensures unfailed { OnOk result ((W.failures undo.new ≡ W.failures undo.old) × (W2.failures out.new ≡ W2.failures out.old) × (W3.failures report.new ≡ W3.failures report.old)) }
+    ensures texts { Written (is_dry texts.now) result (texts_of texts.now) (W.taken undo.old, W.taken undo.new) (W2.taken out.old, W2.taken out.new) (W3.taken report.old, W3.taken report.new) }
 {
     if let Some(files) = &texts.files {
         write_text(undo, files.undo.as_slice(), Output::Undo)?;

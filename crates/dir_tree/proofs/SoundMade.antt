@@ -85,20 +85,22 @@ IsSoundLine rows l = (description_of rows l.description.spelling ≡ Ok l.descri
 
 module _ (rows : List TypeRow) where
   one_sound : (l : KeyedLine) (a : Option Stored) → IsSoundLine rows l → ((s : Stored) → a ≡ Some s → IsSoundAttribute rows (l.description.key, s)) → IsSoundAttribute rows (l.description.key, with_value a l)
-  one_sound l None line there =
-      (line.0,
-      insert_some value_key_cmp_total value_key_cmp_exact (IsSoundValue rows l.description.key) fin.empty l.key l.bytes,
-      each_insert value_key_cmp_total value_key_cmp_exact (IsSoundValue rows l.description.key) fin.empty l.key l.bytes (line.1, line.2) (subst (Each (IsSoundValue rows l.description.key)) (sym (entries_of_none value_key_cmp)) tt))
+  one_sound l None line there = (
+    line.0,
+    insert_some value_key_cmp_total value_key_cmp_exact (IsSoundValue rows l.description.key) fin.empty l.key l.bytes,
+    each_insert value_key_cmp_total value_key_cmp_exact (IsSoundValue rows l.description.key) fin.empty l.key l.bytes (line.1, line.2) (subst (Each (IsSoundValue rows l.description.key)) (sym (entries_of_none value_key_cmp)) tt),
+  )
   one_sound l (Some s) line there =
-      let before = there s refl in
-      (before.0,
-      insert_some value_key_cmp_total value_key_cmp_exact (IsSoundValue rows l.description.key) s.values l.key l.bytes,
-      each_insert value_key_cmp_total value_key_cmp_exact (IsSoundValue rows l.description.key) s.values l.key l.bytes (line.1, line.2) before.2)
+      let before = there s refl in (
+        before.0,
+        insert_some value_key_cmp_total value_key_cmp_exact (IsSoundValue rows l.description.key) s.values l.key l.bytes,
+        each_insert value_key_cmp_total value_key_cmp_exact (IsSoundValue rows l.description.key) s.values l.key l.bytes (line.1, line.2) before.2,
+      )
 
   line_keeps : (xs : StoredAttributes) (l : KeyedLine) → IsSoundLine rows l → Each (IsSoundAttribute rows) (fin.entries xs) → Each (IsSoundAttribute rows) (fin.entries (with_line xs l))
   line_keeps xs l line each =
       each_insert attr_cmp_total attr_cmp_exact (IsSoundAttribute rows) xs l.description.key (with_value (fin.get xs l.description.key) l)
-        (one_sound l (fin.get xs l.description.key) line (λ s t. each_get attr_cmp_total attr_cmp_exact (IsSoundAttribute rows) xs l.description.key s each t)) each
+      (one_sound l (fin.get xs l.description.key) line (λ s t. each_get attr_cmp_total attr_cmp_exact (IsSoundAttribute rows) xs l.description.key s each t)) each
 
   lines_keep : (xs : StoredAttributes) (ls : List KeyedLine) → Each (IsSoundLine rows) ls → Each (IsSoundAttribute rows) (fin.entries xs) → Each (IsSoundAttribute rows) (fin.entries (with_lines xs ls))
   lines_keep xs [] lines each = each

@@ -14,7 +14,7 @@ use Rattle.dir_ldif.specs.declared.records.ChangeKind.TheVariants as kind
 use Rattle.dir_tree.specs.Spelled.{spelled_name}
 use Rattle.dir_change.specs.Undo.{name_above}
 use Rattle.dir_change.proofs.Undone.{add_spelled}
-use Rattle.dir_change.proofs.Tests.{below_true, below_false, add_outside, add_taken, add_placed}
+use Rattle.dir_change.proofs.Conditions.{below_true, below_false, add_outside, add_taken, add_placed}
 use Rattle.dir_change.proofs.add.add.Goals as goal
 
 copied_some : {A : Type 0} (o : Option (Bor A)) → is_some o ≡ true → is_some (option_copied o) ≡ true

@@ -1,6 +1,6 @@
 use Rattle.std.proofs.Common.{◌≡◌, true, is_some, Ok, refl, sym, ap, ◌∙◌, true≢false}
 use Rattle.dir_tree.specs.Dir.{entry_at}
-use Rattle.dir_change.proofs.Tests.{child_true, child_false, delete_inner, delete_leaf}
+use Rattle.dir_change.proofs.Conditions.{child_true, child_false, delete_inner, delete_leaf}
 use Rattle.dir_change.proofs.delete.delete.Goals as goal
 
 pub returns-then-has_child-clause-refused : goal.returns-then-has_child-clause-refused

@@ -64,9 +64,9 @@ returns-in-Add-clause-legal g c =
     let new = g.D.Directory.state c.add.new.directory in
     if_both c.add.result c.add.ensures.ok c.add.ensures.undo (λ undo is group well.
     let whole : step rows d c.args.change.now ≡ Ok new =
-      ap (at_key rows d c.args.change.now) c.in_ok-key.ensures.ok
-      ∙ ap (performed rows d c.in_ok-key.key c.args.change.now.dn) c.in-Add.is
-      ∙ is in
+    ap (at_key rows d c.args.change.now) c.in_ok-key.ensures.ok
+    ∙ ap (performed rows d c.in_ok-key.key c.args.change.now.dn) c.in-Add.is
+    ∙ is in
     let named : group_of rows d new c.args.change.now ≡ undo = ap (group_at d new c.args.change.now) c.in_ok-key.ensures.ok ∙ ap (undo_of d new c.in_ok-key.key) c.in-Add.is ∙ sym group in
     subst (Each (λ x. is_legal rows x ≡ true)) named (group_legal rows d c.args.change.now well new whole))
 
@@ -77,8 +77,8 @@ returns-in-Delete-clause-legal g c =
     let new = g.D.Directory.state c.delete.new.directory in
     if_both c.delete.result c.delete.ensures.ok c.delete.ensures.undo (λ undo is group well.
     let whole : step rows d c.args.change.now ≡ Ok new =
-      ap (at_key rows d c.args.change.now) c.in_ok-key.ensures.ok
-      ∙ ap (performed rows d c.in_ok-key.key c.args.change.now.dn) c.in-Delete.is
-      ∙ is in
+    ap (at_key rows d c.args.change.now) c.in_ok-key.ensures.ok
+    ∙ ap (performed rows d c.in_ok-key.key c.args.change.now.dn) c.in-Delete.is
+    ∙ is in
     let named : group_of rows d new c.args.change.now ≡ undo = ap (group_at d new c.args.change.now) c.in_ok-key.ensures.ok ∙ ap (undo_of d new c.in_ok-key.key) c.in-Delete.is ∙ sym group in
     subst (Each (λ x. is_legal rows x ≡ true)) named (group_legal rows d c.args.change.now well new whole))

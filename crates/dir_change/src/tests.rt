@@ -1,0 +1,164 @@
+use crate::{History, Refusal, ResultCode, apply, runs_are_taken_back};
+use dir_ldif::{Change, Record, read_all};
+use dir_names::{Dn, Schema};
+use dir_tree::{Directory, FlatDirectory};
+use std::alloc::Global;
+use std::process::Abort;
+use std::test::Fail;
+
+const TOP: &str = "dn: dc=com\nchangetype: add\ndc: com\n\n";
+
+fn empty(alloc: Global, schema: &Schema, suffix: &[u8]) -> Result<FlatDirectory, Fail> {
+    let key = Dn::read(alloc, suffix)?.key(alloc, schema)?;
+    Ok(FlatDirectory::new(alloc, key))
+}
+
+/// The change records of a text.
+fn changes(alloc: Global, schema: &Schema, text: &str) -> Result<Vec<Change>, Fail> {
+    let mut changes = Vec::new(alloc);
+    for (_, record) in read_all(alloc, schema, text.as_bytes())? {
+        let Record::Change(change) = record? else {
+            return Err("no change".into());
+        };
+        changes.push(change)?;
+    }
+    Ok(changes)
+}
+
+/// What each change of a text is refused with, in turn; none for those that are accepted.
+fn outcomes(
+    alloc: Global,
+    schema: &Schema,
+    directory: &mut FlatDirectory,
+    text: &str,
+) -> Result<Vec<Option<Refusal>>, Fail> {
+    let mut outcomes = Vec::new(alloc);
+    for change in changes(alloc, schema, text)?.as_slice() {
+        let outcome = match apply(alloc, schema, directory, change) {
+            Ok(_) => None,
+            Err(refusal) => Some(refusal),
+        };
+        outcomes.push(outcome)?;
+    }
+    Ok(outcomes)
+}
+
+/// Applies the changes of a text, and tells what takes them back.
+fn history_of(
+    alloc: Global,
+    schema: &Schema,
+    directory: &mut FlatDirectory,
+    text: &str,
+) -> Result<History, Fail> {
+    let mut history = History::new(alloc);
+    for change in changes(alloc, schema, text)?.as_slice() {
+        let Ok(undo) = apply(alloc, schema, directory, change) else {
+            return Err("refused".into());
+        };
+        assert_one_record(undo.records())?;
+        if history.push(undo).is_err() {
+            return Err("no memory".into());
+        }
+    }
+    Ok(history)
+}
+
+fn assert_one_record(records: &[Change]) -> Result<(), Fail> {
+    if records.len() == 1 {
+        Ok(())
+    } else {
+        Err("not one record".into())
+    }
+}
+
+#[test]
+fn adds_are_taken_back_by_deletes_the_last_first(rt: HostRuntime) -> Result<(), Fail> {
+    let alloc = rt.alloc();
+    let schema = Schema::builtin(alloc)?;
+    let mut directory = empty(alloc, &schema, b"dc=com")?;
+    let text = "dn: DC=Com\nchangetype: add\n\ndn: ou=People, dc=com\nchangetype: add\n\n";
+    let history = history_of(alloc, &schema, &mut directory, text)?;
+    let undo = history.undo_text(alloc)?;
+    let want =
+        "version: 1\n\ndn: ou=People,DC=Com\nchangetype: delete\n\ndn: DC=Com\nchangetype: delete\n\n";
+    assert_eq!(rt; undo.as_slice(), want.as_bytes());
+    let Ok(undo) = std::str::from_utf8(undo.as_slice()) else {
+        panic!(rt; "no UTF-8");
+    };
+    for outcome in outcomes(alloc, &schema, &mut directory, undo)? {
+        assert_eq!(rt; outcome, None);
+    }
+    assert!(rt; directory.walk()?.is_empty());
+    runs_are_taken_back();
+    Ok(())
+}
+
+#[test]
+fn a_delete_is_taken_back_with_every_byte(rt: HostRuntime) -> Result<(), Fail> {
+    let alloc = rt.alloc();
+    let schema = Schema::builtin(alloc)?;
+    let mut directory = empty(alloc, &schema, b"dc=com")?;
+    let entry =
+        "dn: cn=a,dc=com\nchangetype: add\ncn: a\ndescription:: IGxlYWQ=\nnote:\nuserPassword:: AP8=\n\n";
+    let _ = history_of(alloc, &schema, &mut directory, TOP)?;
+    let _ = history_of(alloc, &schema, &mut directory, entry)?;
+    let history = history_of(
+        alloc,
+        &schema,
+        &mut directory,
+        "dn: CN=A,dc=com\nchangetype: delete\n",
+    )?;
+    let undo = history.undo_text(alloc)?;
+    let want =
+        "version: 1\n\ndn: cn=a,dc=com\nchangetype: add\ncn: a\ndescription:: IGxlYWQ=\nnote:\nuserPassword:: AP8=\n\n";
+    assert_eq!(rt; undo.as_slice(), want.as_bytes());
+    Ok(())
+}
+
+#[test]
+fn refusals_come_in_the_order_of_the_operation(rt: HostRuntime) -> Result<(), Fail> {
+    let alloc = rt.alloc();
+    let schema = Schema::builtin(alloc)?;
+    let mut directory = empty(alloc, &schema, b"dc=com")?;
+    let text = "dn: dc=org\nchangetype: add\n\n\
+        dn: cn=a,dc=com\nchangetype: add\n\n\
+        dn: dc=com\nchangetype: add\n\n\
+        dn: DC=COM\nchangetype: add\n\n\
+        dn: cn=a,cn=b,dc=com\nchangetype: add\n\n\
+        dn: cn=a,dc=com\nchangetype: add\nuidNumber: 007\nuidNumber: 007\n\n\
+        dn: cn=a,dc=com\nchangetype: add\nuidNumber: 7\nuidNumber: 7\n\n\
+        dn: cn=a,dc=com\nchangetype: add\nuidNumber: 7\nuidNumber: 8\n\n\
+        dn: cn=a,dc=com\nchangetype: add\n\n\
+        dn: dc=com\nchangetype: delete\n\n\
+        dn: cn=b,dc=com\nchangetype: delete\n\n\
+        dn: cn=a,dc=com\nchangetype: modify\n\n\
+        dn: cn=a,dc=com\nchangetype: modrdn\nnewrdn: cn=b\ndeleteoldrdn: 1\n\n";
+    let outcomes = outcomes(alloc, &schema, &mut directory, text)?;
+    let want = [
+        Some(ResultCode::NoSuchObject),
+        Some(ResultCode::NoSuchObject),
+        None,
+        Some(ResultCode::EntryAlreadyExists),
+        Some(ResultCode::NoSuchObject),
+        Some(ResultCode::InvalidAttributeSyntax),
+        Some(ResultCode::AttributeOrValueExists),
+        Some(ResultCode::ConstraintViolation),
+        None,
+        Some(ResultCode::NotAllowedOnNonLeaf),
+        Some(ResultCode::NoSuchObject),
+        Some(ResultCode::UnwillingToPerform),
+        Some(ResultCode::UnwillingToPerform),
+    ];
+    assert_eq!(rt; outcomes.len(), want.len());
+    for (outcome, want) in outcomes.iter().zip(want.iter()) {
+        assert_eq!(rt; *outcome, want.map(Refusal::Code));
+    }
+    assert_eq!(rt; directory.walk()?.len(), 2);
+    Ok(())
+}
+
+#[test]
+fn a_result_code_has_its_number_and_name(rt: HostRuntime) {
+    assert_eq!(rt; ResultCode::NoSuchObject.text(), "32 noSuchObject");
+    assert_eq!(rt; ResultCode::NotAllowedOnRdn.text(), "67 notAllowedOnRDN");
+}
