@@ -14,6 +14,8 @@ pub mod RecordsLemmas
 pub mod RoundTrip
 pub mod SoundNames
 pub mod SettledLemmas
+pub mod ShortLemmas
+pub mod SoonLemmas
 pub mod SpelledLemmas
 pub mod StopsLemmas
 pub mod TextLemmas

@@ -6,6 +6,7 @@ use Rattle.dir_ldif.specs.declared.faults.StreamFault.{StreamFault}
 use Rattle.dir_ldif.specs.declared.reader.RecordReader.{RecordReader}
 use Rattle.dir_ldif.specs.declared.reader.Place.TheVariants.{Reading, AtEnd, Ended}
 use Rattle.dir_ldif.specs.Next.{answers_left, Faults}
+use Rattle.dir_ldif.specs.Reading.{IsInPieces, StopsSoon}
 use Rattle.dir_ldif.specs.Records.{Found, Answer}
 use Rattle.dir_ldif.specs.LegalFound.{IsLegalFound}
 
@@ -47,3 +48,11 @@ module _ {R : Type 0} where
   -- why no further answer is given
   abbrev pub StopsFor : (R → Option (List ℕ)) → (R → ℕ) → StreamFault → RecordReader R → RecordReader R → Type 0
   StopsFor left failures fault old new = Faults fault old.schema.now old.core (left old.source) (left new.source) (failures old.source) (failures new.source)
+
+  -- each read call gave at most 8,192 bytes
+  abbrev pub ReadsPieces : (R → Option (List ℕ)) → RecordReader R → RecordReader R → Type 0
+  ReadsPieces left old new = IsInPieces old.core new.core (left old.source) (left new.source)
+
+  -- at `LineTooLong` the bytes that were taken end at most 8,192 behind a text in which no line is too long
+  abbrev pub EndsSoon : (R → Option (List ℕ)) → StreamFault → RecordReader R → RecordReader R → Type 0
+  EndsSoon left fault old new = StopsSoon fault old.core (left old.source) (left new.source)

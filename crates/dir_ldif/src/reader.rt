@@ -45,7 +45,7 @@ impl<'s, R: Source + Drop> RecordReader<'s, R> {
     ghost use Rattle.std.specs.Prelude.{◌≡◌, None, Ok, Err, IfErr, IfNone, IfOk, IfSome, OnOk};
     ghost use Rattle.std.specs.Option.{option_map};
     ghost use Rattle.dir_ldif.specs.Next.{GivesFirst, GivesNone};
-    ghost use Rattle.dir_ldif.specs.Reader.{GivesLegal, IsAtEnd, IsEnded, IsReading, SpendsTurns, StopsFor, schema_of, source_of, to_give, turns_left};
+    ghost use Rattle.dir_ldif.specs.Reader.{EndsSoon, GivesLegal, IsAtEnd, IsEnded, IsReading, ReadsPieces, SpendsTurns, StopsFor, schema_of, source_of, to_give, turns_left};
     ghost use Rattle.dir_ldif.specs.Records.{records_of};
 
     /// A reader that is allowed 1,099,511,627,776 read calls.
@@ -98,6 +98,8 @@ impl<'s, R: Source + Drop> RecordReader<'s, R> {
         ensures some { IfOk result (λ o. IfSome o (λ found. GivesFirst (Ok found) (to_give R.left self.old) (to_give R.left self.new))) }
         ensures none { IfOk result (λ o. IfNone o (GivesNone (to_give R.left self.old) × IsAtEnd self.new)) }
         ensures err { IfErr result (λ fault. StopsFor R.left R.failures fault self.old self.new × IsEnded self.new) }
+        ensures soon { IfErr result (λ fault. EndsSoon R.left fault self.old self.new) }
+        ensures pieces { ReadsPieces R.left self.old self.new }
         ensures legal { IfOk result (λ o. IfSome o (GivesLegal self.old)) }
         ensures ended { IsEnded self.old → result ≡ Err StreamFault.Ended }
         ensures at_end { IsAtEnd self.old → result ≡ Ok None }
@@ -136,7 +138,7 @@ impl Core {
     ghost use Rattle.dir_ldif.specs.Device.{FailsToRead};
     ghost use Rattle.dir_ldif.specs.Joining.{to_come};
     ghost use Rattle.dir_ldif.specs.Parts.{Ends, give, parts_of};
-    ghost use Rattle.dir_ldif.specs.Reading.{Finds, Stops, coming, hand};
+    ghost use Rattle.dir_ldif.specs.Reading.{Finds, IsInPieces, Stops, StopsSoon, coming, hand};
 
     fn new(alloc: Global, turns: u64) -> Result<Core, StreamFault>
         requires { turns ≤ MAX_TURNS }
@@ -166,6 +168,8 @@ impl Core {
         ensures none { IfOk result (λ o. IfNone o (GivesNone (answers_left schema.now self.old (S.left source.old)) × (self.new.place ≡ AtEnd))) }
         ensures err { IfErr result (λ fault. Faults fault schema.now self.old (S.left source.old) (S.left source.new) (S.failures source.old) (S.failures source.new)
             × (self.new.place ≡ Ended)) }
+        ensures soon { IfErr result (λ fault. StopsSoon fault self.old (S.left source.old) (S.left source.new)) }
+        ensures pieces { IsInPieces self.old self.new (S.left source.old) (S.left source.new) }
         ensures legal { IfOk result (λ o. IfSome o (IsLegalFound schema.now)) }
         ensures ended { self.old.place ≡ Ended → result ≡ Err StreamFault.Ended }
         ensures at_end { self.old.place ≡ AtEnd → (result ≡ Ok None) }
@@ -198,6 +202,8 @@ impl Core {
             (answers_left schema.now self.old (S.left source.old)) (answers_left schema.now self.new (S.left source.new)))) }
         ensures none { IfOk result (λ o. IfNone o (GivesNone (answers_left schema.now self.old (S.left source.old)) × (self.new.place ≡ AtEnd))) }
         ensures err { IfErr result (λ fault. Faults fault schema.now self.old (S.left source.old) (S.left source.new) (S.failures source.old) (S.failures source.new)) }
+        ensures soon { IfErr result (λ fault. StopsSoon fault self.old (S.left source.old) (S.left source.new)) }
+        ensures pieces { IsInPieces self.old self.new (S.left source.old) (S.left source.new) }
         ensures legal { IfOk result (λ o. IfSome o (IsLegalFound schema.now)) }
         ensures turns { IfOk result (λ _. self.new.place ≡ Reading → (bytes : List ℕ)
             × Consumes (S.left source.old) (S.left source.new) bytes × (self.old.turns ≤ self.new.turns + length bytes)) }
@@ -227,6 +233,8 @@ impl Core {
         ensures err { IfErr result (λ fault. (bytes : List ℕ)
             × Consumes (S.left source.old) (S.left source.new) bytes
             × Stops fault self.old self.new bytes (S.left source.new) (S.failures source.old) (S.failures source.new)) }
+        ensures soon { IfErr result (λ fault. StopsSoon fault self.old (S.left source.old) (S.left source.new)) }
+        ensures pieces { IsInPieces self.old self.new (S.left source.old) (S.left source.new) }
         ensures count { OnOk result (S.failures source.new ≡ S.failures source.old) }
         ensures same { S.is_same source.old source.new }
     {
@@ -281,6 +289,7 @@ impl Core {
         ensures some { result ≡ Ok true → 0 < length (hand self.new) }
         ensures none { result ≡ Ok false → (hand self.new ≡ []) × IsAtEnd (S.left source.new) }
         ensures turns { IfOk result (λ _. self.old.turns ≡ self.new.turns + 1) }
+        ensures spent { self.new.turns ≤ self.old.turns }
         ensures counts { IfOk result (λ _. S.failures source.new ≡ S.failures source.old) }
         ensures err { IfErr result (λ fault. (hand self.new ≡ []) × FailsToRead fault self.old.turns (S.failures source.old) (S.failures source.new)) }
         ensures same { S.is_same source.old source.new }
