@@ -19,5 +19,6 @@ pub mod SoonLemmas
 pub mod SpelledLemmas
 pub mod StopsLemmas
 pub mod TextLemmas
+pub mod TextsLemmas
 pub mod WholeLemmas
 pub mod WrittenLemmas

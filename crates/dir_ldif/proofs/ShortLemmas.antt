@@ -1,5 +1,5 @@
 -- A text in which no line is too long does not end in that fault.
-use Rattle.std.proofs.Common.{◌≡◌, ℕ, ◌+◌, ◌≤◌, Bool, true, false, ◌||◌, nat_lt, nat_le, List, [], ◌∷◌, ◌++◌, length, drop, refl, sym, ap, subst, ⊎_elim, ◌∙◌, append-nil, length-append, length-drop, Option, None, Some, Err, arith}
+use Rattle.std.proofs.Common.{◌≡◌, ℕ, ◌+◌, ◌≤◌, Bool, true, false, ◌||◌, nat_le, List, [], ◌∷◌, ◌++◌, length, drop, refl, sym, subst, ⊎_elim, append-nil, length-append, Option, None, Some, Err, arith}
 use Rattle.std.specs.List.{list_any}
 use Rattle.std.proofs.lemmas.Bool.Decides.{nat_tests}
 use Rattle.dir_ldif.specs.declared.faults.StreamFault.TheVariants.{LineTooLong, BadVersion}
@@ -12,7 +12,7 @@ use Rattle.dir_ldif.specs.Kept.{is_kept, has_room}
 use Rattle.dir_ldif.specs.Parts.{Part, give, parts_from, by_version, version_of}
 use Rattle.dir_ldif.specs.Joining.{behind, to_come}
 use Rattle.dir_ldif.proofs.BytesLemmas.{true_or_false}
-use Rattle.dir_ldif.proofs.LinesLemmas.{line_alone, not_second, some_of_kept_line}
+use Rattle.dir_ldif.proofs.LinesLemmas.{line_alone, not_second}
 
 -- the parts are not the fault alone
 abbrev Goes : List Part → Type 0
@@ -27,7 +27,7 @@ by_version_goes Absent absent one p q = p
 by_version_goes One absent one p q = q
 by_version_goes Other absent one p q = λ e. cc
 
-neither : (v w : Bool) → (v || w) ≡ false → (v ≡ false) × (w ≡ false)
+pub neither : (v w : Bool) → (v || w) ≡ false → (v ≡ false) × (w ≡ false)
 neither true w e = cc
 neither false w e = (refl, e)
 

@@ -1,13 +1,13 @@
 -- Lemmas on how soon a reader ends behind a line that is too long.
-use Rattle.std.proofs.Common.{◌≡◌, ℕ, ◌+◌, ◌-◌, ◌*◌, ◌≤◌, List, [], ◌∷◌, ◌++◌, length, take, drop, refl, sym, ap, ◌∙◌, append_assoc, append-nil, Option, None, Some, Result, Ok, Err, IfErr, arith}
-use Rattle.std.proofs.lemmas.List.{length-take, length-drop}
+use Rattle.std.proofs.Common.{◌≡◌, ℕ, ◌-◌, ◌≤◌, List, [], ◌++◌, length, drop, refl, sym, ap, ◌∙◌, append_assoc, append-nil, Option, None, Some, Result, Ok, Err, IfErr, arith}
+use Rattle.std.proofs.lemmas.List.{length-take}
 use Rattle.std.specs.Io.KnownBytes.{Consumes}
 use Rattle.dir_ldif.specs.declared.faults.StreamFault.{StreamFault}
 use Rattle.dir_ldif.specs.declared.faults.StreamFault.TheVariants.{LineTooLong, Read, Memory, Ended, TooManyTurns, BadVersion}
 use Rattle.dir_ldif.specs.declared.lines.Joiner.{Joiner}
 use Rattle.dir_ldif.specs.declared.reader.Core.{Core}
 use Rattle.dir_ldif.specs.Joining.{to_come}
-use Rattle.dir_ldif.specs.Reading.{coming, hand, IsInPieces, IsSoon, StopsSoon}
+use Rattle.dir_ldif.specs.Reading.{coming, hand, IsSoon, StopsSoon}
 use Rattle.dir_ldif.proofs.ShortLemmas.{joiner_goes}
 
 pub Consumes-nothing : (o : Option (List ℕ)) → Consumes o o []

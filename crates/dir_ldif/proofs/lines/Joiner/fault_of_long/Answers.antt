@@ -1,4 +1,4 @@
-use Rattle.std.proofs.Common.{refl, sym, ◌∙◌}
+use Rattle.std.proofs.Common.{refl}
 use Rattle.dir_ldif.proofs.LinesLemmas.{too_long_alone, too_long_continued, too_long_Ends, too_long_behind, room_alone, room_continued, room_apart}
 use Rattle.dir_ldif.proofs.lines.Joiner.fault_of_long.Goals as goal
 
