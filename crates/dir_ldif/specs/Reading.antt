@@ -31,6 +31,13 @@ Finds Ended old block new bytes left = ⊥
 abbrev pub IsInPieces : Core → Core → Option (List ℕ) → Option (List ℕ) → Type 0
 IsInPieces old new left left' = (bytes : List ℕ) × Consumes left left' bytes × (length bytes + 8192 * new.turns ≤ 8192 * old.turns)
 
+-- a block was taken: these bytes were read, the front of the bytes in hand and those was used up, and whatever text
+-- follows the front, the block is the first of what is to come of it
+abbrev pub Uses : Core → Core → List Line → Option (List ℕ) → Option (List ℕ) → Type 0
+Uses old new block left left' =
+    (bytes : List ℕ) × (used : List ℕ) × Consumes left left' bytes × (hand old ++ bytes ≡ used ++ hand new)
+    × ((text : List ℕ) → to_come old.joiner (used ++ text) ≡ give block (to_come new.joiner text))
+
 -- the bytes in hand and those that were read behind them are a text in which no line is too long yet (had it ended
 -- there, it would end in no such fault), and at most 8,192 bytes more
 abbrev pub IsSoon : Core → List ℕ → Type 0

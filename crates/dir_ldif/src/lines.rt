@@ -106,7 +106,8 @@ impl Joiner {
         ensures left { IfOk result (λ o. IfSome o
             (λ p. self.new.number + length p.1.now ≤ self.old.number + length piece.now)) }
         ensures shorter { IfOk result (λ o. IfSome o (λ p. length p.1.now < length piece.now)) }
-        ensures back { IfOk result (λ o. IfSome o (λ p. (front : List ℕ) × (piece.now ≡ front ++ p.1.now))) }
+        ensures used { IfOk result (λ o. IfSome o (λ p. (front : List ℕ) × (piece.now ≡ front ++ p.1.now)
+            × ((text : List ℕ) → to_come self.old (front ++ text) ≡ give p.0.items (to_come self.new text)))) }
         ensures ok { IfOk result (λ o. MatchOption o
             ((text : List ℕ) → to_come self.old (piece.now ++ text) ≡ to_come self.new text)
             (λ p. (text : List ℕ) → to_come self.old (piece.now ++ text) ≡ give p.0.items (to_come self.new (p.1.now ++ text)))) }

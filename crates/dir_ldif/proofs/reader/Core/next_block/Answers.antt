@@ -4,7 +4,7 @@ use Rattle.dir_ldif.specs.Reading.{coming, hand}
 use Rattle.dir_ldif.specs.Device.{FailsToRead}
 use Rattle.dir_ldif.proofs.ReadingLemmas.{more_read}
 use Rattle.dir_ldif.proofs.StopsLemmas.{Consumes-none, hand_stops, read_stops}
-use Rattle.dir_ldif.proofs.SoonLemmas.{length_hand, takes_piece, hand_soon, end_soon, any_err}
+use Rattle.dir_ldif.proofs.SoonLemmas.{length_hand, takes_piece, hand_soon, end_soon, any_err, block_used}
 use Rattle.dir_ldif.proofs.reader.Core.next_block.Goals as goal
 
 pub returns-in-Err-clause-err : goal.returns-in-Err-clause-err
@@ -60,3 +60,8 @@ returns-in-Ok-false-clause-soon g c =
     let empty = c.in-Ok-false.ensures.none (ap Ok c.in-Ok-false.field-0-test) in
     let took = Consumes-none _ _ _ so_far.0 (hand c.read_more.new.self) so_far.1 c.read_more.ensures.bytes empty.0 in
     any_err c.finish.result _ (λ fault. end_soon fault c.args.self.now c.loop-block.self mid _ _ so_far.0 took so_far.2 taken)
+
+pub returns-in-Ok-Some-clause-used : goal.returns-in-Ok-Some-clause-used
+returns-in-Ok-Some-clause-used g c =
+    let so_far = c.loop-block.invariant.3 in
+    λ _. block_used c.args.self.now c.loop-block.self c.take_hand.new.self c.in-Ok-Some.block.items _ _ so_far.0 so_far.1 so_far.5 (rw c.in-Ok-Some.field-0-is at c.in-Ok-Some.ensures.used)
