@@ -17,6 +17,7 @@ pub mod SettledLemmas
 pub mod ShortLemmas
 pub mod SoonLemmas
 pub mod SpelledLemmas
+pub mod StaysLemmas
 pub mod StopsLemmas
 pub mod TextLemmas
 pub mod TextsLemmas

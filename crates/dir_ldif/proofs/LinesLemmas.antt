@@ -24,7 +24,7 @@ cut-line (x ∷ xs) ys e =
     (true_or_false (eqb x 10))
 
 -- an element goes onto the first piece, or begins one
-onto : (x : ℕ) (pieces : List (List ℕ)) → (more : List ℕ) × (rest : List (List ℕ)) × (onto_first x pieces ≡ (x ∷ more) ∷ rest)
+pub onto : (x : ℕ) (pieces : List (List ℕ)) → (more : List ℕ) × (rest : List (List ℕ)) × (onto_first x pieces ≡ (x ∷ more) ∷ rest)
 onto x [] = ([], [], refl)
 onto x (piece ∷ pieces) = (piece, pieces, refl)
 
@@ -131,13 +131,13 @@ some_of_kept partial long = some_of_length (without_last 13 partial) (omega arit
 pub ltb-of_lt : (a b : ℕ) → a < b → nat_lt a b ≡ true
 ltb-of_lt a b h = grind (arith, nat_tests)
 
-length-without_last : (xs ys : List ℕ) → length (without_last 13 xs) ≤ length (without_last 13 (xs ++ ys))
+pub length-without_last : (xs ys : List ℕ) → length (without_last 13 xs) ≤ length (without_last 13 (xs ++ ys))
 length-without_last [] ys = omega arith
 length-without_last (x ∷ []) [] = omega arith
 length-without_last (x ∷ []) (y ∷ ys) = ⊎_elim (λ (yes : eqb x 13 ≡ true). rw yes (omega arith)) (λ (other : eqb x 13 ≡ false). rw other (omega arith)) (true_or_false (eqb x 13))
 length-without_last (x ∷ z ∷ zs) ys = let ih = length-without_last (z ∷ zs) ys in omega arith
 
-begins_with-without_last : (b : ℕ) (xs ys : List ℕ) → is_empty (without_last 13 xs) ≡ false → begins_with b (without_last 13 (xs ++ ys)) ≡ begins_with b (without_last 13 xs)
+pub begins_with-without_last : (b : ℕ) (xs ys : List ℕ) → is_empty (without_last 13 xs) ≡ false → begins_with b (without_last 13 (xs ++ ys)) ≡ begins_with b (without_last 13 xs)
 begins_with-without_last b [] ys e = cc
 begins_with-without_last b (x ∷ []) [] e = refl
 begins_with-without_last b (x ∷ []) (y ∷ ys) e =
@@ -169,7 +169,7 @@ some_of_space : (partial : List ℕ) → begins_with 32 (without_last 13 partial
 some_of_space [] e = cc
 some_of_space (x ∷ xs) e = refl
 
-some_of_begins : (b : ℕ) (xs : List ℕ) → begins_with b xs ≡ true → is_empty xs ≡ false
+pub some_of_begins : (b : ℕ) (xs : List ℕ) → begins_with b xs ≡ true → is_empty xs ≡ false
 some_of_begins b [] e = cc
 some_of_begins b (x ∷ xs) e = refl
 

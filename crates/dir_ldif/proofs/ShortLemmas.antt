@@ -62,7 +62,7 @@ none_of_two x y p q = rw (p, q) refl
 none_of_one : (x : Line) → is_long x ≡ false → list_any is_long (x ∷ []) ≡ false
 none_of_one x p = rw p refl
 
-length-drop_space : (text : List ℕ) → begins_with 32 text ≡ true → length (drop 1 text) + 1 ≡ length text
+pub length-drop_space : (text : List ℕ) → begins_with 32 text ≡ true → length (drop 1 text) + 1 ≡ length text
 length-drop_space [] e = cc
 length-drop_space (x ∷ xs) e = omega arith
 

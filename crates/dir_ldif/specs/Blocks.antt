@@ -56,3 +56,7 @@ parts_said lines = parts_behind_version (list_any is_long lines) (without_blanks
 -- the definition from line to line says the same
 abbrev pub TextsAreBlocks : Type 0
 TextsAreBlocks = (text : List ℕ) → parts_of text ≡ parts_said (lines_of text)
+
+-- a text that begins with a text in which a line is too long has such a line too
+abbrev pub LongLinesStay : Type 0
+LongLinesStay = (text more : List ℕ) → list_any is_long (lines_of text) ≡ true → list_any is_long (lines_of (text ++ more)) ≡ true

@@ -21,7 +21,9 @@ mod writer;
 
 pub use device::{DeviceFault, Sink, Source};
 pub use faults::{RecordFault, StreamFault};
-pub use laws::{texts_are_blocks, written_lines_read_back, written_records_read_back};
+pub use laws::{
+    long_lines_stay, texts_are_blocks, written_lines_read_back, written_records_read_back,
+};
 pub use lines::MAX_LINE;
 pub use part::MAX_VALUE;
 pub use reader::{MAX_TURNS, RecordReader, read_all};
