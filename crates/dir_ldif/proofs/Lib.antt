@@ -12,6 +12,7 @@ pub mod ReadingLemmas
 pub mod RecordReads
 pub mod RecordsLemmas
 pub mod RoundTrip
+pub mod RunLemmas
 pub mod SoundNames
 pub mod SettledLemmas
 pub mod ShortLemmas

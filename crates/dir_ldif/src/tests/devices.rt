@@ -45,6 +45,21 @@ fn scripts_give_pieces(rt: HostRuntime) {
     }
 }
 
+/// A text, and a flush.
+fn written<W: Sink + Drop>(mut sink: W, text: &[u8]) -> Result<(), DeviceFault> {
+    write_whole(&mut sink, text)?;
+    sink.flush()
+}
+
+#[test]
+fn a_lent_sink_is_one(rt: HostRuntime) {
+    let mut room = [0u8; 6];
+    let mut tape = Tape::new(&mut room).pieces(2).failing_from(5);
+    assert_eq!(rt; written(&mut tape, b"abc"), Ok(()));
+    assert_eq!(rt; written(&mut tape, b"d"), Err(DeviceFault));
+    assert_eq!(rt; tape.as_slice(), b"abcd".as_slice());
+}
+
 #[test]
 fn tapes_take_pieces(rt: HostRuntime) {
     let mut room = [0u8; 6];

@@ -143,6 +143,8 @@ fn changes_are_checked(rt: HostRuntime) -> Result<(), Fail> {
 #[test]
 fn laws_are_called() {
     long_lines_stay();
+    reading_ends_soon();
+    reading_stops_there();
     texts_are_blocks();
     written_lines_read_back();
     written_records_read_back();
