@@ -1,4 +1,5 @@
-//! The examples of RFC 2849, each as the records that it has: the line of a record, and its text or its fault.
+//! The examples of RFC 2849 (of the one with language tags the first entry), each with the records that it has: the
+//! line of a record behind a `#`, and its text or its fault.
 
 use super::*;
 
