@@ -3,7 +3,7 @@
 
 It builds a program of a few lines over `dir_ldif` in a temporary repository beside the gate (with what earlier checks
 of this repository kept, else the crates are proved first, in some minutes), and prints for each text the CPU time, also
-as a ratio to that of `sha256sum` over the same text.
+as a ratio to that of `sha256sum` over the same text, and the peak memory.
 
     bench/reader.py [--size MB]...
 """
@@ -16,6 +16,7 @@ import shutil
 import subprocess
 import sys
 import tempfile
+import time
 
 from bench import ROOT, line, person, write_copy
 
@@ -100,12 +101,27 @@ def cpu_of(command, path):
     return after.ru_utime + after.ru_stime - before.ru_utime - before.ru_stime, done.stdout
 
 
+def peak_of(command, path):
+    """Peak memory in bytes, as the system told it last before the end."""
+    peak = 0
+    with open(path, "rb") as f, subprocess.Popen(command, stdin=f, stdout=subprocess.DEVNULL) as process:
+        while process.poll() is None:
+            with open(f"/proc/{process.pid}/status") as status:
+                peak = max([peak] + [int(l.split()[1]) * 1024 for l in status if l.startswith("VmHWM")])
+            time.sleep(0.002)
+    return peak
+
+
 def measure(program, name, path):
     """The least CPU time of five runs of each program, since other work disturbs them."""
     size = os.path.getsize(path)
     hashed = min(cpu_of(["sha256sum"], path)[0] for _ in range(5))
     cpu, report = min(cpu_of([program], path) for _ in range(5))
-    print(f"{name}, {size / 1e6:.1f} MB: {cpu:.2f} s CPU = {cpu / hashed:.2f} x sha256sum ({hashed:.2f} s); {report.strip()}", flush=True)
+    print(
+        f"{name}, {size / 1e6:.1f} MB: {cpu:.2f} s CPU = {cpu / hashed:.2f} x sha256sum ({hashed:.2f} s), "
+        f"{peak_of([program], path) / 1e6:.1f} MB peak; {report.strip()}",
+        flush=True,
+    )
 
 
 def main():
