@@ -1,5 +1,5 @@
 -- Lemmas on many calls.
-use Rattle.std.proofs.Common.{◌≡◌, ℕ, List, [], ◌∷◌, ◌++◌, refl, sym, ap, subst, ◌∙◌, append_assoc, Option, Ok}
+use Rattle.std.proofs.Common.{◌≡◌, ℕ, List, [], ◌∷◌, ◌++◌, refl, sym, ap, subst, ◌∙◌, append_assoc, length-append, zero, suc, arith, Option, Ok}
 use Rattle.std.proofs.KnownBytes.{Consumes-trans}
 use Rattle.dir_names.specs.declared.schema.TypeRow.{TypeRow}
 use Rattle.dir_ldif.specs.declared.faults.StreamFault.TheVariants.{LineTooLong}
@@ -7,7 +7,7 @@ use Rattle.dir_ldif.specs.declared.reader.Core.{Core}
 use Rattle.dir_ldif.specs.declared.reader.Place.TheVariants.{Reading}
 use Rattle.dir_ldif.specs.Next.{answers_ahead, answers_at, EndsSoon}
 use Rattle.dir_ldif.specs.Reading.{hand}
-use Rattle.dir_ldif.specs.Runs.{ReadingEndsSoon, ReadingStopsThere, SettlesNone}
+use Rattle.dir_ldif.specs.Runs.{GivesNoEnd, ReadCallsAreUsed, ReadingEndsSoon, ReadingStopsThere, SettlesNone}
 
 -- the call that met the line
 at_once : (rows : List TypeRow) (old new : Core) (left left' left'' : Option (List ℕ)) → old ≡ new → left ≡ left' → EndsSoon LineTooLong rows new left' left'' → EndsSoon LineTooLong rows old left left''
@@ -61,3 +61,15 @@ run-stops (found ∷ more) rows old new left left' left'' run h =
       λ text. ap (answers_ahead rows old) (seam_behind (hand old) step.0 step.1 (hand mid) e.0 text step.3) ∙ step.4 (hand mid ++ (e.0 ++ text)) ∙ ap (λ t. Ok found ∷ t) (e.3 text),
       e.4,
     )
+
+-- ---- the read calls
+
+no_end_at_once : (old new : Core) (left left' left'' : Option (List ℕ)) → old ≡ new → left ≡ left' → GivesNoEnd new left' left'' → GivesNoEnd old left left''
+no_end_at_once old new left left' left'' same known h = subst (λ c. GivesNoEnd c left left'') (sym same) (subst (λ l. GivesNoEnd new l left'') (sym known) h)
+
+pub run-uses : ReadCallsAreUsed
+run-uses zero old new left left' left'' calls h = no_end_at_once old new left left' left'' calls.0 calls.1 h
+run-uses (suc n) old new left left' left'' calls h =
+    let step = calls.2 in
+    let e = run-uses n calls.0 new calls.1 left' left'' calls.3 h in
+    (step.0 ++ e.0, Consumes-trans left calls.1 left'' step.0 e.0 step.1 e.1, omega (arith, step.2, e.2, length-append step.0 e.0))

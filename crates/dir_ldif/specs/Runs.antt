@@ -1,5 +1,5 @@
 -- What the clauses of one call say of many calls.
-use Rattle.std.specs.Prelude.{◌≡◌, ℕ, ◌≤◌, List, [], ◌∷◌, ◌++◌, length, Option, Err}
+use Rattle.std.specs.Prelude.{◌≡◌, ℕ, zero, suc, ◌+◌, ◌≤◌, List, [], ◌∷◌, ◌++◌, length, Option, Err}
 use Rattle.std.specs.Io.KnownBytes.{Consumes}
 use Rattle.dir_names.specs.declared.schema.TypeRow.{TypeRow}
 use Rattle.dir_ldif.specs.declared.faults.StreamFault.TheVariants.{LineTooLong}
@@ -35,3 +35,20 @@ ReadingStopsThere = (found : List Found) (rows : List TypeRow) (old new : Core) 
     → Run found rows old new left left' → SettlesNone rows new left' left''
     → (bytes : List ℕ) × (later : List ℕ → List Answer) × Consumes left left'' bytes
     × ((text : List ℕ) → answers_at Reading rows old (bytes ++ text) ≡ all_found found ++ later text) × (IsSettled later → ⊥)
+
+-- so many calls, in each of which every read call but one at the end gave a byte or more
+abbrev pub Calls : ℕ → Core → Core → Option (List ℕ) → Option (List ℕ) → Type 0
+Calls zero old new left left' = (old ≡ new) × (left ≡ left')
+Calls (suc n) old new left left' =
+    (mid : Core) × (middle : Option (List ℕ))
+    × ((bytes : List ℕ) × Consumes left middle bytes × (old.turns ≤ mid.turns + length bytes))
+    × Calls n mid new middle left'
+
+-- as many bytes were read as there were read calls, or more
+abbrev pub GivesNoEnd : Core → Option (List ℕ) → Option (List ℕ) → Type 0
+GivesNoEnd c left left' = (bytes : List ℕ) × Consumes left left' bytes × (c.turns ≤ length bytes)
+
+-- where the last of many calls gave no end, all of them did
+abbrev pub ReadCallsAreUsed : Type 0
+ReadCallsAreUsed = (n : ℕ) (old new : Core) (left left' left'' : Option (List ℕ))
+    → Calls n old new left left' → GivesNoEnd new left' left'' → GivesNoEnd old left left''

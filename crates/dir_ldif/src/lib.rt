@@ -22,7 +22,7 @@ mod writer;
 pub use device::{DeviceFault, Sink, Source};
 pub use faults::{RecordFault, StreamFault};
 pub use laws::{
-    long_lines_stay, reading_ends_soon, reading_stops_there, texts_are_blocks,
+    long_lines_stay, read_calls_are_used, reading_ends_soon, reading_stops_there, texts_are_blocks,
     written_lines_read_back, written_records_read_back,
 };
 pub use lines::MAX_LINE;

@@ -143,6 +143,7 @@ fn changes_are_checked(rt: HostRuntime) -> Result<(), Fail> {
 #[test]
 fn laws_are_called() {
     long_lines_stay();
+    read_calls_are_used();
     reading_ends_soon();
     reading_stops_there();
     texts_are_blocks();
