@@ -5,7 +5,7 @@ use Rattle.dir_ldif.specs.declared.faults.StreamFault.{StreamFault}
 use Rattle.dir_ldif.specs.declared.lines.Joiner.{Joiner}
 use Rattle.dir_ldif.specs.Bytes.{is_empty, without_last, cut_at}
 use Rattle.dir_ldif.specs.Lines.{Line, cut, is_lf, numbered}
-use Rattle.dir_ldif.specs.Parts.{give, parts_from, Ends}
+use Rattle.dir_ldif.specs.Parts.{Part, give, parts_from, Ends}
 use Rattle.dir_ldif.specs.Joining.{behind, parts_before, parts_behind_block, to_come, Joins}
 use Rattle.dir_ldif.proofs.BytesLemmas.{cut_at-text}
 use Rattle.dir_ldif.proofs.LinesLemmas.{line_first, line_alone}
@@ -80,8 +80,13 @@ piece_first rest text after e more = ap (λ t. t ++ more) (cut_at-text 10 rest t
 pub length-piece : (rest text after : List ℕ) → Some (text, after) ≡ cut_at 10 rest → length after + 1 ≤ length rest
 length-piece rest text after e = omega (arith, ap length (cut_at-text 10 rest text after e).0, length-append text (10 ∷ after))
 
--- what is left of a piece stays its end
-pub front_more : (piece rest text after : List ℕ) → Some (text, after) ≡ cut_at 10 rest → (front : List ℕ) × (piece ≡ front ++ rest) → (front : List ℕ) × (piece ≡ front ++ after)
-front_more piece rest text after e h =
-    let whole : rest ≡ (text ++ 10 ∷ []) ++ after = (cut_at-text 10 rest text after e).0 ∙ sym (append_assoc text (10 ∷ []) after) in
-    (h.0 ++ (text ++ 10 ∷ []), h.1 ∙ ap (λ t. h.0 ++ t) whole ∙ sym (append_assoc h.0 (text ++ 10 ∷ []) after))
+-- what is left of a piece stays its end, and the front was taken
+pub front_more : (j k : Joiner) (piece rest line after : List ℕ) → Some (line, after) ≡ cut_at 10 rest → (front : List ℕ) × (piece ≡ front ++ rest) × ((text : List ℕ) → to_come j (front ++ text) ≡ to_come k text)
+    → (parts : List ℕ → List Part) → ((text : List ℕ) → to_come k (line ++ 10 ∷ text) ≡ parts text)
+    → (front : List ℕ) × (piece ≡ front ++ after) × ((text : List ℕ) → to_come j (front ++ text) ≡ parts text)
+front_more j k piece rest line after e h parts next =
+    let whole : rest ≡ (line ++ 10 ∷ []) ++ after = (cut_at-text 10 rest line after e).0 ∙ sym (append_assoc line (10 ∷ []) after) in (
+      h.0 ++ (line ++ 10 ∷ []),
+      h.1 ∙ ap (λ t. h.0 ++ t) whole ∙ sym (append_assoc h.0 (line ++ 10 ∷ []) after),
+      λ text. ap (to_come j) (append_assoc h.0 (line ++ 10 ∷ []) text) ∙ h.2 ((line ++ 10 ∷ []) ++ text) ∙ ap (to_come k) (append_assoc line (10 ∷ []) text) ∙ next text,
+    )

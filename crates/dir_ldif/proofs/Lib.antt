@@ -12,10 +12,15 @@ pub mod ReadingLemmas
 pub mod RecordReads
 pub mod RecordsLemmas
 pub mod RoundTrip
+pub mod RunLemmas
 pub mod SoundNames
 pub mod SettledLemmas
+pub mod ShortLemmas
+pub mod SoonLemmas
 pub mod SpelledLemmas
+pub mod StaysLemmas
 pub mod StopsLemmas
 pub mod TextLemmas
+pub mod TextsLemmas
 pub mod WholeLemmas
 pub mod WrittenLemmas

@@ -1,5 +1,5 @@
 -- Lemmas on the lines of a text that comes in pieces.
-use Rattle.std.proofs.Common.{◌≡◌, ℕ, ◌+◌, ◌<◌, ◌≤◌, Bool, true, false, not, ◌&&◌, eqb, List, [], ◌∷◌, ◌++◌, length, drop, refl, sym, ap, ⊎_elim, ◌∙◌, append_assoc, append-nil, length-append, if◌then◌else◌, nat_lt, subst, Option, None, Some, Result, Err, arith}
+use Rattle.std.proofs.Common.{◌≡◌, ℕ, ◌+◌, ◌<◌, ◌≤◌, Bool, true, false, not, ◌&&◌, eqb, List, [], ◌∷◌, ◌++◌, length, drop, refl, sym, ap, ⊎_elim, ◌∙◌, append_assoc, append-nil, length-append, if◌then◌else◌, nat_lt, nat_le, subst, Option, None, Some, Result, Ok, Err, arith}
 use Rattle.std.specs.List.{list_any, onto_first}
 use Rattle.std.proofs.lemmas.Bool.{eqb-true}
 use Rattle.std.proofs.lemmas.List.Folds.{list_any-append}
@@ -9,9 +9,9 @@ use Rattle.dir_ldif.specs.declared.faults.StreamFault.TheVariants.{LineTooLong}
 use Rattle.dir_ldif.specs.declared.lines.Joiner.{Joiner}
 use Rattle.dir_ldif.specs.Bytes.{is_empty, begins_with, without_last}
 use Rattle.dir_ldif.specs.Lines.{Line, cut, is_lf, numbered, glue, joined, is_long}
-use Rattle.dir_ldif.specs.Parts.{parts_from, Ends}
+use Rattle.dir_ldif.specs.Parts.{Part, parts_from, Ends}
 use Rattle.dir_ldif.specs.Joining.{behind, Joins}
-use Rattle.dir_ldif.specs.Kept.{is_kept}
+use Rattle.dir_ldif.specs.Kept.{is_kept, has_room}
 use Rattle.dir_ldif.proofs.BytesLemmas.{true_or_false}
 
 -- the first piece ends at the first LF
@@ -24,7 +24,7 @@ cut-line (x ∷ xs) ys e =
     (true_or_false (eqb x 10))
 
 -- an element goes onto the first piece, or begins one
-onto : (x : ℕ) (pieces : List (List ℕ)) → (more : List ℕ) × (rest : List (List ℕ)) × (onto_first x pieces ≡ (x ∷ more) ∷ rest)
+pub onto : (x : ℕ) (pieces : List (List ℕ)) → (more : List ℕ) × (rest : List (List ℕ)) × (onto_first x pieces ≡ (x ∷ more) ∷ rest)
 onto x [] = ([], [], refl)
 onto x (piece ∷ pieces) = (piece, pieces, refl)
 
@@ -105,6 +105,18 @@ pub Joins-continued : (begun : Bool) (block : List Line) (o : Option Line) (last
     → Joins (λ more. parts_from begun block (joined (last ∷ (n, given) ∷ more))) r j → Joins (λ more. parts_from begun block (behind o ((n, text) ∷ more))) r j
 Joins-continued begun block o last n text given r j is same h = rw (is, sym same) h
 
+-- a line and what continues it are one
+pub joined-continued : (last : Line) (n : ℕ) (text : List ℕ) (more : List Line) → is_empty last.1 ≡ false → begins_with 32 text ≡ true
+    → joined (last ∷ (n, text) ∷ more) ≡ joined ((last.0, last.1 ++ drop 1 text) ∷ more)
+joined-continued (k, []) n text more some space = cc
+joined-continued (k, a ∷ tail) n [] more some space = cc
+joined-continued (k, a ∷ tail) n (c ∷ cs) more some space = rw (eqb-true c 32 space) (glue-continued k a tail n cs (joined more))
+
+-- what was to come, said otherwise
+pub Joins-same : (before before' : List Line → List Part) (r : Result Bool StreamFault) (j : Joiner) → ((more : List Line) → before more ≡ before' more) → Joins before' r j → Joins before r j
+Joins-same before before' (Ok ends) j e h = λ more. e more ∙ h more
+Joins-same before before' (Err fault) j e h = λ more. subst (Ends fault) (sym (e more)) (h more)
+
 some_of_long : (partial : List ℕ) → 2097152 < length (without_last 13 partial) → is_empty partial ≡ false
 some_of_long [] long = absurd (omega arith)
 some_of_long (x ∷ xs) long = refl
@@ -119,13 +131,13 @@ some_of_kept partial long = some_of_length (without_last 13 partial) (omega arit
 pub ltb-of_lt : (a b : ℕ) → a < b → nat_lt a b ≡ true
 ltb-of_lt a b h = grind (arith, nat_tests)
 
-length-without_last : (xs ys : List ℕ) → length (without_last 13 xs) ≤ length (without_last 13 (xs ++ ys))
+pub length-without_last : (xs ys : List ℕ) → length (without_last 13 xs) ≤ length (without_last 13 (xs ++ ys))
 length-without_last [] ys = omega arith
 length-without_last (x ∷ []) [] = omega arith
 length-without_last (x ∷ []) (y ∷ ys) = ⊎_elim (λ (yes : eqb x 13 ≡ true). rw yes (omega arith)) (λ (other : eqb x 13 ≡ false). rw other (omega arith)) (true_or_false (eqb x 13))
 length-without_last (x ∷ z ∷ zs) ys = let ih = length-without_last (z ∷ zs) ys in omega arith
 
-begins_with-without_last : (b : ℕ) (xs ys : List ℕ) → is_empty (without_last 13 xs) ≡ false → begins_with b (without_last 13 (xs ++ ys)) ≡ begins_with b (without_last 13 xs)
+pub begins_with-without_last : (b : ℕ) (xs ys : List ℕ) → is_empty (without_last 13 xs) ≡ false → begins_with b (without_last 13 (xs ++ ys)) ≡ begins_with b (without_last 13 xs)
 begins_with-without_last b [] ys e = cc
 begins_with-without_last b (x ∷ []) [] e = refl
 begins_with-without_last b (x ∷ []) (y ∷ ys) e =
@@ -157,7 +169,7 @@ some_of_space : (partial : List ℕ) → begins_with 32 (without_last 13 partial
 some_of_space [] e = cc
 some_of_space (x ∷ xs) e = refl
 
-some_of_begins : (b : ℕ) (xs : List ℕ) → begins_with b xs ≡ true → is_empty xs ≡ false
+pub some_of_begins : (b : ℕ) (xs : List ℕ) → begins_with b xs ≡ true → is_empty xs ≡ false
 some_of_begins b [] e = cc
 some_of_begins b (x ∷ xs) e = refl
 
@@ -184,7 +196,7 @@ pub not_first : (v w : Bool) → (not v && w) ≡ true → v ≡ false
 not_first true w e = cc
 not_first false w e = refl
 
-some_of_kept_line : (last : Line) → is_kept (Some last) ≡ true → is_empty last.1 ≡ false
+pub some_of_kept_line : (last : Line) → is_kept (Some last) ≡ true → is_empty last.1 ≡ false
 some_of_kept_line last e = not_first (is_empty last.1) (not (is_long last)) e
 
 pub not_second : (v w : Bool) → (v && not w) ≡ true → w ≡ false
@@ -221,6 +233,21 @@ too_long_behind begun begun' block block' o last n partial shown text is e lacks
     let apart = long_behind last n partial text lacks (rw e at space) long_text in
     let rest = joined (numbered n (cut is_lf (partial ++ text))) in
     rw is (ap (parts_from begun block) apart ∙ h rest ∙ long_alone begun' block' n partial text lacks long_text)
+
+-- ---- why a line has no room
+
+pub room_alone : (o : Option Line) (partial : List ℕ) → o ≡ None → has_room o partial ≡ false → 2097152 < length (without_last 13 partial)
+room_alone o partial is h = let none : nat_le (length (without_last 13 partial)) 2097152 ≡ false = rw is at h in grind (arith, nat_tests)
+
+pub room_continued : (o : Option Line) (last : Line) (partial : List ℕ) → o ≡ Some last → begins_with 32 (without_last 13 partial) ≡ true → has_room o partial ≡ false
+    → 2097153 < length last.1 + length (without_last 13 partial)
+room_continued o last partial is space h =
+    let none : nat_le (length last.1 + length (without_last 13 partial)) 2097153 ≡ false = rw (is, space) at h in grind (arith, nat_tests)
+
+pub room_apart : (o : Option Line) (last : Line) (partial : List ℕ) → o ≡ Some last → begins_with 32 (without_last 13 partial) ≡ false → has_room o partial ≡ false
+    → 2097152 < length (without_last 13 partial)
+room_apart o last partial is space h =
+    let none : nat_le (length (without_last 13 partial)) 2097152 ≡ false = rw (is, space) at h in grind (arith, nat_tests)
 
 -- ---- a physical line and its end
 

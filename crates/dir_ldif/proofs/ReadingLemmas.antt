@@ -31,6 +31,14 @@ hand_found j k block buffer shown rest at end same a b f h text =
     let left = hand_left buffer f.0 rest at end a b whole in
     ap (λ s. to_come j (take (end - at) (drop at s) ++ text)) (sym same) ∙ h text ∙ ap (λ s. give block (to_come k (s ++ text))) (sym left)
 
+-- the same, and what stood before what is left
+pub hand_used : (j k : Joiner) (block : List Line) (buffer shown rest : List ℕ) (at end : ℕ) → shown ≡ buffer → at ≤ end → end ≤ length buffer
+    → (front : List ℕ) × (take (end - at) (drop at shown) ≡ front ++ rest) × ((text : List ℕ) → to_come j (front ++ text) ≡ give block (to_come k text))
+    → (used : List ℕ) × (take (end - at) (drop at buffer) ≡ used ++ take (end - (end - length rest)) (drop (end - length rest) buffer)) × ((text : List ℕ) → to_come j (used ++ text) ≡ give block (to_come k text))
+hand_used j k block buffer shown rest at end same a b f =
+    let whole : take (end - at) (drop at buffer) ≡ f.0 ++ rest = ap (λ s. take (end - at) (drop at s)) (sym same) ∙ f.1 in
+    (f.0, whole ∙ ap (λ t. f.0 ++ t) (sym (hand_left buffer f.0 rest at end a b whole)), f.2)
+
 -- one piece more was read, and not the end
 pub more_read : (old mid new : List ℕ → List Part) (left left' left'' : Option (List ℕ)) (bytes piece : List ℕ) → Consumes left left' bytes → ((text : List ℕ) → old (bytes ++ text) ≡ mid text)
     → Consumes left' left'' piece → ((text : List ℕ) → mid (piece ++ text) ≡ new text) → Consumes left left'' (bytes ++ piece) × ((text : List ℕ) → old ((bytes ++ piece) ++ text) ≡ new text)

@@ -10,7 +10,8 @@ use Rattle.dir_ldif.specs.declared.reader.Core.{Core}
 use Rattle.dir_ldif.specs.declared.reader.Place.{Place}
 use Rattle.dir_ldif.specs.declared.reader.Place.TheVariants.{Reading, AtEnd, Ended}
 use Rattle.dir_ldif.specs.Device.{HasFailed}
-use Rattle.dir_ldif.specs.Reading.{coming}
+use Rattle.dir_ldif.specs.Joining.{to_come}
+use Rattle.dir_ldif.specs.Reading.{coming, hand}
 use Rattle.dir_ldif.specs.Records.{Found, Answer, answers_on}
 
 -- the answers to come where the source still gives this text
@@ -18,6 +19,18 @@ abbrev pub answers_at : Place → List TypeRow → Core → List ℕ → List An
 answers_at Reading rows c text = answers_on rows (coming c text)
 answers_at AtEnd rows c text = []
 answers_at Ended rows c text = []
+
+-- the answers to come where this text stands behind what was used up, in the place of the bytes in hand and of those
+-- that the source has left
+abbrev pub answers_ahead : List TypeRow → Core → List ℕ → List Answer
+answers_ahead rows c text = answers_on rows (to_come c.joiner text)
+
+-- an answer on a block was given: these bytes were read, the front of the bytes in hand and those was used up, and
+-- whatever text follows the front, that answer is the first, and the rest is left
+abbrev pub GoesOn : Found → List TypeRow → Core → Core → Option (List ℕ) → Option (List ℕ) → Type 0
+GoesOn found rows old new left left' =
+    (bytes : List ℕ) × (used : List ℕ) × Consumes left left' bytes × (hand old ++ bytes ≡ used ++ hand new)
+    × ((text : List ℕ) → answers_ahead rows old (used ++ text) ≡ Ok found ∷ answers_ahead rows new text)
 
 -- the answers to come, where the bytes are known that the source has left
 abbrev pub answers_left : List TypeRow → Core → Option (List ℕ) → Option (List Answer)
@@ -50,3 +63,15 @@ Faults TooManyTurns rows old left left' failures failures' =
     (bytes : List ℕ) × Consumes left left' bytes × (old.turns ≤ length bytes) × (IsSettled (λ text. answers_at Reading rows old (bytes ++ text)) → ⊥)
 Faults Memory rows old left left' failures failures' = Unit {0}
 Faults AfterFault rows old left left' failures failures' = old.place ≡ Ended
+
+-- at a line that is too long, the bytes in hand and those that were read are a text behind which no line is too long yet
+-- (had it ended there, that fault would not be the answer), and at most 8,192 bytes more
+abbrev pub EndsSoon : StreamFault → List TypeRow → Core → Option (List ℕ) → Option (List ℕ) → Type 0
+EndsSoon LineTooLong rows old left left' =
+    (bytes : List ℕ) × (front : List ℕ) × (last : List ℕ) × Consumes left left' bytes × (hand old ++ bytes ≡ front ++ last) × (length last ≤ 8192)
+    × (answers_ahead rows old front ≡ Err LineTooLong ∷ [] → ⊥)
+EndsSoon Read rows old left left' = Unit {0}
+EndsSoon Memory rows old left left' = Unit {0}
+EndsSoon AfterFault rows old left left' = Unit {0}
+EndsSoon TooManyTurns rows old left left' = Unit {0}
+EndsSoon BadVersion rows old left left' = Unit {0}

@@ -5,7 +5,8 @@ use Rattle.dir_names.specs.declared.schema.TypeRow.{TypeRow}
 use Rattle.dir_ldif.specs.declared.faults.StreamFault.{StreamFault}
 use Rattle.dir_ldif.specs.declared.reader.RecordReader.{RecordReader}
 use Rattle.dir_ldif.specs.declared.reader.Place.TheVariants.{Reading, AtEnd, Ended}
-use Rattle.dir_ldif.specs.Next.{answers_left, Faults}
+use Rattle.dir_ldif.specs.Next.{answers_ahead, answers_left, EndsSoon, Faults, GoesOn}
+use Rattle.dir_ldif.specs.Reading.{hand, IsInPieces}
 use Rattle.dir_ldif.specs.Records.{Found, Answer}
 use Rattle.dir_ldif.specs.LegalFound.{IsLegalFound}
 
@@ -13,6 +14,18 @@ module _ {R : Type 0} where
   -- the answers that are left, where the source tells its bytes
   abbrev pub to_give : (R → Option (List ℕ)) → RecordReader R → Option (List Answer)
   to_give left r = answers_left r.schema.now r.core (left r.source)
+
+  -- the answers to come where this text stands behind what was used up
+  abbrev pub to_give_on : RecordReader R → List ℕ → List Answer
+  to_give_on r text = answers_ahead r.schema.now r.core text
+
+  -- the bytes that were read and not used up
+  abbrev pub in_hand : RecordReader R → List ℕ
+  in_hand r = hand r.core
+
+  -- the first answer was used up, whatever text follows it
+  abbrev pub UsesUp : (R → Option (List ℕ)) → Found → RecordReader R → RecordReader R → Type 0
+  UsesUp left found old new = GoesOn found old.schema.now old.core new.core (left old.source) (left new.source)
 
   -- the read calls that are left
   abbrev pub turns_left : RecordReader R → ℕ
@@ -47,3 +60,11 @@ module _ {R : Type 0} where
   -- why no further answer is given
   abbrev pub StopsFor : (R → Option (List ℕ)) → (R → ℕ) → StreamFault → RecordReader R → RecordReader R → Type 0
   StopsFor left failures fault old new = Faults fault old.schema.now old.core (left old.source) (left new.source) (failures old.source) (failures new.source)
+
+  -- each read call gave at most 8,192 bytes
+  abbrev pub ReadsPieces : (R → Option (List ℕ)) → RecordReader R → RecordReader R → Type 0
+  ReadsPieces left old new = IsInPieces old.core new.core (left old.source) (left new.source)
+
+  -- at `LineTooLong` the bytes that were taken end at most 8,192 behind a text in which no line is too long
+  abbrev pub StopsSoonFor : (R → Option (List ℕ)) → StreamFault → RecordReader R → RecordReader R → Type 0
+  StopsSoonFor left fault old new = EndsSoon fault old.schema.now old.core (left old.source) (left new.source)

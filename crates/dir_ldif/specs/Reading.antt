@@ -1,6 +1,6 @@
 -- What a reader has still to give.
-use Rattle.std.specs.Prelude.{◌≡◌, ℕ, ◌-◌, ◌≤◌, List, [], ◌∷◌, ◌++◌, take, drop, length, Option, IfSome, Err}
-use Rattle.std.specs.Io.KnownBytes.{IsAtEnd}
+use Rattle.std.specs.Prelude.{◌≡◌, ℕ, ◌+◌, ◌-◌, ◌*◌, ◌≤◌, List, [], ◌∷◌, ◌++◌, take, drop, length, Option, IfSome, Err}
+use Rattle.std.specs.Io.KnownBytes.{Consumes, IsAtEnd}
 use Rattle.dir_ldif.specs.declared.reader.Core.{Core}
 use Rattle.dir_ldif.specs.declared.reader.Place.{Place}
 use Rattle.dir_ldif.specs.declared.reader.Place.TheVariants.{Reading, AtEnd, Ended}
@@ -26,6 +26,32 @@ abbrev pub Finds : Place → (List ℕ → List Part) → List Line → (List �
 Finds Reading old block new bytes left = (text : List ℕ) → old (bytes ++ text) ≡ give block (new text)
 Finds AtEnd old block new bytes left = IsAtEnd left × (old bytes ≡ give block [])
 Finds Ended old block new bytes left = ⊥
+
+-- each read call gave at most 8,192 bytes
+abbrev pub IsInPieces : Core → Core → Option (List ℕ) → Option (List ℕ) → Type 0
+IsInPieces old new left left' = (bytes : List ℕ) × Consumes left left' bytes × (length bytes + 8192 * new.turns ≤ 8192 * old.turns)
+
+-- a block was taken: these bytes were read, the front of the bytes in hand and those was used up, and whatever text
+-- follows the front, the block is the first of what is to come of it
+abbrev pub Uses : Core → Core → List Line → Option (List ℕ) → Option (List ℕ) → Type 0
+Uses old new block left left' =
+    (bytes : List ℕ) × (used : List ℕ) × Consumes left left' bytes × (hand old ++ bytes ≡ used ++ hand new)
+    × ((text : List ℕ) → to_come old.joiner (used ++ text) ≡ give block (to_come new.joiner text))
+
+-- the bytes in hand and those that were read behind them are a text in which no line is too long yet (had it ended
+-- there, it would end in no such fault), and at most 8,192 bytes more
+abbrev pub IsSoon : Core → List ℕ → Type 0
+IsSoon c bytes =
+    (front : List ℕ) × (last : List ℕ) × (hand c ++ bytes ≡ front ++ last) × (length last ≤ 8192) × (to_come c.joiner front ≡ Err LineTooLong ∷ [] → ⊥)
+
+-- a line that is too long ends the text soon
+abbrev pub StopsSoon : StreamFault → Core → Option (List ℕ) → Option (List ℕ) → Type 0
+StopsSoon LineTooLong old left left' = (bytes : List ℕ) × Consumes left left' bytes × IsSoon old bytes
+StopsSoon Read old left left' = Unit {0}
+StopsSoon Memory old left left' = Unit {0}
+StopsSoon AfterFault old left left' = Unit {0}
+StopsSoon TooManyTurns old left left' = Unit {0}
+StopsSoon BadVersion old left left' = Unit {0}
 
 -- some text would bring a fault before any block
 abbrev pub MayFail : (List ℕ → List Part) → Type 0

@@ -21,7 +21,10 @@ mod writer;
 
 pub use device::{DeviceFault, Sink, Source};
 pub use faults::{RecordFault, StreamFault};
-pub use laws::{written_lines_read_back, written_records_read_back};
+pub use laws::{
+    long_lines_stay, read_calls_are_used, reading_ends_soon, reading_stops_there, texts_are_blocks,
+    written_lines_read_back, written_records_read_back,
+};
 pub use lines::MAX_LINE;
 pub use part::MAX_VALUE;
 pub use reader::{MAX_TURNS, RecordReader, read_all};

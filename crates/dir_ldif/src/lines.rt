@@ -1,7 +1,7 @@
 ghost use Rattle.std.specs.Prelude.{◌≡◌, ◌+◌, ◌∷◌, ◌++◌, ◌<◌, ◌≤◌, ◌^◌, [], IfErr, IfOk, IfSome, List, MatchOption, None, OnOk, Some, false, true, length, ℕ};
 ghost use Rattle.std.specs.List.{list_any};
 ghost use Rattle.dir_ldif.specs.Bytes.{without_last};
-ghost use Rattle.dir_ldif.specs.Kept.{is_kept};
+ghost use Rattle.dir_ldif.specs.Kept.{has_room, is_kept};
 ghost use Rattle.dir_ldif.specs.Lines.{is_comment, is_lf};
 
 use crate::bytes::{begins_with_space, cut_at, without_cr};
@@ -70,14 +70,15 @@ pub(crate) struct Joiner {
     alloc: Global,
     ghost kept: { is_kept last ≡ true },
     ghost unended: { list_any is_lf partial.items ≡ false },
+    ghost short: { has_room last partial.items ≡ true },
 }
 
 impl Joiner {
     ghost use Rattle.std.specs.Prelude.{◌≡◌, ◌+◌, ◌∷◌, ◌++◌, ◌<◌, ◌≤◌, ◌^◌, [], IfErr, IfOk, IfSome, List, MatchOption, None, OnOk, Some, false, true, length, ℕ};
     ghost use Rattle.dir_ldif.specs.Bytes.{begins_with, is_empty, without_last};
     ghost use Rattle.dir_ldif.specs.Joining.{Joins, parts_before, parts_behind_block, to_come};
-    ghost use Rattle.dir_ldif.specs.Kept.{is_kept};
-    ghost use Rattle.dir_ldif.specs.Lines.{Line, is_long, joined, numbered};
+    ghost use Rattle.dir_ldif.specs.Kept.{has_room, is_kept};
+    ghost use Rattle.dir_ldif.specs.Lines.{Line, cut, is_lf, is_long, joined, numbered};
     ghost use Rattle.dir_ldif.specs.Parts.{Ends, give, parts_from, parts_of};
 
     pub(crate) fn new(alloc: Global) -> Joiner
@@ -105,7 +106,8 @@ impl Joiner {
         ensures left { IfOk result (λ o. IfSome o
             (λ p. self.new.number + length p.1.now ≤ self.old.number + length piece.now)) }
         ensures shorter { IfOk result (λ o. IfSome o (λ p. length p.1.now < length piece.now)) }
-        ensures back { IfOk result (λ o. IfSome o (λ p. (front : List ℕ) × (piece.now ≡ front ++ p.1.now))) }
+        ensures used { IfOk result (λ o. IfSome o (λ p. (front : List ℕ) × (piece.now ≡ front ++ p.1.now)
+            × ((text : List ℕ) → to_come self.old (front ++ text) ≡ give p.0.items (to_come self.new text)))) }
         ensures ok { IfOk result (λ o. MatchOption o
             ((text : List ℕ) → to_come self.old (piece.now ++ text) ≡ to_come self.new text)
             (λ p. (text : List ℕ) → to_come self.old (piece.now ++ text) ≡ give p.0.items (to_come self.new (p.1.now ++ text)))) }
@@ -180,8 +182,13 @@ impl Joiner {
         ensures ok { OnOk result ((text : List ℕ) → to_come self.old (piece.now ++ text) ≡ to_come self.new text) }
         ensures err { IfErr result (λ fault. (text : List ℕ) → Ends fault (to_come self.old (piece.now ++ text))) }
     {
-        self.partial.extend_from_slice(piece)?;
-        self.check_partial()
+        let mut partial = mem::replace(&mut self.partial, Vec::new(self.alloc));
+        partial.extend_from_slice(piece)?;
+        if !self.has_room(partial.as_slice()) {
+            return Err(self.fault_of_long(partial.as_slice()));
+        }
+        self.partial = partial;
+        Ok(())
     }
 
     /// Ends the physical line in hand, with the bytes before its LF. Answers whether it is an empty line,
@@ -205,6 +212,7 @@ impl Joiner {
     }
 
     fn join_slice(&mut self, number: u64, text: &[u8]) -> Result<bool, StreamFault>
+        requires { self.old.partial.items ≡ [] }
         ensures number { self.new.number ≡ self.old.number }
         ensures partial { self.new.partial ≡ self.old.partial }
         ensures last { IfOk result (λ ends. ends ≡ true → self.new.last ≡ None) }
@@ -223,6 +231,7 @@ impl Joiner {
     }
 
     fn join_owned(&mut self, number: u64, text: Vec<u8>) -> Result<bool, StreamFault>
+        requires { self.old.partial.items ≡ [] }
         ensures number { self.new.number ≡ self.old.number }
         ensures partial { self.new.partial ≡ self.old.partial }
         ensures last { IfOk result (λ ends. ends ≡ true → self.new.last ≡ None) }
@@ -242,6 +251,7 @@ impl Joiner {
 
     /// Continues a line by one that begins with a space.
     fn append(&mut self, last: Line, text: &[u8]) -> Result<bool, StreamFault>
+        requires none { self.old.partial.items ≡ [] }
         requires kept { is_kept (Some last) ≡ true }
         requires space { begins_with 32 text.now ≡ true }
         ensures number { self.new.number ≡ self.old.number }
@@ -254,7 +264,8 @@ impl Joiner {
 
     /// Begins a logical line, unless the line is empty.
     fn keep(&mut self, line: Line) -> Result<bool, StreamFault>
-        requires { self.old.last ≡ None }
+        requires none { self.old.partial.items ≡ [] }
+        requires last { self.old.last ≡ None }
         ensures number { self.new.number ≡ self.old.number }
         ensures partial { self.new.partial ≡ self.old.partial }
         ensures last { IfOk result (λ ends. ends ≡ true → self.new.last ≡ None) }
@@ -268,7 +279,8 @@ impl Joiner {
 
     /// Makes a line the last one.
     fn hold(&mut self, line: Line) -> Result<bool, StreamFault>
-        requires { is_empty line.1 ≡ false }
+        requires none { self.old.partial.items ≡ [] }
+        requires some { is_empty line.1 ≡ false }
         ensures number { self.new.number ≡ self.old.number }
         ensures partial { self.new.partial ≡ self.old.partial }
         ensures last { IfOk result (λ ends. ends ≡ false) }
@@ -307,38 +319,38 @@ impl Joiner {
         Ok(())
     }
 
-    /// Whether the physical line that has not ended is too long already. A CR at its end may be the final
+    /// Whether a physical line that has not ended makes no line too long. A CR at its end may be the final
     /// one, and isn't counted.
-    fn check_partial(&mut self) -> Result<(), StreamFault>
-        ensures number { self.new.number ≡ self.old.number }
-        ensures ok { OnOk result ((text : List ℕ) → to_come self.old text ≡ to_come self.new text) }
-        ensures err { IfErr result (λ fault. (text : List ℕ) → Ends fault (to_come self.old text)) }
+    fn has_room(&self, partial: &[u8]) -> bool
+        ensures { result ≡ has_room self.now.last partial.now }
     {
-        let text = without_cr(self.partial.as_slice());
-        let length = text.len();
+        let text = without_cr(partial);
         let space = begins_with_space(text);
+        match &self.last {
+            Some(last) if space => last.text().len() + text.len() <= MAX_LINE + 1,
+            _ => text.len() <= MAX_LINE,
+        }
+    }
+
+    /// The fault of a physical line that has not ended and makes a line too long. A last line that it does
+    /// not continue comes first.
+    fn fault_of_long(&mut self, partial: &[u8]) -> StreamFault
+        requires long { has_room self.old.last partial.now ≡ false }
+        requires line { list_any is_lf partial.now ≡ false }
+        requires none { self.old.partial.items ≡ [] }
+        ensures number { self.new.number ≡ self.old.number }
+        ensures fault { (text : List ℕ) → Ends result (parts_before self.old (numbered self.old.number (cut is_lf (partial.now ++ text)))) }
+    {
         let Some(last) = self.last.take() else {
-            if length > MAX_LINE {
-                return Err(StreamFault::LineTooLong);
-            }
-            return Ok(());
+            return StreamFault::LineTooLong;
         };
-        if space {
-            let whole = last.text().len() + length;
-            self.last = Some(last);
-            if whole > MAX_LINE + 1 {
-                return Err(StreamFault::LineTooLong);
-            }
-            return Ok(());
+        if begins_with_space(without_cr(partial)) {
+            return StreamFault::LineTooLong;
         }
-        if length > MAX_LINE {
-            if let Err(fault) = self.close(last) {
-                return Err(fault);
-            }
-            return Err(StreamFault::LineTooLong);
+        match self.close(last) {
+            Ok(()) => StreamFault::LineTooLong,
+            Err(fault) => fault,
         }
-        self.last = Some(last);
-        Ok(())
     }
 
     /// Ends the text: what is in hand is its last line. Answers the last block.

@@ -39,22 +39,11 @@ pub(crate) fn part_of(alloc: Global, line: &[u8]) -> Result<(&[u8], Bytes), Refu
 fn limited_value(alloc: Global, text: &[u8]) -> Result<Bytes, Refusal>
     ensures { Tells (λ v. v) result (then_of (value_of text.now) limited) }
 {
-    let value = match value_of(alloc, text) {
-        Ok(value) => value,
-        Err(refusal) => return Err(refusal),
-    };
-    if value.len() > MAX_VALUE {
-        return Err(Refusal::Fault(RecordFault::ValueTooLong));
-    }
-    Ok(Bytes::new(value))
-}
-
-/// The value that stands behind a name and its colon.
-fn value_of(alloc: Global, text: &[u8]) -> Result<Vec<u8>, Refusal>
-    ensures { Tells (λ v. v.items) result (value_of text.now) }
-{
     match text {
-        [b':', rest @ ..] => decoded(alloc, without_spaces(rest)),
+        [b':', rest @ ..] => match decoded(alloc, without_spaces(rest)) {
+            Ok(value) => limited(value),
+            Err(refusal) => Err(refusal),
+        },
         [b'<', ..] => Err(Refusal::Fault(RecordFault::UrlValue)),
         _ => plain(alloc, without_spaces(text)),
     }
@@ -70,13 +59,26 @@ fn decoded(alloc: Global, text: &[u8]) -> Result<Vec<u8>, Refusal>
     }
 }
 
-fn plain(alloc: Global, text: &[u8]) -> Result<Vec<u8>, Refusal>
-    ensures { Tells (λ v. v.items) result (plain text.now) }
+fn limited(value: Vec<u8>) -> Result<Bytes, Refusal>
+    ensures { Tells (λ v. v) result (limited value.items) }
+{
+    if value.len() > MAX_VALUE {
+        return Err(Refusal::Fault(RecordFault::ValueTooLong));
+    }
+    Ok(Bytes::new(value))
+}
+
+/// A value that stands plainly. It is copied only where it is within the limit.
+fn plain(alloc: Global, text: &[u8]) -> Result<Bytes, Refusal>
+    ensures { Tells (λ v. v) result (then_of (plain text.now) limited) }
 {
     if has_refused(text) {
         return Err(Refusal::Fault(RecordFault::BadLine));
     }
-    Ok(text.to_vec(alloc)?)
+    if text.len() > MAX_VALUE {
+        return Err(Refusal::Fault(RecordFault::ValueTooLong));
+    }
+    Ok(Bytes::new(text.to_vec(alloc)?))
 }
 
 /// Whether a text has a NUL or a CR.

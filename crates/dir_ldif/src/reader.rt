@@ -42,10 +42,10 @@ pub struct RecordReader<'s, R> {
 }
 
 impl<'s, R: Source + Drop> RecordReader<'s, R> {
-    ghost use Rattle.std.specs.Prelude.{◌≡◌, None, Ok, Err, IfErr, IfNone, IfOk, IfSome, OnOk};
+    ghost use Rattle.std.specs.Prelude.{◌≡◌, ℕ, List, [], None, Ok, Err, IfErr, IfNone, IfOk, IfSome, OnOk};
     ghost use Rattle.std.specs.Option.{option_map};
     ghost use Rattle.dir_ldif.specs.Next.{GivesFirst, GivesNone};
-    ghost use Rattle.dir_ldif.specs.Reader.{GivesLegal, IsAtEnd, IsEnded, IsReading, SpendsTurns, StopsFor, schema_of, source_of, to_give, turns_left};
+    ghost use Rattle.dir_ldif.specs.Reader.{GivesLegal, IsAtEnd, IsEnded, IsReading, ReadsPieces, SpendsTurns, StopsFor, StopsSoonFor, UsesUp, in_hand, schema_of, source_of, to_give, to_give_on, turns_left};
     ghost use Rattle.dir_ldif.specs.Records.{records_of};
 
     /// A reader that is allowed 1,099,511,627,776 read calls.
@@ -59,6 +59,7 @@ impl<'s, R: Source + Drop> RecordReader<'s, R> {
         source: R,
     ) -> Result<RecordReader<'s, R>, StreamFault>
         ensures answers { IfOk result (λ r. to_give R.left r ≡ option_map (records_of schema.now) (R.left source)) }
+        ensures ahead { IfOk result (λ r. (in_hand r ≡ []) × ((text : List ℕ) → to_give_on r text ≡ records_of schema.now text)) }
         ensures turns { IfOk result (λ r. turns_left r ≡ MAX_TURNS) }
         ensures source { IfOk result (λ r. (source_of r ≡ source) × (schema_of r ≡ schema.now) × IsReading r) }
         ensures err { IfErr result (λ fault. fault ≡ StreamFault.Memory) }
@@ -75,6 +76,7 @@ impl<'s, R: Source + Drop> RecordReader<'s, R> {
     ) -> Result<RecordReader<'s, R>, StreamFault>
         requires { turns ≤ MAX_TURNS }
         ensures answers { IfOk result (λ r. to_give R.left r ≡ option_map (records_of schema.now) (R.left source)) }
+        ensures ahead { IfOk result (λ r. (in_hand r ≡ []) × ((text : List ℕ) → to_give_on r text ≡ records_of schema.now text)) }
         ensures turns { IfOk result (λ r. turns_left r ≡ turns) }
         ensures source { IfOk result (λ r. (source_of r ≡ source) × (schema_of r ≡ schema.now) × IsReading r) }
         ensures err { IfErr result (λ fault. fault ≡ StreamFault.Memory) }
@@ -96,8 +98,11 @@ impl<'s, R: Source + Drop> RecordReader<'s, R> {
     /// `Memory`; `Ended`.
     pub fn next(&mut self) -> Result<Option<Answer>, StreamFault>
         ensures some { IfOk result (λ o. IfSome o (λ found. GivesFirst (Ok found) (to_give R.left self.old) (to_give R.left self.new))) }
+        ensures used { IfOk result (λ o. IfSome o (λ found. IsReading self.new → UsesUp R.left found self.old self.new)) }
         ensures none { IfOk result (λ o. IfNone o (GivesNone (to_give R.left self.old) × IsAtEnd self.new)) }
         ensures err { IfErr result (λ fault. StopsFor R.left R.failures fault self.old self.new × IsEnded self.new) }
+        ensures soon { IfErr result (λ fault. StopsSoonFor R.left fault self.old self.new) }
+        ensures pieces { ReadsPieces R.left self.old self.new }
         ensures legal { IfOk result (λ o. IfSome o (GivesLegal self.old)) }
         ensures ended { IsEnded self.old → result ≡ Err StreamFault.Ended }
         ensures at_end { IsAtEnd self.old → result ≡ Ok None }
@@ -130,17 +135,18 @@ impl Core {
     ghost use Rattle.std.specs.Prelude.{◌≡◌, ◌+◌, ◌++◌, ◌*◌, ◌^◌, ◌<◌, ◌≤◌, ℕ, List, [], None, Ok, Err, true, false, IfErr, IfNone, IfOk, IfSome, MatchOption, OnOk, length};
     ghost use Rattle.std.specs.Io.KnownBytes.{Consumes, IsAtEnd};
     ghost use Rattle.dir_ldif.specs.declared.reader.Place.TheVariants.{AtEnd, Ended, Reading};
-    ghost use Rattle.dir_ldif.specs.Next.{Faults, GivesFirst, GivesNone, answers_left};
+    ghost use Rattle.dir_ldif.specs.Next.{EndsSoon, Faults, GivesFirst, GivesNone, GoesOn, answers_left};
     ghost use Rattle.dir_ldif.specs.LegalFound.{IsLegalFound};
     ghost use Rattle.dir_ldif.specs.Bytes.{is_empty};
     ghost use Rattle.dir_ldif.specs.Device.{FailsToRead};
     ghost use Rattle.dir_ldif.specs.Joining.{to_come};
     ghost use Rattle.dir_ldif.specs.Parts.{Ends, give, parts_of};
-    ghost use Rattle.dir_ldif.specs.Reading.{Finds, Stops, coming, hand};
+    ghost use Rattle.dir_ldif.specs.Reading.{Finds, IsInPieces, Stops, StopsSoon, Uses, coming, hand};
 
     fn new(alloc: Global, turns: u64) -> Result<Core, StreamFault>
         requires { turns ≤ MAX_TURNS }
-        ensures text { IfOk result (λ c. (text : List ℕ) → coming c text ≡ parts_of text) }
+        ensures text { IfOk result (λ c. (text : List ℕ) → to_come c.joiner text ≡ parts_of text) }
+        ensures fresh { IfOk result (λ c. hand c ≡ []) }
         ensures place { IfOk result (λ c. c.place ≡ Reading) }
         ensures turns { IfOk result (λ c. c.turns ≡ turns) }
         ensures err { IfErr result (λ fault. fault ≡ StreamFault.Memory) }
@@ -163,9 +169,12 @@ impl Core {
     ) -> Result<Option<Answer>, StreamFault>
         ensures some { IfOk result (λ o. IfSome o (λ found. GivesFirst (Ok found)
             (answers_left schema.now self.old (S.left source.old)) (answers_left schema.now self.new (S.left source.new)))) }
+        ensures used { IfOk result (λ o. IfSome o (λ found. self.new.place ≡ Reading → GoesOn found schema.now self.old self.new (S.left source.old) (S.left source.new))) }
         ensures none { IfOk result (λ o. IfNone o (GivesNone (answers_left schema.now self.old (S.left source.old)) × (self.new.place ≡ AtEnd))) }
         ensures err { IfErr result (λ fault. Faults fault schema.now self.old (S.left source.old) (S.left source.new) (S.failures source.old) (S.failures source.new)
             × (self.new.place ≡ Ended)) }
+        ensures soon { IfErr result (λ fault. EndsSoon fault schema.now self.old (S.left source.old) (S.left source.new)) }
+        ensures pieces { IsInPieces self.old self.new (S.left source.old) (S.left source.new) }
         ensures legal { IfOk result (λ o. IfSome o (IsLegalFound schema.now)) }
         ensures ended { self.old.place ≡ Ended → result ≡ Err StreamFault.Ended }
         ensures at_end { self.old.place ≡ AtEnd → (result ≡ Ok None) }
@@ -196,8 +205,11 @@ impl Core {
         requires { self.old.place ≡ Reading }
         ensures some { IfOk result (λ o. IfSome o (λ found. GivesFirst (Ok found)
             (answers_left schema.now self.old (S.left source.old)) (answers_left schema.now self.new (S.left source.new)))) }
+        ensures used { IfOk result (λ o. IfSome o (λ found. self.new.place ≡ Reading → GoesOn found schema.now self.old self.new (S.left source.old) (S.left source.new))) }
         ensures none { IfOk result (λ o. IfNone o (GivesNone (answers_left schema.now self.old (S.left source.old)) × (self.new.place ≡ AtEnd))) }
         ensures err { IfErr result (λ fault. Faults fault schema.now self.old (S.left source.old) (S.left source.new) (S.failures source.old) (S.failures source.new)) }
+        ensures soon { IfErr result (λ fault. EndsSoon fault schema.now self.old (S.left source.old) (S.left source.new)) }
+        ensures pieces { IsInPieces self.old self.new (S.left source.old) (S.left source.new) }
         ensures legal { IfOk result (λ o. IfSome o (IsLegalFound schema.now)) }
         ensures turns { IfOk result (λ _. self.new.place ≡ Reading → (bytes : List ℕ)
             × Consumes (S.left source.old) (S.left source.new) bytes × (self.old.turns ≤ self.new.turns + length bytes)) }
@@ -224,9 +236,12 @@ impl Core {
             × Consumes (S.left source.old) (S.left source.new) bytes
             × Finds self.new.place (coming self.old) block.items (coming self.new) bytes (S.left source.new)
             × (self.new.place ≡ Reading → (self.old.turns ≤ self.new.turns + length bytes) × (is_empty block.items ≡ false))) }
+        ensures used { IfOk result (λ block. self.new.place ≡ Reading → Uses self.old self.new block.items (S.left source.old) (S.left source.new)) }
         ensures err { IfErr result (λ fault. (bytes : List ℕ)
             × Consumes (S.left source.old) (S.left source.new) bytes
             × Stops fault self.old self.new bytes (S.left source.new) (S.failures source.old) (S.failures source.new)) }
+        ensures soon { IfErr result (λ fault. StopsSoon fault self.old (S.left source.old) (S.left source.new)) }
+        ensures pieces { IsInPieces self.old self.new (S.left source.old) (S.left source.new) }
         ensures count { OnOk result (S.failures source.new ≡ S.failures source.old) }
         ensures same { S.is_same source.old source.new }
     {
@@ -251,6 +266,8 @@ impl Core {
         ensures ok { IfOk result (λ o. MatchOption o
             ((text : List ℕ) → coming self.old text ≡ to_come self.new.joiner text)
             (λ block. (text : List ℕ) → coming self.old text ≡ give block.items (coming self.new text))) }
+        ensures used { IfOk result (λ o. IfSome o (λ block. (used : List ℕ) × (hand self.old ≡ used ++ hand self.new)
+            × ((text : List ℕ) → to_come self.old.joiner (used ++ text) ≡ give block.items (to_come self.new.joiner text)))) }
         ensures none { IfOk result (λ o. IfNone o (self.new.at ≡ self.new.end)) }
         ensures some { IfOk result (λ o. IfSome o (λ block. is_empty block.items ≡ false)) }
         ensures err { IfErr result (λ fault. (text : List ℕ) → Ends fault (coming self.old text)) }
@@ -281,6 +298,7 @@ impl Core {
         ensures some { result ≡ Ok true → 0 < length (hand self.new) }
         ensures none { result ≡ Ok false → (hand self.new ≡ []) × IsAtEnd (S.left source.new) }
         ensures turns { IfOk result (λ _. self.old.turns ≡ self.new.turns + 1) }
+        ensures spent { self.new.turns ≤ self.old.turns }
         ensures counts { IfOk result (λ _. S.failures source.new ≡ S.failures source.old) }
         ensures err { IfErr result (λ fault. (hand self.new ≡ []) × FailsToRead fault self.old.turns (S.failures source.old) (S.failures source.new)) }
         ensures same { S.is_same source.old source.new }

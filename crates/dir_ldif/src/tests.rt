@@ -1,8 +1,13 @@
 use super::*;
-use dir_names::{Bytes, Description, Dn, Lines, Memory, Schema};
+use base64::engine::general_purpose::STANDARD;
+use dir_names::Schema;
 use std::alloc::Global;
 use std::process::Abort;
 use std::test::Fail;
+
+mod devices;
+mod examples;
+mod writing;
 
 /// What a text reads as: the line of each record, and its text or its fault; then what ends the text.
 fn shown(rt: &impl Abort, alloc: Global, text: &[u8]) -> String {
@@ -55,36 +60,28 @@ fn show(
 }
 
 #[test]
-fn reads_examples_of_the_standard(rt: HostRuntime) -> Result<(), Fail> {
+fn texts_are_read(rt: HostRuntime) {
     let alloc = rt.alloc();
     for (text, want) in [
+        ("", ""),
+        ("\n\n# only\n \n", ""),
         (
             "version: 1\ndn: cn=B,dc=a\nobjectclass: top\ncn: B\n\n# c\ndn: cn=C,dc=a\ncn: C\n",
             "2 dn: cn=B,dc=a|objectclass: top|cn: B||;7 dn: cn=C,dc=a|cn: C||;",
         ),
         (
-            "version: 1\ndn:cn=Barbara Jensen, ou=Product Development, dc=airius, dc=com\nobjectclass:top\ndescription:Babs is a big sailing fan, and travels extensively in sea\n rch of perfect sailing conditions.\n",
-            "2 dn: cn=Barbara Jensen,ou=Product Development,dc=airius,dc=com|objectclass: top|description: Babs is a big sailing fan, and travels extensively in search of|  perfect sailing conditions.||;",
+            "dn: cn=a\ncn:: QQ\n  ==\n\ndn: cn=a\ncn:: QQ\n ==\n",
+            "1 L2 BadBase64;5 dn: cn=a|cn: A||;",
         ),
         (
-            "version: 1\ndn: cn=G,dc=a\ndescription:: V2hhdCBhIGNhcmVmdWwgcmVhZGVyIHlvdSBhcmUhICBUaGlzIHZhbHVl\n  IGlzIGJhc2Utwrk=\n",
-            "2 L2 BadBase64;",
-        ),
-        (
-            "version: 1\ndn: cn=F,dc=a\nchangetype: add\ncn: F\n\ndn: cn=R,dc=a\nchangetype: delete\n\ndn: cn=P,dc=a\nchangetype: modrdn\nnewrdn: cn=Q\ndeleteoldrdn: 1\n\ndn: ou=P, dc=a\nchangetype: modrdn\nnewrdn: ou=N\ndeleteoldrdn: 0\nnewsuperior: ou=A, dc=a\n",
-            "2 dn: cn=F,dc=a|changetype: add|cn: F||;6 dn: cn=R,dc=a|changetype: delete||;9 dn: cn=P,dc=a|changetype: modrdn|newrdn: cn=Q|deleteoldrdn: 1||;14 dn: ou=P,dc=a|changetype: modrdn|newrdn: ou=N|deleteoldrdn: 0|newsuperior: ou=A,dc=a||;",
-        ),
-        (
-            "dn: cn=P,dc=a\nchangetype: modify\nadd: postaladdress\npostaladdress: 123\n-\ndelete: description\n-\nreplace: telephonenumber\ntelephonenumber: 1\ntelephonenumber: 2\n-\ndelete: l\nl: x\n",
-            "1 dn: cn=P,dc=a|changetype: modify|add: postaladdress|postaladdress: 123|-|delete: description|-|replace: telephonenumber|telephonenumber: 1|telephonenumber: 2|-|delete: l|l: x|-||;",
+            "dn: cn=P,dc=a\nchangetype: modify\nadd: cn\ncn: 1\n-\ndelete: l\nl: x\n",
+            "1 dn: cn=P,dc=a|changetype: modify|add: cn|cn: 1|-|delete: l|l: x|-||;",
         ),
         ("dn: cn=a\njpegphoto:< file:///x\n", "1 L3 UrlValue;"),
         (
             "dn: cn=a\ncontrol: 1.2 true\nchangetype: delete\n",
             "1 L4 Control;",
         ),
-        ("", ""),
-        ("\n\n# only\n \n", ""),
     ] {
         assert_eq!(rt;
             shown(&rt, alloc, text.as_bytes()).as_str(),
@@ -92,7 +89,6 @@ fn reads_examples_of_the_standard(rt: HostRuntime) -> Result<(), Fail> {
             "at {text}"
         );
     }
-    Ok(())
 }
 
 #[test]
@@ -105,7 +101,8 @@ fn faults_have_their_line(rt: HostRuntime) -> Result<(), Fail> {
         ("dn: cn=a\nnote:: A\n", "1 L2 BadBase64;"),
         ("dn: cn=a\nnote:: AA=\n", "1 L2 BadBase64;"),
         ("dn: cn=a\nnote:: AAF=\n", "1 L2 BadBase64;"),
-        ("dn: cn=a\nnote:: AAE= \n", "1 L2 BadBase64;"),
+        ("dn: cn=a\nnote:: AA== \n", "1 L2 BadBase64;"),
+        ("dn: cn=a\nnote:: AA==\n", "1 dn: cn=a|note:: AA==||;"),
         ("dn: cn=a\nnote::\n", "1 dn: cn=a|note:||;"),
         ("dn: cn=a\nnote: \rx\n", "1 L1 BadLine;"),
         ("dn: cn=a\nnote:   x \n", "1 dn: cn=a|note:: eCA=||;"),
@@ -136,6 +133,20 @@ fn faults_have_their_line(rt: HostRuntime) -> Result<(), Fail> {
             "1 L9 N4 BadDn;",
         ),
         ("dn: x\n", "1 L9 N4 BadDn;"),
+        (
+            "dn: cn=e,dc=com\nchangetype: add\nnote: x\n\ndn: cn=f,dc=com\nchangetype: add\nnote:: AAE",
+            "1 dn: cn=e,dc=com|changetype: add|note: x||;5 L2 BadBase64;",
+        ),
+        // The first line at fault decides: its own fault before that of its place, and what is missing at the end.
+        ("dn: cn=a\nnote:: A\nother:< x\n", "1 L2 BadBase64;"),
+        (
+            "dn: cn=a\nchangetype: delete\nnote:: A\n",
+            "1 L2 BadBase64;",
+        ),
+        (
+            "dn: cn=a\nchangetype: modrdn\nnewrdn: cn\n",
+            "1 L9 N4 BadDn;",
+        ),
         ("dn: cn=a\n1cn: b\n", "1 L9 N1 BadDescription;"),
         ("dn: cn=a\nchangetype;x: b\n", "1 L9 N2 ReservedName;"),
     ] {
@@ -205,6 +216,15 @@ fn a_source_ends_or_fails(rt: HostRuntime) -> Result<(), Fail> {
     Ok(())
 }
 
+/// The fault of the only record.
+fn fault_of(alloc: Global, schema: &Schema, text: &[u8]) -> Result<Option<RecordFault>, Fail> {
+    let answers = read_all(alloc, schema, text)?;
+    match answers.as_slice() {
+        [only] => Ok(only.1.as_ref().err().copied()),
+        _ => Err("not one record".into()),
+    }
+}
+
 #[test]
 fn a_long_line_ends_the_text(rt: HostRuntime) -> Result<(), Fail> {
     let alloc = rt.alloc();
@@ -215,15 +235,18 @@ fn a_long_line_ends_the_text(rt: HostRuntime) -> Result<(), Fail> {
         shown_records(&rt, alloc, long).as_str(),
         "L10 LineTooLong;L13 Ended;"
     );
-    for (length, want) in [(MAX_VALUE, true), (MAX_VALUE + 1, false)] {
-        let mut text = b"dn: cn=a\nx: ".to_vec(alloc)?;
-        for _ in 0..length {
-            text.push(b'a')?;
-        }
-        text.push(b'\n')?;
-        let answers = read_all(alloc, &schema, text.as_slice())?;
-        assert_eq!(rt; answers.len(), 1);
-        assert_eq!(rt; answers[0].1.is_ok(), want);
+    for (length, want) in [
+        (MAX_VALUE, None),
+        (MAX_VALUE + 1, Some(RecordFault::ValueTooLong)),
+    ] {
+        let value = vec![in alloc; b'a'; length]?;
+        let mut plain = b"dn: cn=a\nx: ".to_vec(alloc)?;
+        plain.extend_from_slice(value.as_slice())?;
+        assert_eq!(rt; fault_of(alloc, &schema, plain.as_slice())?, want);
+        let mut encoded = b"dn: cn=a\nx:: ".to_vec(alloc)?;
+        let text = STANDARD.encode(alloc, value.as_slice())?;
+        encoded.extend_from_slice(text.as_bytes())?;
+        assert_eq!(rt; fault_of(alloc, &schema, encoded.as_slice())?, want);
     }
     let mut comment = b"#".to_vec(alloc)?;
     for _ in 1..MAX_LINE {
@@ -237,69 +260,5 @@ fn a_long_line_ends_the_text(rt: HostRuntime) -> Result<(), Fail> {
         read_all(alloc, &schema, comment.as_slice()).err(),
         Some(StreamFault::LineTooLong)
     );
-    Ok(())
-}
-
-#[test]
-fn lines_are_folded(rt: HostRuntime) -> Result<(), Fail> {
-    let alloc = rt.alloc();
-    let mut out = Vec::new(alloc);
-    push_line(
-        &mut out,
-        b"description",
-        vec![in alloc; b'a'; 70]?.as_slice(),
-    )?;
-    let mut want = b"description: ".to_vec(alloc)?;
-    want.extend_from_slice(vec![in alloc; b'a'; 63]?.as_slice())?;
-    want.extend_from_slice(b"\n aaaaaaa\n")?;
-    assert_eq!(rt; out.as_slice(), want.as_slice());
-    let mut out = Vec::new(alloc);
-    push_line(&mut out, b"note", b"")?;
-    push_line(&mut out, b"note", b" lead")?;
-    push_line(&mut out, b"note", b"<x")?;
-    push_line(&mut out, b"note", b":x")?;
-    push_line(&mut out, b"note", b"a<: b")?;
-    assert_eq!(rt;
-        out.as_slice(),
-        b"note:\nnote:: IGxlYWQ=\nnote:: PHg=\nnote:: Ong=\nnote: a<: b\n".as_slice()
-    );
-    Ok(())
-}
-
-#[test]
-fn legal_changes_pass(rt: HostRuntime) -> Result<(), Fail> {
-    let alloc = rt.alloc();
-    let schema = Schema::builtin(alloc)?;
-    let mut items = Vec::new(alloc);
-    items.push((
-        Description::read(alloc, &schema, b"description")?,
-        Bytes::copy_of(alloc, b"staff")?,
-    ))?;
-    let change = Change {
-        dn: Dn::read(alloc, b"ou=people,DC=COM")?,
-        kind: ChangeKind::Add(Lines::new(items)),
-    };
-    assert_eq!(rt; change.check(alloc, &schema), Ok(()));
-    let keyless = Change {
-        dn: Dn::read(alloc, b"cn=a+commonName=b")?,
-        kind: ChangeKind::Delete,
-    };
-    assert!(rt; keyless.check(alloc, &schema).is_err());
-    Ok(())
-}
-
-#[test]
-fn tapes_take_and_stall(rt: HostRuntime) -> Result<(), Fail> {
-    let mut room = [0u8; 8];
-    let mut tape = Tape::new(&mut room).pieces(3);
-    assert!(rt; write_whole(&mut tape, b"abcdef").is_ok());
-    assert_eq!(rt; tape.as_slice(), b"abcdef".as_slice());
-    assert!(rt; write_whole(&mut tape, b"ghi").is_err());
-    assert_eq!(rt; tape.as_slice(), b"abcdefgh".as_slice());
-    let mut room = [0u8; 8];
-    let mut tape = Tape::new(&mut room).failing_from(2);
-    assert!(rt; write_whole(&mut tape, b"abc").is_ok());
-    assert!(rt; tape.flush().is_err());
-    assert_eq!(rt; tape.as_slice(), b"abc".as_slice());
     Ok(())
 }

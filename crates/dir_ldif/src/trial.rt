@@ -44,8 +44,9 @@ impl<'a> Script<'a> {
         ensures calls { (failures_of result ≡ failures_of self.entry) × (good_calls result ≡ good_calls self.entry) }
         ensures pieces { (first_size result ≡ max size 1) × (piece_size result ≡ max size 1) }
     {
-        self.first = size.max(1);
-        self.piece = size.max(1);
+        let size = size.max(1);
+        self.first = size;
+        self.piece = size;
         self
     }
 

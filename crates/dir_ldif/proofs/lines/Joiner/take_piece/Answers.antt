@@ -16,7 +16,7 @@ loop-text-preserved c =
     let shorter = length-piece c.loop-text.rest.now c.in-Some.text.now c.in-Some.after.now c.in-Some.ensures in (
       omega (arith, shorter),
       omega (arith, shorter),
-      front_more c.args.piece.now c.loop-text.rest.now c.in-Some.text.now c.in-Some.after.now c.in-Some.ensures c.loop-text.invariant.2,
+      front_more c.args.self.now c.loop-text.self c.args.piece.now c.loop-text.rest.now c.in-Some.text.now c.in-Some.after.now c.in-Some.ensures c.loop-text.invariant.2 (to_come c.take_line.new.self) (rw c.in-Ok-None.field-0-is at c.in-Ok-None.ensures.ok),
       λ text.
           let first = piece_first c.loop-text.rest.now c.in-Some.text.now c.in-Some.after.now c.in-Some.ensures text in
           c.loop-text.invariant.3 text ∙ ap (to_come c.loop-text.self) first ∙ (rw c.in-Ok-None.field-0-is at c.in-Ok-None.ensures.ok) (c.in-Some.after.now ++ text),
@@ -28,8 +28,9 @@ returns-in-Ok-Some-clause-left c = omega (arith, length-piece c.loop-text.rest.n
 pub returns-in-Ok-Some-clause-shorter : goal.returns-in-Ok-Some-clause-shorter
 returns-in-Ok-Some-clause-shorter c = omega (arith, length-piece c.loop-text.rest.now c.in-Some.text.now c.in-Some.after.now c.in-Some.ensures)
 
-pub returns-in-Ok-Some-clause-back : goal.returns-in-Ok-Some-clause-back
-returns-in-Ok-Some-clause-back c = front_more c.args.piece.now c.loop-text.rest.now c.in-Some.text.now c.in-Some.after.now c.in-Some.ensures c.loop-text.invariant.2
+pub returns-in-Ok-Some-clause-used : goal.returns-in-Ok-Some-clause-used
+returns-in-Ok-Some-clause-used c =
+    front_more c.args.self.now c.loop-text.self c.args.piece.now c.loop-text.rest.now c.in-Some.text.now c.in-Some.after.now c.in-Some.ensures c.loop-text.invariant.2 _ (rw c.in-Ok-Some.field-0-is at c.in-Ok-Some.ensures.ok)
 
 pub returns-in-Ok-Some-clause-ok : goal.returns-in-Ok-Some-clause-ok
 returns-in-Ok-Some-clause-ok c =

@@ -6,7 +6,7 @@ abbrev pub invariant-loop-text : goal.invariant-loop-text
 invariant-loop-text l =
     (l.self.number + length l.rest ≤ l.fn.self.number + length l.piece)
     × (length l.rest ≤ length l.piece)
-    × ((front : List ℕ) × (l.piece ≡ front ++ l.rest))
+    × ((front : List ℕ) × (l.piece ≡ front ++ l.rest) × ((text : List ℕ) → to_come l.fn.self (front ++ text) ≡ to_come l.self text))
     × ((text : List ℕ) → to_come l.fn.self (l.piece ++ text) ≡ to_come l.self (l.rest ++ text))
 
 abbrev pub decreases-loop-text : goal.decreases-loop-text

@@ -4,6 +4,7 @@ use Rattle.dir_ldif.specs.Reading.{coming, hand}
 use Rattle.dir_ldif.specs.Device.{FailsToRead}
 use Rattle.dir_ldif.proofs.ReadingLemmas.{more_read}
 use Rattle.dir_ldif.proofs.StopsLemmas.{Consumes-none, hand_stops, read_stops}
+use Rattle.dir_ldif.proofs.SoonLemmas.{length_hand, takes_piece, hand_soon, end_soon, any_err, block_used}
 use Rattle.dir_ldif.proofs.reader.Core.next_block.Goals as goal
 
 pub returns-in-Err-clause-err : goal.returns-in-Err-clause-err
@@ -41,5 +42,26 @@ loop-block-preserved g c =
         more.0,
         more.1,
         omega (arith, so_far.3, c.take_hand.ensures.turns, c.in-Ok-true.ensures.turns, some, length-append so_far.0 (hand new)),
+        omega (arith, so_far.4, c.take_hand.ensures.turns, c.in-Ok-true.ensures.turns, length_hand new, length-append so_far.0 (hand new)),
+        takes_piece old c.loop-block.self new c.take_hand.new.self.joiner so_far.0 so_far.2 taken c.read_more.ensures.joiner,
       ),
     )
+
+pub returns-in-Err-clause-soon : goal.returns-in-Err-clause-soon
+returns-in-Err-clause-soon g c =
+    let so_far = c.loop-block.invariant.3 in
+    hand_soon c.in-Err.fault c.args.self.now c.loop-block.self _ _ so_far.0 so_far.1 so_far.5
+
+pub returns-in-Ok-false-clause-soon : goal.returns-in-Ok-false-clause-soon
+returns-in-Ok-false-clause-soon g c =
+    let so_far = c.loop-block.invariant.3 in
+    let mid = c.take_hand.new.self.joiner in
+    let taken : (text : List ℕ) → coming c.loop-block.self text ≡ to_come mid text = rw c.in-Ok-None.field-0-is at c.in-Ok-None.ensures.ok in
+    let empty = c.in-Ok-false.ensures.none (ap Ok c.in-Ok-false.field-0-test) in
+    let took = Consumes-none _ _ _ so_far.0 (hand c.read_more.new.self) so_far.1 c.read_more.ensures.bytes empty.0 in
+    any_err c.finish.result _ (λ fault. end_soon fault c.args.self.now c.loop-block.self mid _ _ so_far.0 took so_far.2 taken)
+
+pub returns-in-Ok-Some-clause-used : goal.returns-in-Ok-Some-clause-used
+returns-in-Ok-Some-clause-used g c =
+    let so_far = c.loop-block.invariant.3 in
+    λ _. block_used c.args.self.now c.loop-block.self c.take_hand.new.self c.in-Ok-Some.block.items _ _ so_far.0 so_far.1 so_far.5 (rw c.in-Ok-Some.field-0-is at c.in-Ok-Some.ensures.used)

@@ -1,7 +1,8 @@
-use Rattle.std.proofs.Common.{◌≡◌, ◌+◌, ◌++◌, ◌≤◌, ℕ, List, length}
+use Rattle.std.proofs.Common.{◌≡◌, ◌+◌, ◌*◌, ◌++◌, ◌≤◌, ℕ, List, length}
 use Rattle.std.specs.Io.KnownBytes.{Consumes}
 use Rattle.dir_ldif.specs.declared.reader.Place.TheVariants.{Reading}
 use Rattle.dir_ldif.specs.Reading.{coming}
+use Rattle.dir_ldif.proofs.SoonLemmas.{Takes}
 use Rattle.dir_ldif.proofs.reader.Core.next_block.Given as goal
 
 abbrev pub invariant-loop-block : goal.invariant-loop-block
@@ -12,7 +13,9 @@ invariant-loop-block g l =
     × ((bytes : List ℕ)
     × Consumes (g.S.Source.left l.fn.source) (g.S.Source.left l.source) bytes
     × ((text : List ℕ) → coming l.fn.self (bytes ++ text) ≡ coming l.self text)
-    × (l.fn.self.turns ≤ l.self.turns + length bytes))
+    × (l.fn.self.turns ≤ l.self.turns + length bytes)
+    × (length bytes + 8192 * l.self.turns ≤ 8192 * l.fn.self.turns)
+    × Takes l.fn.self bytes l.self)
 
 abbrev pub decreases-loop-block : goal.decreases-loop-block
 decreases-loop-block g l = l.self.turns
