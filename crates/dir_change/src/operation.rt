@@ -28,7 +28,8 @@ pub enum Refusal {
 /// Applies one change as the root identity (RFC 4511, sections 4.7 and 4.8): an add or a delete; a
 /// modify or a rename is refused with 53 for now. The answer is the changes that take it back.
 ///
-/// The change is legal under the schema. A refused change leaves the directory as it was.
+/// A refused change leaves the directory as it was. The answer takes back a change on a well-formed
+/// directory; a legal change of a name within the limits leaves one well formed.
 ///
 /// # Errors
 ///

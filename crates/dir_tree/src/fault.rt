@@ -15,7 +15,7 @@ pub enum EntryFault {
     /// Two values of one attribute have the same key.
     #[error("E2 Twice")]
     Twice,
-    /// A value of the entry's own RDN is missing.
+    /// The entry has no own RDN, or one without a key.
     #[error("E3 NotNamed")]
     NotNamed,
     /// An attribute of a single type has more than one value.

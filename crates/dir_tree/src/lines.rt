@@ -11,7 +11,7 @@ use crate::attributes::AttributeMap;
 use dir_names::{Bytes, Description, Lines, Schema, ValueKey};
 use std::alloc::Global;
 
-/// From this number on the lines of an entry are put in order before they are added, so that each
+/// Where an entry has more lines than this, they are put in order before they are added, so that each
 /// finds its place at the end.
 const MANY: usize = 64;
 
