@@ -1,5 +1,6 @@
 -- A sound change leaves a directory in good order.
-use Rattle.std.proofs.Common.{◌≡◌, ℕ, suc, ◌≤◌, Bool, true, false, cond, not, ◌&&◌, ◌||◌, ◌==◌, nat_le, List, [], ◌∷◌, ◌++◌, length, Option, Some, None, is_some, Result, Ok, Err, refl, sym, ap, subst, ◌∙◌, true≢false, arith, length-append}
+use Rattle.std.proofs.Common.{◌≡◌, ℕ, suc, ◌≤◌, Bool, true, false, cond, not, ◌&&◌, ◌||◌, ◌==◌, nat_le, List, [], ◌∷◌, ◌++◌, length, Option, Some, None, is_some, Result, Ok, Err, refl, sym, ap, subst, ◌∙◌, true≢false, arith, length-append, ◌<◌, nat_lt, zero}
+use Rattle.std.specs.Prelude.{slice_index}
 use Rattle.std.specs.List.{list_all}
 use Rattle.std.proofs.lemmas.Bool.Decides.{nat_tests}
 use Rattle.std.specs.Ordering.{eq_by_cmp}
@@ -20,11 +21,12 @@ use Rattle.dir_names.specs.Sound.{is_name, is_pair, is_rdn}
 use Rattle.dir_ldif.specs.declared.records.Change.{Change}
 use Rattle.dir_ldif.specs.declared.records.ChangeKind.{ChangeKind}
 use Rattle.dir_ldif.specs.declared.records.ChangeKind.TheVariants as kind
+use Rattle.dir_ldif.specs.Laws.{KindIsSound, ValuesAreBytes}
 use Rattle.dir_ldif.specs.Legal.{has_this_key, is_legal_kind, is_legal_line, is_read_under, is_short}
 use Rattle.dir_tree.specs.Content.{Content}
 use Rattle.dir_tree.specs.Dir.{Dir, entry_at, has_parent, put_entry, without}
 use Rattle.dir_tree.specs.Made.{leaf_of}
-use Rattle.dir_tree.specs.WellFormed.{Each, IsLegalLine, IsLegalPair, IsSoundEntry, IsWellFormed, own_part}
+use Rattle.dir_tree.specs.WellFormed.{Each, are_bytes, IsLegalLine, IsLegalPair, IsSoundEntry, IsWellFormed, own_part}
 use Rattle.dir_tree.proofs.DirLemmas.{closed_put, closed_without, get_put, get_without, same_key}
 use Rattle.dir_tree.proofs.SoundMade.{made_sound}
 use Rattle.dir_change.specs.Operation.{at_key, has_child, own_of, performed, step}
@@ -69,11 +71,18 @@ read_under rows d e = by (description_of rows d.spelling) refl e
         λ i. Ok (record { spelling = spelling i; key = key i })
     by (Err fault) t h = absurd (true≢false (sym h))
 
-legal_lines : (rows : List TypeRow) (lines : List (Described × List ℕ)) → list_all (is_legal_line rows) lines ≡ true → Each (IsLegalLine rows) lines
-legal_lines rows [] e = tt
-legal_lines rows (line ∷ lines) e =
+bytes_test : (bs : List ℕ) → ((i : ℕ) → slice_index bs i < 256) → are_bytes bs ≡ true
+bytes_test [] h = refl
+bytes_test (b ∷ bs) h =
+    let low : b < 256 = h zero in
+    let first : nat_lt b 256 ≡ true = grind (arith, nat_tests) in
+    λ i. first i && bytes_test bs (λ n. h (suc n)) i
+
+legal_lines : (rows : List TypeRow) (lines : List (Described × List ℕ)) → list_all (is_legal_line rows) lines ≡ true → ValuesAreBytes lines → Each (IsLegalLine rows) lines
+legal_lines rows [] e bytes = tt
+legal_lines rows (line ∷ lines) e bytes =
     let first = left (is_legal_line rows line) _ e in
-    ((read_under rows line.0 (right (is_short line.1) _ first), grind (arith, nat_tests)), legal_lines rows lines (right (is_legal_line rows line) _ e))
+    ((read_under rows line.0 (right (is_short line.1) _ first), grind (arith, nat_tests), bytes_test line.1 bytes.0), legal_lines rows lines (right (is_legal_line rows line) _ e) bytes.1)
 
 -- ---- pairs
 
@@ -175,19 +184,19 @@ step_keeps rows d change well sound new is = by (name_key rows change.dn) refl i
     name_sound : (is_name change.dn ≡ true) × (is_within_limits change.dn ≡ true)
     name_sound = sound.1.0
 
-    done : (k : DnKeys) → name_key rows change.dn ≡ Some k → (c : ChangeKind) → is_legal_kind rows c ≡ true → performed rows d k change.dn c ≡ Ok new → IsWellFormed rows new
-    done k t (kind.Add lines) legal h =
+    done : (k : DnKeys) → name_key rows change.dn ≡ Some k → (c : ChangeKind) → is_legal_kind rows c ≡ true → KindIsSound c → performed rows d k change.dn c ≡ Ok new → IsWellFormed rows new
+    done k t (kind.Add lines) legal bytes h =
         let known = added_is rows d k change.dn lines new h in
         let entry = known.3 in
-        let made_so = made_sound rows (own_of d.suffix k change.dn) lines entry (legal_leaf d.suffix k change.dn name_sound.0 name_sound.1) (legal_lines rows lines legal) known.4 in
+        let made_so = made_sound rows (own_of d.suffix k change.dn) lines entry (legal_leaf d.suffix k change.dn name_sound.0 name_sound.1) (legal_lines rows lines legal bytes) known.4 in
         let named = ap (name_key rows) (made_own rows (own_of d.suffix k change.dn) lines entry known.4) ∙ own_named rows d.suffix k change.dn t in
         subst (IsWellFormed rows) (sym known.5) (keeps_put rows d k entry well known.2 made_so named)
-    done k t kind.Delete legal h =
+    done k t kind.Delete legal bytes h =
         let known = deleted_is d k new h in
         subst (IsWellFormed rows) (sym known.3) (keeps_without rows d k well known.2)
-    done k t (kind.Modify mods) legal h = absurd (cc)
-    done k t (kind.Rename rdn delete_old superior) legal h = absurd (cc)
+    done k t (kind.Modify mods) legal bytes h = absurd (cc)
+    done k t (kind.Rename rdn delete_old superior) legal bytes h = absurd (cc)
 
     by : (o : Option DnKeys) → name_key rows change.dn ≡ o → at_key rows d change o ≡ Ok new → IsWellFormed rows new
     by None t h = absurd (cc)
-    by (Some k) t h = done k t change.kind (right (is_some (name_key rows change.dn)) (is_legal_kind rows change.kind) sound.0) h
+    by (Some k) t h = done k t change.kind (right (is_some (name_key rows change.dn)) (is_legal_kind rows change.kind) sound.0) sound.1.1 h

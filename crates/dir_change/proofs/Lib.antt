@@ -3,3 +3,4 @@ pub mod Kept
 pub mod LegalUndo
 pub mod TakenBack
 pub mod Undone
+pub mod Within

@@ -33,7 +33,7 @@ use Rattle.dir_change.proofs.Conditions.{add_placed, below_is, below_true, child
 same_dir : (d e : Dir) → d.suffix ≡ e.suffix → ((q : DnKeys) → entry_at d q ≡ entry_at e q) → d ≡ e
 same_dir d e s h = let entries = same_map dn_key_cmp_total dn_key_cmp_exact d.entries e.entries h in λ i. record { suffix = s i; entries = entries i }
 
-itself : (k : DnKeys) → eq_by_cmp dn_key_cmp k k ≡ true
+pub itself : (k : DnKeys) → eq_by_cmp dn_key_cmp k k ≡ true
 itself k = ap is_eq (tied_itself dn_key_cmp_total k)
 
 -- what is put at a free key and taken out again was never there

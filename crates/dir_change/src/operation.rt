@@ -3,7 +3,7 @@ ghost use Rattle.dir_ldif.specs.Legal.{is_legal};
 ghost use Rattle.dir_change.specs.declared.operation.Refusal.TheVariants.{Memory};
 ghost use Rattle.dir_change.specs.Operation.{IsKeyless, IsRefused, refusal_of, step};
 ghost use Rattle.dir_names.specs.NameKeys.{name_key};
-ghost use Rattle.dir_tree.specs.WellFormed.{Each, IsWellFormed};
+ghost use Rattle.dir_tree.specs.WellFormed.{Each, IsWellFormed, IsWithinLimits};
 ghost use Rattle.dir_change.specs.Runs.{group_of};
 ghost use Rattle.dir_change.specs.Sound.{IsSoundChange};
 ghost use Rattle.dir_change.specs.Undo.{TakesBack};
@@ -29,7 +29,7 @@ pub enum Refusal {
 /// modify or a rename is refused with 53 for now. The answer is the changes that take it back.
 ///
 /// A refused change leaves the directory as it was. The answer takes back a change on a well-formed
-/// directory; a legal change of a name within the limits leaves one well formed.
+/// directory; a legal change of a name within the limits leaves one well formed and within them.
 ///
 /// # Errors
 ///
@@ -44,8 +44,11 @@ pub fn apply<D: Directory>(
     ensures refused { IfErr result (λ e. IsRefused e (step schema.now (D.state directory.old) change.now)) }
     ensures err { OnErr result (D.state directory.new ≡ D.state directory.old) }
     ensures kept { IsOk result → IsWellFormed schema.now (D.state directory.old) → IsSoundChange schema.now change.now → IsWellFormed schema.now (D.state directory.new) }
+    ensures limits { IsOk result → IsWithinLimits (D.state directory.old) → IsSoundChange schema.now change.now → IsWithinLimits (D.state directory.new) }
     ensures undo { IfOk result (λ undo. undo ≡ group_of schema.now (D.state directory.old) (D.state directory.new) change.now) }
     ensures legal { IfOk result (λ undo. IsWellFormed schema.now (D.state directory.old) → Each (λ c. IsTrue (is_legal schema.now c)) undo) }
+    ensures sound { IfOk result (λ undo. IsWellFormed schema.now (D.state directory.old) → IsWithinLimits (D.state directory.old) → IsSoundChange schema.now change.now →
+        Each (IsSoundChange schema.now) undo) }
     ensures back { IfOk result (λ undo. IsWellFormed schema.now (D.state directory.old) → TakesBack schema.now (D.state directory.old) (D.state directory.new) undo) }
 {
     let key = key_of(alloc, schema, &change.dn)?;

@@ -26,9 +26,9 @@ use Rattle.dir_tree.specs.declared.fault.EntryFault.TheVariants.{BadValue, Twice
 use Rattle.dir_tree.specs.declared.lines.KeyedLine.{KeyedLine}
 use Rattle.dir_tree.specs.Content.{Content, Stored, StoredAttributes, StoredValues, has_in, has_value}
 use Rattle.dir_tree.specs.Made.{are_apart, attributes_of, gathered, gained, gained_by, gives_alike, is_crowded, keyed_line, keyed_lines, leaf_key, leaf_lines, leaf_of, made, or_else_fault, pair_line, rdn_lines, then, unless_crowded, with_line, with_lines, with_missing, with_value}
-use Rattle.dir_tree.specs.WellFormed.{Each, IsLegalLine, IsLegalPair, IsSoundAttribute, IsSoundEntry, IsSoundValue, has_each}
+use Rattle.dir_tree.specs.WellFormed.{Each, IsLegalLine, IsLegalPair, IsSoundAttribute, IsSoundEntry, IsSoundValue, are_bytes, has_each}
 use Rattle.dir_tree.proofs.Orderless.{given_itself, has_after}
-use Rattle.dir_tree.proofs.OwnLines.{keyed_rdn, pair_described, pair_line_keyed}
+use Rattle.dir_tree.proofs.OwnLines.{and_right, keyed_rdn, pair_described, pair_line_keyed}
 
 -- ---- what holds of each entry of a map
 
@@ -81,20 +81,20 @@ entries_of_none R = no_entries (fin.entries (fin.empty {R = R})) (sym (len-entri
 -- ---- sound lines keep attributes sound
 
 abbrev pub IsSoundLine : List TypeRow → KeyedLine → Type 0
-IsSoundLine rows l = (description_of rows l.description.spelling ≡ Ok l.description) × (value_key_of rows l.description.key l.bytes ≡ Ok l.key) × (length l.bytes ≤ 1048576)
+IsSoundLine rows l = (description_of rows l.description.spelling ≡ Ok l.description) × (value_key_of rows l.description.key l.bytes ≡ Ok l.key) × (length l.bytes ≤ 1048576) × (are_bytes l.bytes ≡ true)
 
 module _ (rows : List TypeRow) where
   one_sound : (l : KeyedLine) (a : Option Stored) → IsSoundLine rows l → ((s : Stored) → a ≡ Some s → IsSoundAttribute rows (l.description.key, s)) → IsSoundAttribute rows (l.description.key, with_value a l)
   one_sound l None line there = (
     line.0,
     insert_some value_key_cmp_total value_key_cmp_exact (IsSoundValue rows l.description.key) fin.empty l.key l.bytes,
-    each_insert value_key_cmp_total value_key_cmp_exact (IsSoundValue rows l.description.key) fin.empty l.key l.bytes (line.1, line.2) (subst (Each (IsSoundValue rows l.description.key)) (sym (entries_of_none value_key_cmp)) tt),
+    each_insert value_key_cmp_total value_key_cmp_exact (IsSoundValue rows l.description.key) fin.empty l.key l.bytes (line.1, line.2, line.3) (subst (Each (IsSoundValue rows l.description.key)) (sym (entries_of_none value_key_cmp)) tt),
   )
   one_sound l (Some s) line there =
       let before = there s refl in (
         before.0,
         insert_some value_key_cmp_total value_key_cmp_exact (IsSoundValue rows l.description.key) s.values l.key l.bytes,
-        each_insert value_key_cmp_total value_key_cmp_exact (IsSoundValue rows l.description.key) s.values l.key l.bytes (line.1, line.2) before.2,
+        each_insert value_key_cmp_total value_key_cmp_exact (IsSoundValue rows l.description.key) s.values l.key l.bytes (line.1, line.2, line.3) before.2,
       )
 
   line_keeps : (xs : StoredAttributes) (l : KeyedLine) → IsSoundLine rows l → Each (IsSoundAttribute rows) (fin.entries xs) → Each (IsSoundAttribute rows) (fin.entries (with_line xs l))
@@ -164,7 +164,7 @@ module _ (rows : List TypeRow) where
       by (Ok key) t (Some more) u e rest =
           let first : KeyedLine = record { description = line.0; key = key; bytes = line.1 } in
           let same : first ∷ more ≡ ks = cc in
-          subst (Each (IsSoundLine rows)) same ((legal.0.0, t, legal.0.1), rest more legal.1 u)
+          subst (Each (IsSoundLine rows)) same ((legal.0.0, t, legal.0.1, legal.0.2), rest more legal.1 u)
 
   pairs_sound : (rdn : SpelledRdn) (ls : List KeyedLine) → Each IsLegalPair rdn → rdn_lines rows rdn ≡ Some ls → Each (IsSoundLine rows) ls
   pairs_sound [] ls legal e = let none : [] ≡ ls = cc in subst (Each (IsSoundLine rows)) none tt
@@ -178,7 +178,7 @@ module _ (rows : List TypeRow) where
           let same : l ∷ more ≡ ls = cc in
           let line = pair_line_keyed rows p l t in
           let spelled : p.0 ≡ l.description.spelling = ap (λ (d : Described). d.spelling) (sym line.0) in
-          let sound : IsSoundLine rows l = (ap (description_of rows) (sym spelled) ∙ pair_described rows p legal.0.0 ∙ ap Ok (sym line.0), (λ i. value_key_of rows (line.0 i).key (line.2 i)) ∙ line.1, subst (λ b. length b ≤ 1048576) (sym line.2) legal.0.1) in
+          let sound : IsSoundLine rows l = (ap (description_of rows) (sym spelled) ∙ pair_described rows p legal.0.0 ∙ ap Ok (sym line.0), (λ i. value_key_of rows (line.0 i).key (line.2 i)) ∙ line.1, subst (λ b. length b ≤ 1048576) (sym line.2) legal.0.1, subst (λ b. are_bytes b ≡ true) (sym line.2) (and_right _ (are_bytes p.1) legal.0.0)) in
           subst (Each (IsSoundLine rows)) same (sound, rest more legal.1 u)
 
   -- an entry that is made of legal lines under a legal own RDN

@@ -1,5 +1,5 @@
 -- A directory in good order (RFC 4512, sections 2.2 to 2.4).
-use Rattle.std.specs.Prelude.{◌≡◌, ℕ, ◌≤◌, Bool, true, false, cond, List, [], ◌∷◌, map, take, reverse, length, Option, Some, None, Result, Ok, ⊤}
+use Rattle.std.specs.Prelude.{◌≡◌, ℕ, ◌≤◌, Bool, true, false, cond, List, [], ◌∷◌, map, take, reverse, length, Option, Some, None, Result, Ok, ⊤, nat_lt}
 use Rattle.std.specs.List.{flat_map, list_all}
 use Rattle.std.specs.FinMap as fin
 use Rattle.dir_names.specs.declared.schema.TypeRow.{TypeRow}
@@ -11,7 +11,8 @@ use Rattle.dir_names.specs.Keys.{DnKeys}
 use Rattle.dir_names.specs.NameKeys.{name_key, value_key_of}
 use Rattle.dir_names.specs.Names.{SpelledPair}
 use Rattle.dir_names.specs.Orders.{dn_key_eq}
-use Rattle.dir_names.specs.Sound.{is_pair}
+use Rattle.dir_names.specs.Reading.{is_small}
+use Rattle.dir_names.specs.Sound.{is_name, is_pair}
 use Rattle.dir_tree.specs.declared.lines.KeyedLine.{KeyedLine}
 use Rattle.dir_tree.specs.Content.{Content, Stored, StoredAttributes, has_value}
 use Rattle.dir_tree.specs.Dir.{Dir, IsClosed, entry_at}
@@ -32,9 +33,12 @@ all_lines xs = flat_map attribute_lines (fin.entries xs)
 
 -- ---- entries
 
+abbrev pub are_bytes : List ℕ → Bool
+are_bytes value = list_all (λ b. nat_lt b 256) value
+
 -- a value stands under its key, and has at most 1,048,576 bytes
 abbrev pub IsSoundValue : List TypeRow → Attr → ValueKey × List ℕ → Type 0
-IsSoundValue rows a v = (value_key_of rows a v.1 ≡ Ok v.0) × (length v.1 ≤ 1048576)
+IsSoundValue rows a v = (value_key_of rows a v.1 ≡ Ok v.0) × (length v.1 ≤ 1048576) × (are_bytes v.1 ≡ true)
 
 -- an attribute stands under the key of its description, and has a value
 abbrev pub IsSoundAttribute : List TypeRow → Attr × Stored → Type 0
@@ -59,7 +63,7 @@ IsSoundEntry rows e =
 
 -- a line whose description was read under the schema, of a value within the limit
 abbrev pub IsLegalLine : List TypeRow → Described × List ℕ → Type 0
-IsLegalLine rows line = (description_of rows line.0.spelling ≡ Ok line.0) × (length line.1 ≤ 1048576)
+IsLegalLine rows line = (description_of rows line.0.spelling ≡ Ok line.0) × (length line.1 ≤ 1048576) × (are_bytes line.1 ≡ true)
 
 -- a pair of a name, of a value within the limit
 abbrev pub IsLegalPair : SpelledPair → Type 0
@@ -77,3 +81,7 @@ IsWellFormed rows d =
     (d.suffix ≡ [] → ⊥)
     × IsClosed d
     × ((k : DnKeys) (e : Content) → entry_at d k ≡ Some e → IsSoundEntry rows e × (name_key rows e.own ≡ Some (own_part d.suffix k)))
+
+-- each key has at most 64 parts, each RDN at most 4,096 bytes, and each type is one that a name may have
+abbrev pub IsWithinLimits : Dir → Type 0
+IsWithinLimits d = (k : DnKeys) (e : Content) → entry_at d k ≡ Some e → (length k ≤ 64) × (is_name e.own ≡ true) × (list_all is_small e.own ≡ true)
