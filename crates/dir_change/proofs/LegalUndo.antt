@@ -1,12 +1,11 @@
 -- The changes that take a change back are legal.
-use Rattle.std.proofs.Common.{◌≡◌, ℕ, ◌≤◌, Bool, true, false, ◌&&◌, nat_le, List, [], ◌∷◌, ◌++◌, length, map, Option, Some, None, is_some, Result, Ok, Err, refl, sym, ap, subst, ◌∙◌, true≢false, arith}
+use Rattle.std.proofs.Common.{◌≡◌, ℕ, Bool, true, false, ◌&&◌, List, [], ◌∷◌, ◌++◌, map, Option, Some, None, is_some, Ok, refl, ap, ◌∙◌, arith}
 use Rattle.std.specs.List.{flat_map, list_all}
 use Rattle.std.proofs.lemmas.Bool.Decides.{nat_tests}
 use Rattle.std.specs.FinMap as fin
 use Rattle.dir_names.specs.declared.schema.TypeRow.{TypeRow}
 use Rattle.dir_names.specs.declared.value.ValueKey.{ValueKey}
 use Rattle.dir_names.specs.Attr.{Attr}
-use Rattle.dir_names.specs.Described.{Described}
 use Rattle.dir_names.specs.Keys.{DnKeys}
 use Rattle.dir_names.specs.NameKeys.{name_key}
 use Rattle.dir_names.specs.Orders.{attr_eq_decides}
@@ -14,10 +13,9 @@ use Rattle.dir_ldif.specs.declared.records.Change.{Change}
 use Rattle.dir_ldif.specs.declared.records.ChangeKind.{ChangeKind}
 use Rattle.dir_ldif.specs.declared.records.ChangeKind.TheVariants as kind
 use Rattle.dir_ldif.specs.Legal.{has_this_key, is_legal, is_legal_line, is_read_under, is_short}
-use Rattle.dir_tree.specs.Content.{Content, Stored}
-use Rattle.dir_tree.specs.Dir.{Dir, entry_at}
-use Rattle.dir_tree.specs.Spelled.{spelled_name}
-use Rattle.dir_tree.specs.WellFormed.{Each, IsSoundAttribute, IsSoundValue, IsWellFormed, all_lines, attribute_lines}
+use Rattle.dir_tree.specs.Content.{Stored}
+use Rattle.dir_tree.specs.Dir.{Dir}
+use Rattle.dir_tree.specs.WellFormed.{Each, IsSoundAttribute, IsSoundValue, IsWellFormed, attribute_lines}
 use Rattle.dir_change.specs.Operation.{at_key, performed, step}
 use Rattle.dir_change.specs.Runs.{group_at, group_of}
 use Rattle.dir_change.specs.Undo.{lines_in, undo_of}

@@ -1,6 +1,7 @@
 pub mod Conditions
 pub mod Kept
 pub mod LegalUndo
+pub mod ReadBack
 pub mod TakenBack
 pub mod Undone
 pub mod Within

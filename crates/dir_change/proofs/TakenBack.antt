@@ -32,7 +32,7 @@ module _ (rows : List TypeRow) where
   joined [] ys = refl
   joined (x ∷ xs) ys = ap (λ z. x ++ z) (joined xs ys) ∙ sym (append_assoc x (flat_map (λ g. g) xs) (flat_map (λ g. g) ys))
 
-  last_behind : (group : List Change) (ending : Ending) → last_first (behind group ending) ≡ last_first ending ++ group
+  pub last_behind : (group : List Change) (ending : Ending) → last_first (behind group ending) ≡ last_first ending ++ group
   last_behind group ending =
       ap (flat_map (λ g. g)) (reverse-append (group ∷ []) ending.groups)
       ∙ joined (reverse ending.groups) (group ∷ [])

@@ -1,5 +1,5 @@
 -- Names and values within the limits, and that an operation keeps them so.
-use Rattle.std.proofs.Common.{◌≡◌, ℕ, zero, suc, ◌<◌, ◌≤◌, Bool, true, false, cond, ◌&&◌, nat_le, nat_lt, List, [], ◌∷◌, ◌++◌, length, map, take, Option, Some, None, is_some, Result, Ok, Err, refl, sym, ap, subst, ◌∙◌, true≢false, arith}
+use Rattle.std.proofs.Common.{◌≡◌, ℕ, zero, suc, ◌<◌, ◌≤◌, Bool, true, false, cond, ◌&&◌, nat_le, nat_lt, List, [], ◌∷◌, ◌++◌, length, map, take, Option, Some, None, is_some, Ok, refl, sym, ap, subst, ◌∙◌, true≢false, arith}
 use Rattle.std.specs.Prelude.{slice_index}
 use Rattle.std.specs.List.{flat_map, list_all}
 use Rattle.std.specs.FinMap as fin
@@ -20,11 +20,10 @@ use Rattle.dir_ldif.specs.declared.records.ChangeKind.{ChangeKind}
 use Rattle.dir_ldif.specs.declared.records.ChangeKind.TheVariants as kind
 use Rattle.dir_ldif.specs.Laws.{NameIsSound, ValuesAreBytes}
 use Rattle.dir_tree.specs.Content.{Content, Stored}
-use Rattle.dir_tree.specs.Dir.{Dir, entry_at, put_entry, without}
-use Rattle.dir_tree.specs.Made.{made}
+use Rattle.dir_tree.specs.Dir.{Dir, entry_at, put_entry}
 use Rattle.dir_tree.specs.Spelled as spelled
 use Rattle.dir_tree.specs.Spelled.{own_at, prefixes, spelled_name}
-use Rattle.dir_tree.specs.WellFormed.{Each, IsSoundAttribute, IsSoundValue, IsWellFormed, IsWithinLimits, all_lines, are_bytes, attribute_lines}
+use Rattle.dir_tree.specs.WellFormed.{Each, IsSoundAttribute, IsSoundValue, IsWellFormed, IsWithinLimits, are_bytes, attribute_lines}
 use Rattle.dir_ldif.specs.Legal.{is_legal}
 use Rattle.dir_tree.proofs.DirLemmas.{get_put, get_without, same_key}
 use Rattle.dir_change.specs.Operation.{at_key, own_of, performed, step}
@@ -98,10 +97,11 @@ step_within rows d change within sound new is = by (name_key rows change.dn) ref
         let long : length change.dn ≡ length k = key_length rows change.dn k t in
         let bound : nat_le (length change.dn) 64 ≡ true = left (nat_le (length change.dn) 64) _ name.1 in
         let low : length k ≤ 64 = grind (arith, nat_tests) in
-        let one : (length k ≤ 64) × (is_name e.own ≡ true) × (list_all is_small e.own ≡ true) =
-          (low,
+        let one : (length k ≤ 64) × (is_name e.own ≡ true) × (list_all is_small e.own ≡ true) = (
+          low,
           ap is_name own ∙ all_own_of is_rdn d.suffix k change.dn name.0,
-          ap (list_all is_small) own ∙ all_own_of is_small d.suffix k change.dn (right (nat_le (length change.dn) 64) _ name.1)) in
+          ap (list_all is_small) own ∙ all_own_of is_small d.suffix k change.dn (right (nat_le (length change.dn) 64) _ name.1),
+        ) in
         subst IsWithinLimits (sym known.5) (put_within k e one)
       where
         put_within : (k : DnKeys) (e : Content) → (length k ≤ 64) × (is_name e.own ≡ true) × (list_all is_small e.own ≡ true) → IsWithinLimits (put_entry d k e)

@@ -1,16 +1,20 @@
 -- Lists of changes, and the groups that take the accepted ones back.
-use Rattle.std.specs.Prelude.{◌≡◌, List, [], ◌∷◌, reverse, Option, None, Some, Result, Ok, Err}
+use Rattle.std.specs.Prelude.{◌≡◌, List, [], ◌∷◌, map, reverse, Option, None, Some, Result, Ok, Err}
 use Rattle.std.specs.List.{flat_map}
 use Rattle.dir_names.specs.declared.schema.TypeRow.{TypeRow}
 use Rattle.dir_names.specs.Keys.{DnKeys}
 use Rattle.dir_names.specs.NameKeys.{name_key}
 use Rattle.dir_ldif.specs.declared.records.Change.{Change}
 use Rattle.dir_tree.specs.Dir.{Dir}
-use Rattle.dir_tree.specs.WellFormed.{Each, IsWellFormed}
+use Rattle.dir_ldif.specs.declared.records.Record.TheVariants as form
+use Rattle.dir_ldif.specs.Laws.{without_line}
+use Rattle.dir_ldif.specs.Records.{records_of}
+use Rattle.dir_tree.specs.WellFormed.{Each, IsWellFormed, IsWithinLimits}
 use Rattle.dir_change.specs.declared.result_code.ResultCode.{ResultCode}
 use Rattle.dir_change.specs.Operation.{step}
 use Rattle.dir_change.specs.Sound.{IsSoundChange}
 use Rattle.dir_change.specs.Undo.{all_steps, undo_of}
+use Rattle.dir_change.specs.UndoText.{undo_text_of}
 
 abbrev pub group_at : Dir → Dir → Change → Option DnKeys → List Change
 group_at before after change None = []
@@ -52,3 +56,10 @@ LeadsBack rows d ending = all_steps rows ending.end (last_first ending) ≡ Ok d
 
 abbrev pub RunsAreTakenBack : Type 0
 RunsAreTakenBack = (rows : List TypeRow) (d : Dir) (changes : List Change) → IsWellFormed rows d → Each (IsSoundChange rows) changes → LeadsBack rows d (goes_on rows d changes) × LeadsBack rows d (stops rows d changes)
+
+-- the records of the undo text are the changes of the groups, the last accepted change's first, and none is faulty
+abbrev pub ReadsBack : List TypeRow → Ending → Type 0
+ReadsBack rows ending = map without_line (records_of rows (undo_text_of ending.groups)) ≡ map (λ c. Ok (Ok (form.Change c))) (last_first ending)
+
+abbrev pub UndoTextsReadBack : Type 0
+UndoTextsReadBack = (rows : List TypeRow) (d : Dir) (changes : List Change) → IsWellFormed rows d → IsWithinLimits d → Each (IsSoundChange rows) changes → ReadsBack rows (goes_on rows d changes) × ReadsBack rows (stops rows d changes)

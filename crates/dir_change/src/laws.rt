@@ -1,4 +1,6 @@
-ghost use Rattle.dir_change.specs.Runs.{RunsAreTakenBack};
+ghost use Rattle.dir_change.specs.Runs.{RunsAreTakenBack, UndoTextsReadBack};
+
+use dir_ldif::written_records_read_back;
 
 /// A law: for every list of legal changes on a well-formed directory, going on behind refused ones or
 /// not, the groups of the accepted changes, the last first, are all accepted from where the list ends,
@@ -6,3 +8,11 @@ ghost use Rattle.dir_change.specs.Runs.{RunsAreTakenBack};
 pub fn runs_are_taken_back()
     ensures { RunsAreTakenBack }
 {}
+
+/// A law: where that directory is within the limits of names too, the undo text of the groups reads
+/// back as their changes, in the order in which they are to be applied, and no record is faulty.
+pub fn undo_texts_read_back()
+    ensures { UndoTextsReadBack }
+{
+    written_records_read_back();
+}

@@ -91,9 +91,9 @@ returns-in-Add-clause-limits g c ok within sound =
     let d = g.D.Directory.state c.args.directory.now in
     let new = g.D.Directory.state c.add.new.directory in
     let is : step rows d c.args.change.now ≡ Ok new =
-      ap (at_key rows d c.args.change.now) c.in_ok-key.ensures.ok
-      ∙ ap (performed rows d c.in_ok-key.key c.args.change.now.dn) c.in-Add.is
-      ∙ known_of c.add.result ok c.add.ensures.ok in
+    ap (at_key rows d c.args.change.now) c.in_ok-key.ensures.ok
+    ∙ ap (performed rows d c.in_ok-key.key c.args.change.now.dn) c.in-Add.is
+    ∙ known_of c.add.result ok c.add.ensures.ok in
     step_within rows d c.args.change.now within sound new is
 
 pub returns-in-Add-clause-sound : goal.returns-in-Add-clause-sound
@@ -103,9 +103,9 @@ returns-in-Add-clause-sound g c =
     let new = g.D.Directory.state c.add.new.directory in
     if_both c.add.result c.add.ensures.ok c.add.ensures.undo (λ undo is group well within sound.
     let whole : step rows d c.args.change.now ≡ Ok new =
-      ap (at_key rows d c.args.change.now) c.in_ok-key.ensures.ok
-      ∙ ap (performed rows d c.in_ok-key.key c.args.change.now.dn) c.in-Add.is
-      ∙ is in
+    ap (at_key rows d c.args.change.now) c.in_ok-key.ensures.ok
+    ∙ ap (performed rows d c.in_ok-key.key c.args.change.now.dn) c.in-Add.is
+    ∙ is in
     let named : group_of rows d new c.args.change.now ≡ undo = ap (group_at d new c.args.change.now) c.in_ok-key.ensures.ok ∙ ap (undo_of d new c.in_ok-key.key) c.in-Add.is ∙ sym group in
     subst (Each (IsSoundChange rows)) named (group_sound rows d c.args.change.now well within sound new whole))
 
@@ -115,9 +115,9 @@ returns-in-Delete-clause-limits g c ok within sound =
     let d = g.D.Directory.state c.args.directory.now in
     let new = g.D.Directory.state c.delete.new.directory in
     let is : step rows d c.args.change.now ≡ Ok new =
-      ap (at_key rows d c.args.change.now) c.in_ok-key.ensures.ok
-      ∙ ap (performed rows d c.in_ok-key.key c.args.change.now.dn) c.in-Delete.is
-      ∙ known_of c.delete.result ok c.delete.ensures.ok in
+    ap (at_key rows d c.args.change.now) c.in_ok-key.ensures.ok
+    ∙ ap (performed rows d c.in_ok-key.key c.args.change.now.dn) c.in-Delete.is
+    ∙ known_of c.delete.result ok c.delete.ensures.ok in
     step_within rows d c.args.change.now within sound new is
 
 pub returns-in-Delete-clause-sound : goal.returns-in-Delete-clause-sound
@@ -127,8 +127,8 @@ returns-in-Delete-clause-sound g c =
     let new = g.D.Directory.state c.delete.new.directory in
     if_both c.delete.result c.delete.ensures.ok c.delete.ensures.undo (λ undo is group well within sound.
     let whole : step rows d c.args.change.now ≡ Ok new =
-      ap (at_key rows d c.args.change.now) c.in_ok-key.ensures.ok
-      ∙ ap (performed rows d c.in_ok-key.key c.args.change.now.dn) c.in-Delete.is
-      ∙ is in
+    ap (at_key rows d c.args.change.now) c.in_ok-key.ensures.ok
+    ∙ ap (performed rows d c.in_ok-key.key c.args.change.now.dn) c.in-Delete.is
+    ∙ is in
     let named : group_of rows d new c.args.change.now ≡ undo = ap (group_at d new c.args.change.now) c.in_ok-key.ensures.ok ∙ ap (undo_of d new c.in_ok-key.key) c.in-Delete.is ∙ sym group in
     subst (Each (IsSoundChange rows)) named (group_sound rows d c.args.change.now well within sound new whole))
