@@ -1,2 +1,3 @@
 mod directory;
 mod entries;
+mod maps;
