@@ -36,7 +36,7 @@ all_lines xs = flat_map attribute_lines (fin.entries xs)
 abbrev pub are_bytes : List ℕ → Bool
 are_bytes value = list_all (λ b. nat_lt b 256) value
 
--- a value stands under its key, and has at most 1,048,576 bytes
+-- a value is made of bytes, stands under its key, and has at most 1,048,576 of them
 abbrev pub IsSoundValue : List TypeRow → Attr → ValueKey × List ℕ → Type 0
 IsSoundValue rows a v = (value_key_of rows a v.1 ≡ Ok v.0) × (length v.1 ≤ 1048576) × (are_bytes v.1 ≡ true)
 
