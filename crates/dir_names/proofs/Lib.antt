@@ -15,6 +15,7 @@ pub mod ReadNames
 pub mod ReadValues
 pub mod ReadsSpells
 pub mod SoundLemmas
+pub mod SortOrder
 pub mod SpellsReads
 pub mod Tidy
 pub mod ValueSteps

@@ -4,6 +4,7 @@ pub mod Covers
 pub mod Cut
 pub mod Described
 pub mod Descriptions
+pub mod FaultText
 pub mod Keys
 pub mod NameKeys
 pub mod Names
@@ -12,6 +13,7 @@ pub mod Outcome
 pub mod Printing
 pub mod Reading
 pub mod Rows
+pub mod SortTexts
 pub mod Sorted
 pub mod Sound
 pub mod Spaces

@@ -69,6 +69,12 @@ impl AttrKey {
     {
         self.kind.as_slice()
     }
+
+    pub(crate) fn options(&self) -> &[Bytes]
+        ensures { result.now ≡ self.now.options }
+    {
+        self.options.as_slice()
+    }
 }
 
 impl PartialEq for AttrKey {

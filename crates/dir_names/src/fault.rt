@@ -1,32 +1,46 @@
 ghost use Rattle.std.specs.Prelude.{◌≡◌};
 ghost use Rattle.dir_names.specs.Outcome.{as_bad_dn};
 ghost use Rattle.dir_names.specs.declared.fault.NameFault.TheVariants.{Memory};
+ghost use Rattle.dir_names.specs.FaultText.{name_fault_text};
+ghost use Rattle.std.specs.Prelude.{Some};
 
 use std::alloc::{AllocError, AllocFailed};
-use thiserror::Error;
+use std::error::Error;
+use std::fmt;
 
 /// Why a text is no description, value or name.
-#[derive(Clone, Copy, PartialEq, Eq, Debug, Error)]
+#[derive(Clone, Copy, PartialEq, Eq, Debug)]
 pub enum NameFault {
     /// The text is no attribute description (RFC 4512, section 2.5), or is longer than 512 bytes.
-    #[error("N1 BadDescription")]
     BadDescription,
     /// The description is of a type that LDIF reserves: `dn`, `changetype` or `control`.
-    #[error("N2 ReservedName")]
     ReservedName,
     /// The value has no comparison key under the rule of its type.
-    #[error("N3 BadValue")]
     BadValue,
     /// The text is no distinguished name (RFC 4514), or the name has no key.
-    #[error("N4 BadDn")]
     BadDn,
     /// The name has more than 64 RDNs, or one that prints to more than 4,096 bytes.
-    #[error("N5 NameLimit")]
     NameLimit,
     /// No memory is left.
-    #[error("N6 Memory")]
     Memory,
 }
+
+impl fmt::Display for NameFault {
+    ghost output = { λ fault. Some (name_fault_text fault) };
+
+    fn fmt<W: fmt::Write>(&self, f: &mut fmt::Formatter<W>) -> fmt::Result {
+        f.write_str(match self {
+            NameFault::BadDescription => "N1 BadDescription",
+            NameFault::ReservedName => "N2 ReservedName",
+            NameFault::BadValue => "N3 BadValue",
+            NameFault::BadDn => "N4 BadDn",
+            NameFault::NameLimit => "N5 NameLimit",
+            NameFault::Memory => "N6 Memory",
+        })
+    }
+}
+
+impl Error for NameFault {}
 
 impl From<AllocError> for NameFault {
     ghost from_gives = { λ _ e. e ≡ Memory };

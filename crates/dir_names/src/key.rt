@@ -5,56 +5,40 @@ ghost use Rattle.dir_names.specs.Keys.{is_rdn_key, with_pair, IsAtOrBelow, IsPar
 ghost use Rattle.dir_names.specs.Orders.{rdn_key_cmp, rdn_key_eq, rdn_key_cmp_total, rdn_key_cmp_ties, dn_key_cmp, dn_key_eq, dn_key_cmp_total, dn_key_cmp_ties, tied_equiv, tied_per};
 ghost use Rattle.dir_names.specs.Outcome.{Gives};
 
+use crate::sorting::{put_name, put_part};
 use crate::{AttrKey, Bytes, NameFault};
 use std::alloc::Global;
 use std::cmp::Ordering;
 use std::marker::Model;
+use std::rc::Rc;
 
-/// What an RDN is compared by: the set of its pairs of type key and value key, in order.
+/// The pairs of type key and value key of an RDN, in order.
 #[derive(Debug, Drop)]
-pub struct RdnKey {
+pub(crate) struct PairSet {
     pairs: Vec<(AttrKey, Bytes)>,
 }
 
-impl Model for RdnKey {
+impl Model for PairSet {
     ghost use Rattle.std.specs.Prelude.{ℕ, List};
     ghost use Rattle.dir_names.specs.Attr.{Attr};
 
     ghost Value = { List (Attr × List ℕ) };
 
-    ghost view = { λ key. key.pairs.items };
+    ghost view = { λ set. set.pairs.items };
 
     ghost use Rattle.std.specs.Prelude.{IsTrue};
     ghost use Rattle.dir_names.specs.Keys.{is_rdn_key};
 
-    ghost invariant = { λ key. IsTrue (is_rdn_key key.pairs.items) };
+    ghost invariant = { λ set. IsTrue (is_rdn_key set.pairs.items) };
 }
 
-impl RdnKey {
-    /// The pairs in order of their keys. No type stands twice.
-    pub fn pairs(&self) -> &[(AttrKey, Bytes)]
-        ensures value { result.now ≡ self.now }
-        ensures set { IsTrue (is_rdn_key self.now) }
-    {
-        self.pairs.as_slice()
-    }
-
-    pub fn try_clone(&self, alloc: Global) -> Result<RdnKey, NameFault>
-        ensures { Gives (λ key. key) result (Ok self.now) }
-    {
-        let mut pairs = Vec::with_capacity(alloc, self.pairs.len())?;
-        for pair in self.pairs.as_slice() {
-            pairs.push((pair.0.try_clone(alloc)?, pair.1.try_clone(alloc)?))?;
-        }
-        Ok(RdnKey { pairs })
-    }
-
-    /// The key of no pair, with room for so many.
-    pub(crate) fn with_room(alloc: Global, room: usize) -> Result<RdnKey, NameFault>
-        ensures empty { IfOk result (λ key. key ≡ []) }
+impl PairSet {
+    /// The set of no pair, with room for so many.
+    pub(crate) fn with_room(alloc: Global, room: usize) -> Result<PairSet, NameFault>
+        ensures empty { IfOk result (λ set. set ≡ []) }
         ensures memory { IfErr result (λ e. e ≡ NameFault.Memory) }
     {
-        Ok(RdnKey {
+        Ok(PairSet {
             pairs: Vec::with_capacity(alloc, room)?,
         })
     }
@@ -71,6 +55,56 @@ impl RdnKey {
             }
         }
     }
+
+    fn as_slice(&self) -> &[(AttrKey, Bytes)]
+        ensures value { result.now ≡ self.now }
+        ensures set { IsTrue (is_rdn_key self.now) }
+    {
+        self.pairs.as_slice()
+    }
+}
+
+/// What an RDN is compared by: the set of its pairs of type key and value key, in order. Copies share
+/// its memory.
+#[derive(Debug, Drop)]
+pub struct RdnKey {
+    set: Rc<PairSet>,
+}
+
+impl Model for RdnKey {
+    ghost use Rattle.std.specs.Prelude.{ℕ, List};
+    ghost use Rattle.dir_names.specs.Attr.{Attr};
+
+    ghost Value = { List (Attr × List ℕ) };
+
+    ghost view = { λ key. key.set.value };
+}
+
+impl RdnKey {
+    /// The pairs in order of their keys. No type stands twice.
+    pub fn pairs(&self) -> &[(AttrKey, Bytes)]
+        ensures value { result.now ≡ self.now }
+        ensures set { IsTrue (is_rdn_key self.now) }
+    {
+        self.set.as_slice()
+    }
+
+    /// The same key, in the same memory.
+    pub fn try_clone(&self, _alloc: Global) -> Result<RdnKey, NameFault>
+        ensures { Gives (λ key. key) result (Ok self.now) }
+    {
+        Ok(RdnKey {
+            set: self.set.clone()?,
+        })
+    }
+
+    pub(crate) fn of(alloc: Global, set: PairSet) -> Result<RdnKey, NameFault>
+        ensures { Gives (λ key. key) result (Ok set) }
+    {
+        Ok(RdnKey {
+            set: Rc::new(alloc, set)?,
+        })
+    }
 }
 
 impl PartialEq for RdnKey {
@@ -79,7 +113,7 @@ impl PartialEq for RdnKey {
     ghost laws = { tied_per rdn_key_cmp rdn_key_cmp_total rdn_key_cmp_ties };
 
     fn eq(&self, other: &RdnKey) -> bool {
-        self.pairs == other.pairs
+        self.pairs() == other.pairs()
     }
 }
 
@@ -107,15 +141,75 @@ impl Ord for RdnKey {
     ghost matches_eq = { rdn_key_cmp_ties };
 
     fn cmp(&self, other: &RdnKey) -> Ordering {
-        self.pairs.cmp(&other.pairs)
+        self.pairs().cmp(other.pairs())
+    }
+}
+
+/// The keys of the RDNs of a name, root first, and a text that is ordered as they are.
+#[derive(Debug, Drop)]
+struct NameKey {
+    parts: Vec<RdnKey>,
+    sort: Vec<u8>,
+}
+
+impl Model for NameKey {
+    ghost use Rattle.std.specs.Prelude.{ℕ, List};
+    ghost use Rattle.dir_names.specs.Attr.{Attr};
+
+    ghost Value = { List (List (Attr × List ℕ)) };
+
+    ghost view = { λ key. key.parts.items };
+
+    ghost use Rattle.std.specs.Prelude.{◌≡◌};
+    ghost use Rattle.dir_names.specs.SortTexts.{name_sort};
+
+    ghost invariant = { λ key. key.sort.items ≡ name_sort key.parts.items };
+}
+
+impl NameKey {
+    fn new(alloc: Global, parts: Vec<RdnKey>) -> Result<NameKey, NameFault>
+        ensures { Gives (λ key. key) result (Ok parts.items) }
+    {
+        let mut sort = Vec::with_capacity(alloc, parts.len().saturating_mul(24))?;
+        put_name(parts.as_slice(), &mut sort)?;
+        sort.shrink_to_fit();
+        Ok(NameKey { parts, sort })
+    }
+
+    fn child(&self, alloc: Global, part: &RdnKey) -> Result<NameKey, NameFault>
+        ensures { Gives (λ key. key) result (Ok (self.now ++ part.now ∷ [])) }
+    {
+        let mut sort = self.sort.as_slice().to_vec(alloc)?;
+        put_part(part, &mut sort)?;
+        let mut parts = cloned_parts(alloc, self.parts.as_slice())?;
+        parts.push(part.try_clone(alloc)?)?;
+        Ok(NameKey { parts, sort })
+    }
+
+    fn as_slice(&self) -> &[RdnKey]
+        ensures { result.now ≡ self.now }
+    {
+        self.parts.as_slice()
+    }
+
+    fn is_same(&self, other: &NameKey) -> bool
+        ensures { result ≡ dn_key_eq self.now other.now }
+    {
+        self.sort == other.sort
+    }
+
+    fn compare(&self, other: &NameKey) -> Ordering
+        ensures { result ≡ dn_key_cmp self.now other.now }
+    {
+        self.sort.cmp(&other.sort)
     }
 }
 
 /// What a name is compared by: the keys of its RDNs, root first, so that a name comes before what is
-/// below it.
+/// below it. Copies share its memory.
 #[derive(Debug, Drop)]
 pub struct DnKey {
-    parts: Vec<RdnKey>,
+    shared: Rc<NameKey>,
 }
 
 impl Model for DnKey {
@@ -124,7 +218,7 @@ impl Model for DnKey {
 
     ghost Value = { List (List (Attr × List ℕ)) };
 
-    ghost view = { λ key. key.parts.items };
+    ghost view = { λ key. key.shared.value };
 }
 
 impl DnKey {
@@ -132,15 +226,15 @@ impl DnKey {
     pub fn at_or_below(&self, other: &DnKey) -> bool
         ensures { IsTrue result ↔ IsAtOrBelow self.now other.now }
     {
-        self.parts.as_slice().starts_with(other.parts.as_slice())
+        self.parts().starts_with(other.parts())
     }
 
     /// Whether `other` stands directly below this name.
     pub fn is_parent_of(&self, other: &DnKey) -> bool
         ensures { IsTrue result ↔ IsParent self.now other.now }
     {
-        match other.parts.as_slice().split_last() {
-            Some((_, above)) => above == self.parts.as_slice(),
+        match other.parts().split_last() {
+            Some((_, above)) => above == self.parts(),
             None => false,
         }
     }
@@ -149,49 +243,53 @@ impl DnKey {
     pub fn depth(&self) -> usize
         ensures { result ≡ length self.now }
     {
-        self.parts.len()
+        self.parts().len()
     }
 
     /// The key of the name with one RDN more at its leaf.
     pub fn child(&self, alloc: Global, part: &RdnKey) -> Result<DnKey, NameFault>
         ensures { Gives (λ key. key) result (Ok (self.now ++ part.now ∷ [])) }
     {
-        let mut parts = cloned_parts(alloc, self.parts.as_slice())?;
-        parts.push(part.try_clone(alloc)?)?;
-        Ok(DnKey { parts })
+        let child = self.shared.child(alloc, part)?;
+        Ok(DnKey {
+            shared: Rc::new(alloc, child)?,
+        })
     }
 
     /// The key of the name without its leaf, or none for the name without RDNs.
     pub fn parent(&self, alloc: Global) -> Result<Option<DnKey>, NameFault>
         ensures { Gives (λ key. key) result (Ok (parent_of self.now)) }
     {
-        let Some((_, above)) = self.parts.as_slice().split_last() else {
+        let Some((_, above)) = self.parts().split_last() else {
             return Ok(None);
         };
-        Ok(Some(DnKey {
-            parts: cloned_parts(alloc, above)?,
-        }))
+        let parts = cloned_parts(alloc, above)?;
+        Ok(Some(DnKey::from_parts(alloc, parts)?))
     }
 
     /// The keys of the RDNs, root first.
     pub fn parts(&self) -> &[RdnKey]
         ensures { result.now ≡ self.now }
     {
-        self.parts.as_slice()
+        self.shared.as_slice()
     }
 
-    pub fn try_clone(&self, alloc: Global) -> Result<DnKey, NameFault>
+    /// The same key, in the same memory.
+    pub fn try_clone(&self, _alloc: Global) -> Result<DnKey, NameFault>
         ensures { Gives (λ key. key) result (Ok self.now) }
     {
         Ok(DnKey {
-            parts: cloned_parts(alloc, self.parts.as_slice())?,
+            shared: self.shared.clone()?,
         })
     }
 
-    pub(crate) fn from_parts(parts: Vec<RdnKey>) -> DnKey
-        ensures { result ≡ parts.items }
+    pub(crate) fn from_parts(alloc: Global, parts: Vec<RdnKey>) -> Result<DnKey, NameFault>
+        ensures { Gives (λ key. key) result (Ok parts.items) }
     {
-        DnKey { parts }
+        let key = NameKey::new(alloc, parts)?;
+        Ok(DnKey {
+            shared: Rc::new(alloc, key)?,
+        })
     }
 }
 
@@ -201,7 +299,7 @@ impl PartialEq for DnKey {
     ghost laws = { tied_per dn_key_cmp dn_key_cmp_total dn_key_cmp_ties };
 
     fn eq(&self, other: &DnKey) -> bool {
-        self.parts == other.parts
+        self.shared.is_same(&other.shared)
     }
 }
 
@@ -229,7 +327,7 @@ impl Ord for DnKey {
     ghost matches_eq = { dn_key_cmp_ties };
 
     fn cmp(&self, other: &DnKey) -> Ordering {
-        self.parts.cmp(&other.parts)
+        self.shared.compare(&other.shared)
     }
 }
 

@@ -14,6 +14,7 @@ mod name;
 mod printing;
 mod reading;
 mod schema;
+mod sorting;
 mod spaces;
 mod table;
 mod value;

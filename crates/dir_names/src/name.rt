@@ -11,6 +11,7 @@ ghost use Rattle.dir_names.specs.declared.fault.NameFault.TheVariants.{BadDn, Na
 
 use crate::attribute::AttrKey;
 use crate::fault::as_bad_dn;
+use crate::key::PairSet;
 use crate::limits::MAX_RDNS;
 use crate::printing::{print_name, print_rdn};
 use crate::reading::{read_name, read_one_rdn};
@@ -18,12 +19,13 @@ use crate::value::text_key;
 use crate::{Bytes, DnKey, NameFault, RdnKey, Schema};
 use std::alloc::Global;
 use std::marker::Model;
+use std::rc::Rc;
 
 /// A relative distinguished name as spelled: one or more pairs of type and value (RFC 4512,
-/// section 2.3.1).
+/// section 2.3.1). Copies share its memory.
 #[derive(Debug, Drop)]
 pub struct Rdn {
-    pairs: Vec<(Bytes, Bytes)>,
+    pairs: Rc<Vec<(Bytes, Bytes)>>,
 }
 
 impl Model for Rdn {
@@ -31,12 +33,12 @@ impl Model for Rdn {
 
     ghost Value = { List (List ℕ × List ℕ) };
 
-    ghost view = { λ rdn. rdn.pairs.items };
+    ghost view = { λ rdn. rdn.pairs.value.items };
 
     ghost use Rattle.std.specs.Prelude.{IsTrue};
     ghost use Rattle.dir_names.specs.Sound.{is_rdn};
 
-    ghost invariant = { λ rdn. IsTrue (is_rdn rdn.pairs.items) };
+    ghost invariant = { λ rdn. IsTrue (is_rdn rdn.pairs.value.items) };
 }
 
 impl Rdn {
@@ -75,12 +77,12 @@ impl Rdn {
     pub fn key(&self, alloc: Global, schema: &Schema) -> Result<RdnKey, NameFault>
         ensures { Gives (λ key. key) result (or_bad_dn (rdn_key schema.now self.now)) }
     {
-        let mut key = RdnKey::with_room(alloc, self.pairs.len())?;
+        let mut key = PairSet::with_room(alloc, self.pairs.len())?;
         for pair in self.pairs.as_slice() {
             let (attr, value) = pair_key(alloc, schema, pair)?;
             key.put(attr, value)?;
         }
-        Ok(key)
+        RdnKey::of(alloc, key)
     }
 
     /// The pairs of type and value, as spelled.
@@ -91,21 +93,22 @@ impl Rdn {
         self.pairs.as_slice()
     }
 
-    pub fn try_clone(&self, alloc: Global) -> Result<Rdn, NameFault>
+    /// The same RDN, in the same memory.
+    pub fn try_clone(&self, _alloc: Global) -> Result<Rdn, NameFault>
         ensures { Gives (λ rdn. rdn) result (Ok self.now) }
     {
-        let mut pairs = Vec::with_capacity(alloc, self.pairs.len())?;
-        for pair in self.pairs.as_slice() {
-            pairs.push((pair.0.try_clone(alloc)?, pair.1.try_clone(alloc)?))?;
-        }
-        Ok(Rdn { pairs })
+        Ok(Rdn {
+            pairs: self.pairs.clone()?,
+        })
     }
 
-    pub(crate) fn from_pairs(pairs: Vec<(Bytes, Bytes)>) -> Rdn
+    pub(crate) fn from_pairs(alloc: Global, pairs: Vec<(Bytes, Bytes)>) -> Result<Rdn, NameFault>
         requires { IsTrue (is_rdn pairs.items) }
-        ensures { result ≡ pairs.items }
+        ensures { Gives (λ rdn. rdn) result (Ok pairs.items) }
     {
-        Rdn { pairs }
+        Ok(Rdn {
+            pairs: Rc::new(alloc, pairs)?,
+        })
     }
 }
 
@@ -115,7 +118,7 @@ impl PartialEq for Rdn {
     ghost laws = { partial_rdn_eq_laws };
 
     fn eq(&self, other: &Rdn) -> bool {
-        self.pairs == other.pairs
+        self.pairs() == other.pairs()
     }
 }
 
@@ -212,7 +215,7 @@ impl Dn {
             at -= 1;
             parts.push(self.rdns[at].key(alloc, schema)?)?;
         }
-        Ok(DnKey::from_parts(parts))
+        DnKey::from_parts(alloc, parts)
     }
 
     /// The RDNs, leaf first.

@@ -97,7 +97,7 @@ fn read_rdn(alloc: Global, text: &[u8]) -> Result<Rdn, NameFault>
         pairs.push(read_pair(alloc, piece)?)?;
         rest = after;
     }
-    Ok(Rdn::from_pairs(pairs))
+    Rdn::from_pairs(alloc, pairs)
 }
 
 /// The text before the first separator that no `\` escapes, and the text after it if there is one.

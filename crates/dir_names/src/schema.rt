@@ -10,6 +10,7 @@ use crate::attribute::lower;
 use crate::table::{FREQUENT, ROWS, Row};
 use crate::{AttrKey, Bytes, Description, NameFault, Texts};
 use std::alloc::Global;
+use std::cmp::Ordering;
 use std::marker::Model;
 
 /// How the values of an attribute type are compared (RFC 4517, section 4.2).
@@ -48,7 +49,7 @@ pub struct TypeRow {
 #[derive(Debug, Drop)]
 pub struct Schema {
     rows: Vec<TypeRow>,
-    /// Descriptions that need not be read again, each behind its text, in the order of the texts.
+    /// Descriptions that need not be read again, each behind its text, the shorter texts first.
     ready: Vec<(Bytes, Description)>,
 }
 
@@ -87,7 +88,10 @@ impl Schema {
     pub(crate) fn ready(&self, text: &[u8]) -> Option<&Description>
         ensures { IfSome result (λ d. description_of self.now text.now ≡ Ok d.now) }
     {
-        let Ok(at) = self.ready.binary_search_by(|p| p.0.as_slice().cmp(text)) else {
+        let Ok(at) = self
+            .ready
+            .binary_search_by(|p| shorter_first(p.0.as_slice(), text))
+        else {
             return None;
         };
         let found = &self.ready[at];
@@ -127,6 +131,14 @@ impl Schema {
             Some(row) => row.key.try_clone(alloc),
             None => lower(alloc, kind),
         }
+    }
+}
+
+/// Short texts come before long ones, so that most comparisons read no text.
+fn shorter_first(one: &[u8], another: &[u8]) -> Ordering {
+    match one.len().cmp(&another.len()) {
+        Ordering::Equal => one.cmp(another),
+        unequal => unequal,
     }
 }
 

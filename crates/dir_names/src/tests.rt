@@ -317,3 +317,83 @@ fn a_name_past_a_limit_is_first_a_name(rt: HostRuntime) -> Result<(), Fail> {
     }
     Ok(())
 }
+
+#[test]
+fn types_have_the_rules_of_their_standards(rt: HostRuntime) -> Result<(), Fail> {
+    let alloc = rt.alloc();
+    let schema = Schema::builtin(alloc)?;
+    let rows = [
+        ("cn", Rule::CaseIgnore, false),
+        ("countryName", Rule::CaseIgnore, true),
+        ("displayName", Rule::CaseIgnore, true),
+        ("mail", Rule::Ia5CaseIgnore, false),
+        ("domainComponent", Rule::Ia5CaseIgnore, true),
+        ("telephoneNumber", Rule::Telephone, false),
+        ("2.5.4.31", Rule::Name, false),
+        ("userPassword", Rule::Octet, false),
+        ("uidNumber", Rule::Integer, true),
+        ("homeDirectory", Rule::Ia5CaseExact, true),
+        ("objectClass", Rule::ObjectId, false),
+        ("x-unknown", Rule::Octet, false),
+    ];
+    for (kind, rule, single) in rows {
+        let description = described(alloc, &schema, kind)?;
+        assert_eq!(rt; schema.rule(description.key()), rule, "{kind}");
+        assert_eq!(rt; schema.single(description.key()), single, "{kind}");
+    }
+    Ok(())
+}
+
+#[test]
+fn rdns_have_their_pairs_as_spelled_and_their_keys_in_order(rt: HostRuntime) -> Result<(), Fail> {
+    let alloc = rt.alloc();
+    let schema = Schema::builtin(alloc)?;
+    let rdn = Rdn::read(alloc, b"SN=B+commonName=A")?;
+    assert_eq!(rt; rdn.pairs().len(), 2);
+    for (pair, kind, value) in [
+        (&rdn.pairs()[0], b"SN".as_slice(), b"B"),
+        (&rdn.pairs()[1], b"commonName".as_slice(), b"A"),
+    ] {
+        assert_eq!(rt; pair.0.as_slice(), kind);
+        assert_eq!(rt; pair.1.as_slice(), value.as_slice());
+    }
+    let key = rdn.key(alloc, &schema)?;
+    assert_eq!(rt; key.pairs().len(), 2);
+    for (pair, kind, value) in [(&key.pairs()[0], "cn", b"a"), (&key.pairs()[1], "sn", b"b")] {
+        assert!(rt; pair.0 == *described(alloc, &schema, kind)?.key());
+        assert_eq!(rt; pair.1.as_slice(), value.as_slice());
+    }
+    Ok(())
+}
+
+#[test]
+fn names_have_their_rdns_leaf_first_and_their_keys_root_first(rt: HostRuntime) -> Result<(), Fail> {
+    let alloc = rt.alloc();
+    let schema = Schema::builtin(alloc)?;
+    let leaf = Rdn::read(alloc, b"cn=a")?;
+    let root = Rdn::read(alloc, b"dc=com")?;
+    let name = Dn::read(alloc, b"cn=a,dc=com")?;
+    let key = name.key(alloc, &schema)?;
+    assert_eq!(rt; key.parts().len(), 2);
+    assert!(rt; key.parts()[0] == root.key(alloc, &schema)?);
+    assert!(rt; key.parts()[1] == leaf.key(alloc, &schema)?);
+    let rdns = name.into_rdns();
+    assert_eq!(rt; rdns.len(), 2);
+    assert!(rt; rdns[0] == leaf && rdns[1] == root);
+    Ok(())
+}
+
+#[test]
+fn lists_hold_what_they_are_made_of(rt: HostRuntime) -> Result<(), Fail> {
+    let alloc = rt.alloc();
+    let schema = Schema::builtin(alloc)?;
+    let value = Bytes::copy_of(alloc, b"a value")?;
+    assert_eq!(rt; value.as_slice(), b"a value".as_slice());
+    let mut items = Vec::new(alloc);
+    items.push((described(alloc, &schema, "cn")?, value))?;
+    let items = Lines::new(items).into_items();
+    assert_eq!(rt; items.len(), 1);
+    assert_eq!(rt; items[0].0.spelling(), b"cn".as_slice());
+    assert_eq!(rt; items[0].1.as_slice(), b"a value".as_slice());
+    Ok(())
+}

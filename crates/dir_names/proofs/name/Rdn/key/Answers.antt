@@ -1,4 +1,4 @@
-use Rattle.std.proofs.Common.{◌+◌, drop, sym, ◌∙◌, arith}
+use Rattle.std.proofs.Common.{◌≡◌, ◌+◌, drop, sym, ◌∙◌, arith, rules}
 use Rattle.std.proofs.lemmas.Result.{err_from_is_err_and}
 use Rattle.dir_names.specs.NameKeys.{pair_key, rdn_key}
 use Rattle.dir_names.proofs.AllLemmas.{ok_some, fails_through}
@@ -6,7 +6,9 @@ use Rattle.dir_names.proofs.KeyLemmas.{key_from, key_none, key_more, key_twice, 
 use Rattle.dir_names.proofs.name.Rdn.key.Goals as goal
 
 pub loop-pair-init : goal.loop-pair-init
-loop-pair-init c = key_none c.args.schema.now c.args.self.now ∙ (λ i. key_from c.args.schema.now (sym c.in_ok-key.ensures.empty i) ((sym c.self.view_is ∙ sym c.as_slice-pair-items.ensures.value) i))
+loop-pair-init c =
+    let items : c.args.self.now ≡ c.as_slice-pair-items.result.now = search rules in
+    key_none c.args.schema.now c.args.self.now ∙ (λ i. key_from c.args.schema.now (sym c.in_ok-key.ensures.empty i) (items i))
 
 pub returns-in_err-attr : goal.returns-in_err-attr
 returns-in_err-attr c =

@@ -7,7 +7,7 @@ use Rattle.dir_names.specs.Orders.{attr_cmp}
 use Rattle.dir_names.specs.Sorted.{place}
 use Rattle.dir_names.proofs.Pairs.{pair_place, with_pair_twice, with_pair_new, rises_insert}
 use Rattle.dir_names.proofs.Placed.{keys_of}
-use Rattle.dir_names.proofs.key.RdnKey.put.Goals as goal
+use Rattle.dir_names.proofs.key.PairSet.put.Goals as goal
 
 pub invariant_of-self-in-Err : goal.invariant_of-self-in-Err
 invariant_of-self-in-Err c =

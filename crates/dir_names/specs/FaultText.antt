@@ -1,0 +1,12 @@
+-- The number and the name by which a fault of a name is told.
+use Rattle.std.specs.Prelude.{ℕ, List, codes}
+use Rattle.dir_names.specs.declared.fault.NameFault.{NameFault}
+use Rattle.dir_names.specs.declared.fault.NameFault.TheVariants.{BadDescription, ReservedName, BadValue, BadDn, NameLimit, Memory}
+
+abbrev pub name_fault_text : NameFault → List ℕ
+name_fault_text BadDescription = codes "N1 BadDescription"
+name_fault_text ReservedName = codes "N2 ReservedName"
+name_fault_text BadValue = codes "N3 BadValue"
+name_fault_text BadDn = codes "N4 BadDn"
+name_fault_text NameLimit = codes "N5 NameLimit"
+name_fault_text Memory = codes "N6 Memory"
