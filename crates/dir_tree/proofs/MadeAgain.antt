@@ -1,6 +1,6 @@
 -- An add of all the values of a sound entry makes the entry.
-use Rattle.std.proofs.Common.{◌≡◌, ℕ, ◌≤◌, Bool, true, false, cond, not, ◌&&◌, List, [], ◌∷◌, ◌++◌, map, length, Option, Some, None, is_some, option_map, Result, Ok, Err, refl, sym, ap, subst, ◌∙◌, true≢false}
-use Rattle.std.specs.List.{flat_map, list_all, list_any}
+use Rattle.std.proofs.Common.{◌≡◌, ℕ, Bool, true, false, cond, not, ◌&&◌, List, [], ◌∷◌, ◌++◌, map, Option, Some, None, is_some, option_map, Ok, Err, refl, sym, ap, ◌∙◌, true≢false}
+use Rattle.std.specs.List.{flat_map, list_all}
 use Rattle.std.specs.FinMap as fin
 use Rattle.std.specs.FinMap.{get-insert, get-empty}
 use Rattle.std.specs.Ordering.{is_eq}
@@ -8,17 +8,15 @@ use Rattle.std.specs.Cmp.{tied_itself}
 use Rattle.dir_names.specs.declared.schema.TypeRow.{TypeRow}
 use Rattle.dir_names.specs.declared.value.ValueKey.{ValueKey}
 use Rattle.dir_names.specs.Attr.{Attr}
-use Rattle.dir_names.specs.Described.{Described}
 use Rattle.dir_names.specs.NameKeys.{found}
 use Rattle.dir_names.specs.Orders.{attr_cmp, attr_cmp_total, attr_cmp_exact}
 use Rattle.dir_names.specs.Reading.{all_of, and_all}
 use Rattle.dir_names.specs.Values.{value_key_cmp, value_key_cmp_total, value_key_cmp_exact}
-use Rattle.dir_tree.specs.declared.fault.EntryFault.{EntryFault}
 use Rattle.dir_tree.specs.declared.fault.EntryFault.TheVariants.{BadValue, Twice, NotNamed, Single}
 use Rattle.dir_tree.specs.declared.lines.KeyedLine.{KeyedLine}
 use Rattle.dir_tree.specs.Arranged.{are_free}
-use Rattle.dir_tree.specs.Content.{Content, Stored, StoredAttributes, StoredValues, has_in, has_value}
-use Rattle.dir_tree.specs.Made.{are_apart, attributes_of, gathered, or_else_fault, then, unless_crowded, gained, gained_by, is_crowded, keyed_line, keyed_lines, leaf_key, leaf_lines, made, with_line, with_lines, with_missing, with_value}
+use Rattle.dir_tree.specs.Content.{Content, Stored, StoredAttributes, has_in, has_value}
+use Rattle.dir_tree.specs.Made.{attributes_of, gathered, or_else_fault, then, unless_crowded, gained, gained_by, keyed_line, keyed_lines, leaf_lines, made, with_line, with_lines, with_value}
 use Rattle.dir_tree.specs.WellFormed.{Each, IsSoundAttribute, IsSoundEntry, IsSoundValue, all_lines, attribute_lines, has_each}
 use Rattle.dir_tree.proofs.Orderless.{free_of_empty, value_in}
 use Rattle.dir_tree.proofs.Relisted.{are_new, inserted, inserted_whole, insert_over, new_whole}

@@ -1,31 +1,28 @@
 -- An entry that an add makes of legal lines is sound.
-use Rattle.std.proofs.Common.{◌≡◌, ℕ, ◌≤◌, Bool, true, false, cond, not, ◌&&◌, ◌||◌, List, [], ◌∷◌, length, Option, Some, None, is_some, option_map, Result, Ok, Err, refl, sym, ap, subst, ◌∙◌, true≢false, arith}
+use Rattle.std.proofs.Common.{◌≡◌, ℕ, ◌≤◌, Bool, true, false, cond, ◌&&◌, ◌||◌, List, [], ◌∷◌, length, Option, Some, None, is_some, option_map, Result, Ok, Err, refl, sym, ap, subst, ◌∙◌, true≢false, arith}
 use Rattle.std.specs.List.{list_all}
 use Rattle.std.specs.FinMap as fin
 use Rattle.std.specs.FinMap.{IsAntisymmetric, entries-insert, get-entries, len-entries, len-empty, find, put}
 use Rattle.std.specs.FinMap.Entries.{by_order}
 use Rattle.std.specs.declared.cmp.Ordering.{Ordering}
 use Rattle.std.specs.declared.cmp.Ordering.TheVariants.{Less, Equal, Greater}
-use Rattle.std.specs.Ordering.{eq_by_cmp, is_eq}
+use Rattle.std.specs.Ordering.{eq_by_cmp}
 use Rattle.std.specs.Cmp.{IsTotalOrder, Equal-is}
 use Rattle.dir_names.specs.declared.fault.NameFault.{NameFault}
 use Rattle.dir_names.specs.declared.schema.TypeRow.{TypeRow}
 use Rattle.dir_names.specs.declared.value.ValueKey.{ValueKey}
-use Rattle.dir_names.specs.Attr.{Attr}
 use Rattle.dir_names.specs.Described.{Described}
 use Rattle.dir_names.specs.Descriptions.{description_of}
 use Rattle.dir_names.specs.Keys.{RdnKeys}
-use Rattle.dir_names.specs.Names.{SpelledName, SpelledPair, SpelledRdn}
-use Rattle.dir_names.specs.NameKeys.{and_then, attr_of, found, rdn_key, value_key_of}
+use Rattle.dir_names.specs.Names.{SpelledName, SpelledRdn}
+use Rattle.dir_names.specs.NameKeys.{and_then, found, rdn_key, value_key_of}
 use Rattle.dir_names.specs.Orders.{attr_cmp, attr_cmp_total, attr_cmp_exact}
-use Rattle.dir_names.specs.Reading.{all_of, and_all}
-use Rattle.dir_names.specs.Sound.{is_pair}
+use Rattle.dir_names.specs.Reading.{and_all}
 use Rattle.dir_names.specs.Values.{value_key_cmp, value_key_cmp_total, value_key_cmp_exact}
-use Rattle.dir_tree.specs.declared.fault.EntryFault.{EntryFault}
 use Rattle.dir_tree.specs.declared.fault.EntryFault.TheVariants.{BadValue, Twice, NotNamed, Single}
 use Rattle.dir_tree.specs.declared.lines.KeyedLine.{KeyedLine}
-use Rattle.dir_tree.specs.Content.{Content, Stored, StoredAttributes, StoredValues, has_in, has_value}
-use Rattle.dir_tree.specs.Made.{are_apart, attributes_of, gathered, gained, gained_by, gives_alike, is_crowded, keyed_line, keyed_lines, leaf_key, leaf_lines, leaf_of, made, or_else_fault, pair_line, rdn_lines, then, unless_crowded, with_line, with_lines, with_missing, with_value}
+use Rattle.dir_tree.specs.Content.{Content, Stored, StoredAttributes, has_value}
+use Rattle.dir_tree.specs.Made.{are_apart, gathered, gained, gained_by, gives_alike, is_crowded, keyed_lines, leaf_key, leaf_lines, leaf_of, made, or_else_fault, pair_line, rdn_lines, then, unless_crowded, with_line, with_lines, with_missing, with_value}
 use Rattle.dir_tree.specs.WellFormed.{Each, IsLegalLine, IsLegalPair, IsSoundAttribute, IsSoundEntry, IsSoundValue, are_bytes, has_each}
 use Rattle.dir_tree.proofs.Orderless.{given_itself, has_after}
 use Rattle.dir_tree.proofs.OwnLines.{and_right, keyed_rdn, pair_described, pair_line_keyed}

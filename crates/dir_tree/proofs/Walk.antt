@@ -73,10 +73,10 @@ not_before e es r q h l = by _ refl h
     by true t g = not_less _ l (subst (λ z. dn_key_cmp q z ≡ Equal) (same_key q e.0 t) (tied_itself dn_key_cmp_total q))
     by false t g = not_both _ l (dn_key_cmp_total.antisymm q e.0 ∙ ap ordering_reverse (found_after e.0 es r q g))
 
-find_here : (e : DnKeys × Content) (es : Entries) → find dn_key_cmp e.0 (e ∷ es) ≡ Some e.1
+pub find_here : (e : DnKeys × Content) (es : Entries) → find dn_key_cmp e.0 (e ∷ es) ≡ Some e.1
 find_here e es = ap (λ o. cond (is_eq o) (Some e.1) (find dn_key_cmp e.0 es)) (tied_itself dn_key_cmp_total e.0)
 
-find_later : (e : DnKeys × Content) (es : Entries) (q : DnKeys) → dn_key_cmp e.0 q ≡ Less → find dn_key_cmp q (e ∷ es) ≡ find dn_key_cmp q es
+pub find_later : (e : DnKeys × Content) (es : Entries) (q : DnKeys) → dn_key_cmp e.0 q ≡ Less → find dn_key_cmp q (e ∷ es) ≡ find dn_key_cmp q es
 find_later e es q l = ap (λ o. cond (is_eq o) (Some e.1) (find dn_key_cmp q es)) (dn_key_cmp_total.antisymm q e.0 ∙ ap ordering_reverse l)
 
 -- the second key stands directly below a prefix of the first, which is no shorter than the suffix

@@ -1,5 +1,5 @@
 -- The content of an entry (RFC 4512, sections 2.2 and 2.3): its own name as spelled, and its attributes, each with its values, as finite maps.
-use Rattle.std.specs.Prelude.{ℕ, Bool, List, map, Option, Some, None, false, refl}
+use Rattle.std.specs.Prelude.{ℕ, Bool, List, [], map, Option, Some, None, true, false, refl}
 use Rattle.std.specs.FinMap as fin
 use Rattle.std.specs.Coded.{Coded, code_by, coded×, coded_list, coded_ℕ}
 use Rattle.dir_names.specs.Attr.{Attr}
@@ -7,6 +7,7 @@ use Rattle.dir_names.specs.Orders.{attr_cmp}
 use Rattle.dir_names.specs.Sorted.{rises}
 use Rattle.dir_names.specs.Values.{value_key_cmp}
 use Rattle.dir_names.specs.declared.value.ValueKey.{ValueKey}
+use Rattle.dir_names.specs.declared.value.ValueKey.TheVariants.{Text, Name}
 use Rattle.dir_names.specs.contracts.value.ValueKey as value_key
 
 -- the stored bytes of each value, under its key
@@ -21,6 +22,18 @@ pub record Stored : Type 0 where
 -- the attributes of an entry, under the keys of their descriptions
 abbrev pub StoredAttributes : Type 0
 StoredAttributes = fin.FinMap attr_cmp Stored
+
+-- the bytes of a value that is kept as its key and, where they are not those of the key, its bytes
+abbrev pub kept_bytes : ValueKey → Option (List ℕ) → List ℕ
+kept_bytes key (Some bytes) = bytes
+kept_bytes (Text text) None = text
+kept_bytes (Name name) None = []
+
+-- a key of a name has no bytes of its own
+abbrev pub has_bytes : ValueKey → Option (List ℕ) → Bool
+has_bytes key (Some bytes) = true
+has_bytes (Text text) None = true
+has_bytes (Name name) None = false
 
 -- a value as it is kept: its key and its bytes
 abbrev pub value_pair : ValueKey × List ℕ → ValueKey × List ℕ

@@ -67,13 +67,13 @@ impl Attribute {
         self.values.contains_key(key)
     }
 
-    fn add(&mut self, key: ValueKey, bytes: Bytes) -> Result<(), EntryFault>
+    fn add(&mut self, alloc: Global, key: ValueKey, bytes: Bytes) -> Result<(), EntryFault>
         ensures key { self.new.key ≡ self.old.key }
         ensures ok { OnOk result (self.new.stored ≡ record { spelling = self.old.stored.spelling; values = fin.insert self.old.stored.values key bytes }) }
         ensures free { OnOk result (fin.contains_key self.old.stored.values key ≡ false) }
         ensures fault { IfErr result (λ e. IsTwice e (fin.contains_key self.old.stored.values key)) }
     {
-        self.values.insert(key, bytes)
+        self.values.insert(alloc, key, bytes)
     }
 
     /// Whether there is more than one value.
@@ -159,11 +159,9 @@ impl AttributeMap {
         ensures fault { IfErr result (λ e. IsTwice e (has_value self.old description.key key)) }
     {
         match place_of(self.items.as_slice(), description.key()) {
-            Ok(at) => self.items[at].add(key, bytes),
+            Ok(at) => self.items[at].add(alloc, key, bytes),
             Err(at) => {
-                let Ok(values) = ValueMap::one(alloc, key, bytes) else {
-                    return Err(EntryFault::Memory);
-                };
+                let values = ValueMap::one(key, bytes);
                 self.items.insert(
                     at,
                     Attribute {

@@ -2,7 +2,7 @@ ghost use Rattle.std.specs.Prelude.{◌≡◌};
 ghost use Rattle.dir_tree.specs.declared.fault.EntryFault.TheVariants.{Memory};
 ghost use Rattle.dir_tree.specs.Made.{entry_fault_of};
 
-use dir_names::NameFault;
+use dir_names::{Memory, NameFault};
 use std::alloc::{AllocError, AllocFailed};
 use thiserror::Error;
 
@@ -24,6 +24,14 @@ pub enum EntryFault {
     /// No memory is left.
     #[error("E5 Memory")]
     Memory,
+}
+
+impl From<Memory> for EntryFault {
+    ghost from_gives = { λ _ e. e ≡ Memory };
+
+    fn from(_error: Memory) -> EntryFault {
+        EntryFault::Memory
+    }
 }
 
 impl From<AllocError> for EntryFault {

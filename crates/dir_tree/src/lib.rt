@@ -7,6 +7,8 @@ mod entry;
 mod fault;
 mod flat;
 mod lines;
+mod list;
+mod stored;
 mod values;
 
 pub use attributes::{Attribute, AttributeMap, Attributes};

@@ -7,6 +7,8 @@ ghost use Rattle.dir_tree.specs.Content.{value_pair, are_rising};
 ghost use Rattle.dir_tree.specs.Made.{IsTwice};
 
 use crate::EntryFault;
+use crate::list::ValueList;
+use crate::stored::StoredValue;
 use dir_names::{Bytes, Memory, ValueKey};
 use std::alloc::Global;
 use std::marker::Model;
@@ -15,7 +17,7 @@ use std::slice;
 /// The values of an attribute: an ordered map from value keys to stored bytes.
 #[derive(Debug, Drop)]
 pub struct ValueMap {
-    items: Vec<(ValueKey, Bytes)>,
+    items: ValueList,
 }
 
 impl Model for ValueMap {
@@ -26,9 +28,9 @@ impl Model for ValueMap {
 
     ghost coded = { values_code };
 
-    ghost view = { λ m. values_in m.items.items };
+    ghost view = { λ m. values_in m.items };
 
-    ghost invariant = { λ m. IsTrue (are_rising m.items.items) };
+    ghost invariant = { λ m. IsTrue (are_rising m.items) };
 }
 
 impl ValueMap {
@@ -37,17 +39,17 @@ impl ValueMap {
         ensures { result ≡ fin.empty }
     {
         ValueMap {
-            items: Vec::new(alloc),
+            items: ValueList::empty(alloc),
         }
     }
 
-    /// The map with one value, in just as much memory as it needs.
-    pub(crate) fn one(alloc: Global, key: ValueKey, bytes: Bytes) -> Result<ValueMap, Memory>
-        ensures { IfOk result (λ m. m ≡ fin.insert fin.empty key bytes) }
+    /// The map with one value.
+    pub(crate) fn one(key: ValueKey, bytes: Bytes) -> ValueMap
+        ensures { result ≡ fin.insert fin.empty key bytes }
     {
-        let mut items = Vec::with_capacity(alloc, 1)?;
-        items.push((key, bytes))?;
-        Ok(ValueMap { items })
+        ValueMap {
+            items: ValueList::one(StoredValue::new(key, bytes)),
+        }
     }
 
     pub fn len(&self) -> usize
@@ -61,7 +63,7 @@ impl ValueMap {
         ensures { option_copied result ≡ fin.get self.now key.now }
     {
         match place_of(self.items.as_slice(), key) {
-            Ok(at) => Some(&self.items[at].1),
+            Ok(at) => Some(self.items.as_slice()[at].bytes()),
             Err(_) => None,
         }
     }
@@ -77,7 +79,12 @@ impl ValueMap {
     /// # Errors
     ///
     /// `Twice` where its key is there, and want of memory. The map is as it was.
-    pub(crate) fn insert(&mut self, key: ValueKey, bytes: Bytes) -> Result<(), EntryFault>
+    pub(crate) fn insert(
+        &mut self,
+        alloc: Global,
+        key: ValueKey,
+        bytes: Bytes,
+    ) -> Result<(), EntryFault>
         ensures ok { OnOk result (self.new ≡ fin.insert self.old key bytes) }
         ensures free { OnOk result (fin.contains_key self.old key ≡ false) }
         ensures err { OnErr result (self.new ≡ self.old) }
@@ -86,7 +93,7 @@ impl ValueMap {
         match place_of(self.items.as_slice(), &key) {
             Ok(_) => Err(EntryFault::Twice),
             Err(at) => {
-                self.items.insert(at, (key, bytes))?;
+                self.items.insert(alloc, at, StoredValue::new(key, bytes))?;
                 Ok(())
             }
         }
@@ -97,43 +104,36 @@ impl ValueMap {
         ensures { result ≡ fin.entries self.now }
     {
         Values {
-            rest: self.items.iter(),
+            rest: self.items.as_slice().iter(),
         }
     }
 
     pub fn try_clone(&self, alloc: Global) -> Result<ValueMap, Memory>
         ensures { IfOk result (λ m. m ≡ self.now) }
     {
-        let mut items = Vec::with_capacity(alloc, self.items.len())?;
+        let mut items = Vec::with_capacity(alloc, self.len())?;
         for value in self.items.as_slice() {
-            items.push(clone_value(alloc, value)?)?;
+            items.push(value.try_clone(alloc)?)?;
         }
-        Ok(ValueMap { items })
-    }
-}
-
-fn clone_value(alloc: Global, value: &(ValueKey, Bytes)) -> Result<(ValueKey, Bytes), Memory>
-    ensures { IfOk result (λ copy. copy ≡ value.now) }
-{
-    match (value.0.try_clone(alloc), value.1.try_clone(alloc)) {
-        (Ok(key), Ok(bytes)) => Ok((key, bytes)),
-        _ => Err(Memory),
+        Ok(ValueMap {
+            items: ValueList::of(items),
+        })
     }
 }
 
 /// Where the value with this key stands, or where it would be put.
-fn place_of(items: &[(ValueKey, Bytes)], key: &ValueKey) -> Result<usize, usize>
+fn place_of(items: &[StoredValue], key: &ValueKey) -> Result<usize, usize>
     requires { IsTrue (are_rising items.now) }
     ensures range { IsSearchInRange result (length items.now) }
     ensures place { result ≡ place value_key_cmp key.now (map (λ value. (value_pair value).0) items.now) }
 {
-    items.binary_search_by(|value| value.0.cmp(key))
+    items.binary_search_by(|value| value.key().cmp(key))
 }
 
 /// The values of an attribute, in order of their keys.
 #[derive(Drop)]
 pub struct Values<'a> {
-    rest: slice::Iter<'a, (ValueKey, Bytes)>,
+    rest: slice::Iter<'a, StoredValue>,
 }
 
 impl<'a> Model for Values<'a> {
@@ -157,6 +157,6 @@ impl<'a> Iterator for Values<'a> {
 
     fn next(&mut self) -> Option<(&'a ValueKey, &'a Bytes)> {
         let value = self.rest.next()?;
-        Some((&value.0, &value.1))
+        Some((value.key(), value.bytes()))
     }
 }

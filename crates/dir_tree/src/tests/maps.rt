@@ -17,8 +17,8 @@ fn bytes(alloc: Global, text: &[u8]) -> Result<Bytes, Fail> {
 
 /// The values `b` and `A`, put in in this order.
 fn two_values(alloc: Global, schema: &Schema) -> Result<ValueMap, Fail> {
-    let mut values = ValueMap::one(alloc, key(alloc, schema, b"b")?, bytes(alloc, b"b")?)?;
-    values.insert(key(alloc, schema, b"a")?, bytes(alloc, b"A")?)?;
+    let mut values = ValueMap::one(key(alloc, schema, b"b")?, bytes(alloc, b"b")?);
+    values.insert(alloc, key(alloc, schema, b"a")?, bytes(alloc, b"A")?)?;
     Ok(values)
 }
 
@@ -36,7 +36,7 @@ fn values_are_found_by_their_keys(rt: HostRuntime) -> Result<(), Fail> {
     assert_eq!(rt; stored.as_slice(), b"A".as_slice());
     let is_missing = values.get(&key(alloc, &schema, b"c")?).is_none();
     assert!(rt; is_missing);
-    let again = values.insert(key(alloc, &schema, b"A")?, bytes(alloc, b"a")?);
+    let again = values.insert(alloc, key(alloc, &schema, b"A")?, bytes(alloc, b"a")?);
     assert_eq!(rt; again, Err(EntryFault::Twice));
     let copy = values.try_clone(alloc)?;
     let mut all = Vec::new(alloc);

@@ -35,7 +35,7 @@ invariant_of-self c =
 pub invariant_of-self-in-Err : goal.invariant_of-self-in-Err
 invariant_of-self-in-Err c =
     let at : c.place_of.result ≡ place attr_cmp c.args.description.key (keys_in attr_cmp_total attribute_pair c.self.inside.items.items) = subst (λ xs. c.place_of.result ≡ place attr_cmp c.key.result.now (keys_in attr_cmp_total attribute_pair xs)) c.as_slice.ensures.value c.place_of.ensures.place ∙ ap (λ k. place attr_cmp k (keys_in attr_cmp_total attribute_pair c.self.inside.items.items)) c.key.ensures in
-    let new : Keyed = record { key = c.args.description.key; stored = record { spelling = c.args.description.spelling; values = c.in-Ok-one.values } } in
+    let new : Keyed = record { key = c.args.description.key; stored = record { spelling = c.args.description.spelling; values = c.one-values.result } } in
     let kept = still_rises attr_cmp_total attribute_pair c.self.inside.items.items c.self.invariant c.args.description.key c.place_of.result at c.in-Err.at c.in-Err.is new refl in
     search rules
 
@@ -69,13 +69,13 @@ returns-in-Ok-clause-fault c =
 pub returns-in_ok-insert-in-Err-clause-ok : goal.returns-in_ok-insert-in-Err-clause-ok
 returns-in_ok-insert-in-Err-clause-ok c =
     let at : c.place_of.result ≡ place attr_cmp c.args.description.key (keys_in attr_cmp_total attribute_pair c.self.inside.items.items) = subst (λ xs. c.place_of.result ≡ place attr_cmp c.key.result.now (keys_in attr_cmp_total attribute_pair xs)) c.as_slice.ensures.value c.place_of.ensures.place ∙ ap (λ k. place attr_cmp k (keys_in attr_cmp_total attribute_pair c.self.inside.items.items)) c.key.ensures in
-    let new : Keyed = record { key = c.args.description.key; stored = record { spelling = c.args.description.spelling; values = c.in-Ok-one.values } } in
+    let new : Keyed = record { key = c.args.description.key; stored = record { spelling = c.args.description.spelling; values = c.one-values.result } } in
     let line : KeyedLine = record { description = c.args.description; key = c.args.key; bytes = c.args.bytes } in
     let none : fin.get c.args.self.now c.args.description.key ≡ None = ap (λ m. fin.get m c.args.description.key) (sym c.self.view_is) ∙ missing attr_cmp_total attribute_pair c.self.inside.items.items c.self.invariant c.args.description.key c.place_of.result at c.in-Err.at c.in-Err.is new.stored in
     ap (λ items. attributes_in items) c.in_ok-insert-in-Err.ensures.items
     ∙ sym (put attr_cmp_total attribute_pair c.self.inside.items.items c.self.invariant c.args.description.key c.place_of.result at c.in-Err.at c.in-Err.is new refl)
     ∙ ap (λ m. fin.insert m c.args.description.key new.stored) c.self.view_is
-    ∙ with_value_new c.args.self.now line new.stored none (ap (λ values. record { spelling = c.args.description.spelling; values = values }) c.in-Ok-one.ensures)
+    ∙ with_value_new c.args.self.now line new.stored none (ap (λ values. record { spelling = c.args.description.spelling; values = values }) c.one-values.ensures)
 
 pub returns-in_ok-insert-in-Err-clause-free : goal.returns-in_ok-insert-in-Err-clause-free
 returns-in_ok-insert-in-Err-clause-free c =

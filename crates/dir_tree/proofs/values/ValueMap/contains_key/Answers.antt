@@ -15,5 +15,5 @@ told items t k (Err i) at = sym (ap is_some (missing value_key_cmp_total value_p
 
 pub returns : goal.returns
 returns c =
-    let at : c.place_of.result ≡ place value_key_cmp c.args.key.now (keys_in value_key_cmp_total value_pair c.self.inside.items.items) = subst (λ xs. c.place_of.result ≡ place value_key_cmp c.args.key.now (keys_in value_key_cmp_total value_pair xs)) c.as_slice.ensures.value c.place_of.ensures.place in
-    c.is_ok.ensures.value ∙ told c.self.inside.items.items c.self.invariant c.args.key.now c.place_of.result at ∙ ap (λ m. is_some (fin.get m c.args.key.now)) c.self.view_is
+    let at : c.place_of.result ≡ place value_key_cmp c.args.key.now (keys_in value_key_cmp_total value_pair c.self.inside.items) = subst (λ xs. c.place_of.result ≡ place value_key_cmp c.args.key.now (keys_in value_key_cmp_total value_pair xs)) c.as_slice.ensures c.place_of.ensures.place in
+    c.is_ok.ensures.value ∙ told c.self.inside.items c.self.invariant c.args.key.now c.place_of.result at ∙ ap (λ m. is_some (fin.get m c.args.key.now)) c.self.view_is

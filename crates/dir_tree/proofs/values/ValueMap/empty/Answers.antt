@@ -5,4 +5,4 @@ use Rattle.dir_tree.proofs.Kept.{map_in_none}
 use Rattle.dir_tree.proofs.values.ValueMap.empty.Goals as goal
 
 pub returns : goal.returns
-returns c = ap (λ items. values_in items) c.new.ensures.items ∙ map_in_none value_key_cmp_total value_pair value_key_cmp_exact
+returns c = ap (λ items. values_in items) c.empty.ensures ∙ map_in_none value_key_cmp_total value_pair value_key_cmp_exact

@@ -6,4 +6,4 @@ use Rattle.dir_tree.proofs.Kept.{len_in}
 use Rattle.dir_tree.proofs.values.ValueMap.len.Goals as goal
 
 pub returns : goal.returns
-returns c = ap length c.as_slice.ensures.value ∙ sym (len_in value_key_cmp_total value_pair c.self.inside.items.items c.self.invariant) ∙ ap (λ m. fin.len m) c.self.view_is
+returns c = ap length c.as_slice.ensures ∙ sym (len_in value_key_cmp_total value_pair c.self.inside.items c.self.invariant) ∙ ap (λ m. fin.len m) c.self.view_is

@@ -1,0 +1,86 @@
+ghost use Rattle.std.specs.Prelude.{◌≡◌, IfOk, IsTrue, None, true};
+ghost use Rattle.dir_tree.specs.Content.{kept_bytes, has_bytes};
+
+use dir_names::{Bytes, Memory, ValueKey};
+use std::alloc::Global;
+use std::marker::Model;
+
+/// A value as it is kept: its key, and its bytes where they are not those of the key.
+#[derive(Debug, Drop)]
+pub(crate) struct StoredValue {
+    key: ValueKey,
+    bytes: Option<Bytes>,
+}
+
+/// The values of an attribute as they are kept.
+#[derive(Debug, Drop)]
+pub(crate) enum Kept {
+    /// One alone.
+    One(StoredValue),
+    /// Any number of them.
+    Many(Vec<StoredValue>),
+}
+
+impl Model for StoredValue {
+    ghost use Rattle.std.specs.Prelude.{ℕ, List, IsTrue};
+    ghost use Rattle.dir_names.specs.declared.value.ValueKey.{ValueKey};
+    ghost use Rattle.dir_tree.specs.Content.{kept_bytes, has_bytes};
+
+    ghost Value = { ValueKey × List ℕ };
+
+    ghost view = { λ value. (value.key, kept_bytes value.key value.bytes) };
+
+    ghost invariant = { λ value. IsTrue (has_bytes value.key value.bytes) };
+}
+
+impl StoredValue {
+    pub(crate) fn new(key: ValueKey, bytes: Bytes) -> StoredValue
+        ensures { result ≡ (key, bytes) }
+    {
+        if is_key(&key, &bytes) {
+            StoredValue { key, bytes: None }
+        } else {
+            StoredValue {
+                key,
+                bytes: Some(bytes),
+            }
+        }
+    }
+
+    pub(crate) fn key(&self) -> &ValueKey
+        ensures { result.now ≡ self.now.0 }
+    {
+        &self.key
+    }
+
+    pub(crate) fn bytes(&self) -> &Bytes
+        ensures { result.now ≡ self.now.1 }
+    {
+        match &self.bytes {
+            Some(bytes) => bytes,
+            None => match &self.key {
+                ValueKey::Text(text) => text,
+                ValueKey::Name(_) => unreachable!(),
+            },
+        }
+    }
+
+    pub(crate) fn try_clone(&self, alloc: Global) -> Result<StoredValue, Memory>
+        ensures { IfOk result (λ value. value ≡ self.now) }
+    {
+        match (self.key.try_clone(alloc), self.bytes().try_clone(alloc)) {
+            (Ok(key), Ok(bytes)) => Ok(StoredValue::new(key, bytes)),
+            _ => Err(Memory),
+        }
+    }
+}
+
+/// Whether these bytes are those of the key.
+fn is_key(key: &ValueKey, bytes: &Bytes) -> bool
+    ensures { result ≡ true → (kept_bytes key.now None ≡ bytes.now) × IsTrue (has_bytes key.now None) }
+{
+    match key {
+        ValueKey::Text(text) => text == bytes,
+        ValueKey::Name(_) => false,
+    }
+}
