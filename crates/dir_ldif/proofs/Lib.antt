@@ -8,12 +8,14 @@ pub mod LegalRecords
 pub mod LinesLemmas
 pub mod NextLemmas
 pub mod PartLemmas
+pub mod PartialLemmas
 pub mod ReadingLemmas
 pub mod RecordReads
 pub mod RecordsLemmas
 pub mod RoundTrip
 pub mod RunLemmas
 pub mod SoundNames
+pub mod SoundRecords
 pub mod SettledLemmas
 pub mod ShortLemmas
 pub mod SoonLemmas

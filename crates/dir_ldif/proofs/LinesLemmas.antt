@@ -1,5 +1,5 @@
 -- Lemmas on the lines of a text that comes in pieces.
-use Rattle.std.proofs.Common.{◌≡◌, ℕ, ◌+◌, ◌<◌, ◌≤◌, Bool, true, false, not, ◌&&◌, eqb, List, [], ◌∷◌, ◌++◌, length, drop, refl, sym, ap, ⊎_elim, ◌∙◌, append_assoc, append-nil, length-append, if◌then◌else◌, nat_lt, nat_le, subst, Option, None, Some, Result, Ok, Err, arith}
+use Rattle.std.proofs.Common.{◌≡◌, ℕ, ◌+◌, ◌<◌, ◌≤◌, Bool, true, false, not, ◌&&◌, eqb, List, [], ◌∷◌, ◌++◌, length, drop, refl, sym, ap, ⊎_elim, ◌∙◌, append_assoc, append-nil, length-append, if◌then◌else◌, nat_lt, subst, Option, Some, Result, Ok, Err, arith}
 use Rattle.std.specs.List.{list_any, onto_first}
 use Rattle.std.proofs.lemmas.Bool.{eqb-true}
 use Rattle.std.proofs.lemmas.List.Folds.{list_any-append}
@@ -11,7 +11,7 @@ use Rattle.dir_ldif.specs.Bytes.{is_empty, begins_with, without_last}
 use Rattle.dir_ldif.specs.Lines.{Line, cut, is_lf, numbered, glue, joined, is_long}
 use Rattle.dir_ldif.specs.Parts.{Part, parts_from, Ends}
 use Rattle.dir_ldif.specs.Joining.{behind, Joins}
-use Rattle.dir_ldif.specs.Kept.{is_kept, has_room}
+use Rattle.dir_ldif.specs.Kept.{is_kept}
 use Rattle.dir_ldif.proofs.BytesLemmas.{true_or_false}
 
 -- the first piece ends at the first LF
@@ -125,9 +125,6 @@ pub some_of_length : (xs : List ℕ) → 0 < length xs → is_empty xs ≡ false
 some_of_length [] h = absurd (omega arith)
 some_of_length (x ∷ xs) h = refl
 
-some_of_kept : (partial : List ℕ) → 2097152 < length (without_last 13 partial) → is_empty (without_last 13 partial) ≡ false
-some_of_kept partial long = some_of_length (without_last 13 partial) (omega arith)
-
 pub ltb-of_lt : (a b : ℕ) → a < b → nat_lt a b ≡ true
 ltb-of_lt a b h = grind (arith, nat_tests)
 
@@ -157,18 +154,6 @@ long_alone begun block n partial text lacks long =
     let f = partial_first n partial text lacks (some_of_long partial long) in
     rw f.2 (parts_from-long begun block n (without_last 13 (partial ++ f.0)) (joined f.1) (ltb-of_lt _ _ (omega (arith, length-without_last partial f.0))))
 
--- a last line that it does not continue stands before it
-pub long_behind : (last : Line) (n : ℕ) (partial text : List ℕ) → list_any is_lf partial ≡ false → begins_with 32 (without_last 13 partial) ≡ false → 2097152 < length (without_last 13 partial)
-    → joined (last ∷ numbered n (cut is_lf (partial ++ text))) ≡ last ∷ joined (numbered n (cut is_lf (partial ++ text)))
-long_behind last n partial text lacks apart long =
-    let f = partial_first n partial text lacks (some_of_long partial long) in
-    let other : begins_with 32 (without_last 13 (partial ++ f.0)) ≡ false = begins_with-without_last 32 partial f.0 (some_of_kept partial long) ∙ apart in
-    rw f.2 (joined-apart last n (without_last 13 (partial ++ f.0)) f.1 other)
-
-some_of_space : (partial : List ℕ) → begins_with 32 (without_last 13 partial) ≡ true → is_empty partial ≡ false
-some_of_space [] e = cc
-some_of_space (x ∷ xs) e = refl
-
 pub some_of_begins : (b : ℕ) (xs : List ℕ) → begins_with b xs ≡ true → is_empty xs ≡ false
 some_of_begins b [] e = cc
 some_of_begins b (x ∷ xs) e = refl
@@ -182,16 +167,6 @@ glued_long begun block k n (a ∷ tail) (c ∷ cs) rest some space long =
     parts_from-long begun block k ((a ∷ tail) ++ cs) rest (ltb-of_lt _ _ (omega (arith, length-append (a ∷ tail) cs))) in
     rw (eqb-true c 32 space, glue-continued k a tail n cs rest) whole
 
--- a last line that it continues ends the text with it
-pub long_continued : (begun : Bool) (block : List Line) (last : Line) (n : ℕ) (partial text : List ℕ) → list_any is_lf partial ≡ false → is_empty last.1 ≡ false
-    → begins_with 32 (without_last 13 partial) ≡ true → 2097153 < length last.1 + length (without_last 13 partial)
-    → parts_from begun block (joined (last ∷ numbered n (cut is_lf (partial ++ text)))) ≡ Err LineTooLong ∷ []
-long_continued begun block last n partial text lacks some space long =
-    let f = partial_first n partial text lacks (some_of_space partial space) in
-    let whole = without_last 13 (partial ++ f.0) in
-    let still_space : begins_with 32 whole ≡ true = begins_with-without_last 32 partial f.0 (some_of_begins 32 (without_last 13 partial) space) ∙ space in
-    rw f.2 (glued_long begun block last.0 n last.1 whole (joined f.1) some still_space (omega (arith, length-without_last partial f.0)))
-
 pub not_first : (v w : Bool) → (not v && w) ≡ true → v ≡ false
 not_first true w e = cc
 not_first false w e = refl
@@ -204,54 +179,9 @@ not_second true true e = cc
 not_second true false e = refl
 not_second false w e = cc
 
--- ---- the same for a joiner's last line, if there is one, and the text that a check looked at
-
-pub too_long_alone : (begun : Bool) (block : List Line) (o : Option Line) (n : ℕ) (partial shown text : List ℕ) → o ≡ None → shown ≡ without_last 13 partial → list_any is_lf partial ≡ false
-    → 2097152 < length shown → parts_from begun block (behind o (numbered n (cut is_lf (partial ++ text)))) ≡ Err LineTooLong ∷ []
-too_long_alone begun block o n partial shown text is e lacks long = rw is (long_alone begun block n partial text lacks (subst (λ t. 2097152 < length t) e long))
-
-pub too_long_continued : (begun : Bool) (block : List Line) (o : Option Line) (last : Line) (n : ℕ) (partial shown text : List ℕ) → o ≡ Some last → shown ≡ without_last 13 partial
-    → list_any is_lf partial ≡ false → is_kept o ≡ true → begins_with 32 shown ≡ true → 2097153 < length last.1 + length shown
-    → parts_from begun block (behind o (numbered n (cut is_lf (partial ++ text)))) ≡ Err LineTooLong ∷ []
-too_long_continued begun block o last n partial shown text is e lacks kept space long =
-    let kept_last : is_kept (Some last) ≡ true = rw is at kept in
-    let some : is_empty last.1 ≡ false = some_of_kept_line last kept_last in
-    rw is (long_continued begun block last n partial text lacks some (rw e at space) (subst (λ t. 2097153 < length last.1 + length t) e long))
-
-pub too_long_Ends : (fault : StreamFault) (begun : Bool) (block : List Line) (o : Option Line) (last : Line) (n : ℕ) (partial shown text : List ℕ) → o ≡ Some last → shown ≡ without_last 13 partial
-    → list_any is_lf partial ≡ false → begins_with 32 shown ≡ false → 2097152 < length shown → ((after : List Line) → Ends fault (parts_from begun block (last ∷ after)))
-    → Ends fault (parts_from begun block (behind o (numbered n (cut is_lf (partial ++ text)))))
-too_long_Ends fault begun block o last n partial shown text is e lacks space long h =
-    let apart = long_behind last n partial text lacks (rw e at space) (subst (λ t. 2097152 < length t) e long) in
-    rw is (subst (λ t. Ends fault (parts_from begun block t)) (sym apart) (h (joined (numbered n (cut is_lf (partial ++ text))))))
-
-pub too_long_behind : (begun begun' : Bool) (block block' : List Line) (o : Option Line) (last : Line) (n : ℕ) (partial shown text : List ℕ) → o ≡ Some last → shown ≡ without_last 13 partial
-    → list_any is_lf partial ≡ false → begins_with 32 shown ≡ false → 2097152 < length shown → ((after : List Line) → parts_from begun block (last ∷ after) ≡ parts_from begun' block' after)
-    → parts_from begun block (behind o (numbered n (cut is_lf (partial ++ text)))) ≡ Err LineTooLong ∷ []
-too_long_behind begun begun' block block' o last n partial shown text is e lacks space long h =
-    let long_text : 2097152 < length (without_last 13 partial) = subst (λ t. 2097152 < length t) e long in
-    let apart = long_behind last n partial text lacks (rw e at space) long_text in
-    let rest = joined (numbered n (cut is_lf (partial ++ text))) in
-    rw is (ap (parts_from begun block) apart ∙ h rest ∙ long_alone begun' block' n partial text lacks long_text)
-
--- ---- why a line has no room
-
-pub room_alone : (o : Option Line) (partial : List ℕ) → o ≡ None → has_room o partial ≡ false → 2097152 < length (without_last 13 partial)
-room_alone o partial is h = let none : nat_le (length (without_last 13 partial)) 2097152 ≡ false = rw is at h in grind (arith, nat_tests)
-
-pub room_continued : (o : Option Line) (last : Line) (partial : List ℕ) → o ≡ Some last → begins_with 32 (without_last 13 partial) ≡ true → has_room o partial ≡ false
-    → 2097153 < length last.1 + length (without_last 13 partial)
-room_continued o last partial is space h =
-    let none : nat_le (length last.1 + length (without_last 13 partial)) 2097153 ≡ false = rw (is, space) at h in grind (arith, nat_tests)
-
-pub room_apart : (o : Option Line) (last : Line) (partial : List ℕ) → o ≡ Some last → begins_with 32 (without_last 13 partial) ≡ false → has_room o partial ≡ false
-    → 2097152 < length (without_last 13 partial)
-room_apart o last partial is space h =
-    let none : nat_le (length (without_last 13 partial)) 2097152 ≡ false = rw (is, space) at h in grind (arith, nat_tests)
-
 -- ---- a physical line and its end
 
-lacks-append : (xs ys : List ℕ) → list_any is_lf xs ≡ false → list_any is_lf ys ≡ false → list_any is_lf (xs ++ ys) ≡ false
+pub lacks-append : (xs ys : List ℕ) → list_any is_lf xs ≡ false → list_any is_lf ys ≡ false → list_any is_lf (xs ++ ys) ≡ false
 lacks-append xs ys p q = list_any-append is_lf xs ys ∙ rw p q
 
 -- a line that ends is the first one

@@ -9,6 +9,7 @@ use Rattle.dir_ldif.specs.Next.{answers_ahead, answers_left, EndsSoon, Faults, G
 use Rattle.dir_ldif.specs.Reading.{hand, IsInPieces}
 use Rattle.dir_ldif.specs.Records.{Found, Answer}
 use Rattle.dir_ldif.specs.LegalFound.{IsLegalFound}
+use Rattle.dir_ldif.specs.SoundFound.{IsSoundFound}
 
 module _ {R : Type 0} where
   -- the answers that are left, where the source tells its bytes
@@ -56,6 +57,10 @@ module _ {R : Type 0} where
   -- the record that is given is legal
   abbrev pub GivesLegal : RecordReader R → Found → Type 0
   GivesLegal r found = IsLegalFound r.schema.now found
+
+  -- the record that is given is sound
+  abbrev pub GivesSound : RecordReader R → Found → Type 0
+  GivesSound r found = IsSoundFound r.schema.now found
 
   -- why no further answer is given
   abbrev pub StopsFor : (R → Option (List ℕ)) → (R → ℕ) → StreamFault → RecordReader R → RecordReader R → Type 0

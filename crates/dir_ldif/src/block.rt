@@ -1,6 +1,8 @@
-ghost use Rattle.std.specs.Prelude.{◌≡◌, ◌++◌, ◌∷◌, ◌<◌, [], Ok, Err, codes, cond, length};
+ghost use Rattle.std.specs.Prelude.{◌≡◌, ◌++◌, ◌∷◌, ◌<◌, [], Ok, Err, IfOk, codes, cond, length};
+ghost use Rattle.base64.specs.GeneralPurpose.{IsBytes};
 ghost use Rattle.dir_ldif.specs.declared.faults.RecordFault.TheVariants.{BadModify};
 ghost use Rattle.dir_ldif.specs.Block.{all_of, body_of, change_of, content_of, deletion_of, dn_line, flag_of, head_of, is_dash, is_word, legal_dn, legal_rdn, mod_head, mod_of, mod_value, mods_of, no_further, op_of, record_of, rename_behind_rdn, rename_line, rename_of, superior_of, value_line, value_lines};
+ghost use Rattle.dir_ldif.specs.Laws.{AllBytes, KindIsSound, ModsAreBytes, NameIsSound, PartsAreSound, RdnIsSound, SuperiorIsSound, ValuesAreBytes};
 ghost use Rattle.dir_ldif.specs.Lines.{cut};
 ghost use Rattle.dir_ldif.specs.Outcome.{Tells, then_of};
 
@@ -14,7 +16,8 @@ use std::alloc::Global;
 /// The record that a block of lines is (RFC 2849, `ldif-attrval-record` and `ldif-change-record`).
 #[tactic(auto, unfolding(crate::specs::Block::record_of))]
 pub(crate) fn record_of(alloc: Global, schema: &Schema, block: &[Line]) -> Result<Record, Refusal>
-    ensures { Tells (λ r. r) result (record_of schema.now block.now) }
+    ensures read { Tells (λ r. r) result (record_of schema.now block.now) }
+    ensures sound { IfOk result (λ r. PartsAreSound r) }
 {
     match block.split_first() {
         Some((first, rest)) => {
@@ -27,7 +30,8 @@ pub(crate) fn record_of(alloc: Global, schema: &Schema, block: &[Line]) -> Resul
 
 /// What stands behind the name.
 fn body_of(alloc: Global, schema: &Schema, dn: Dn, lines: &[Line]) -> Result<Record, Refusal>
-    ensures { Tells (λ r. r) result (body_of schema.now dn lines.now) }
+    ensures read { Tells (λ r. r) result (body_of schema.now dn lines.now) }
+    ensures sound { NameIsSound dn → IfOk result (λ r. PartsAreSound r) }
 {
     let Some((second, further)) = lines.split_first() else {
         return content_of(alloc, schema, dn, lines);
@@ -50,7 +54,8 @@ fn is_word(text: &[u8], word: &[u8]) -> bool
 }
 
 fn content_of(alloc: Global, schema: &Schema, dn: Dn, lines: &[Line]) -> Result<Record, Refusal>
-    ensures { Tells (λ r. r) result (content_of schema.now dn lines.now) }
+    ensures read { Tells (λ r. r) result (content_of schema.now dn lines.now) }
+    ensures sound { NameIsSound dn → IfOk result (λ r. PartsAreSound r) }
 {
     let lines = value_lines(alloc, schema, lines)?;
     Ok(Record::Content { dn, lines })
@@ -63,8 +68,9 @@ fn change_record(
     word: &[u8],
     lines: &[Line],
 ) -> Result<Record, Refusal>
-    ensures { Tells (λ r. r) result
+    ensures read { Tells (λ r. r) result
         (then_of (change_of schema.now word.now lines.now) (λ kind. Ok (Record.Change (record { dn = dn; kind = kind })))) }
+    ensures sound { NameIsSound dn → IfOk result (λ r. PartsAreSound r) }
 {
     let kind = change_of(alloc, schema, word, lines)?;
     Ok(Record::Change(Change { dn, kind }))
@@ -72,7 +78,8 @@ fn change_record(
 
 /// The name of the line that begins a record.
 fn dn_line(alloc: Global, schema: &Schema, line: &Line) -> Result<Dn, Refusal>
-    ensures { Tells (λ name. name) result (dn_line schema.now line.now) }
+    ensures read { Tells (λ name. name) result (dn_line schema.now line.now) }
+    ensures sound { IfOk result (λ name. NameIsSound name) }
 {
     let (name, value) = part_of(alloc, line.text())?;
     if !is_word(name, b"dn") {
@@ -83,7 +90,8 @@ fn dn_line(alloc: Global, schema: &Schema, line: &Line) -> Result<Dn, Refusal>
 
 /// A name that has a key.
 fn legal_dn(alloc: Global, schema: &Schema, text: &[u8]) -> Result<Dn, Refusal>
-    ensures { Tells (λ name. name) result (legal_dn schema.now text.now) }
+    ensures read { Tells (λ name. name) result (legal_dn schema.now text.now) }
+    ensures sound { IfOk result (λ name. NameIsSound name) }
 {
     let dn = Dn::read(alloc, text)?;
     let _ = dn.key(alloc, schema)?;
@@ -92,7 +100,8 @@ fn legal_dn(alloc: Global, schema: &Schema, text: &[u8]) -> Result<Dn, Refusal>
 
 /// An RDN that has a key.
 fn legal_rdn(alloc: Global, schema: &Schema, text: &[u8]) -> Result<Rdn, Refusal>
-    ensures { Tells (λ rdn. rdn) result (legal_rdn schema.now text.now) }
+    ensures read { Tells (λ rdn. rdn) result (legal_rdn schema.now text.now) }
+    ensures sound { IfOk result (λ rdn. RdnIsSound rdn) }
 {
     let rdn = Rdn::read(alloc, text)?;
     let _ = rdn.key(alloc, schema)?;
@@ -101,7 +110,8 @@ fn legal_rdn(alloc: Global, schema: &Schema, text: &[u8]) -> Result<Rdn, Refusal
 
 /// Lines of description and value.
 fn value_lines(alloc: Global, schema: &Schema, lines: &[Line]) -> Result<Lines, Refusal>
-    ensures { Tells (λ ls. ls) result (value_lines schema.now lines.now) }
+    ensures read { Tells (λ ls. ls) result (value_lines schema.now lines.now) }
+    ensures sound { IfOk result (λ ls. ValuesAreBytes ls) }
 {
     let mut items = Vec::new(alloc);
     for line in lines {
@@ -111,7 +121,8 @@ fn value_lines(alloc: Global, schema: &Schema, lines: &[Line]) -> Result<Lines, 
 }
 
 fn value_line(alloc: Global, schema: &Schema, line: &Line) -> Result<(Description, Bytes), Refusal>
-    ensures { Tells (λ p. p) result (value_line schema.now line.now) }
+    ensures read { Tells (λ p. p) result (value_line schema.now line.now) }
+    ensures sound { IfOk result (λ p. IsBytes p.1) }
 {
     let (name, value) = part_of(alloc, line.text())?;
     let description = Description::read(alloc, schema, name)?;
@@ -125,7 +136,8 @@ fn change_of(
     word: &[u8],
     lines: &[Line],
 ) -> Result<ChangeKind, Refusal>
-    ensures { Tells (λ kind. kind) result (change_of schema.now word.now lines.now) }
+    ensures read { Tells (λ kind. kind) result (change_of schema.now word.now lines.now) }
+    ensures sound { IfOk result (λ kind. KindIsSound kind) }
 {
     if is_word(word, b"add") {
         return Ok(ChangeKind::Add(value_lines(alloc, schema, lines)?));
@@ -144,7 +156,8 @@ fn change_of(
 
 /// A deletion has no further line; the line that is there has its own fault first.
 fn deletion_of(alloc: Global, lines: &[Line]) -> Result<ChangeKind, Refusal>
-    ensures { Tells (λ kind. kind) result (deletion_of lines.now) }
+    ensures read { Tells (λ kind. kind) result (deletion_of lines.now) }
+    ensures sound { IfOk result (λ kind. KindIsSound kind) }
 {
     match lines.split_first() {
         None => Ok(ChangeKind::Delete),
@@ -156,7 +169,8 @@ fn deletion_of(alloc: Global, lines: &[Line]) -> Result<ChangeKind, Refusal>
 }
 
 fn mods_of(alloc: Global, schema: &Schema, lines: &[Line]) -> Result<Mods, Refusal>
-    ensures { Tells (λ mods. mods) result (mods_of schema.now lines.now) }
+    ensures read { Tells (λ mods. mods) result (mods_of schema.now lines.now) }
+    ensures sound { IfOk result (λ mods. ModsAreBytes mods) }
 {
     let mut mods = Vec::new(alloc);
     let mut rest = lines;
@@ -190,7 +204,8 @@ fn is_dash(line: &Line) -> bool
 
 /// One modification: its head and its values, all of one attribute.
 fn mod_of(alloc: Global, schema: &Schema, lines: &[Line]) -> Result<Mod, Refusal>
-    ensures { Tells (λ m. m) result (mod_of schema.now lines.now) }
+    ensures read { Tells (λ m. m) result (mod_of schema.now lines.now) }
+    ensures sound { IfOk result (λ m. AllBytes m.values) }
 {
     let Some((head, rest)) = lines.split_first() else {
         return Err(Refusal::Fault(RecordFault::BadLine));
@@ -235,7 +250,8 @@ fn mod_values(
     of: &Description,
     lines: &[Line],
 ) -> Result<Texts, Refusal>
-    ensures { Tells (λ values. values) result (all_of (mod_value schema.now of.now) lines.now) }
+    ensures read { Tells (λ values. values) result (all_of (mod_value schema.now of.now) lines.now) }
+    ensures sound { IfOk result (λ values. AllBytes values) }
 {
     let mut values = Vec::new(alloc);
     for line in lines {
@@ -251,7 +267,8 @@ fn mod_value(
     of: &Description,
     line: &Line,
 ) -> Result<Bytes, Refusal>
-    ensures { Tells (λ value. value) result (mod_value schema.now of.now line.now) }
+    ensures read { Tells (λ value. value) result (mod_value schema.now of.now line.now) }
+    ensures sound { IfOk result (λ value. IsBytes value) }
 {
     let (description, value) = value_line(alloc, schema, line)?;
     if description.key() == of.key() {
@@ -262,7 +279,8 @@ fn mod_value(
 }
 
 fn rename_of(alloc: Global, schema: &Schema, lines: &[Line]) -> Result<ChangeKind, Refusal>
-    ensures { Tells (λ kind. kind) result (rename_of schema.now lines.now) }
+    ensures read { Tells (λ kind. kind) result (rename_of schema.now lines.now) }
+    ensures sound { IfOk result (λ kind. KindIsSound kind) }
 {
     let Some((first, rest)) = lines.split_first() else {
         return Err(Refusal::Fault(RecordFault::BadRename));
@@ -278,7 +296,8 @@ fn rename_behind_rdn(
     newrdn: Rdn,
     lines: &[Line],
 ) -> Result<ChangeKind, Refusal>
-    ensures { Tells (λ kind. kind) result (rename_behind_rdn schema.now newrdn lines.now) }
+    ensures read { Tells (λ kind. kind) result (rename_behind_rdn schema.now newrdn lines.now) }
+    ensures sound { RdnIsSound newrdn → IfOk result (λ kind. KindIsSound kind) }
 {
     let Some((line, rest)) = lines.split_first() else {
         return Err(Refusal::Fault(RecordFault::BadRename));
@@ -318,7 +337,8 @@ fn flag_of(value: &[u8]) -> Result<bool, Refusal>
 
 /// The new superior that a rename may end in.
 fn superior_of(alloc: Global, schema: &Schema, lines: &[Line]) -> Result<Option<Dn>, Refusal>
-    ensures { Tells (λ superior. superior) result (superior_of schema.now lines.now) }
+    ensures read { Tells (λ superior. superior) result (superior_of schema.now lines.now) }
+    ensures sound { IfOk result (λ superior. SuperiorIsSound superior) }
 {
     let Some((line, further)) = lines.split_first() else {
         return Ok(None);
@@ -330,7 +350,8 @@ fn superior_of(alloc: Global, schema: &Schema, lines: &[Line]) -> Result<Option<
 
 /// A rename has no line behind its new superior; the line that is there has its own fault first.
 fn no_further(alloc: Global, dn: Dn, lines: &[Line]) -> Result<Option<Dn>, Refusal>
-    ensures { Tells (λ superior. superior) result (no_further dn lines.now) }
+    ensures read { Tells (λ superior. superior) result (no_further dn lines.now) }
+    ensures sound { NameIsSound dn → IfOk result (λ superior. SuperiorIsSound superior) }
 {
     match lines.split_first() {
         None => Ok(Some(dn)),

@@ -1,4 +1,4 @@
-ghost use Rattle.std.specs.Prelude.{◌≡◌};
+ghost use Rattle.std.specs.Prelude.{◌≡◌, ◌++◌};
 ghost use Rattle.std.specs.Option.{option_map};
 ghost use Rattle.dir_ldif.specs.Bytes.{begins_with, cut_at, without_front, without_last};
 
@@ -39,4 +39,18 @@ pub(crate) fn without_cr(text: &[u8]) -> &[u8]
         return text;
     };
     if *last == b'\r' { before } else { text }
+}
+
+/// A text in two parts, without one final CR. Its first byte, if it has one, stands in the first part.
+pub(crate) fn parts_without_cr<'a>(front: &'a [u8], back: &'a [u8]) -> (&'a [u8], &'a [u8])
+    ensures text { result.0.now ++ result.1.now ≡ without_last 13 (front.now ++ back.now) }
+    ensures first { begins_with 32 result.0.now ≡ begins_with 32 (without_last 13 (front.now ++ back.now)) }
+{
+    if front.is_empty() {
+        (without_cr(back), &[])
+    } else if back.is_empty() {
+        (without_cr(front), &[])
+    } else {
+        (front, without_cr(back))
+    }
 }

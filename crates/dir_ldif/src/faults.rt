@@ -1,61 +1,90 @@
 use dir_names::NameFault;
 use std::alloc::{AllocError, AllocFailed};
-use thiserror::Error;
+use std::error::Error;
+use std::fmt;
 
 /// Why a block of lines is no record. The first line that has a fault decides.
-#[derive(Clone, Copy, PartialEq, Eq, Debug, Error)]
+#[derive(Clone, Copy, PartialEq, Eq, Debug)]
 pub enum RecordFault {
     /// A line without a name or a colon, a plain value with a NUL or a CR, or a line that has no place.
-    #[error("L1 BadLine")]
     BadLine,
     /// A base64 text that RFC 4648 doesn't allow, stray bits and missing padding included.
-    #[error("L2 BadBase64")]
     BadBase64,
     /// A value that is named by a URL.
-    #[error("L3 UrlValue")]
     UrlValue,
     /// A control.
-    #[error("L4 Control")]
     Control,
     /// A change type that isn't known, or a content record where a change is wanted.
-    #[error("L5 BadChangetype")]
     BadChangetype,
     /// A line of a modification that is out of its place.
-    #[error("L6 BadModify")]
     BadModify,
     /// A line of a rename that is missing, out of its place or one too many.
-    #[error("L7 BadRename")]
     BadRename,
     /// A value of more than 1,048,576 bytes.
-    #[error("L8 ValueTooLong")]
     ValueTooLong,
     /// A name or a description that is none.
-    #[error("L9 {0}")]
     Name(NameFault),
 }
 
+impl fmt::Display for RecordFault {
+    ghost use Rattle.std.specs.Prelude.{Some};
+    ghost use Rattle.dir_ldif.specs.FaultText.{record_fault_text};
+
+    ghost output = { λ fault. Some (record_fault_text fault) };
+
+    fn fmt<W: fmt::Write>(&self, f: &mut fmt::Formatter<W>) -> fmt::Result {
+        match self {
+            RecordFault::BadLine => f.write_str("L1 BadLine"),
+            RecordFault::BadBase64 => f.write_str("L2 BadBase64"),
+            RecordFault::UrlValue => f.write_str("L3 UrlValue"),
+            RecordFault::Control => f.write_str("L4 Control"),
+            RecordFault::BadChangetype => f.write_str("L5 BadChangetype"),
+            RecordFault::BadModify => f.write_str("L6 BadModify"),
+            RecordFault::BadRename => f.write_str("L7 BadRename"),
+            RecordFault::ValueTooLong => f.write_str("L8 ValueTooLong"),
+            RecordFault::Name(fault) => write!(f, "L9 {fault}"),
+        }
+    }
+}
+
+impl Error for RecordFault {}
+
 /// Why a text gives no further records.
-#[derive(Clone, Copy, PartialEq, Eq, Debug, Error)]
+#[derive(Clone, Copy, PartialEq, Eq, Debug)]
 pub enum StreamFault {
     /// A logical line of more than 2,097,152 bytes.
-    #[error("L10 LineTooLong")]
     LineTooLong,
     /// The source failed in this call.
-    #[error("L11 Read")]
     Read,
     /// No memory is left.
-    #[error("L12 Memory")]
     Memory,
     /// An earlier call answered a fault.
-    #[error("L13 Ended")]
     Ended,
     /// The source gave no end within the read calls that are allowed.
-    #[error("L14 TooManyTurns")]
     TooManyTurns,
     /// The text begins with a version line of another version than 1.
-    #[error("L15 BadVersion")]
     BadVersion,
 }
+
+impl fmt::Display for StreamFault {
+    ghost use Rattle.std.specs.Prelude.{Some};
+    ghost use Rattle.dir_ldif.specs.FaultText.{stream_fault_text};
+
+    ghost output = { λ fault. Some (stream_fault_text fault) };
+
+    fn fmt<W: fmt::Write>(&self, f: &mut fmt::Formatter<W>) -> fmt::Result {
+        f.write_str(match self {
+            StreamFault::LineTooLong => "L10 LineTooLong",
+            StreamFault::Read => "L11 Read",
+            StreamFault::Memory => "L12 Memory",
+            StreamFault::Ended => "L13 Ended",
+            StreamFault::TooManyTurns => "L14 TooManyTurns",
+            StreamFault::BadVersion => "L15 BadVersion",
+        })
+    }
+}
+
+impl Error for StreamFault {}
 
 impl From<AllocError> for StreamFault {
     ghost use Rattle.std.specs.Prelude.{◌≡◌};

@@ -1,10 +1,10 @@
-ghost use Rattle.std.specs.Prelude.{◌≡◌, ◌+◌, ◌∷◌, ◌++◌, ◌<◌, ◌≤◌, ◌^◌, [], IfErr, IfOk, IfSome, List, MatchOption, None, OnOk, Some, false, true, length, ℕ};
+ghost use Rattle.std.specs.Prelude.{◌≡◌, ◌+◌, ◌∷◌, ◌++◌, ◌<◌, ◌≤◌, ◌^◌, [], IfErr, IfOk, IfSome, List, MatchOption, None, OnOk, Some, drop, false, true, length, ℕ};
 ghost use Rattle.std.specs.List.{list_any};
-ghost use Rattle.dir_ldif.specs.Bytes.{without_last};
+ghost use Rattle.dir_ldif.specs.Bytes.{begins_with, without_last};
 ghost use Rattle.dir_ldif.specs.Kept.{has_room, is_kept};
-ghost use Rattle.dir_ldif.specs.Lines.{is_comment, is_lf};
+ghost use Rattle.dir_ldif.specs.Lines.{is_comment, is_lf, is_long};
 
-use crate::bytes::{begins_with_space, cut_at, without_cr};
+use crate::bytes::{begins_with_space, cut_at, parts_without_cr, without_cr};
 use crate::faults::StreamFault;
 use crate::version::{Version, version_of};
 use std::alloc::Global;
@@ -48,18 +48,27 @@ impl Line {
         self.text.as_slice()
     }
 
-    /// The line with more text.
-    fn continued(mut self, text: &[u8]) -> Result<Line, StreamFault>
-        ensures ok { IfOk result (λ line. line ≡ (self.0, self.1 ++ text.now)) }
+    /// The line with more text, which comes in two parts and begins with a space.
+    fn continued(mut self, front: &[u8], back: &[u8]) -> Result<Line, StreamFault>
+        requires { begins_with 32 front.now ≡ true }
+        ensures ok { IfOk result (λ line. line ≡ (self.0, self.1 ++ drop 1 (front.now ++ back.now))) }
         ensures err { IfErr result (λ fault. fault ≡ StreamFault.Memory) }
     {
-        self.text.extend_from_slice(text)?;
+        self.text.extend_from_slice(&front[1..])?;
+        self.text.extend_from_slice(back)?;
         Ok(self)
+    }
+
+    fn is_long(&self) -> bool
+        ensures { result ≡ is_long self.now }
+    {
+        self.text.len() > MAX_LINE
     }
 }
 
 /// The lines of a text that comes in pieces: the block in hand, the last line, which may be continued,
-/// and the physical line that has not ended.
+/// and the physical line that has not ended. Where this continues the last line, it is held there, but for
+/// its space and a CR that may be its final one.
 #[derive(Drop)]
 pub(crate) struct Joiner {
     block: Vec<Line>,
@@ -74,7 +83,7 @@ pub(crate) struct Joiner {
 }
 
 impl Joiner {
-    ghost use Rattle.std.specs.Prelude.{◌≡◌, ◌+◌, ◌∷◌, ◌++◌, ◌<◌, ◌≤◌, ◌^◌, [], IfErr, IfOk, IfSome, List, MatchOption, None, OnOk, Some, false, true, length, ℕ};
+    ghost use Rattle.std.specs.Prelude.{◌≡◌, ◌+◌, ◌∷◌, ◌++◌, ◌<◌, ◌≤◌, ◌^◌, [], IfErr, IfOk, IfSome, List, MatchOption, None, OnOk, Some, drop, false, if◌then◌else◌, true, length, ℕ};
     ghost use Rattle.dir_ldif.specs.Bytes.{begins_with, is_empty, without_last};
     ghost use Rattle.dir_ldif.specs.Joining.{Joins, parts_before, parts_behind_block, to_come};
     ghost use Rattle.dir_ldif.specs.Kept.{has_room, is_kept};
@@ -182,10 +191,82 @@ impl Joiner {
         ensures ok { OnOk result ((text : List ℕ) → to_come self.old (piece.now ++ text) ≡ to_come self.new text) }
         ensures err { IfErr result (λ fault. (text : List ℕ) → Ends fault (to_come self.old (piece.now ++ text))) }
     {
-        let mut partial = mem::replace(&mut self.partial, Vec::new(self.alloc));
-        partial.extend_from_slice(piece)?;
-        if !self.has_room(partial.as_slice()) {
-            return Err(self.fault_of_long(partial.as_slice()));
+        if piece.is_empty() {
+            return Ok(());
+        }
+        let partial = mem::replace(&mut self.partial, Vec::new(self.alloc));
+        match self.last.take() {
+            Some(last) => self.take_behind(last, partial, piece),
+            None => self.take_alone(partial, piece),
+        }
+    }
+
+    /// Takes a physical line that has not ended, in two parts, where a line stands before it.
+    fn take_behind(&mut self, last: Line, front: Vec<u8>, back: &[u8]) -> Result<(), StreamFault>
+        requires none { (self.old.partial.items ≡ []) × (self.old.last ≡ None) }
+        requires kept { is_kept (Some last) ≡ true }
+        requires line { list_any is_lf (front.items ++ back.now) ≡ false }
+        requires some { is_empty (front.items ++ back.now) ≡ false }
+        ensures number { self.new.number ≡ self.old.number }
+        ensures ok { OnOk result ((text : List ℕ) → parts_from self.old.begun self.old.block.items
+            (joined (last ∷ numbered self.old.number (cut is_lf ((front.items ++ back.now) ++ text)))) ≡ to_come self.new text) }
+        ensures err { IfErr result (λ fault. (text : List ℕ) → Ends fault (parts_from self.old.begun self.old.block.items
+            (joined (last ∷ numbered self.old.number (cut is_lf ((front.items ++ back.now) ++ text)))))) }
+    {
+        let (begin, end) = parts_without_cr(front.as_slice(), back);
+        if begins_with_space(begin) {
+            let has_cr = begin.len() + end.len() < front.len() + back.len();
+            return self.grow(last, begin, end, has_cr);
+        }
+        match self.close(last) {
+            Ok(()) => self.take_alone(front, back),
+            Err(fault) => Err(fault),
+        }
+    }
+
+    /// Puts the text of a physical line that has not ended behind the line that it continues. Its space is
+    /// left in hand, and a CR that may be its final one.
+    fn grow(
+        &mut self,
+        last: Line,
+        front: &[u8],
+        back: &[u8],
+        has_cr: bool,
+    ) -> Result<(), StreamFault>
+        requires none { (self.old.partial.items ≡ []) × (self.old.last ≡ None) }
+        requires kept { is_kept (Some last) ≡ true }
+        requires space { begins_with 32 front.now ≡ true }
+        ensures number { self.new.number ≡ self.old.number }
+        ensures block { (self.new.begun ≡ self.old.begun) × (self.new.block ≡ self.old.block) }
+        ensures ok { OnOk result ((self.new.last ≡ Some (last.0, last.1 ++ drop 1 (front.now ++ back.now)))
+            × (self.new.partial.items ≡ (if has_cr then 32 ∷ 13 ∷ [] else 32 ∷ []))) }
+        ensures err { IfErr result (λ fault. (text : List ℕ) → (n : ℕ) → (more : List Line)
+            → Ends fault (parts_from self.old.begun self.old.block.items (joined (last ∷ (n, (front.now ++ back.now) ++ text) ∷ more)))) }
+    {
+        let longer = last.continued(front, back)?;
+        if longer.is_long() {
+            return Err(StreamFault::LineTooLong);
+        }
+        let rest: &[u8] = if has_cr { b" \r" } else { b" " };
+        self.partial = rest.to_vec(self.alloc)?;
+        self.last = Some(longer);
+        Ok(())
+    }
+
+    /// Takes a physical line that has not ended, in two parts, where it continues no line.
+    fn take_alone(&mut self, front: Vec<u8>, back: &[u8]) -> Result<(), StreamFault>
+        requires none { self.old.last ≡ None }
+        requires line { list_any is_lf (front.items ++ back.now) ≡ false }
+        ensures number { self.new.number ≡ self.old.number }
+        ensures ok { OnOk result ((text : List ℕ) → parts_from self.old.begun self.old.block.items
+            (joined (numbered self.old.number (cut is_lf ((front.items ++ back.now) ++ text)))) ≡ to_come self.new text) }
+        ensures err { IfErr result (λ fault. (text : List ℕ) → Ends fault (parts_from self.old.begun self.old.block.items
+            (joined (numbered self.old.number (cut is_lf ((front.items ++ back.now) ++ text)))))) }
+    {
+        let mut partial = front;
+        partial.extend_from_slice(back)?;
+        if without_cr(partial.as_slice()).len() > MAX_LINE {
+            return Err(StreamFault::LineTooLong);
         }
         self.partial = partial;
         Ok(())
@@ -202,64 +283,44 @@ impl Joiner {
     {
         let number = self.number;
         self.number = number + 1;
-        let mut line = mem::replace(&mut self.partial, Vec::new(self.alloc));
-        if line.is_empty() {
-            return self.join_slice(number, without_cr(text));
-        }
-        line.extend_from_slice(text)?;
-        drop_cr(&mut line);
-        self.join_owned(number, line)
+        let line = mem::replace(&mut self.partial, Vec::new(self.alloc));
+        self.join(number, line, text)
     }
 
-    fn join_slice(&mut self, number: u64, text: &[u8]) -> Result<bool, StreamFault>
+    /// Joins a physical line, in two parts, to what stands before it.
+    fn join(&mut self, number: u64, front: Vec<u8>, back: &[u8]) -> Result<bool, StreamFault>
         requires { self.old.partial.items ≡ [] }
         ensures number { self.new.number ≡ self.old.number }
         ensures partial { self.new.partial ≡ self.old.partial }
         ensures last { IfOk result (λ ends. ends ≡ true → self.new.last ≡ None) }
-        ensures joins { Joins (λ more. parts_before self.old ((number, text.now) ∷ more)) result self.new }
+        ensures joins { Joins (λ more. parts_before self.old ((number, without_last 13 (front.items ++ back.now)) ∷ more)) result self.new }
     {
         if let Some(last) = self.last.take() {
-            if begins_with_space(text) {
-                return self.append(last, text);
+            let (begin, end) = parts_without_cr(front.as_slice(), back);
+            if begins_with_space(begin) {
+                return self.append(last, begin, end);
             }
             if let Err(fault) = self.close(last) {
                 return Err(fault);
             }
         }
-        let line = Line::new(number, text.to_vec(self.alloc)?);
-        self.keep(line)
-    }
-
-    fn join_owned(&mut self, number: u64, text: Vec<u8>) -> Result<bool, StreamFault>
-        requires { self.old.partial.items ≡ [] }
-        ensures number { self.new.number ≡ self.old.number }
-        ensures partial { self.new.partial ≡ self.old.partial }
-        ensures last { IfOk result (λ ends. ends ≡ true → self.new.last ≡ None) }
-        ensures joins { Joins (λ more. parts_before self.old ((number, text.items) ∷ more)) result self.new }
-    {
-        if let Some(last) = self.last.take() {
-            let slice = text.as_slice();
-            if begins_with_space(slice) {
-                return self.append(last, slice);
-            }
-            if let Err(fault) = self.close(last) {
-                return Err(fault);
-            }
-        }
+        let mut text = front;
+        text.extend_from_slice(back)?;
+        drop_cr(&mut text);
         self.keep(Line::new(number, text))
     }
 
-    /// Continues a line by one that begins with a space.
-    fn append(&mut self, last: Line, text: &[u8]) -> Result<bool, StreamFault>
+    /// Continues a line by one that begins with a space, in two parts.
+    fn append(&mut self, last: Line, front: &[u8], back: &[u8]) -> Result<bool, StreamFault>
         requires none { self.old.partial.items ≡ [] }
         requires kept { is_kept (Some last) ≡ true }
-        requires space { begins_with 32 text.now ≡ true }
+        requires space { begins_with 32 front.now ≡ true }
         ensures number { self.new.number ≡ self.old.number }
         ensures partial { self.new.partial ≡ self.old.partial }
         ensures last { IfOk result (λ ends. ends ≡ true → self.new.last ≡ None) }
-        ensures joins { (n : ℕ) → Joins (λ more. parts_from self.old.begun self.old.block.items (joined (last ∷ (n, text.now) ∷ more))) result self.new }
+        ensures joins { (n : ℕ) → Joins (λ more. parts_from self.old.begun self.old.block.items (joined (last ∷ (n, front.now ++ back.now) ∷ more))) result self.new }
     {
-        self.hold(last.continued(&text[1..])?)
+        self.hold(last.continued(front, back)?)
     }
 
     /// Begins a logical line, unless the line is empty.
@@ -286,7 +347,7 @@ impl Joiner {
         ensures last { IfOk result (λ ends. ends ≡ false) }
         ensures joins { Joins (λ more. parts_from self.old.begun self.old.block.items (joined (line ∷ more))) result self.new }
     {
-        if line.text().len() > MAX_LINE {
+        if line.is_long() {
             return Err(StreamFault::LineTooLong);
         }
         self.last = Some(line);
@@ -317,40 +378,6 @@ impl Joiner {
         }
         self.block.push(line)?;
         Ok(())
-    }
-
-    /// Whether a physical line that has not ended makes no line too long. A CR at its end may be the final
-    /// one, and isn't counted.
-    fn has_room(&self, partial: &[u8]) -> bool
-        ensures { result ≡ has_room self.now.last partial.now }
-    {
-        let text = without_cr(partial);
-        let space = begins_with_space(text);
-        match &self.last {
-            Some(last) if space => last.text().len() + text.len() <= MAX_LINE + 1,
-            _ => text.len() <= MAX_LINE,
-        }
-    }
-
-    /// The fault of a physical line that has not ended and makes a line too long. A last line that it does
-    /// not continue comes first.
-    fn fault_of_long(&mut self, partial: &[u8]) -> StreamFault
-        requires long { has_room self.old.last partial.now ≡ false }
-        requires line { list_any is_lf partial.now ≡ false }
-        requires none { self.old.partial.items ≡ [] }
-        ensures number { self.new.number ≡ self.old.number }
-        ensures fault { (text : List ℕ) → Ends result (parts_before self.old (numbered self.old.number (cut is_lf (partial.now ++ text)))) }
-    {
-        let Some(last) = self.last.take() else {
-            return StreamFault::LineTooLong;
-        };
-        if begins_with_space(without_cr(partial)) {
-            return StreamFault::LineTooLong;
-        }
-        match self.close(last) {
-            Ok(()) => StreamFault::LineTooLong,
-            Err(fault) => fault,
-        }
     }
 
     /// Ends the text: what is in hand is its last line. Answers the last block.

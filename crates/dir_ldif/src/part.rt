@@ -1,5 +1,6 @@
-ghost use Rattle.std.specs.Prelude.{◌≡◌};
+ghost use Rattle.std.specs.Prelude.{◌≡◌, IfOk};
 ghost use Rattle.std.specs.List.{list_any};
+ghost use Rattle.base64.specs.GeneralPurpose.{IsBytes};
 ghost use Rattle.dir_ldif.specs.Outcome.{Tells, then_of};
 ghost use Rattle.dir_ldif.specs.Part.{decoded, is_refused, limited, part_of, plain, value_of};
 
@@ -21,7 +22,8 @@ pub const MAX_VALUE: usize = 1_048_576;
 /// `BadLine` for a line without a name or a colon; then `UrlValue`, `BadBase64`, or `BadLine` for a
 /// NUL or a CR in a plain value; then `ValueTooLong`.
 pub(crate) fn part_of(alloc: Global, line: &[u8]) -> Result<(&[u8], Bytes), Refusal>
-    ensures { Tells (λ p. (p.0.now, p.1)) result (part_of line.now) }
+    ensures read { Tells (λ p. (p.0.now, p.1)) result (part_of line.now) }
+    ensures bytes { IfOk result (λ p. IsBytes p.1) }
 {
     let Some((name, rest)) = cut_at(b':', line) else {
         return Err(Refusal::Fault(RecordFault::BadLine));
@@ -37,7 +39,8 @@ pub(crate) fn part_of(alloc: Global, line: &[u8]) -> Result<(&[u8], Bytes), Refu
 
 /// The value that stands behind a name and its colon, within the limit.
 fn limited_value(alloc: Global, text: &[u8]) -> Result<Bytes, Refusal>
-    ensures { Tells (λ v. v) result (then_of (value_of text.now) limited) }
+    ensures read { Tells (λ v. v) result (then_of (value_of text.now) limited) }
+    ensures bytes { IfOk result (λ v. IsBytes v) }
 {
     match text {
         [b':', rest @ ..] => match decoded(alloc, without_spaces(rest)) {
@@ -60,7 +63,8 @@ fn decoded(alloc: Global, text: &[u8]) -> Result<Vec<u8>, Refusal>
 }
 
 fn limited(value: Vec<u8>) -> Result<Bytes, Refusal>
-    ensures { Tells (λ v. v) result (limited value.items) }
+    ensures read { Tells (λ v. v) result (limited value.items) }
+    ensures bytes { IfOk result (λ v. IsBytes v) }
 {
     if value.len() > MAX_VALUE {
         return Err(Refusal::Fault(RecordFault::ValueTooLong));
@@ -70,7 +74,8 @@ fn limited(value: Vec<u8>) -> Result<Bytes, Refusal>
 
 /// A value that stands plainly. It is copied only where it is within the limit.
 fn plain(alloc: Global, text: &[u8]) -> Result<Bytes, Refusal>
-    ensures { Tells (λ v. v) result (then_of (plain text.now) limited) }
+    ensures read { Tells (λ v. v) result (then_of (plain text.now) limited) }
+    ensures bytes { IfOk result (λ v. IsBytes v) }
 {
     if has_refused(text) {
         return Err(Refusal::Fault(RecordFault::BadLine));

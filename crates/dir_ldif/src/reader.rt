@@ -1,6 +1,7 @@
 ghost use Rattle.std.specs.Prelude.{◌≡◌, ◌+◌, ◌-◌, ◌*◌, ◌++◌, ◌∷◌, ◌^◌, ◌<◌, ◌≤◌, [], All, IfErr, IfOk, OnOk, length, vec_len};
 ghost use Rattle.dir_ldif.specs.LegalFound.{IsLegalFound};
 ghost use Rattle.dir_ldif.specs.Records.{EndsIn, all_found, found_of, records_of};
+ghost use Rattle.dir_ldif.specs.SoundFound.{IsSoundFound};
 
 use crate::block::record_of;
 use crate::device::Source;
@@ -45,7 +46,7 @@ impl<'s, R: Source + Drop> RecordReader<'s, R> {
     ghost use Rattle.std.specs.Prelude.{◌≡◌, ℕ, List, [], None, Ok, Err, IfErr, IfNone, IfOk, IfSome, OnOk};
     ghost use Rattle.std.specs.Option.{option_map};
     ghost use Rattle.dir_ldif.specs.Next.{GivesFirst, GivesNone};
-    ghost use Rattle.dir_ldif.specs.Reader.{GivesLegal, IsAtEnd, IsEnded, IsReading, ReadsPieces, SpendsTurns, StopsFor, StopsSoonFor, UsesUp, in_hand, schema_of, source_of, to_give, to_give_on, turns_left};
+    ghost use Rattle.dir_ldif.specs.Reader.{GivesLegal, GivesSound, IsAtEnd, IsEnded, IsReading, ReadsPieces, SpendsTurns, StopsFor, StopsSoonFor, UsesUp, in_hand, schema_of, source_of, to_give, to_give_on, turns_left};
     ghost use Rattle.dir_ldif.specs.Records.{records_of};
 
     /// A reader that is allowed 1,099,511,627,776 read calls.
@@ -104,14 +105,24 @@ impl<'s, R: Source + Drop> RecordReader<'s, R> {
         ensures soon { IfErr result (λ fault. StopsSoonFor R.left fault self.old self.new) }
         ensures pieces { ReadsPieces R.left self.old self.new }
         ensures legal { IfOk result (λ o. IfSome o (GivesLegal self.old)) }
+        ensures sound { IfOk result (λ o. IfSome o (GivesSound self.old)) }
         ensures ended { IsEnded self.old → result ≡ Err StreamFault.Ended }
         ensures at_end { IsAtEnd self.old → result ≡ Ok None }
         ensures schema { schema_of self.new ≡ schema_of self.old }
+        ensures going { OnOk result (¬ (IsEnded self.new)) }
         ensures count { OnOk result (R.failures (source_of self.new) ≡ R.failures (source_of self.old)) }
         ensures turns { IfOk result (λ _. IsReading self.new → SpendsTurns R.left self.old self.new) }
         ensures same { R.is_same (source_of self.old) (source_of self.new) }
     {
         self.core.next(self.schema, &mut self.source)
+    }
+
+    /// The source, behind all pieces that were read of it.
+    pub fn into_source(self) -> R
+        ensures { result ≡ source_of self.entry }
+    {
+        let RecordReader { source, .. } = self;
+        source
     }
 }
 
@@ -137,6 +148,7 @@ impl Core {
     ghost use Rattle.dir_ldif.specs.declared.reader.Place.TheVariants.{AtEnd, Ended, Reading};
     ghost use Rattle.dir_ldif.specs.Next.{EndsSoon, Faults, GivesFirst, GivesNone, GoesOn, answers_left};
     ghost use Rattle.dir_ldif.specs.LegalFound.{IsLegalFound};
+    ghost use Rattle.dir_ldif.specs.SoundFound.{IsSoundFound};
     ghost use Rattle.dir_ldif.specs.Bytes.{is_empty};
     ghost use Rattle.dir_ldif.specs.Device.{FailsToRead};
     ghost use Rattle.dir_ldif.specs.Joining.{to_come};
@@ -176,8 +188,10 @@ impl Core {
         ensures soon { IfErr result (λ fault. EndsSoon fault schema.now self.old (S.left source.old) (S.left source.new)) }
         ensures pieces { IsInPieces self.old self.new (S.left source.old) (S.left source.new) }
         ensures legal { IfOk result (λ o. IfSome o (IsLegalFound schema.now)) }
+        ensures sound { IfOk result (λ o. IfSome o (IsSoundFound schema.now)) }
         ensures ended { self.old.place ≡ Ended → result ≡ Err StreamFault.Ended }
         ensures at_end { self.old.place ≡ AtEnd → (result ≡ Ok None) }
+        ensures going { OnOk result (¬ (self.new.place ≡ Ended)) }
         ensures turns { IfOk result (λ _. self.new.place ≡ Reading → (bytes : List ℕ)
             × Consumes (S.left source.old) (S.left source.new) bytes × (self.old.turns ≤ self.new.turns + length bytes)) }
         ensures count { OnOk result (S.failures source.new ≡ S.failures source.old) }
@@ -211,6 +225,8 @@ impl Core {
         ensures soon { IfErr result (λ fault. EndsSoon fault schema.now self.old (S.left source.old) (S.left source.new)) }
         ensures pieces { IsInPieces self.old self.new (S.left source.old) (S.left source.new) }
         ensures legal { IfOk result (λ o. IfSome o (IsLegalFound schema.now)) }
+        ensures going { OnOk result (¬ (self.new.place ≡ Ended)) }
+        ensures sound { IfOk result (λ o. IfSome o (IsSoundFound schema.now)) }
         ensures turns { IfOk result (λ _. self.new.place ≡ Reading → (bytes : List ℕ)
             × Consumes (S.left source.old) (S.left source.new) bytes × (self.old.turns ≤ self.new.turns + length bytes)) }
         ensures count { OnOk result (S.failures source.new ≡ S.failures source.old) }
@@ -339,6 +355,7 @@ fn answer_of(alloc: Global, schema: &Schema, block: &[Line]) -> Result<Answer, S
     requires { 0 < length block.now }
     ensures ok { IfOk result (λ answer. answer ≡ found_of schema.now block.now) }
     ensures legal { IfOk result (IsLegalFound schema.now) }
+    ensures sound { IfOk result (IsSoundFound schema.now) }
     ensures err { IfErr result (λ fault. fault ≡ StreamFault.Memory) }
 {
     let number = block[0].number();
@@ -354,6 +371,7 @@ fn answer_of(alloc: Global, schema: &Schema, block: &[Line]) -> Result<Answer, S
 pub fn read_all(alloc: Global, schema: &Schema, text: &[u8]) -> Result<Vec<Answer>, StreamFault>
     ensures ok { IfOk result (λ answers. records_of schema.now text.now ≡ all_found answers.items) }
     ensures legal { IfOk result (λ answers. All (IsLegalFound schema.now) answers.items) }
+    ensures sound { IfOk result (λ answers. All (IsSoundFound schema.now) answers.items) }
     ensures err { IfErr result (λ fault. EndsIn fault schema.now text.now) }
 {
     if text.len() > MAX_TEXT {
@@ -397,6 +415,7 @@ fn push_answer(
     requires { 0 < length block.now }
     ensures ok { OnOk result (answers.new.items ≡ answers.old.items ++ found_of schema.now block.now ∷ []) }
     ensures legal { OnOk result (All (IsLegalFound schema.now) answers.old.items → All (IsLegalFound schema.now) answers.new.items) }
+    ensures sound { OnOk result (All (IsSoundFound schema.now) answers.old.items → All (IsSoundFound schema.now) answers.new.items) }
     ensures err { IfErr result (λ fault. fault ≡ StreamFault.Memory) }
 {
     answers.push(answer_of(alloc, schema, block)?)?;

@@ -1,7 +1,9 @@
 use Rattle.std.proofs.Common.{◌≡◌, sym, ap, subst, ◌∙◌}
 use Rattle.dir_ldif.specs.Block.{all_of, is_dash, mod_of, mods_of}
 use Rattle.dir_ldif.specs.Lines.{cut}
+use Rattle.dir_ldif.specs.Laws.{ModsAreBytes}
 use Rattle.dir_ldif.proofs.BlockLemmas.{all_of-next, behind_front}
+use Rattle.dir_ldif.proofs.SoundRecords.{mods_more}
 use Rattle.dir_ldif.proofs.block.mods_of.Goals as goal
 
 pub loop-rest-preserved : goal.loop-rest-preserved
@@ -11,5 +13,6 @@ loop-rest-preserved c =
     let front = c.loop-rest.mods.items in
     let group = c.cut_dash.result.0.now in
     let after = cut is_dash c.cut_dash.result.1.now in
-    let next = c.loop-rest.invariant ∙ ap (λ t. behind_front front (all_of (mod_of rows) t)) c.cut_dash.ensures.cut ∙ all_of-next (mod_of rows) front group after c.in_ok-mod_of.field-0 c.in_ok-mod_of.ensures in
-    subst (λ t. mods_of rows lines ≡ behind_front t (all_of (mod_of rows) after)) (sym c.in_ok-push.ensures.items) next
+    let next = c.loop-rest.invariant.0 ∙ ap (λ t. behind_front front (all_of (mod_of rows) t)) c.cut_dash.ensures.cut ∙ all_of-next (mod_of rows) front group after c.in_ok-mod_of.field-0 c.in_ok-mod_of.ensures.read in
+    let more = mods_more front c.in_ok-mod_of.field-0 c.loop-rest.invariant.1 c.in_ok-mod_of.ensures.sound in
+    subst (λ t. (mods_of rows lines ≡ behind_front t (all_of (mod_of rows) after)) × ModsAreBytes t) (sym c.in_ok-push.ensures.items) (next, more)
