@@ -78,7 +78,7 @@ bytes_test (b ∷ bs) h =
     let first : nat_lt b 256 ≡ true = grind (arith, nat_tests) in
     λ i. first i && bytes_test bs (λ n. h (suc n)) i
 
-legal_lines : (rows : List TypeRow) (lines : List (Described × List ℕ)) → list_all (is_legal_line rows) lines ≡ true → ValuesAreBytes lines → Each (IsLegalLine rows) lines
+pub legal_lines : (rows : List TypeRow) (lines : List (Described × List ℕ)) → list_all (is_legal_line rows) lines ≡ true → ValuesAreBytes lines → Each (IsLegalLine rows) lines
 legal_lines rows [] e bytes = tt
 legal_lines rows (line ∷ lines) e bytes =
     let first = left (is_legal_line rows line) _ e in
@@ -143,7 +143,7 @@ legal_rdn : (rdn : SpelledRdn) → is_rdn rdn ≡ true → is_small rdn ≡ true
 legal_rdn rdn sound small = legal_pairs rdn (right (not (length rdn == 0)) _ sound) (small_pairs 4096 rdn (grind (arith, nat_tests)))
 
 -- the own RDN of a name within the limits
-legal_leaf : (suffix k : DnKeys) (name : SpelledName) → is_name name ≡ true → is_within_limits name ≡ true → (leaf : SpelledRdn) → leaf_of (own_of suffix k name) ≡ Some leaf → Each IsLegalPair leaf
+pub legal_leaf : (suffix k : DnKeys) (name : SpelledName) → is_name name ≡ true → is_within_limits name ≡ true → (leaf : SpelledRdn) → leaf_of (own_of suffix k name) ≡ Some leaf → Each IsLegalPair leaf
 legal_leaf suffix k [] sound small leaf e = by (dn_key_eq k suffix) e
   where
     by : (b : Bool) → leaf_of (cond b [] []) ≡ Some leaf → Each IsLegalPair leaf

@@ -41,7 +41,7 @@ module _ (rows : List TypeRow) where
   legal_attribute : (a : Attr × Stored) → IsSoundAttribute rows a → list_all (is_legal_line rows) (attribute_lines a) ≡ true
   legal_attribute a sound = legal_values a (fin.entries a.1.values) (ap (has_this_key a.0) sound.0 ∙ (attr_eq_decides a.0 a.0).1 refl) sound.2
 
-  legal_attributes : (es : List (Attr × Stored)) → Each (IsSoundAttribute rows) es → list_all (is_legal_line rows) (flat_map attribute_lines es) ≡ true
+  pub legal_attributes : (es : List (Attr × Stored)) → Each (IsSoundAttribute rows) es → list_all (is_legal_line rows) (flat_map attribute_lines es) ≡ true
   legal_attributes [] sound = refl
   legal_attributes (a ∷ es) sound = all_append (is_legal_line rows) (attribute_lines a) (flat_map attribute_lines es) (legal_attribute a sound.0) (legal_attributes es sound.1)
 

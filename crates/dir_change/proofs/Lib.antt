@@ -1,4 +1,5 @@
 pub mod Conditions
+pub mod InOrder
 pub mod Kept
 pub mod LegalUndo
 pub mod ReadBack

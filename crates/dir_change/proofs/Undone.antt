@@ -337,6 +337,24 @@ add_taken_back rows d closed names k name lines named new is =
     back : without new k ≡ d
     back = ap (λ z. without z k) known.5 ∙ put_out d k e known.1
 
+-- an add of the name as spelled has the own name of the entry
+pub own_spelled : (rows : List TypeRow) (d : Dir) → IsWellFormed rows d → (k : DnKeys) (e : Content) → entry_at d k ≡ Some e → own_of d.suffix k (spelled_name d k) ≡ e.own
+own_spelled rows d well k e known = by (dn_key_eq k d.suffix) refl
+  where
+    here : own_at d k ≡ e.own
+    here = ap spelled.own_of known
+
+    by : (b : Bool) → dn_key_eq k d.suffix ≡ b → cond b (spelled_name d k) (take 1 (spelled_name d k)) ≡ e.own
+    by true t = spelled_suffix d well.1 k ((dn_key_eq_decides k d.suffix).0 t) ∙ here
+    by false t = by_parent (parent_of k) refl
+      where
+        by_parent : (o : Option DnKeys) → parent_of k ≡ o → take 1 (spelled_name d k) ≡ e.own
+        by_parent None p = absurd (true≢false (sym (sym (λ i. t i || is_there d (p i)) ∙ well.1 k (ap is_some known))))
+        by_parent (Some above) p =
+            let child = parent_child k above p in
+            let part : name_key rows e.own ≡ Some (child.0 ∷ []) = (well.2 k e known).1 ∙ ap (λ b. Some (cond b k (take 1 (reverse k)))) t ∙ ap (λ z. Some (take 1 (reverse z))) child.1 ∙ ap Some (last_of above child.0) in
+            ap (take 1) (spelled_here d well.1 k (ap is_some known) ∙ ap (λ z. z ++ name_above d k) here) ∙ front_own rows e.own (name_above d k) child.0 part
+
 pub delete_taken_back : (rows : List TypeRow) (d : Dir) → IsWellFormed rows d → (k : DnKeys) (new : Dir) → deleted d k ≡ Ok new → TakesBack rows d new (undo_of d new k kind.Delete)
 delete_taken_back rows d well k new is =
     ap (λ r. undo.and_then r (λ e. Ok e))
@@ -382,21 +400,7 @@ delete_taken_back rows d well k new is =
             apart true t = let short = parent_shorter k above p in let same = ap length (same_key above k t) in absurd (omega (arith, short, same))
 
     own : own_of d.suffix k (spelled_name d k) ≡ e.own
-    own = by (dn_key_eq k d.suffix) refl
-      where
-        here : own_at d k ≡ e.own
-        here = ap spelled.own_of known.1
-
-        by : (b : Bool) → dn_key_eq k d.suffix ≡ b → cond b (spelled_name d k) (take 1 (spelled_name d k)) ≡ e.own
-        by true t = spelled_suffix d well.1 k ((dn_key_eq_decides k d.suffix).0 t) ∙ here
-        by false t = by_parent (parent_of k) refl
-          where
-            by_parent : (o : Option DnKeys) → parent_of k ≡ o → take 1 (spelled_name d k) ≡ e.own
-            by_parent None p = absurd (true≢false (sym (sym (λ i. t i || is_there d (p i)) ∙ well.1 k there)))
-            by_parent (Some above) p =
-                let child = parent_child k above p in
-                let part : name_key rows e.own ≡ Some (child.0 ∷ []) = (well.2 k e known.1).1 ∙ ap (λ b. Some (cond b k (take 1 (reverse k)))) t ∙ ap (λ z. Some (take 1 (reverse z))) child.1 ∙ ap Some (last_of above child.0) in
-                ap (take 1) (spelled_here d well.1 k there ∙ ap (λ z. z ++ name_above d k) here) ∙ front_own rows e.own (name_above d k) child.0 part
+    own = own_spelled rows d well k e known.1
 
 -- the key of an added entry's name as spelled
 pub added_key : (rows : List TypeRow) (d : Dir) → IsClosed d → HasOwnNames rows d → (k : DnKeys) (name : SpelledName) (lines : List (Described × List ℕ)) → name_key rows name ≡ Some k → (new : Dir) → added rows d k name lines ≡ Ok new → name_key rows (spelled_name new k) ≡ Some k

@@ -143,7 +143,7 @@ module _ (rows : List TypeRow) where
   bytes_of a [] sound = tt
   bytes_of a (v ∷ vs) sound = (as_bytes v.1 sound.0.2, bytes_of a vs sound.1)
 
-  bytes_all : (es : List (Attr × Stored)) → Each (IsSoundAttribute rows) es → ValuesAreBytes (flat_map attribute_lines es)
+  pub bytes_all : (es : List (Attr × Stored)) → Each (IsSoundAttribute rows) es → ValuesAreBytes (flat_map attribute_lines es)
   bytes_all [] sound = tt
   bytes_all (a ∷ es) sound = values_append (attribute_lines a) (flat_map attribute_lines es) (bytes_of a (fin.entries a.1.values) sound.0.2) (bytes_all es sound.1)
 

@@ -63,3 +63,10 @@ ReadsBack rows ending = map without_line (records_of rows (undo_text_of ending.g
 
 abbrev pub UndoTextsReadBack : Type 0
 UndoTextsReadBack = (rows : List TypeRow) (d : Dir) (changes : List Change) → IsWellFormed rows d → IsWithinLimits d → Each (IsSoundChange rows) changes → ReadsBack rows (goes_on rows d changes) × ReadsBack rows (stops rows d changes)
+
+-- where a run ends, the directory is well formed and within the limits, under the same suffix
+abbrev pub StaysInOrder : List TypeRow → Dir → Ending → Type 0
+StaysInOrder rows d ending = IsWellFormed rows ending.end × IsWithinLimits ending.end × (ending.end.suffix ≡ d.suffix)
+
+abbrev pub RunsStayInOrder : Type 0
+RunsStayInOrder = (rows : List TypeRow) (d : Dir) (changes : List Change) → IsWellFormed rows d → IsWithinLimits d → Each (IsSoundChange rows) changes → StaysInOrder rows d (goes_on rows d changes) × StaysInOrder rows d (stops rows d changes)

@@ -1,4 +1,4 @@
-ghost use Rattle.dir_change.specs.Runs.{RunsAreTakenBack, UndoTextsReadBack};
+ghost use Rattle.dir_change.specs.Runs.{RunsAreTakenBack, RunsStayInOrder, UndoTextsReadBack};
 
 use dir_ldif::written_records_read_back;
 
@@ -16,3 +16,9 @@ pub fn undo_texts_read_back()
 {
     written_records_read_back();
 }
+
+/// A law: where such a list ends, the directory is well formed and within the limits, as it was where the
+/// list began, and under the same suffix.
+pub fn runs_stay_in_order()
+    ensures { RunsStayInOrder }
+{}

@@ -1,3 +1,6 @@
+ghost use Rattle.std.specs.Prelude.{◌≡◌, Some};
+ghost use Rattle.dir_change.specs.CodeText.{result_code_text};
+
 use std::fmt;
 
 /// Why an operation is refused (RFC 4511, appendix A).
@@ -18,7 +21,9 @@ pub enum ResultCode {
 
 impl ResultCode {
     /// The code's number and name, as in `32 noSuchObject`.
-    pub fn text(self) -> &'static str {
+    pub fn text(self) -> &'static str
+        ensures { result.now ≡ result_code_text self }
+    {
         match self {
             ResultCode::ProtocolError => "2 protocolError",
             ResultCode::AdminLimitExceeded => "11 adminLimitExceeded",
@@ -36,6 +41,8 @@ impl ResultCode {
 }
 
 impl fmt::Display for ResultCode {
+    ghost output = { λ code. Some (result_code_text code) };
+
     fn fmt<W: fmt::Write>(&self, f: &mut fmt::Formatter<W>) -> fmt::Result {
         f.write_str(self.text())
     }
