@@ -1,5 +1,5 @@
 -- The texts of a run, as they are made.
-use Rattle.std.specs.Prelude.{ℕ, Bool, true, false, List, [], Option, None, Some}
+use Rattle.std.specs.Prelude.{◌≡◌, ℕ, Bool, true, false, List, [], Option, None, Some}
 use Rattle.dir_tools.specs.declared.modify.Files.{Files}
 use Rattle.dir_tools.specs.declared.modify.RunTexts as made
 use Rattle.dir_tools.specs.Written.{Texts}
@@ -21,3 +21,11 @@ has_no_files (Some files) = false
 
 abbrev pub is_dry : made.RunTexts → Bool
 is_dry t = has_no_files t.files
+
+-- these texts were made; a dry run leaves out the files
+abbrev pub HoldsFiles : Bool → Texts → Option Files → Type 0
+HoldsFiles dry s None = dry ≡ true
+HoldsFiles dry s (Some files) = (dry ≡ false) × (files.undo.items ≡ s.undo) × (files.out.items ≡ s.out)
+
+abbrev pub Holds : Bool → Texts → made.RunTexts → Type 0
+Holds dry s t = HoldsFiles dry s t.files × (t.report.items ≡ s.report)

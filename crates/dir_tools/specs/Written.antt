@@ -62,3 +62,8 @@ CopyWritten (Err e) tape text = Nothing tape
 abbrev pub IsUnwritten : ToolFault → Type 0
 IsUnwritten (fault.Write output) = ⊥
 IsUnwritten e = ⊤
+
+-- a fault of a writer
+abbrev pub IsWriteFault : ToolFault → Type 0
+IsWriteFault (fault.Write output) = ⊤
+IsWriteFault e = ⊥

@@ -1,10 +1,13 @@
-ghost use Rattle.std.specs.Prelude.{◌≡◌, ◌⊎◌, Err, IfErr, None, OnOk};
+ghost use Rattle.std.specs.Prelude.{◌≡◌, ◌⊎◌, Err, IfErr, IfOk, IfSome, IsSome, None, Ok, OnOk};
 ghost use Rattle.dir_ldif.specs.Device.{HasFailed};
 ghost use Rattle.dir_tools.specs.Canonical.{canonical_of};
-ghost use Rattle.dir_tools.specs.Written.{CopyWritten, IsUnwritten};
+ghost use Rattle.dir_tools.specs.CopyOf.{copy_of};
+ghost use Rattle.dir_tools.specs.Loading.{CopyBlamed, IsBare, IsNamed, IsOfRecord, IsPut, copy_fault};
+ghost use Rattle.dir_tools.specs.Written.{CopyWritten};
 ghost use Rattle.dir_tools.specs.declared.fault.Output.TheVariants as Output;
 ghost use Rattle.dir_tools.specs.declared.fault.ToolFault.TheVariants as ToolFault;
 ghost use Rattle.dir_tree.specs.Dir.{entry_at};
+ghost use Rattle.dir_tree.specs.WellFormed.{IsWellFormed, IsWithinLimits};
 
 use crate::canonical::canonical_text;
 use crate::write::write_text;
@@ -32,21 +35,22 @@ pub fn read_copy<R: Source, D: Directory>(
 ) -> Result<D, ToolFault>
 where
     D: Drop,
-    ensures { IfErr result (λ e. IsUnwritten e) }
+    ensures suffix { IfOk result (λ d. (D.state d).suffix ≡ (D.state empty).suffix) }
+    ensures reads { IfOk result (λ d. IsBare (D.state empty) → IfSome (R.left copy.old) (λ text. copy_of schema.now (D.state empty).suffix text ≡ Ok (D.state d))) }
+    ensures sound { IfOk result (λ d. IsBare (D.state empty) → IsNamed (D.state empty).suffix → IsWellFormed schema.now (D.state d) × IsWithinLimits (D.state d)) }
+    ensures blamed { IfErr result (CopyBlamed (R.failures copy.old) (R.failures copy.new)) }
 {
     let mut loading = Loading::new(alloc, empty);
     let mut records = match RecordReader::new(alloc, schema, copy) {
         Ok(records) => records,
         Err(fault) => return Err(ended(fault)),
     };
-    for _ in 0..u64::MAX {
-        match records.next() {
-            Ok(Some((line, record))) => loading.take(alloc, schema, line, record)?,
-            Ok(None) => return loading.finish(alloc),
-            Err(fault) => return Err(ended(fault)),
-        }
+    let answer = loading.take_records(alloc, schema, &mut records);
+    records.into_source();
+    match answer {
+        Ok(()) => loading.finish(alloc),
+        Err(fault) => Err(fault),
     }
-    Err(ended(StreamFault::TooManyTurns))
 }
 
 /// Writes the canonical text of a directory, built whole before its first byte is written.
@@ -71,7 +75,7 @@ pub fn write_copy<D: Directory, W: Sink>(
 
 /// What a fault that ends a copy's text means.
 fn ended(fault: StreamFault) -> ToolFault
-    ensures { IsUnwritten result }
+    ensures { result ≡ copy_fault fault }
 {
     match fault {
         StreamFault::Read => ToolFault::Read(Input::Copy),
@@ -81,7 +85,7 @@ fn ended(fault: StreamFault) -> ToolFault
 }
 
 fn refused(line: u64, code: ResultCode) -> ToolFault
-    ensures { IsUnwritten result }
+    ensures { IsOfRecord result }
 {
     ToolFault::BadCopy(line, Cause::Code(code))
 }
@@ -101,11 +105,51 @@ struct Waiting {
 }
 
 impl<D: Directory + Drop> Loading<D> {
-    fn new(alloc: Global, directory: D) -> Loading<D> {
+    ghost use Rattle.std.specs.Prelude.{◌≡◌, IfErr, IfOk, Ok, OnOk};
+    ghost use Rattle.std.specs.BTreeMap.{IsEmpty};
+    ghost use Rattle.dir_ldif.specs.Reader.{IsReading, schema_of, source_of, to_give};
+    ghost use Rattle.dir_names.specs.NameKeys.{name_key};
+    ghost use Rattle.dir_tree.specs.Dir.{IsClosed};
+    ghost use Rattle.dir_tools.specs.CopyOf.{Loaded, placed_at, taken_in, whole};
+    ghost use Rattle.dir_tools.specs.Loading.{CopyBlamed, Holds, IsOfRecord, KeepsOrder, LoadsOver, LoadsTo};
+
+    fn new(alloc: Global, directory: D) -> Loading<D>
+        ensures directory { result.directory ≡ directory }
+        ensures waiting { IsEmpty result.waiting }
+    {
         Loading {
             directory,
             waiting: BTreeMap::new(alloc),
         }
+    }
+
+    /// Takes the records of the copy to their end.
+    fn take_records<S: Source + Drop>(
+        &mut self,
+        alloc: Global,
+        schema: &Schema,
+        records: &mut RecordReader<'_, S>,
+    ) -> Result<(), ToolFault>
+        requires reading { IsReading records.old }
+        requires schema { schema_of records.old ≡ schema.now }
+        ensures suffix { OnOk result ((D.state self.new.directory).suffix ≡ (D.state self.old.directory).suffix) }
+        ensures order { OnOk result (KeepsOrder D.state schema.now self.old self.new) }
+        ensures reads { OnOk result (LoadsOver D.state schema.now (to_give S.left records.old) self.old self.new) }
+        ensures blamed { IfErr result (CopyBlamed (S.failures (source_of records.old)) (S.failures (source_of records.new))) }
+        ensures same { S.is_same (source_of records.old) (source_of records.new) }
+    {
+        for _turn in 0..u64::MAX {
+            match records.next() {
+                Ok(Some((line, found))) => {
+                    if let Err(fault) = self.take(alloc, schema, line, found) {
+                        return Err(fault);
+                    }
+                }
+                Ok(None) => return Ok(()),
+                Err(fault) => return Err(ended(fault)),
+            }
+        }
+        Err(ended(StreamFault::TooManyTurns))
     }
 
     /// Takes the next record of the copy.
@@ -114,11 +158,13 @@ impl<D: Directory + Drop> Loading<D> {
         alloc: Global,
         schema: &Schema,
         line: u64,
-        record: Result<Record, RecordFault>,
+        found: Result<Record, RecordFault>,
     ) -> Result<(), ToolFault>
-        ensures { IfErr result (λ e. IsUnwritten e) }
+        ensures suffix { OnOk result ((D.state self.new.directory).suffix ≡ (D.state self.old.directory).suffix) }
+        ensures reads { OnOk result ((m : Loaded) → Holds D.state m self.old → LoadsTo D.state (taken_in schema.now m line found) self.new) }
+        ensures fault { IfErr result IsOfRecord }
     {
-        match record {
+        match found {
             Ok(Record::Content { dn, lines }) => self.take_entry(alloc, schema, line, dn, lines),
             Ok(Record::Change(_)) => Err(ToolFault::BadCopy(
                 line,
@@ -136,7 +182,9 @@ impl<D: Directory + Drop> Loading<D> {
         name: Dn,
         lines: Lines,
     ) -> Result<(), ToolFault>
-        ensures { IfErr result (λ e. IsUnwritten e) }
+        ensures suffix { OnOk result ((D.state self.new.directory).suffix ≡ (D.state self.old.directory).suffix) }
+        ensures reads { OnOk result ((m : Loaded) → Holds D.state m self.old → LoadsTo D.state (placed_at schema.now m line name lines (name_key schema.now name)) self.new) }
+        ensures fault { IfErr result IsOfRecord }
     {
         let key = name.key(alloc, schema)?;
         if !key.at_or_below(self.directory.suffix()) {
@@ -164,7 +212,9 @@ impl<D: Directory + Drop> Loading<D> {
     /// The whole directory, once each entry that waited has found its parent. Parents come before what
     /// is below them in the order of keys.
     fn finish(self, alloc: Global) -> Result<D, ToolFault>
-        ensures { IfErr result (λ e. IsUnwritten e) }
+        ensures suffix { IfOk result (λ d. (D.state d).suffix ≡ (D.state self.directory).suffix) }
+        ensures reads { IfOk result (λ d. (m : Loaded) → Holds D.state m self → (whole m ≡ Ok (D.state d)) × (m.entries ≡ D.state d) × IsClosed (D.state d)) }
+        ensures fault { IfErr result IsOfRecord }
     {
         let Loading {
             mut directory,
@@ -195,7 +245,9 @@ fn put<D: Directory>(
     entry: Entry,
 ) -> Result<Option<Entry>, ToolFault>
     requires { entry_at (D.state directory.old) key.now ≡ None }
-    ensures { IfErr result (λ e. IsUnwritten e) }
+    ensures suffix { (D.state directory.new).suffix ≡ (D.state directory.old).suffix }
+    ensures put { IfOk result (IsPut key.now entry (D.state directory.old) (D.state directory.new)) }
+    ensures fault { IfErr result IsOfRecord }
 {
     if !may_stand(alloc, directory, key)? {
         return Ok(Some(entry));
@@ -215,25 +267,37 @@ struct Orphans {
 }
 
 impl Orphans {
-    fn new(alloc: Global) -> Orphans {
+    fn new(alloc: Global) -> Orphans
+        ensures { result.first ≡ None }
+    {
         Orphans {
             keys: BTreeSet::new(alloc),
             first: None,
         }
     }
 
-    /// Adds an entry that found no parent, in the order of keys.
+    /// Adds an entry that found no parent, in the order of keys: the first of them is below no other.
     fn add(&mut self, alloc: Global, key: DnKey, line: u64) -> Result<(), ToolFault>
-        ensures { IfErr result (λ e. IsUnwritten e) }
+        ensures some { OnOk result (IsSome self.new.first) }
+        ensures fault { IfErr result IsOfRecord }
     {
-        let is_below = match key.parent(alloc)? {
-            Some(parent) => self.keys.contains(&parent),
-            None => false,
+        let is_first = match self.first {
+            Some(first) => line < first && !self.is_below(alloc, &key)?,
+            None => true,
         };
-        if !is_below && self.first.is_none_or(|first| line < first) {
+        if is_first {
             self.first = Some(line);
         }
         self.keys.insert(key)?;
         Ok(())
+    }
+
+    fn is_below(&self, alloc: Global, key: &DnKey) -> Result<bool, ToolFault>
+        ensures { IfErr result IsOfRecord }
+    {
+        Ok(match key.parent(alloc)? {
+            Some(parent) => self.keys.contains(&parent),
+            None => false,
+        })
     }
 }

@@ -1,10 +1,13 @@
-ghost use Rattle.std.specs.Prelude.{◌≡◌};
+ghost use Rattle.std.specs.Prelude.{◌≡◌, Some};
+ghost use Rattle.dir_tools.specs.Report.{cause_text};
 ghost use Rattle.dir_tools.specs.declared.fault.ToolFault.TheVariants.{Memory};
 
 use dir_change::ResultCode;
 use dir_ldif::{RecordFault, StreamFault};
 use dir_names::{Memory, NameFault};
 use std::alloc::AllocFailed;
+use std::error::Error as StdError;
+use std::fmt;
 use thiserror::Error;
 
 /// Why a tool gives no answer.
@@ -32,18 +35,29 @@ pub enum ToolFault {
 }
 
 /// Why a record is refused, or a copy.
-#[derive(Clone, Copy, PartialEq, Eq, Debug, Error)]
+#[derive(Clone, Copy, PartialEq, Eq, Debug)]
 pub enum Cause {
     /// The operation's result code.
-    #[error("{0}")]
     Code(ResultCode),
     /// The record is no legal one.
-    #[error("{0}")]
     Fault(RecordFault),
     /// The text ended in a fault.
-    #[error("{0}")]
     Ended(StreamFault),
 }
+
+impl fmt::Display for Cause {
+    ghost output = { λ cause. Some (cause_text cause) };
+
+    fn fmt<W: fmt::Write>(&self, f: &mut fmt::Formatter<W>) -> fmt::Result {
+        match self {
+            Cause::Code(code) => write!(f, "{code}"),
+            Cause::Fault(fault) => write!(f, "{fault}"),
+            Cause::Ended(fault) => write!(f, "{fault}"),
+        }
+    }
+}
+
+impl StdError for Cause {}
 
 /// What a tool reads.
 #[derive(Clone, Copy, PartialEq, Eq, Debug, Error)]

@@ -5,12 +5,15 @@
 mod canonical;
 mod copy;
 mod fault;
+mod laws;
 mod modify;
 mod report;
+mod run;
 mod write;
 
 pub use copy::{read_copy, write_copy};
 pub use fault::{Cause, Input, Item, Output, ToolFault};
+pub use laws::{canonical_texts_read_back, written_runs_are_taken_back};
 pub use modify::{ModifyOptions, Summary, run_modify};
 
 #[cfg(test)]

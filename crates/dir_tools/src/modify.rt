@@ -1,16 +1,20 @@
-ghost use Rattle.std.specs.Prelude.{◌≡◌, IfErr, IfOk, OnOk};
-ghost use Rattle.dir_tools.specs.RunTexts.{is_dry, texts_of};
-ghost use Rattle.dir_tools.specs.Written.{IsUnwritten, Texts, Written};
+ghost use Rattle.std.specs.Prelude.{◌≡◌, ◌⊎◌, Err, IfErr, IfOk, OnOk, Some};
+ghost use Rattle.dir_ldif.specs.Device.{HasFailed};
+ghost use Rattle.dir_tools.specs.Headline.{Answers, Blames, HasRun, IsNoSuffix, suffix_of};
+ghost use Rattle.dir_tools.specs.RunTexts.{Holds, is_dry, texts_of};
+ghost use Rattle.dir_tools.specs.Written.{IsWriteFault, Texts, Written};
+ghost use Rattle.dir_tools.specs.declared.fault.Input.TheVariants as Input;
+ghost use Rattle.dir_tools.specs.declared.fault.Output.TheVariants as Output;
+ghost use Rattle.dir_tools.specs.declared.fault.ToolFault.TheVariants as ToolFault;
 
-use crate::canonical::canonical_text;
 use crate::copy::read_copy;
-use crate::report::Report;
+use crate::laws::written_runs_are_taken_back;
+use crate::run::Run;
 use crate::write::write_text;
-use crate::{Cause, Input, Item, Output, ToolFault};
-use dir_change::{History, Refusal, apply};
-use dir_ldif::{Change, Record, RecordFault, RecordReader, Sink, Source, StreamFault};
+use crate::{Item, Output, ToolFault};
+use dir_ldif::{Sink, Source};
 use dir_names::{Dn, DnKey, NameFault, Schema};
-use dir_tree::{Directory, FlatDirectory};
+use dir_tree::FlatDirectory;
 use std::alloc::Global;
 
 /// How changes are run.
@@ -54,11 +58,22 @@ pub fn run_modify<R: Source, R2: Source, W: Sink, W2: Sink, W3: Sink>(
     report: &mut W3,
 ) -> Result<Summary, ToolFault>
     ensures unfailed { OnOk result ((W.failures undo.new ≡ W.failures undo.old) × (W2.failures out.new ≡ W2.failures out.old) × (W3.failures report.new ≡ W3.failures report.old)) }
-    ensures texts { (s : Texts) × Written options.dry result s (W.taken undo.old, W.taken undo.new) (W2.taken out.old, W2.taken out.new) (W3.taken report.old, W3.taken report.new) }
+    ensures texts { (s : Texts) × Written options.dry result s (W.taken undo.old, W.taken undo.new) (W2.taken out.old, W2.taken out.new) (W3.taken report.old, W3.taken report.new)
+        × Answers schema.now suffix.now options (R.left copy.old) (R2.left changes.old) result s }
+    ensures read_copy { result ≡ Err (ToolFault.Read Input.Copy) → HasFailed (R.failures copy.old) (R.failures copy.new) }
+    ensures read_changes { result ≡ Err (ToolFault.Read Input.Changes) → HasFailed (R2.failures changes.old) (R2.failures changes.new) }
+    ensures write_undo { result ≡ Err (ToolFault.Write Output.Undo) → HasFailed (W.failures undo.old) (W.failures undo.new) ⊎ W.may_stall undo.new }
+    ensures write_out { result ≡ Err (ToolFault.Write Output.Out) → HasFailed (W2.failures out.old) (W2.failures out.new) ⊎ W2.may_stall out.new }
+    ensures write_report { result ≡ Err (ToolFault.Write Output.Report) → HasFailed (W3.failures report.old) (W3.failures report.new) ⊎ W3.may_stall report.new }
 {
-    let texts = make_texts(alloc, schema, suffix, options, copy, changes)?;
-    write_texts(&texts, undo, out, report)?;
-    Ok(texts.summary)
+    let texts = match make_texts(alloc, schema, suffix, options, copy, changes) {
+        Ok(texts) => texts,
+        Err(fault) => return Err(fault),
+    };
+    match write_texts(&texts, undo, out, report) {
+        Ok(()) => Ok(texts.summary),
+        Err(fault) => Err(fault),
+    }
 }
 
 /// Writes the texts of a run one after the other.
@@ -70,28 +85,36 @@ fn write_texts<W: Sink, W2: Sink, W3: Sink>(
 ) -> Result<(), ToolFault>
     ensures unfailed { OnOk result ((W.failures undo.new ≡ W.failures undo.old) × (W2.failures out.new ≡ W2.failures out.old) × (W3.failures report.new ≡ W3.failures report.old)) }
     ensures texts { Written (is_dry texts.now) result (texts_of texts.now) (W.taken undo.old, W.taken undo.new) (W2.taken out.old, W2.taken out.new) (W3.taken report.old, W3.taken report.new) }
+    ensures fault { IfErr result IsWriteFault }
+    ensures write_undo { result ≡ Err (ToolFault.Write Output.Undo) → HasFailed (W.failures undo.old) (W.failures undo.new) ⊎ W.may_stall undo.new }
+    ensures write_out { result ≡ Err (ToolFault.Write Output.Out) → HasFailed (W2.failures out.old) (W2.failures out.new) ⊎ W2.may_stall out.new }
+    ensures write_report { result ≡ Err (ToolFault.Write Output.Report) → HasFailed (W3.failures report.old) (W3.failures report.new) ⊎ W3.may_stall report.new }
 {
     if let Some(files) = &texts.files {
-        write_text(undo, files.undo.as_slice(), Output::Undo)?;
-        write_text(out, files.out.as_slice(), Output::Out)?;
+        if let Err(fault) = write_text(undo, files.undo.as_slice(), Output::Undo) {
+            return Err(fault);
+        }
+        if let Err(fault) = write_text(out, files.out.as_slice(), Output::Out) {
+            return Err(fault);
+        }
     }
     write_text(report, texts.report.as_slice(), Output::Report)
 }
 
 /// What a run writes.
 #[derive(Drop)]
-struct RunTexts {
+pub(crate) struct RunTexts {
     /// None in a dry run.
-    files: Option<Files>,
-    report: Vec<u8>,
-    summary: Summary,
+    pub(crate) files: Option<Files>,
+    pub(crate) report: Vec<u8>,
+    pub(crate) summary: Summary,
 }
 
 /// The undo text and the new copy.
 #[derive(Drop)]
-struct Files {
-    undo: Vec<u8>,
-    out: Vec<u8>,
+pub(crate) struct Files {
+    pub(crate) undo: Vec<u8>,
+    pub(crate) out: Vec<u8>,
 }
 
 fn make_texts<R: Source, R2: Source>(
@@ -102,181 +125,45 @@ fn make_texts<R: Source, R2: Source>(
     copy: &mut R,
     changes: &mut R2,
 ) -> Result<RunTexts, ToolFault>
-    ensures unwritten { IfErr result (λ e. IsUnwritten e) }
-    ensures dry { IfOk result (λ texts. is_dry texts ≡ options.dry) }
+    ensures ok { IfOk result (λ texts. (s : Texts) × Holds options.dry s texts × HasRun schema.now suffix.now options (R.left copy.old) (R2.left changes.old) texts.summary s) }
+    ensures blamed { IfErr result (Blames schema.now suffix.now options (R.left copy.old) (R2.left changes.old)) }
+    ensures read_copy { result ≡ Err (ToolFault.Read Input.Copy) → HasFailed (R.failures copy.old) (R.failures copy.new) }
+    ensures read_changes { result ≡ Err (ToolFault.Read Input.Changes) → HasFailed (R2.failures changes.old) (R2.failures changes.new) }
 {
-    let suffix = suffix_key(alloc, schema, suffix)?;
-    let directory = read_copy(alloc, schema, FlatDirectory::new(alloc, suffix), copy)?;
+    let key = match suffix_key(alloc, schema, suffix) {
+        Ok(key) => key,
+        Err(fault) => return Err(fault),
+    };
+    let directory = match read_copy(alloc, schema, FlatDirectory::new(alloc, key), copy) {
+        Ok(directory) => directory,
+        Err(fault) => return Err(fault),
+    };
     let mut run = Run::new(alloc, directory, options);
-    run.take_all(alloc, schema, changes)?;
+    if let Err(fault) = run.take_all(alloc, schema, changes) {
+        return Err(fault);
+    }
+    written_runs_are_taken_back();
     run.finish(alloc)
 }
 
+/// The key of the suffix, which has at least one RDN.
 fn suffix_key(alloc: Global, schema: &Schema, text: &[u8]) -> Result<DnKey, ToolFault>
-    ensures { IfErr result (λ e. IsUnwritten e) }
+    ensures ok { IfOk result (λ key. suffix_of schema.now text.now ≡ Some key) }
+    ensures blamed { IfErr result (IsNoSuffix (suffix_of schema.now text.now)) }
 {
-    let key = match Dn::read(alloc, text) {
-        Ok(name) => name.key(alloc, schema),
-        Err(fault) => Err(fault),
+    let name = match Dn::read(alloc, text) {
+        Ok(name) => name,
+        Err(NameFault::Memory) => return Err(ToolFault::Memory),
+        Err(_) => return Err(ToolFault::BadQuestion(Item::Suffix)),
     };
-    match key {
-        Ok(key) if key.depth() > 0 => Ok(key),
+    match name.key(alloc, schema) {
+        Ok(key) => {
+            if key.depth() == 0 {
+                return Err(ToolFault::BadQuestion(Item::Suffix));
+            }
+            Ok(key)
+        }
         Err(NameFault::Memory) => Err(ToolFault::Memory),
-        _ => Err(ToolFault::BadQuestion(Item::Suffix)),
-    }
-}
-
-/// A run as far as it has come.
-#[derive(Drop)]
-struct Run<D: Directory + Drop> {
-    directory: D,
-    history: History,
-    report: Report,
-    summary: Summary,
-    options: ModifyOptions,
-}
-
-impl<D: Directory + Drop> Run<D> {
-    fn new(alloc: Global, directory: D, options: ModifyOptions) -> Run<D>
-        ensures { result.options ≡ options }
-    {
-        Run {
-            directory,
-            history: History::new(alloc),
-            report: Report::new(alloc, options.verbose),
-            summary: Summary {
-                accepted: 0,
-                refused: 0,
-            },
-            options,
-        }
-    }
-
-    /// Reads the changes to their end, or up to the first refused one where the run doesn't go on.
-    fn take_all<R: Source>(
-        &mut self,
-        alloc: Global,
-        schema: &Schema,
-        changes: &mut R,
-    ) -> Result<(), ToolFault>
-        ensures unwritten { IfErr result (λ e. IsUnwritten e) }
-        ensures options { self.new.options ≡ self.old.options }
-    {
-        let mut records = match RecordReader::new(alloc, schema, changes) {
-            Ok(records) => records,
-            Err(fault) => return Err(ended(fault)),
-        };
-        for _ in 0..u64::MAX {
-            match records.next() {
-                Ok(Some((line, record))) => {
-                    let is_accepted = self.take(alloc, schema, line, record)?;
-                    if !is_accepted && !self.options.go_on {
-                        return Ok(());
-                    }
-                }
-                Ok(None) => return Ok(()),
-                Err(fault) => return Err(ended(fault)),
-            }
-        }
-        Err(ended(StreamFault::TooManyTurns))
-    }
-
-    /// Takes one record, and tells whether it is accepted.
-    fn take(
-        &mut self,
-        alloc: Global,
-        schema: &Schema,
-        line: u64,
-        record: Result<Record, RecordFault>,
-    ) -> Result<bool, ToolFault>
-        ensures unwritten { IfErr result (λ e. IsUnwritten e) }
-        ensures options { self.new.options ≡ self.old.options }
-    {
-        match self.outcome(alloc, schema, record)? {
-            None => {
-                self.report.accept(line)?;
-                self.summary.accepted = self.summary.accepted.saturating_add(1);
-                Ok(true)
-            }
-            Some(cause) => {
-                self.report.refuse(line, cause)?;
-                self.summary.refused = self.summary.refused.saturating_add(1);
-                Ok(false)
-            }
-        }
-    }
-
-    /// Why a record is refused, or none where it is applied.
-    fn outcome(
-        &mut self,
-        alloc: Global,
-        schema: &Schema,
-        record: Result<Record, RecordFault>,
-    ) -> Result<Option<Cause>, ToolFault>
-        ensures unwritten { IfErr result (λ e. IsUnwritten e) }
-        ensures options { self.new.options ≡ self.old.options }
-    {
-        match record {
-            Ok(Record::Change(change)) => self.change(alloc, schema, &change),
-            Ok(Record::Content { .. }) => Ok(Some(Cause::Fault(RecordFault::BadChangetype))),
-            Err(fault) => Ok(Some(Cause::Fault(fault))),
-        }
-    }
-
-    fn change(
-        &mut self,
-        alloc: Global,
-        schema: &Schema,
-        change: &Change,
-    ) -> Result<Option<Cause>, ToolFault>
-        ensures unwritten { IfErr result (λ e. IsUnwritten e) }
-        ensures options { self.new.options ≡ self.old.options }
-    {
-        match apply(alloc, schema, &mut self.directory, change) {
-            Ok(undo) => match self.history.push(undo) {
-                Ok(()) => Ok(None),
-                Err(_) => Err(ToolFault::Memory),
-            },
-            Err(Refusal::Code(code)) => Ok(Some(Cause::Code(code))),
-            Err(Refusal::Memory) => Err(ToolFault::Memory),
-        }
-    }
-
-    /// The texts of the run.
-    fn finish(self, alloc: Global) -> Result<RunTexts, ToolFault>
-        ensures unwritten { IfErr result (λ e. IsUnwritten e) }
-        ensures dry { IfOk result (λ texts. is_dry texts ≡ self.options.dry) }
-    {
-        let Run {
-            directory,
-            history,
-            report,
-            summary,
-            options,
-        } = self;
-        let files = if options.dry {
-            None
-        } else {
-            Some(Files {
-                undo: history.undo_text(alloc)?,
-                out: canonical_text(alloc, &directory)?,
-            })
-        };
-        Ok(RunTexts {
-            files,
-            report: report.close(summary)?,
-            summary,
-        })
-    }
-}
-
-/// What a fault that ends the text of changes means.
-fn ended(fault: StreamFault) -> ToolFault
-    ensures { IsUnwritten result }
-{
-    match fault {
-        StreamFault::Read => ToolFault::Read(Input::Changes),
-        StreamFault::Memory => ToolFault::Memory,
-        fault => ToolFault::BadChanges(fault),
+        Err(_) => Err(ToolFault::BadQuestion(Item::Suffix)),
     }
 }

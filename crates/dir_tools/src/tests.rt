@@ -1,4 +1,5 @@
 mod devices;
+mod faults;
 mod runs;
 mod taken_back;
 

@@ -140,3 +140,23 @@ fn many_changes_are_taken_back_last_one_first(rt: HostRuntime) -> Result<(), Fai
     assert!(rt; forward.out.as_slice() == one.out.as_slice());
     Ok(())
 }
+
+#[test]
+fn a_thousand_entries_are_deleted_in_order_and_taken_back(rt: HostRuntime) -> Result<(), Fail> {
+    let alloc = rt.alloc();
+    let mut copy = b"dn: dc=com\ndc: com\n\n".to_vec(alloc)?;
+    let mut changes = Vec::new(alloc);
+    for number in 0..1000u16 {
+        let entry = format!(in alloc; "dn: cn=e{number:03},dc=com\ncn: e{number:03}\n\n")?;
+        copy.extend_from_slice(entry.as_bytes())?;
+        let change = format!(in alloc; "dn: cn=e{number:03},dc=com\nchangetype: delete\n\n")?;
+        changes.extend_from_slice(change.as_bytes())?;
+    }
+    let one = run_over(alloc, "dc=com", STOP, copy.as_slice(), changes.as_slice())?;
+    assert_text(&rt, one.out.as_slice(), "dn: dc=com\ndc: com\n\n");
+    assert_text(&rt, one.report.as_slice(), "accepted 1000, refused 0\n");
+    let back = take_back(alloc, &rt, "dc=com", &one)?;
+    assert_text(&rt, back.report.as_slice(), "accepted 1000, refused 0\n");
+    assert_eq!(rt; back.out.as_slice(), copy.as_slice());
+    Ok(())
+}

@@ -1,0 +1,234 @@
+-- The entries of a copy as far as it was read.
+use Rattle.std.proofs.Common.{◌≡◌, ℕ, Bool, true, false, cond, not, List, [], ◌∷◌, map, Option, None, Some, is_some, Result, Ok, Err, IfOk, IfSome, Bor, refl, sym, ap, subst, ◌∙◌}
+use Rattle.std.specs.Option.{option_copied, option_map}
+use Rattle.std.specs.Ordering.{is_eq, eq_by_cmp}
+use Rattle.std.specs.Cmp.{eq_by_cmp_equiv}
+use Rattle.std.specs.declared.cmp.Ordering.TheVariants.{Less}
+use Rattle.std.specs.List.{filter, AllByRecursion}
+use Rattle.std.specs.List.Sorted.{IsStrictlySortedBy}
+use Rattle.std.specs.Map.{keys_of, lookup}
+use Rattle.std.specs.BTreeMap.{get, is_at}
+use Rattle.std.specs.FinMap as fin
+use Rattle.std.specs.FinMap.{get-empty, same_map}
+use Rattle.dir_names.specs.declared.schema.TypeRow.{TypeRow}
+use Rattle.dir_names.specs.Described.{Described}
+use Rattle.dir_names.specs.Keys.{DnKeys}
+use Rattle.dir_names.specs.Names.{SpelledName}
+use Rattle.dir_names.specs.Reading.{or_bad_dn}
+use Rattle.dir_names.specs.NameKeys.{name_key}
+use Rattle.dir_names.specs.Orders.{dn_key_cmp, dn_key_cmp_total, dn_key_cmp_exact}
+use Rattle.dir_ldif.specs.Next.{GivesFirst, GivesNone}
+use Rattle.dir_ldif.specs.Records.{Answer, Found, records_of}
+use Rattle.dir_tree.specs.Content.{Content}
+use Rattle.dir_tree.specs.Dir.{Dir, IsClosed, entry_at, has_parent, put_entry}
+use Rattle.dir_tree.specs.Made.{made}
+use Rattle.dir_tree.proofs.DirLemmas.{closed_empty, closed_put, get_put, same_key}
+use Rattle.dir_change.specs.declared.result_code.ResultCode.TheVariants.{NoSuchObject, EntryAlreadyExists}
+use Rattle.dir_change.specs.Operation.{is_at_or_below, own_of}
+use Rattle.dir_tools.specs.declared.copy.Loading.{Loading}
+use Rattle.dir_tools.specs.declared.copy.Waiting.{Waiting}
+use Rattle.dir_tools.specs.CopyOf.{CopyFault, Loaded, and_on, copy_of, denied, entered, first_of, if_whole, line_or_none, loaded, nothing_under, placed_at, taken_in, whole}
+use Rattle.dir_ldif.specs.SoundFound.{IsSoundFound}
+use Rattle.dir_tree.specs.WellFormed.{IsWellFormed, IsWithinLimits}
+use Rattle.dir_tools.proofs.CopySound.{order_taken, order_whole}
+use Rattle.dir_tools.specs.Loading.{AreInOrder, IsNamed, KeepsOrder, Holds, IsBare, IsMadeOf, IsPut, LoadsOver, LoadsTo, waiting_or}
+use Rattle.dir_tools.specs.Running.{Continues}
+use Rattle.dir_tools.proofs.CopyBack.{all_filtered, entries_stand}
+
+-- ---- an entry more
+
+pub made_standing : (d standing next : Dir) (waiting : DnKeys → Option Waiting) (k : DnKeys) (e : Content) → waiting k ≡ None → has_parent standing k ≡ true → next ≡ put_entry standing k e
+    → IsMadeOf d waiting standing → IsMadeOf (put_entry d k e) waiting next
+made_standing d standing next waiting k e free parent is was =
+    subst (IsMadeOf (put_entry d k e) waiting) (sym is)
+    (was.0, closed_put standing k e was.1 parent, λ q. get_put d k e q ∙ by q (eq_by_cmp dn_key_cmp q k) refl ∙ ap (waiting_or (waiting q)) (sym (get_put standing k e q)))
+  where
+    by : (q : DnKeys) (b : Bool) → eq_by_cmp dn_key_cmp q k ≡ b → cond b (Some e) (entry_at d q) ≡ waiting_or (waiting q) (cond b (Some e) (entry_at standing q))
+    by q true t = ap (λ o. waiting_or o (Some e)) (sym (ap waiting (same_key q k t) ∙ free))
+    by q false t = was.2 q
+
+pub made_waiting : (d standing : Dir) (waiting waiting' : DnKeys → Option Waiting) (k : DnKeys) (w : Waiting) → ((q : DnKeys) → waiting' q ≡ cond (is_at (dn_key_cmp k) q) (Some w) (waiting q))
+    → IsMadeOf d waiting standing → IsMadeOf (put_entry d k w.entry) waiting' standing
+made_waiting d standing waiting waiting' k w updates was = (
+  was.0,
+  was.1,
+  λ q. get_put d k w.entry q ∙ by q (eq_by_cmp dn_key_cmp q k)
+      ∙ ap (λ b. waiting_or (cond b (Some w) (waiting q)) (entry_at standing q)) ((eq_by_cmp_equiv dn_key_cmp_total).symm q k)
+      ∙ ap (λ o. waiting_or o (entry_at standing q)) (sym (updates q)),
+)
+  where
+    by : (q : DnKeys) (b : Bool) → cond b (Some w.entry) (entry_at d q) ≡ waiting_or (cond b (Some w) (waiting q)) (entry_at standing q)
+    by q true = refl
+    by q false = was.2 q
+
+-- ---- a record
+
+pub placed_ok : (rows : List TypeRow) (m : Loaded) (line : ℕ) (name : SpelledName) (lines : List (Described × List ℕ)) (key : Option DnKeys) (k : DnKeys) (e : Content)
+    → key ≡ Some k → is_at_or_below k m.entries.suffix ≡ true → entry_at m.entries k ≡ None → made rows (own_of m.entries.suffix k name) lines ≡ Ok e
+    → placed_at rows m line name lines key ≡ Ok (record { entries = put_entry m.entries k e; lines = fin.insert m.lines k line })
+placed_ok rows m line name lines key k e named below free makes =
+    ap (placed_at rows m line name lines) named
+    ∙ (λ i. denied (not (below i)) line NoSuchObject (denied (is_some (free i)) line EntryAlreadyExists (entered m line k (makes i))))
+
+-- ---- the entries that waited
+
+abbrev pub waits : List (DnKeys × Waiting) → DnKeys → Option Waiting
+waits es q = lookup (is_at (dn_key_cmp q)) es
+
+absent : (k : DnKeys) (es : List (DnKeys × Waiting)) → AllByRecursion (λ y. dn_key_cmp k y ≡ Less) (keys_of es) → waits es k ≡ None
+absent k [] h = refl
+absent k (e ∷ es) h = ap (λ o. cond (is_eq o) (Some e.1) (waits es k)) h.0 ∙ absent k es h.1
+
+pub absent_later : (k : DnKeys) (w : Waiting) (es : List (DnKeys × Waiting)) → IsStrictlySortedBy dn_key_cmp (keys_of ((k, w) ∷ es)) → waits es k ≡ None
+unfolding IsStrictlySortedBy
+absent_later k w es h = absent k es h.0
+
+pub ordered_later : (k : DnKeys) (w : Waiting) (es : List (DnKeys × Waiting)) → IsStrictlySortedBy dn_key_cmp (keys_of ((k, w) ∷ es)) → IsStrictlySortedBy dn_key_cmp (keys_of es)
+unfolding IsStrictlySortedBy
+ordered_later k w es h = h.1
+
+pub made_put : (d standing next : Dir) (k : DnKeys) (w : Waiting) (es : List (DnKeys × Waiting)) → waits es k ≡ None → has_parent standing k ≡ true → next ≡ put_entry standing k w.entry
+    → IsMadeOf d (waits ((k, w) ∷ es)) standing → IsMadeOf d (waits es) next
+made_put d standing next k w es gone parent is was =
+    subst (IsMadeOf d (waits es)) (sym is)
+    (was.0, closed_put standing k w.entry was.1 parent, λ q. was.2 q ∙ by q (eq_by_cmp dn_key_cmp q k) refl ∙ ap (waiting_or (waits es q)) (sym (get_put standing k w.entry q)))
+  where
+    by : (q : DnKeys) (b : Bool) → eq_by_cmp dn_key_cmp q k ≡ b → waiting_or (cond b (Some w) (waits es q)) (entry_at standing q) ≡ waiting_or (waits es q) (cond b (Some w.entry) (entry_at standing q))
+    by q true t = ap (λ o. waiting_or o (Some w.entry)) (sym (ap (waits es) (same_key q k t) ∙ gone))
+    by q false t = refl
+
+same_dir : (d e : Dir) → d.suffix ≡ e.suffix → ((q : DnKeys) → entry_at d q ≡ entry_at e q) → d ≡ e
+same_dir d e suffix entries = let same = same_map dn_key_cmp_total dn_key_cmp_exact d.entries e.entries entries in (λ i. record { suffix = suffix i; entries = same i })
+
+-- a copy whose entries all stand in a closed directory is whole
+pub made_whole : (m : Loaded) (d : Dir) → IsMadeOf m.entries (waits []) d → (whole m ≡ Ok d) × (m.entries ≡ d) × IsClosed d
+made_whole m d was =
+    let same : m.entries ≡ d = same_dir m.entries d was.0 was.2 in (
+      ap (λ e. if_whole e (first_of (map (λ p. line_or_none (fin.get m.lines p.0)) (filter (λ p. not (has_parent e p.0)) (fin.entries e.entries))))) same
+          ∙ ap (λ ps. if_whole d (first_of (map (λ p. line_or_none (fin.get m.lines p.0)) ps)))
+          (all_filtered (λ p. not (has_parent d p.0)) (λ p. entry_at d p.0 ≡ Some p.1) (λ p there. ap not (was.1 p.0 (ap is_some there))) (fin.entries d.entries) (entries_stand d)),
+      same,
+      was.1,
+    )
+
+-- ---- over the answers of a reader
+
+-- the records that were read lead from one to the other
+abbrev pub LoadsSoFar : {D : Type 0} → (D → Dir) → List TypeRow → Option (List Answer) → Option (List Answer) → Loading D → Loading D → Type 0
+LoadsSoFar state rows first now old loading =
+    (start : Loaded) → Holds state start old
+    → (m : Loaded) × Holds state m loading × (AreInOrder rows start.entries → AreInOrder rows m.entries) × Continues first now (λ answers rest. loaded rows start answers ≡ loaded rows m rest)
+
+pub loads_begun : {D : Type 0} (state : D → Dir) (rows : List TypeRow) (first : Option (List Answer)) (loading : Loading D) → LoadsSoFar state rows first first loading loading
+loads_begun state rows None loading start was = (start, was, (λ order. order), tt)
+loads_begun state rows (Some answers) loading start was = (start, was, (λ order. order), refl)
+
+goes_on : (rows : List TypeRow) (start m next : Loaded) (found : Found) (first old new : Option (List Answer))
+    → taken_in rows m found.0 found.1 ≡ Ok next → GivesFirst (Ok found) old new
+    → Continues first old (λ answers rest. loaded rows start answers ≡ loaded rows m rest)
+    → Continues first new (λ answers rest. loaded rows start answers ≡ loaded rows next rest)
+goes_on rows start m next found None old new takes gives was = tt
+goes_on rows start m next found (Some answers) None new takes gives was = absurd (was)
+goes_on rows start m next found (Some answers) (Some now) None takes gives was = absurd (gives)
+goes_on rows start m next found (Some answers) (Some now) (Some rest) takes gives was =
+    was ∙ ap (loaded rows m) gives ∙ ap (λ r. and_on r (λ n. loaded rows n rest)) takes
+
+pub loads_further : {D : Type 0} (state : D → Dir) (rows : List TypeRow) (found : Found) (first old new : Option (List Answer)) (begun loading next : Loading D)
+    → IsSoundFound rows found → ((m : Loaded) → Holds state m loading → LoadsTo state (taken_in rows m found.0 found.1) next) → GivesFirst (Ok found) old new
+    → LoadsSoFar state rows first old begun loading → LoadsSoFar state rows first new begun next
+loads_further state rows found first old new begun loading next sound takes gives was start at_start =
+    let so_far = was start at_start in
+    let taken = takes so_far.0 so_far.1 in (
+      taken.0,
+      taken.2,
+      (λ order. order_taken rows so_far.0 taken.0 found.0 found.1 sound taken.1 (so_far.2 order)),
+      goes_on rows start so_far.0 taken.0 found first old new taken.1 gives so_far.3,
+    )
+
+ends : (rows : List TypeRow) (start m : Loaded) (first old : Option (List Answer)) → GivesNone old
+    → Continues first old (λ answers rest. loaded rows start answers ≡ loaded rows m rest) → IfSome first (λ answers. loaded rows start answers ≡ Ok m)
+ends rows start m None old none was = tt
+ends rows start m (Some answers) None none was = absurd (was)
+ends rows start m (Some answers) (Some rest) none was = was ∙ ap (loaded rows m) none
+
+known : {A : Type 0} (o : Option A) (P Q : A → Type 0) → ((x : A) → P x → Q x) → IfSome o P → IfSome o Q
+known None P Q h p = tt
+known (Some x) P Q h p = h x p
+
+pub loads_out : {D : Type 0} (state : D → Dir) (rows : List TypeRow) (first old : Option (List Answer)) (begun loading : Loading D)
+    → GivesNone old → LoadsSoFar state rows first old begun loading → LoadsOver state rows first begun loading
+loads_out state rows first old begun loading none was start at_start =
+    let so_far = was start at_start in
+    known first _ _ (λ answers is. (so_far.0, is, so_far.1)) (ends rows start so_far.0 first old none so_far.3)
+
+pub order_out : {D : Type 0} (state : D → Dir) (rows : List TypeRow) (first old : Option (List Answer)) (begun loading : Loading D)
+    → LoadsSoFar state rows first old begun loading → KeepsOrder state rows begun loading
+order_out state rows first old begun loading was start at_start = let so_far = was start at_start in (so_far.0, so_far.1, so_far.2)
+
+-- ---- the whole copy
+
+pub holds_nothing : {D : Type 0} (state : D → Dir) (empty : D) (loading : Loading D) → loading.directory ≡ empty → loading.waiting.entries ≡ [] → IsBare (state empty)
+    → Holds state (nothing_under (state empty).suffix) loading
+holds_nothing state empty loading same none bare =
+    let d = state empty in
+    let is : d ≡ record { suffix = d.suffix; entries = fin.empty } = (λ i. record { suffix = d.suffix; entries = bare i }) in
+    subst (λ x. IsMadeOf (nothing_under d.suffix).entries (get dn_key_cmp loading.waiting) (state x)) (sym same)
+    (refl, subst IsClosed (sym is) (closed_empty d.suffix), λ q. (λ i. entry_at (sym is i) q) ∙ (λ i. waiting_or (waits (sym none i) q) (entry_at d q)))
+
+-- ---- what a call answered
+
+pub not_none : {A : Type 0} (o : Option A) → is_some o ≡ true → o ≡ None → ⊥
+not_none None there none = absurd (cc)
+not_none (Some x) there none = absurd (cc)
+
+pub put_there : (k : DnKeys) (e : Content) (old new : Dir) (back : Option Content) → IsPut k e old new back → is_some back ≡ false → (has_parent old k ≡ true) × (new ≡ put_entry old k e)
+put_there k e old new None put none = put
+put_there k e old new (Some back) put none = absurd (cc)
+
+pub put_back : (k : DnKeys) (e : Content) (old new : Dir) (back : Option Content) (b : Content) → IsPut k e old new back → back ≡ Some b → (b ≡ e) × (new ≡ old)
+put_back k e old new None b put is = absurd (cc)
+put_back k e old new (Some x) b put is = let same : x ≡ b = cc in (sym same ∙ put.0, put.1)
+
+pub nothing : {A : Type 0} (o : Option A) → is_some o ≡ false → o ≡ None
+nothing None none = refl
+nothing (Some x) none = absurd (cc)
+
+pub none_copied : {A : Type 0} (o : Option (Bor A)) → is_some o ≡ false → option_copied o ≡ None
+none_copied None e = refl
+none_copied (Some x) e = absurd (cc)
+
+pub key_named : (key : Option DnKeys) (k : DnKeys) → or_bad_dn key ≡ Ok k → key ≡ Some k
+key_named None k e = absurd (cc)
+key_named (Some q) k e = let same : q ≡ k = cc in ap Some same
+
+-- ---- what was read is the copy's directory
+
+pub if_ok : {A E : Type 0} {P Q : A → Type 0} (r : Result A E) → ((x : A) → P x → Q x) → IfOk r P → IfOk r Q
+if_ok (Ok x) h p = h x p
+if_ok (Err e) h p = p
+
+pub if_both : {A E : Type 0} (P Q : A → Type 0) (r : Result A E) → IfOk r P → IfOk r Q → IfOk r (λ x. P x × Q x)
+if_both P Q (Ok x) p q = (p, q)
+if_both P Q (Err e) p q = tt
+
+read_text : {D : Type 0} (state : D → Dir) (rows : List TypeRow) (suffix : DnKeys) (text : List ℕ) (loading : Loading D) (d : Dir)
+    → LoadsTo state (loaded rows (nothing_under suffix) (records_of rows text)) loading → ((m : Loaded) → Holds state m loading → whole m ≡ Ok d) → copy_of rows suffix text ≡ Ok d
+read_text state rows suffix text loading d leads is = ap (λ r. and_on r whole) leads.1 ∙ is leads.0 leads.2
+
+pub read_whole : {D : Type 0} (state : D → Dir) (rows : List TypeRow) (suffix : DnKeys) (text : Option (List ℕ)) (given : Option (List Answer)) (old new : Loading D) (d : Dir)
+    → given ≡ option_map (records_of rows) text → LoadsOver state rows given old new → Holds state (nothing_under suffix) old → ((m : Loaded) → Holds state m new → whole m ≡ Ok d)
+    → IfSome text (λ t. copy_of rows suffix t ≡ Ok d)
+read_whole state rows suffix None given old new d known leads start is = tt
+read_whole state rows suffix (Some t) given old new d known leads start is =
+    read_text state rows suffix t new d (subst (λ o. IfSome o (λ answers. LoadsTo state (loaded rows (nothing_under suffix) answers) new)) known (leads (nothing_under suffix) start)) is
+
+pub bare_order : (rows : List TypeRow) (suffix : DnKeys) → AreInOrder rows (nothing_under suffix).entries
+bare_order rows suffix k e there = let none : None ≡ Some e = sym (get-empty dn_key_cmp k) ∙ there in absurd (cc)
+
+pub read_order : {D : Type 0} (state : D → Dir) (rows : List TypeRow) (suffix : DnKeys) (old new : Loading D) (d : Dir)
+    → KeepsOrder state rows old new → Holds state (nothing_under suffix) old → d.suffix ≡ suffix → IsNamed suffix
+    → ((m : Loaded) → Holds state m new → (whole m ≡ Ok d) × (m.entries ≡ d) × IsClosed d) → IsWellFormed rows d × IsWithinLimits d
+read_order state rows suffix old new d keeps start same named is =
+    let on = keeps (nothing_under suffix) start in
+    let ends_in = is on.0 on.1 in
+    order_whole rows on.0.entries d ends_in.1 ends_in.2 (λ none. named (sym same ∙ none)) (on.2 (bare_order rows suffix))

@@ -1,0 +1,22 @@
+use Rattle.std.proofs.Common.{◌∙◌, ap}
+use Rattle.dir_tools.proofs.CopyLemmas.{holds_nothing, if_both, if_ok, read_order, read_whole}
+use Rattle.dir_tools.proofs.copy.read_copy.Goals as goal
+
+pub returns-in-Ok-answer-clause-reads : goal.returns-in-Ok-answer-clause-reads
+returns-in-Ok-answer-clause-reads g c =
+    let empty = g.D.Directory.state c.args.empty in
+    if_ok c.finish.result
+    (λ d is bare. read_whole g.D.Directory.state c.args.schema.now empty.suffix (g.R.Source.left c.args.copy.now) _ c.new-loading.result c.take_records-answer.new.self (g.D.Directory.state d)
+    c.in-Ok.ensures.answers c.in-Ok-answer.ensures.reads
+    (holds_nothing g.D.Directory.state c.args.empty c.new-loading.result c.new-loading.ensures.directory c.new-loading.ensures.waiting bare) (λ m was. (is m was).0))
+    c.finish.ensures.reads
+
+pub returns-in-Ok-answer-clause-sound : goal.returns-in-Ok-answer-clause-sound
+returns-in-Ok-answer-clause-sound g c =
+    let empty = g.D.Directory.state c.args.empty in
+    if_ok c.finish.result
+    (λ d both bare named. read_order g.D.Directory.state c.args.schema.now empty.suffix c.new-loading.result c.take_records-answer.new.self (g.D.Directory.state d)
+    c.in-Ok-answer.ensures.order
+    (holds_nothing g.D.Directory.state c.args.empty c.new-loading.result c.new-loading.ensures.directory c.new-loading.ensures.waiting bare)
+    (both.0 ∙ c.in-Ok-answer.ensures.suffix ∙ ap (λ x. (g.D.Directory.state x).suffix) c.new-loading.ensures.directory) named both.1)
+    (if_both _ _ c.finish.result c.finish.ensures.suffix c.finish.ensures.reads)

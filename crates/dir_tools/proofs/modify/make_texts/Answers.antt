@@ -1,0 +1,42 @@
+use Rattle.std.proofs.Common.{◌≡◌, sym, ap, subst, ◌∙◌, Ok, Err, Some, IfOk, IfSome, Result}
+use Rattle.dir_names.specs.Keys.{DnKeys}
+use Rattle.dir_tree.specs.Dir.{Dir}
+use Rattle.dir_tree.specs.WellFormed.{IsWellFormed, IsWithinLimits}
+use Rattle.dir_tools.specs.declared.fault.ToolFault.{ToolFault}
+use Rattle.dir_tools.specs.declared.modify.RunTexts.{RunTexts}
+use Rattle.dir_tools.specs.CopyOf.{copy_of}
+use Rattle.dir_tools.specs.Headline.{suffix_of}
+use Rattle.dir_tools.specs.Loading.{IsBare, IsNamed}
+use Rattle.dir_tools.proofs.TextLemmas.{blamed_so, named_suffix, read_so, told}
+use Rattle.dir_tools.proofs.modify.make_texts.Goals as goal
+
+pub returns-in-Err-take_all-clause-blamed : goal.returns-in-Err-take_all-clause-blamed
+returns-in-Err-take_all-clause-blamed g c =
+    let read : c.in-Ok-read_copy.directory.suffix ≡ c.new.result.suffix = c.in-Ok-read_copy.ensures.suffix in
+    let fresh : c.new.result.suffix ≡ c.in-Ok.key = ap (λ (d : Dir). d.suffix) c.new.ensures in
+    let begun : c.new-run.result.directory ≡ c.in-Ok-read_copy.directory = c.new-run.ensures.0 in
+    let key : suffix_of c.args.schema.now c.args.suffix.now ≡ Some c.new-run.result.directory.suffix = c.in-Ok.ensures.ok ∙ ap Some (sym (ap (λ (d : Dir). d.suffix) begun ∙ read ∙ fresh)) in
+    let bare : IsBare c.new.result = ap (λ (d : Dir). d.entries) c.new.ensures in
+    let copy = g.R.Source.left c.args.copy.now in
+    let reads : IfSome copy (λ text. copy_of c.args.schema.now c.new-run.result.directory.suffix text ≡ Ok c.new-run.result.directory) = read_so c.args.schema.now copy c.new.result.suffix c.in-Ok-read_copy.directory c.new-run.result.directory read begun (c.in-Ok-read_copy.ensures.reads bare) in
+    blamed_so (λ d. d) c.args.schema.now c.args.suffix.now c.args.options copy (g.R2.Source.left c.args.changes.now) c.new-run.result reads _ _ c.in-Err-take_all.fault c.new-run.ensures.6 key c.in-Err-take_all.ensures.blamed
+
+pub returns-clause-ok : goal.returns-clause-ok
+returns-clause-ok g c =
+    let read : c.in-Ok-read_copy.directory.suffix ≡ c.new.result.suffix = c.in-Ok-read_copy.ensures.suffix in
+    let fresh : c.new.result.suffix ≡ c.in-Ok.key = ap (λ (d : Dir). d.suffix) c.new.ensures in
+    let begun : c.new-run.result.directory ≡ c.in-Ok-read_copy.directory = c.new-run.ensures.0 in
+    let key : suffix_of c.args.schema.now c.args.suffix.now ≡ Some c.new-run.result.directory.suffix = c.in-Ok.ensures.ok ∙ ap Some (sym (ap (λ (d : Dir). d.suffix) begun ∙ read ∙ fresh)) in
+    let bare : IsBare c.new.result = ap (λ (d : Dir). d.entries) c.new.ensures in
+    let copy = g.R.Source.left c.args.copy.now in
+    let reads : IfSome copy (λ text. copy_of c.args.schema.now c.new-run.result.directory.suffix text ≡ Ok c.new-run.result.directory) = read_so c.args.schema.now copy c.new.result.suffix c.in-Ok-read_copy.directory c.new-run.result.directory read begun (c.in-Ok-read_copy.ensures.reads bare) in
+    let named : IsNamed c.new.result.suffix = named_suffix c.args.schema.now c.args.suffix.now c.new.result.suffix (c.in-Ok.ensures.ok ∙ ap Some (sym fresh)) in
+    let sound = c.in-Ok-read_copy.ensures.sound bare named in
+    by c.finish.result c.finish.ensures.texts (λ texts made.
+    told (λ d. d) c.args.schema.now c.args.suffix.now c.args.options copy (g.R2.Source.left c.args.changes.now) c.new-run.result reads c.in-Ok-read_copy.directory c.take_all.new.self c.new-run.ensures c.in_default.ensures.ok texts
+    c.written_runs_are_taken_back.ensures key c.in_default.ensures.options made
+    (subst (IsWellFormed c.args.schema.now) (sym begun) sound.0) (subst IsWithinLimits (sym begun) sound.1))
+  where
+    by : {P Q : RunTexts → Type 0} (r : Result RunTexts ToolFault) → IfOk r P → ((texts : RunTexts) → P texts → Q texts) → IfOk r Q
+    by (Ok texts) p f = f texts p
+    by (Err fault) p f = tt

@@ -1,0 +1,104 @@
+-- What a run answers and writes, and that it is taken back.
+use Rattle.std.specs.Prelude.{◌≡◌, ℕ, Bool, List, [], ◌∷◌, length, IfSome, IsSome, Option, Some, None, Result, Ok, Err, ⊤}
+use Rattle.dir_names.specs.declared.schema.TypeRow.{TypeRow}
+use Rattle.dir_names.specs.Keys.{DnKeys}
+use Rattle.dir_names.specs.declared.fault.NameFault.{NameFault}
+use Rattle.dir_names.specs.Names.{SpelledName}
+use Rattle.dir_names.specs.NameKeys.{name_key}
+use Rattle.dir_names.specs.Reading.{name_read}
+use Rattle.dir_ldif.specs.declared.faults.StreamFault.{StreamFault}
+use Rattle.dir_ldif.specs.declared.faults.StreamFault.TheVariants as stream
+use Rattle.dir_ldif.specs.Records.{records_of}
+use Rattle.dir_tree.specs.Dir.{Dir}
+use Rattle.dir_tree.specs.WellFormed.{IsWellFormed, IsWithinLimits}
+use Rattle.dir_tools.specs.Running.{HasAccepted}
+use Rattle.dir_change.specs.UndoText.{undo_text_of}
+use Rattle.dir_tools.specs.Canonical.{canonical_of}
+use Rattle.dir_tools.specs.CopyOf.{copy_of}
+use Rattle.dir_tools.specs.Ran.{Outcome, Ran, causes_in, groups_in, run_of}
+use Rattle.dir_tools.specs.Report.{modify_report_of}
+use Rattle.dir_tools.specs.Written.{Texts}
+use Rattle.dir_tools.specs.declared.fault.Item.TheVariants as item
+use Rattle.dir_tools.specs.declared.fault.ToolFault.{ToolFault}
+use Rattle.dir_tools.specs.declared.fault.ToolFault.TheVariants as tool
+use Rattle.dir_tools.specs.declared.modify.ModifyOptions.{ModifyOptions}
+use Rattle.dir_tools.specs.declared.modify.Summary.{Summary}
+
+-- the key of a suffix of at least one RDN
+abbrev pub nonempty_key : Option DnKeys → Option DnKeys
+nonempty_key None = None
+nonempty_key (Some []) = None
+nonempty_key (Some (part ∷ parts)) = Some (part ∷ parts)
+
+abbrev pub key_read : List TypeRow → Result SpelledName NameFault → Option DnKeys
+key_read rows (Ok name) = nonempty_key (name_key rows name)
+key_read rows (Err fault) = None
+
+abbrev pub suffix_of : List TypeRow → List ℕ → Option DnKeys
+suffix_of rows text = key_read rows (name_read text)
+
+-- the texts and the numbers of a run that has ended
+abbrev pub texts_of_run : Bool → Ran → Texts
+texts_of_run verbose ran = record { undo = undo_text_of (groups_in ran.outcomes); out = canonical_of ran.end; report = modify_report_of verbose ran.outcomes }
+
+abbrev pub IsCounted : Summary → Ran → Type 0
+IsCounted summary ran = (summary.accepted ≡ length (groups_in ran.outcomes)) × (summary.refused ≡ length (causes_in ran.outcomes))
+
+-- the undo text, run on the written copy, in both modes, is accepted whole, and leads to the first directory
+abbrev pub IsTakenBackBy : List TypeRow → DnKeys → Dir → Texts → Bool → Type 0
+IsTakenBackBy rows suffix first texts go_on =
+    (end : Dir) × (back : Ran) × (copy_of rows suffix texts.out ≡ Ok end) × (run_of rows go_on end (records_of rows texts.undo) ≡ Ok back)
+    × (causes_in back.outcomes ≡ []) × (back.end ≡ first)
+
+-- a run over the records of the changes, from the first directory, which the copy reads as, to its end. Its texts are the
+-- stated ones, and they are taken back
+abbrev pub HasRun : List TypeRow → List ℕ → ModifyOptions → Option (List ℕ) → Option (List ℕ) → Summary → Texts → Type 0
+HasRun rows suffix options copy changes summary texts =
+    (first : Dir) × (ran : Ran)
+    × (suffix_of rows suffix ≡ Some first.suffix)
+    × IfSome copy (λ text. copy_of rows first.suffix text ≡ Ok first)
+    × IfSome changes (λ text. run_of rows options.go_on first (records_of rows text) ≡ Ok ran)
+    × (texts ≡ texts_of_run options.verbose ran) × IsCounted summary ran
+    × ((go_on : Bool) → IsTakenBackBy rows first.suffix first texts go_on)
+
+-- the copy reads as a directory, and the text of changes ends in a fault that the run from there comes to
+abbrev pub ChangesAreBad : List TypeRow → List ℕ → ModifyOptions → Option (List ℕ) → Option (List ℕ) → StreamFault → Type 0
+ChangesAreBad rows suffix options copy changes fault =
+    (first : Dir) × (suffix_of rows suffix ≡ Some first.suffix)
+    × IfSome copy (λ text. copy_of rows first.suffix text ≡ Ok first)
+    × IfSome changes (λ text. run_of rows options.go_on first (records_of rows text) ≡ Err fault)
+
+-- what a fault before the writing says of the texts that were read; want of memory, a read fault and too many read
+-- calls say nothing of them, and a fault of the copy only that the suffix is one
+abbrev pub Blames : List TypeRow → List ℕ → ModifyOptions → Option (List ℕ) → Option (List ℕ) → ToolFault → Type 0
+Blames rows suffix options copy changes (tool.BadQuestion item.Suffix) = suffix_of rows suffix ≡ None
+Blames rows suffix options copy changes (tool.BadCopy line why) = IsSome (suffix_of rows suffix)
+Blames rows suffix options copy changes (tool.BadChanges stream.TooManyTurns) = ⊤
+Blames rows suffix options copy changes (tool.BadChanges fault) = ChangesAreBad rows suffix options copy changes fault
+Blames rows suffix options copy changes (tool.Read input) = ⊤
+Blames rows suffix options copy changes tool.Memory = ⊤
+Blames rows suffix options copy changes fault = ⊥
+
+-- what the answer says of them
+abbrev pub Answers : List TypeRow → List ℕ → ModifyOptions → Option (List ℕ) → Option (List ℕ) → Result Summary ToolFault → Texts → Type 0
+Answers rows suffix options copy changes (Ok summary) texts = HasRun rows suffix options copy changes summary texts
+Answers rows suffix options copy changes (Err (tool.Write output)) texts = (summary : Summary) × HasRun rows suffix options copy changes summary texts
+Answers rows suffix options copy changes (Err fault) texts = Blames rows suffix options copy changes fault
+
+-- the suffix alone
+abbrev pub IsNoSuffix : Option DnKeys → ToolFault → Type 0
+IsNoSuffix key (tool.BadQuestion item.Suffix) = key ≡ None
+IsNoSuffix key tool.Memory = ⊤
+IsNoSuffix key fault = ⊥
+
+-- ---- laws
+
+-- a canonical text reads back as its directory
+abbrev pub CanonicalTextsReadBack : Type 0
+CanonicalTextsReadBack = (rows : List TypeRow) (d : Dir) → IsWellFormed rows d → IsWithinLimits d → copy_of rows d.suffix (canonical_of d) ≡ Ok d
+
+-- the texts of a run lead back to the directory in which it began
+abbrev pub WrittenRunsAreTakenBack : Type 0
+WrittenRunsAreTakenBack =
+    (rows : List TypeRow) (d : Dir) (ran : Ran) (verbose go_on : Bool) → IsWellFormed rows d → IsWithinLimits d → HasAccepted rows d ran.outcomes ran.end
+    → IsTakenBackBy rows d.suffix d (texts_of_run verbose ran) go_on

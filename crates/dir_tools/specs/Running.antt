@@ -1,0 +1,127 @@
+-- A run as far as it has come, and how a record is taken.
+use Rattle.std.specs.Prelude.{◌≡◌, ⊤, IfSome, ℕ, ◌+◌, Bool, true, false, List, [], ◌∷◌, ◌++◌, length, Option, None, Some, Result, Ok, Err}
+use Rattle.std.specs.List.{flat_map}
+use Rattle.dir_names.specs.declared.schema.TypeRow.{TypeRow}
+use Rattle.dir_ldif.specs.Device.{HasFailed}
+use Rattle.dir_ldif.specs.declared.faults.RecordFault.{RecordFault}
+use Rattle.dir_ldif.specs.declared.faults.StreamFault.{StreamFault}
+use Rattle.dir_ldif.specs.declared.faults.StreamFault.TheVariants as stream
+use Rattle.dir_ldif.specs.declared.records.Change.{Change}
+use Rattle.dir_ldif.specs.declared.records.Record.{Record}
+use Rattle.dir_ldif.specs.declared.records.Record.TheVariants as form
+use Rattle.dir_tree.specs.Dir.{Dir}
+use Rattle.dir_tree.specs.WellFormed.{Each}
+use Rattle.dir_change.specs.Runs.{goes_on}
+use Rattle.dir_change.specs.Sound.{IsSoundChange}
+use Rattle.dir_tools.specs.declared.fault.Cause.{Cause}
+use Rattle.dir_tools.specs.declared.modify.ModifyOptions.{ModifyOptions}
+use Rattle.dir_change.specs.UndoText.{undo_text_of}
+use Rattle.dir_tools.specs.Canonical.{canonical_of}
+use Rattle.dir_tools.specs.declared.modify.Files.{Files}
+use Rattle.dir_tools.specs.declared.modify.RunTexts.{RunTexts}
+use Rattle.dir_tools.specs.declared.run.Run.{Run}
+use Rattle.dir_ldif.specs.Records.{Answer}
+use Rattle.dir_tools.specs.declared.fault.ToolFault.{ToolFault}
+use Rattle.dir_tools.specs.declared.fault.ToolFault.TheVariants as tool
+use Rattle.dir_tools.specs.declared.fault.Input.TheVariants as input
+use Rattle.dir_tools.specs.Ran.{Outcome, cause_in, causes_in, group_in, groups_in, led, run_of}
+use Rattle.dir_tools.specs.Report.{numbers_line, outcome_line}
+
+-- what is still to give after the first answers of a list that is known
+abbrev pub Continues : Option (List Answer) → Option (List Answer) → (List Answer → List Answer → Type 0) → Type 0
+Continues None now P = ⊤
+Continues (Some answers) None P = ⊥
+Continues (Some answers) (Some rest) P = P answers rest
+
+-- what a fault that ends the text of changes means
+abbrev pub changes_fault : StreamFault → ToolFault
+changes_fault stream.LineTooLong = tool.BadChanges stream.LineTooLong
+changes_fault stream.Read = tool.Read input.Changes
+changes_fault stream.Memory = tool.Memory
+changes_fault stream.Ended = tool.BadChanges stream.Ended
+changes_fault stream.TooManyTurns = tool.BadChanges stream.TooManyTurns
+changes_fault stream.BadVersion = tool.BadChanges stream.BadVersion
+
+-- the outcomes of a run from one directory to another: the groups are those of sound changes, accepted one after the other
+abbrev pub HasAccepted : List TypeRow → Dir → List (ℕ × Outcome) → Dir → Type 0
+HasAccepted rows first outcomes last =
+    (changes : List Change) × Each (IsSoundChange rows) changes × (goes_on rows first changes ≡ record { end = last; groups = groups_in outcomes })
+
+module _ {D : Type 0} where
+  -- it has taken no record
+  abbrev pub IsBegun : D → ModifyOptions → Run D → Type 0
+  IsBegun directory options run =
+      (run.directory ≡ directory) × (run.history ≡ []) × (run.report.text.items ≡ []) × (run.report.verbose ≡ options.verbose)
+      × (run.summary.accepted ≡ 0) × (run.summary.refused ≡ 0) × (run.options ≡ options)
+
+  -- the records that it has taken
+  abbrev pub room : Run D → ℕ
+  room run = run.summary.accepted + run.summary.refused
+
+  -- the report and the numbers are as they were
+  abbrev pub Keeps : Run D → Run D → Type 0
+  Keeps old new = (new.report ≡ old.report) × (new.summary ≡ old.summary) × (new.options ≡ old.options)
+
+  -- a record is accepted, and its group kept; or it is refused, and changes nothing
+  abbrev pub Leads : (D → Dir) → List TypeRow → Result Record RecordFault → Run D → Run D → Option Cause → Type 0
+  Leads state rows found old new None =
+      (group : List Change) × (led rows (state old.directory) found ≡ Ok (state new.directory, group)) × (new.history ≡ old.history ++ group ∷ [])
+  Leads state rows found old new (Some why) =
+      (led rows (state old.directory) found ≡ Err why) × (state new.directory ≡ state old.directory) × (new.history ≡ old.history)
+
+  abbrev pub LeadsChange : (D → Dir) → List TypeRow → Change → Run D → Run D → Option Cause → Type 0
+  LeadsChange state rows change old new why = Leads state rows (Ok (form.Change change)) old new why
+
+  -- one outcome more is told
+  abbrev pub Adds : ℕ × Outcome → Run D → Run D → Type 0
+  Adds outcome old new =
+      (new.history ≡ old.history ++ group_in outcome)
+      × (new.report.text.items ≡ old.report.text.items ++ outcome_line old.report.verbose outcome)
+      × (new.report.verbose ≡ old.report.verbose)
+      × (new.summary.accepted ≡ old.summary.accepted + length (group_in outcome))
+      × (new.summary.refused ≡ old.summary.refused + length (cause_in outcome))
+
+  abbrev pub Takes : Bool → (D → Dir) → List TypeRow → ℕ → Result Record RecordFault → Run D → Run D → Type 0
+  Takes true state rows line found old new =
+      (group : List Change) × (led rows (state old.directory) found ≡ Ok (state new.directory, group)) × Adds (line, Ok group) old new
+  Takes false state rows line found old new =
+      (why : Cause) × (led rows (state old.directory) found ≡ Err why) × (state new.directory ≡ state old.directory) × Adds (line, Err why) old new
+
+  -- outcomes are told, one after the other
+  abbrev pub AddsAll : List (ℕ × Outcome) → Run D → Run D → Type 0
+  AddsAll outcomes old new =
+      (new.history ≡ old.history ++ groups_in outcomes)
+      × (new.report.text.items ≡ old.report.text.items ++ flat_map (outcome_line old.report.verbose) outcomes)
+      × (new.report.verbose ≡ old.report.verbose)
+      × (new.summary.accepted ≡ old.summary.accepted + length (groups_in outcomes))
+      × (new.summary.refused ≡ old.summary.refused + length (causes_in outcomes))
+
+  -- the answers that were given lead the run on to its end
+  abbrev pub RunsOver : (D → Dir) → List TypeRow → Option (List Answer) → Run D → Run D → Type 0
+  RunsOver state rows given old new =
+      (outcomes : List (ℕ × Outcome)) × AddsAll outcomes old new × HasAccepted rows (state old.directory) outcomes (state new.directory)
+      × IfSome given (λ answers. run_of rows old.options.go_on (state old.directory) answers ≡ Ok (record { end = state new.directory; outcomes = outcomes }))
+
+  -- the run comes to the fault of the text
+  abbrev pub BreaksOff : (D → Dir) → List TypeRow → Option (List Answer) → Run D → StreamFault → Type 0
+  BreaksOff state rows given old fault = IfSome given (λ answers. run_of rows old.options.go_on (state old.directory) answers ≡ Err fault)
+
+  -- why a run gives no texts: the text's fault, or the reader's; or want of memory
+  abbrev pub ChangesBlamed : (D → Dir) → List TypeRow → Option (List Answer) → ℕ → ℕ → Run D → ToolFault → Type 0
+  ChangesBlamed state rows given failures failures' old (tool.BadChanges stream.LineTooLong) = BreaksOff state rows given old stream.LineTooLong
+  ChangesBlamed state rows given failures failures' old (tool.BadChanges stream.BadVersion) = BreaksOff state rows given old stream.BadVersion
+  ChangesBlamed state rows given failures failures' old (tool.BadChanges stream.TooManyTurns) = ⊤
+  ChangesBlamed state rows given failures failures' old (tool.Read input.Changes) = HasFailed failures failures'
+  ChangesBlamed state rows given failures failures' old tool.Memory = ⊤
+  ChangesBlamed state rows given failures failures' old fault = ⊥
+
+  -- the texts of a run, as they are made
+  abbrev pub AreItsFiles : (D → Dir) → Run D → Option Files → Type 0
+  AreItsFiles state run None = run.options.dry ≡ true
+  AreItsFiles state run (Some files) =
+      (run.options.dry ≡ false) × (files.undo.items ≡ undo_text_of run.history) × (files.out.items ≡ canonical_of (state run.directory))
+
+  abbrev pub AreItsTexts : (D → Dir) → Run D → RunTexts → Type 0
+  AreItsTexts state run texts =
+      AreItsFiles state run texts.files × (texts.summary ≡ run.summary)
+      × (texts.report.items ≡ run.report.text.items ++ numbers_line run.summary.accepted run.summary.refused)

@@ -1,0 +1,204 @@
+ghost use Rattle.std.specs.Prelude.{◌≡◌};
+ghost use Rattle.dir_tools.specs.Running.{changes_fault};
+
+use crate::canonical::canonical_text;
+use crate::modify::{Files, RunTexts};
+use crate::report::Report;
+use crate::{Cause, Input, ModifyOptions, Summary, ToolFault};
+use dir_change::{History, Refusal, apply};
+use dir_ldif::{Change, Record, RecordFault, RecordReader, Source, StreamFault};
+use dir_names::Schema;
+use dir_tree::Directory;
+use std::alloc::Global;
+
+/// A run as far as it has come.
+#[derive(Drop)]
+pub(crate) struct Run<D: Directory + Drop> {
+    directory: D,
+    history: History,
+    report: Report,
+    summary: Summary,
+    options: ModifyOptions,
+}
+
+impl<D: Directory + Drop> Run<D> {
+    ghost use Rattle.std.specs.Prelude.{◌≡◌, ◌<◌, ◌+◌, ◌^◌, ◌-◌, IfErr, IfOk, OnOk};
+    ghost use Rattle.dir_tools.specs.declared.fault.ToolFault.TheVariants as ToolFault;
+    ghost use Rattle.std.specs.Option.{option_map};
+    ghost use Rattle.dir_ldif.specs.Records.{records_of};
+    ghost use Rattle.dir_ldif.specs.Reader.{IsReading, schema_of, source_of, to_give};
+    ghost use Rattle.dir_tools.specs.Running.{AreItsTexts, ChangesBlamed, IsBegun, Keeps, Leads, LeadsChange, RunsOver, Takes, room};
+
+    /// A run that has taken no record.
+    pub(crate) fn new(alloc: Global, directory: D, options: ModifyOptions) -> Run<D>
+        ensures { IsBegun directory options result }
+    {
+        Run {
+            directory,
+            history: History::new(alloc),
+            report: Report::new(alloc, options.verbose),
+            summary: Summary {
+                accepted: 0,
+                refused: 0,
+            },
+            options,
+        }
+    }
+
+    /// Reads the changes to their end, or up to the first refused one where the run doesn't go on.
+    pub(crate) fn take_all<R: Source>(
+        &mut self,
+        alloc: Global,
+        schema: &Schema,
+        changes: &mut R,
+    ) -> Result<(), ToolFault>
+        requires { room self.old ≡ 0 }
+        ensures ok { OnOk result (RunsOver D.state schema.now (option_map (records_of schema.now) (R.left changes.old)) self.old self.new) }
+        ensures blamed { IfErr result (ChangesBlamed D.state schema.now (option_map (records_of schema.now) (R.left changes.old)) (R.failures changes.old) (R.failures changes.new) self.old) }
+        ensures options { self.new.options ≡ self.old.options }
+    {
+        let mut records = match RecordReader::new(alloc, schema, changes) {
+            Ok(records) => records,
+            Err(fault) => return Err(ended(fault)),
+        };
+        let answer = self.take_records(alloc, schema, &mut records);
+        records.into_source();
+        answer
+    }
+
+    fn take_records<S: Source + Drop>(
+        &mut self,
+        alloc: Global,
+        schema: &Schema,
+        records: &mut RecordReader<'_, S>,
+    ) -> Result<(), ToolFault>
+        requires room { room self.old ≡ 0 }
+        requires reading { IsReading records.old }
+        requires schema { schema_of records.old ≡ schema.now }
+        ensures ok { OnOk result (RunsOver D.state schema.now (to_give S.left records.old) self.old self.new) }
+        ensures blamed { IfErr result (ChangesBlamed D.state schema.now (to_give S.left records.old) (S.failures (source_of records.old)) (S.failures (source_of records.new)) self.old) }
+        ensures same { S.is_same (source_of records.old) (source_of records.new) }
+        ensures options { self.new.options ≡ self.old.options }
+    {
+        for _turn in 0..u64::MAX {
+            match records.next() {
+                Ok(Some((line, found))) => {
+                    let is_accepted = match self.take(alloc, schema, line, found) {
+                        Ok(is_accepted) => is_accepted,
+                        Err(fault) => return Err(fault),
+                    };
+                    if !is_accepted && !self.options.go_on {
+                        return Ok(());
+                    }
+                }
+                Ok(None) => return Ok(()),
+                Err(fault) => return Err(ended(fault)),
+            }
+        }
+        Err(ended(StreamFault::TooManyTurns))
+    }
+
+    /// Takes one record, and tells whether it is accepted.
+    fn take(
+        &mut self,
+        alloc: Global,
+        schema: &Schema,
+        line: u64,
+        found: Result<Record, RecordFault>,
+    ) -> Result<bool, ToolFault>
+        requires { room self.old < 2 ^ 64 - 1 }
+        ensures ok { IfOk result (λ is_accepted. Takes is_accepted D.state schema.now line found self.old self.new) }
+        ensures room { IfOk result (λ _. room self.new ≡ room self.old + 1) }
+        ensures err { IfErr result (λ e. e ≡ ToolFault.Memory) }
+        ensures options { self.new.options ≡ self.old.options }
+    {
+        match self.outcome(alloc, schema, found)? {
+            None => {
+                self.report.accept(line)?;
+                self.summary.accepted += 1;
+                Ok(true)
+            }
+            Some(cause) => {
+                self.report.refuse(line, cause)?;
+                self.summary.refused += 1;
+                Ok(false)
+            }
+        }
+    }
+
+    /// Why a record is refused, or none where it is applied.
+    fn outcome(
+        &mut self,
+        alloc: Global,
+        schema: &Schema,
+        found: Result<Record, RecordFault>,
+    ) -> Result<Option<Cause>, ToolFault>
+        ensures ok { IfOk result (Leads D.state schema.now found self.old self.new) }
+        ensures err { IfErr result (λ e. e ≡ ToolFault.Memory) }
+        ensures kept { Keeps self.old self.new }
+    {
+        match found {
+            Ok(Record::Change(change)) => self.change(alloc, schema, &change),
+            Ok(Record::Content { .. }) => Ok(Some(Cause::Fault(RecordFault::BadChangetype))),
+            Err(fault) => Ok(Some(Cause::Fault(fault))),
+        }
+    }
+
+    fn change(
+        &mut self,
+        alloc: Global,
+        schema: &Schema,
+        change: &Change,
+    ) -> Result<Option<Cause>, ToolFault>
+        ensures ok { IfOk result (LeadsChange D.state schema.now change.now self.old self.new) }
+        ensures err { IfErr result (λ e. e ≡ ToolFault.Memory) }
+        ensures kept { Keeps self.old self.new }
+    {
+        match apply(alloc, schema, &mut self.directory, change) {
+            Ok(undo) => match self.history.push(undo) {
+                Ok(()) => Ok(None),
+                Err(_) => Err(ToolFault::Memory),
+            },
+            Err(Refusal::Code(code)) => Ok(Some(Cause::Code(code))),
+            Err(Refusal::Memory) => Err(ToolFault::Memory),
+        }
+    }
+
+    /// The texts of the run.
+    pub(crate) fn finish(self, alloc: Global) -> Result<RunTexts, ToolFault>
+        ensures err { IfErr result (λ e. e ≡ ToolFault.Memory) }
+        ensures texts { IfOk result (AreItsTexts D.state self) }
+    {
+        let Run {
+            directory,
+            history,
+            report,
+            summary,
+            options,
+        } = self;
+        let files = if options.dry {
+            None
+        } else {
+            Some(Files {
+                undo: history.undo_text(alloc)?,
+                out: canonical_text(alloc, &directory)?,
+            })
+        };
+        Ok(RunTexts {
+            files,
+            report: report.close(summary)?,
+            summary,
+        })
+    }
+}
+
+/// What a fault that ends the text of changes means.
+fn ended(fault: StreamFault) -> ToolFault
+    ensures { result ≡ changes_fault fault }
+{
+    match fault {
+        StreamFault::Read => ToolFault::Read(Input::Changes),
+        StreamFault::Memory => ToolFault::Memory,
+        fault => ToolFault::BadChanges(fault),
+    }
+}

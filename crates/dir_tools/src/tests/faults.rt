@@ -1,0 +1,199 @@
+use super::{Ran, STOP, assert_text, run_over};
+use crate::{Input, Output, Summary, ToolFault, run_modify};
+use dir_ldif::{Script, Tape};
+use dir_names::Schema;
+use std::alloc::Global;
+use std::test::Fail;
+
+const COPY: &str = "dn: dc=com\ndc: com\n\n";
+
+const CHANGES: &str =
+    "dn: cn=a,dc=com\nchangetype: add\nsn: b\n\ndn: cn=c,dc=com\nchangetype: delete\n";
+
+/// From which call on each device fails.
+#[derive(Clone, Copy)]
+struct Failing {
+    copy: u64,
+    changes: u64,
+    undo: u64,
+    out: u64,
+    report: u64,
+}
+
+const NEVER: Failing = Failing {
+    copy: u64::MAX,
+    changes: u64::MAX,
+    undo: u64::MAX,
+    out: u64::MAX,
+    report: u64::MAX,
+};
+
+/// A run in pieces of eight bytes.
+fn run_failing(alloc: Global, failing: Failing) -> Result<Ran, Fail> {
+    let schema = Schema::builtin(alloc)?;
+    let mut undo = vec![in alloc; 0u8; 512]?;
+    let mut out = vec![in alloc; 0u8; 512]?;
+    let mut report = vec![in alloc; 0u8; 512]?;
+    let mut undo_tape = Tape::new(undo.as_mut_slice())
+        .pieces(8)
+        .failing_from(failing.undo);
+    let mut out_tape = Tape::new(out.as_mut_slice())
+        .pieces(8)
+        .failing_from(failing.out);
+    let mut report_tape = Tape::new(report.as_mut_slice())
+        .pieces(8)
+        .failing_from(failing.report);
+    let answer = run_modify(
+        alloc,
+        &schema,
+        b"dc=com",
+        STOP,
+        &mut Script::new(COPY.as_bytes())
+            .pieces(8)
+            .failing_from(failing.copy),
+        &mut Script::new(CHANGES.as_bytes())
+            .pieces(8)
+            .failing_from(failing.changes),
+        &mut undo_tape,
+        &mut out_tape,
+        &mut report_tape,
+    );
+    Ok(Ran {
+        answer,
+        undo: undo_tape.as_slice().to_vec(alloc)?,
+        out: out_tape.as_slice().to_vec(alloc)?,
+        report: report_tape.as_slice().to_vec(alloc)?,
+    })
+}
+
+const UNDO: &str = "version: 1\n\ndn: cn=a,dc=com\nchangetype: delete\n\n";
+
+const OUT: &str = "dn: dc=com\ndc: com\n\ndn: cn=a,dc=com\ncn: a\nsn: b\n\n";
+
+const REPORT: &str = "line 5: refused, 32 noSuchObject\naccepted 1, refused 1\n";
+
+#[test]
+fn no_device_fails(rt: HostRuntime) -> Result<(), Fail> {
+    let ran = run_failing(rt.alloc(), NEVER)?;
+    assert_eq!(rt;
+        ran.answer,
+        Ok(Summary {
+            accepted: 1,
+            refused: 1
+        })
+    );
+    assert_text(&rt, ran.undo.as_slice(), UNDO);
+    assert_text(&rt, ran.out.as_slice(), OUT);
+    assert_text(&rt, ran.report.as_slice(), REPORT);
+    Ok(())
+}
+
+/// Each of the writes, of eight bytes at most, and then the flush.
+#[test]
+fn each_write_and_flush_of_the_undo_text_fails_in_turn(rt: HostRuntime) -> Result<(), Fail> {
+    let calls = UNDO.len().div_ceil(8) as u64 + 1;
+    for call in 1..=calls {
+        let ran = run_failing(
+            rt.alloc(),
+            Failing {
+                undo: call,
+                ..NEVER
+            },
+        )?;
+        assert_eq!(rt; ran.answer, Err(ToolFault::Write(Output::Undo)));
+        assert_eq!(rt; ran.undo.as_slice(), front(UNDO, call));
+        assert_text(&rt, ran.out.as_slice(), "");
+        assert_text(&rt, ran.report.as_slice(), "");
+    }
+    Ok(())
+}
+
+#[test]
+fn each_write_and_flush_of_the_copy_fails_in_turn(rt: HostRuntime) -> Result<(), Fail> {
+    let calls = OUT.len().div_ceil(8) as u64 + 1;
+    for call in 1..=calls {
+        let ran = run_failing(rt.alloc(), Failing { out: call, ..NEVER })?;
+        assert_eq!(rt; ran.answer, Err(ToolFault::Write(Output::Out)));
+        assert_text(&rt, ran.undo.as_slice(), UNDO);
+        assert_eq!(rt; ran.out.as_slice(), front(OUT, call));
+        assert_text(&rt, ran.report.as_slice(), "");
+    }
+    Ok(())
+}
+
+#[test]
+fn each_write_and_flush_of_the_report_fails_in_turn(rt: HostRuntime) -> Result<(), Fail> {
+    let calls = REPORT.len().div_ceil(8) as u64 + 1;
+    for call in 1..=calls {
+        let ran = run_failing(
+            rt.alloc(),
+            Failing {
+                report: call,
+                ..NEVER
+            },
+        )?;
+        assert_eq!(rt; ran.answer, Err(ToolFault::Write(Output::Report)));
+        assert_text(&rt, ran.undo.as_slice(), UNDO);
+        assert_text(&rt, ran.out.as_slice(), OUT);
+        assert_eq!(rt; ran.report.as_slice(), front(REPORT, call));
+    }
+    Ok(())
+}
+
+/// What was written before this call.
+fn front(text: &str, call: u64) -> &[u8] {
+    let bytes = text.as_bytes();
+    let end = call.saturating_sub(1).saturating_mul(8);
+    match usize::try_from(end) {
+        Ok(end) => bytes.get(..end).unwrap_or(bytes),
+        Err(_) => bytes,
+    }
+}
+
+/// Each of the reads, of eight bytes at most, and the one that finds the end.
+#[test]
+fn each_read_of_the_copy_and_of_the_changes_fails_in_turn(rt: HostRuntime) -> Result<(), Fail> {
+    let alloc = rt.alloc();
+    for call in 1..=COPY.len().div_ceil(8) as u64 + 1 {
+        let ran = run_failing(
+            alloc,
+            Failing {
+                copy: call,
+                ..NEVER
+            },
+        )?;
+        assert_eq!(rt; ran.answer, Err(ToolFault::Read(Input::Copy)));
+        assert_text(&rt, ran.undo.as_slice(), "");
+        assert_text(&rt, ran.out.as_slice(), "");
+        assert_text(&rt, ran.report.as_slice(), "");
+    }
+    for call in 1..=CHANGES.len().div_ceil(8) as u64 + 1 {
+        let ran = run_failing(
+            alloc,
+            Failing {
+                changes: call,
+                ..NEVER
+            },
+        )?;
+        assert_eq!(rt; ran.answer, Err(ToolFault::Read(Input::Changes)));
+        assert_text(&rt, ran.undo.as_slice(), "");
+        assert_text(&rt, ran.out.as_slice(), "");
+        assert_text(&rt, ran.report.as_slice(), "");
+    }
+    Ok(())
+}
+
+/// In stop mode a fault behind the first refused record is not come to.
+#[test]
+fn a_fault_behind_the_first_refusal_is_not_looked_at(rt: HostRuntime) -> Result<(), Fail> {
+    let alloc = rt.alloc();
+    let changes =
+        b"dn: cn=c,dc=com\nchangetype: delete\n\ndn: cn=d,dc=com\nchangetype: delete\nx\n\n";
+    let ran = run_over(alloc, "dc=com", STOP, COPY.as_bytes(), changes)?;
+    assert_text(
+        &rt,
+        ran.report.as_slice(),
+        "line 1: refused, 32 noSuchObject\naccepted 0, refused 1\n",
+    );
+    Ok(())
+}
