@@ -10,5 +10,6 @@ pub mod Relisted
 pub mod SoundMade
 pub mod SpelledLemmas
 pub mod Ties
+pub mod Told
 pub mod Walk
 pub mod Written

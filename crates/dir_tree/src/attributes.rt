@@ -1,6 +1,7 @@
 ghost use Rattle.std.specs.Prelude.{◌≡◌, ◌&&◌, IfErr, IfOk, IfSome, IsSome, IsTrue, OnOk, Some, false, length, map, nat_lt, option_copied};
 ghost use Rattle.std.specs.List.{list_any};
 ghost use Rattle.dir_names.specs.Sound.{is_pair};
+ghost use Rattle.dir_names.specs.declared.value.ValueKey.TheVariants.{Text};
 ghost use Rattle.dir_names.specs.Table.{single_of};
 ghost use Rattle.std.specs.Option.{option_map};
 ghost use Rattle.std.specs.FinMap as fin;
@@ -65,6 +66,12 @@ impl Attribute {
         ensures { result ≡ fin.contains_key self.now.stored.values key.now }
     {
         self.values.contains_key(key)
+    }
+
+    fn has_text(&self, text: &[u8]) -> bool
+        ensures { result ≡ fin.contains_key self.now.stored.values (Text text.now) }
+    {
+        self.values.has_text(text)
     }
 
     fn add(&mut self, alloc: Global, key: ValueKey, bytes: Bytes) -> Result<(), EntryFault>
@@ -230,6 +237,16 @@ impl AttributeMap {
     {
         match self.get(attr) {
             Some(attribute) => attribute.has(value),
+            None => false,
+        }
+    }
+
+    /// Whether the attribute has the value with this text as its key.
+    pub(crate) fn has_text(&self, attr: &AttrKey, text: &[u8]) -> bool
+        ensures { result ≡ has_value self.now attr.now (Text text.now) }
+    {
+        match self.get(attr) {
+            Some(attribute) => attribute.has_text(text),
             None => false,
         }
     }

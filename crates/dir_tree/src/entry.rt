@@ -2,6 +2,7 @@ ghost use Rattle.std.specs.Prelude.{◌≡◌, IfOk, IfSome, cond, option_copied
 ghost use Rattle.std.specs.Option.{option_map};
 ghost use Rattle.std.specs.FinMap as fin;
 ghost use Rattle.dir_names.specs.NameKeys.{rdn_key};
+ghost use Rattle.dir_tree.specs.Closed.{content_of};
 ghost use Rattle.dir_tree.specs.Content.{has_value};
 ghost use Rattle.dir_tree.specs.Made.{Makes, made, or_else_fault};
 ghost use Rattle.dir_tree.specs.declared.fault.EntryFault.TheVariants as EntryFault;
@@ -9,6 +10,7 @@ ghost use Rattle.dir_tree.specs.declared.fault.EntryFault.TheVariants as EntryFa
 use crate::EntryFault;
 use crate::attributes::{Attribute, AttributeMap, Attributes};
 use crate::lines::attributes_of;
+use crate::parts::Parts;
 use dir_names::{AttrKey, Dn, Lines, Memory, NameFault, Rdn, RdnKey, Schema, ValueKey};
 use std::alloc::Global;
 use std::marker::Model;
@@ -95,6 +97,38 @@ impl Entry {
         ensures { result ≡ fin.entries self.now.attributes }
     {
         self.attributes.iter()
+    }
+
+    /// The same fields, free to be changed. It takes no memory.
+    pub fn into_parts(self) -> Parts
+        ensures { content_of result ≡ self }
+    {
+        let Entry {
+            own,
+            key,
+            attributes,
+        } = self;
+        Parts {
+            own,
+            key,
+            attributes,
+        }
+    }
+
+    /// The entry with these fields.
+    pub(crate) fn of(parts: Parts) -> Entry
+        ensures { result ≡ content_of parts }
+    {
+        let Parts {
+            own,
+            key,
+            attributes,
+        } = parts;
+        Entry {
+            own,
+            key,
+            attributes,
+        }
     }
 
     pub fn try_clone(&self, alloc: Global) -> Result<Entry, Memory>

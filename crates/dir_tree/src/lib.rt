@@ -8,6 +8,7 @@ mod fault;
 mod flat;
 mod lines;
 mod list;
+mod parts;
 mod stored;
 mod values;
 
@@ -16,6 +17,7 @@ pub use directory::{Directory, may_stand};
 pub use entry::{Entry, own_rdns};
 pub use fault::EntryFault;
 pub use flat::FlatDirectory;
+pub use parts::Parts;
 pub use values::{ValueMap, Values};
 
 #[cfg(test)]

@@ -1,3 +1,4 @@
 mod directory;
 mod entries;
 mod maps;
+mod parts;

@@ -3,6 +3,7 @@ ghost use Rattle.std.specs.FinMap as fin;
 ghost use Rattle.std.specs.List.Sorted.{IsSearchInRange};
 ghost use Rattle.dir_names.specs.Sorted.{place};
 ghost use Rattle.dir_names.specs.Values.{value_key_cmp};
+ghost use Rattle.dir_names.specs.declared.value.ValueKey.TheVariants.{Text};
 ghost use Rattle.dir_tree.specs.Content.{value_pair, are_rising};
 ghost use Rattle.dir_tree.specs.Made.{IsTwice};
 
@@ -11,6 +12,7 @@ use crate::list::ValueList;
 use crate::stored::StoredValue;
 use dir_names::{Bytes, Memory, ValueKey};
 use std::alloc::Global;
+use std::cmp::Ordering;
 use std::marker::Model;
 use std::slice;
 
@@ -74,6 +76,13 @@ impl ValueMap {
         place_of(self.items.as_slice(), key).is_ok()
     }
 
+    /// Whether there is a value with this text as its key.
+    pub(crate) fn has_text(&self, text: &[u8]) -> bool
+        ensures { result ≡ fin.contains_key self.now (Text text.now) }
+    {
+        place_of_text(self.items.as_slice(), text).is_ok()
+    }
+
     /// Adds a value.
     ///
     /// # Errors
@@ -128,6 +137,25 @@ fn place_of(items: &[StoredValue], key: &ValueKey) -> Result<usize, usize>
     ensures place { result ≡ place value_key_cmp key.now (map (λ value. (value_pair value).0) items.now) }
 {
     items.binary_search_by(|value| value.key().cmp(key))
+}
+
+/// Where the value with this text as its key stands, or where it would be put.
+fn place_of_text(items: &[StoredValue], text: &[u8]) -> Result<usize, usize>
+    requires { IsTrue (are_rising items.now) }
+    ensures range { IsSearchInRange result (length items.now) }
+    ensures place { result ≡ place value_key_cmp (Text text.now) (map (λ value. (value_pair value).0) items.now) }
+{
+    items.binary_search_by(|value| compared(value.key(), text))
+}
+
+/// How a key compares to that of this text.
+fn compared(key: &ValueKey, text: &[u8]) -> Ordering
+    ensures { result ≡ value_key_cmp key.now (Text text.now) }
+{
+    match key.text() {
+        Some(own) => own.cmp(text),
+        None => Ordering::Greater,
+    }
 }
 
 /// The values of an attribute, in order of their keys.

@@ -1,0 +1,12 @@
+use Rattle.std.proofs.Common.{rules}
+use Rattle.std.proofs.lemmas.Fn.{always_returns_same}
+use Rattle.dir_names.specs.Values.{value_key_cmp, value_key_cmp_total}
+use Rattle.dir_names.specs.declared.value.ValueKey.TheVariants.{Text}
+use Rattle.dir_tree.specs.Content.{value_pair}
+use Rattle.dir_tree.proofs.Kept.{placed}
+use Rattle.dir_tree.proofs.values.place_of_text.Goals as goal
+
+pub returns-clause-place : goal.returns-clause-place
+returns-clause-place c =
+    let by = c.binary_search_by.ensures.position (λ value. value_key_cmp value.0 (Text c.args.text.now)) (always_returns_same _ _ _ (λ a r f called. search rules)) in
+    placed value_key_cmp_total value_pair c.args.items.now c.requires (Text c.args.text.now) c.binary_search_by.result (search rules) by
