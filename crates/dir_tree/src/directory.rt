@@ -1,3 +1,4 @@
+ghost use Rattle.dir_names.specs.declared.fault.NameFault.TheVariants as NameFault;
 ghost use Rattle.std.specs.Prelude.{◌≡◌, ◌↔◌, IfErr, IfOk, IsSome, IsTrue, None, OnErr, OnOk, Some, map, option_copied};
 ghost use Rattle.dir_tree.specs.Dir.{Dir, HasChild, IsClosed, entry_at, has_parent, put_entry, without};
 ghost use Rattle.dir_tree.specs.Spelled.{spelled_name, walked};
@@ -76,7 +77,8 @@ pub trait Directory {
 ///
 /// Want of memory alone.
 pub fn may_stand<D: Directory>(alloc: Global, directory: &D, key: &DnKey) -> Result<bool, NameFault>
-    ensures { IfOk result (λ b. b ≡ has_parent (D.state directory.now) key.now) }
+    ensures ok { IfOk result (λ b. b ≡ has_parent (D.state directory.now) key.now) }
+    ensures memory { IfErr result (λ e. e ≡ NameFault.Memory) }
 {
     if key == directory.suffix() {
         return Ok(true);
