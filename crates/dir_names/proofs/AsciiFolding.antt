@@ -59,3 +59,10 @@ no_key text n = by (is_utf8 text) refl
     by : (b : Bool) → is_utf8 text ≡ b → key_if b (folded text) ≡ Err BadValue
     by true e = absurd (n (IsUtf8-from_is_utf8 text e))
     by false e = refl
+
+pub not_utf8 : (text : List ℕ) → ¬ (IsUtf8 text) → is_utf8 text ≡ false
+not_utf8 text n = by (is_utf8 text) refl
+  where
+    by : (b : Bool) → is_utf8 text ≡ b → b ≡ false
+    by true e = absurd (n (IsUtf8-from_is_utf8 text e))
+    by false e = refl

@@ -2,6 +2,7 @@ pub mod ByteFacts
 pub mod Compared
 pub mod CutLemmas
 pub mod FindLemmas
+pub mod HasKeys
 pub mod AllLemmas
 pub mod AsciiFolding
 pub mod KeyLemmas

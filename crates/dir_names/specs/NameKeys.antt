@@ -1,5 +1,5 @@
 -- The key of a name: the keys of its RDNs, root first, each the set of its pairs of type key and value key.
-use Rattle.std.specs.Prelude.{ℕ, Bool, true, cond, not, ◌&&◌, List, [], ◌∷◌, reverse, Option, Some, None, option_map, Result, Ok, Err}
+use Rattle.std.specs.Prelude.{◌≡◌, ℕ, Bool, true, cond, not, ◌&&◌, List, [], ◌∷◌, reverse, Option, Some, None, option_map, Result, Ok, Err}
 use Rattle.std.specs.List.{list_any}
 use Rattle.dir_names.specs.declared.fault.NameFault.{NameFault}
 use Rattle.dir_names.specs.declared.fault.NameFault.TheVariants.{BadValue}
@@ -9,6 +9,8 @@ use Rattle.dir_names.specs.declared.schema.TypeRow.{TypeRow}
 use Rattle.dir_names.specs.declared.value.ValueKey.{ValueKey}
 use Rattle.dir_names.specs.declared.value.ValueKey.TheVariants as key
 use Rattle.dir_names.specs.Attr.{Attr}
+use Rattle.dir_names.specs.Described.{Described}
+use Rattle.dir_names.specs.Descriptions.{description_of}
 use Rattle.dir_names.specs.Keys.{RdnKeys, DnKeys}
 use Rattle.dir_names.specs.Names.{SpelledPair, SpelledRdn, SpelledName}
 use Rattle.dir_names.specs.Orders.{attr_eq, pair_cmp}
@@ -20,6 +22,10 @@ use Rattle.dir_names.specs.ValueKeys.{text_key_of}
 -- the attribute that a type without options names
 abbrev pub attr_of : List TypeRow → List ℕ → Attr
 attr_of rows kind = record { kind = type_key_of rows kind; options = [] }
+
+-- a text that is a type without options, and its description
+abbrev pub IsReady : List TypeRow → List ℕ × Described → Type 0
+IsReady rows p = (description_of rows p.0 ≡ Ok p.1) × (attr_of rows p.0 ≡ p.1.key)
 
 -- what an answer holds, if it is no fault
 abbrev pub found : {A : Type 0} → Result A NameFault → Option A

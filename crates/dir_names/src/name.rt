@@ -1,4 +1,4 @@
-ghost use Rattle.std.specs.Prelude.{◌≡◌, cond, length, nat_le, Ok, Err, Some, IsTrue, IsFalse, IfOk, IsErrOf};
+ghost use Rattle.std.specs.Prelude.{◌≡◌, cond, is_some, length, nat_le, Ok, Err, Some, IsTrue, IsFalse, IfOk, IsErrOf};
 ghost use Rattle.dir_names.specs.NameKeys.{pair_key, rdn_key, name_key};
 ghost use Rattle.dir_names.specs.Names.{name_eq, rdn_eq, name_eq_laws, rdn_eq_laws, partial_name_eq_laws, partial_rdn_eq_laws, SpelledRdn, SpelledName};
 ghost use Rattle.dir_names.specs.Outcome.{Gives};
@@ -15,7 +15,7 @@ use crate::key::PairSet;
 use crate::limits::MAX_RDNS;
 use crate::printing::{print_name, print_rdn};
 use crate::reading::{read_name, read_one_rdn};
-use crate::value::text_key;
+use crate::value::{has_text_key, text_key};
 use crate::{Bytes, DnKey, NameFault, RdnKey, Schema};
 use std::alloc::Global;
 use std::marker::Model;
@@ -85,6 +85,24 @@ impl Rdn {
         RdnKey::of(alloc, key)
     }
 
+    /// Whether the RDN has a key. It takes memory where it has more than one pair, or a type that isn't
+    /// frequent.
+    pub fn has_key(&self, alloc: Global, schema: &Schema) -> Result<bool, NameFault>
+        ensures { Gives (λ has. has) result (Ok (is_some (rdn_key schema.now self.now))) }
+    {
+        match self.pairs.split_first() {
+            Some((pair, rest)) if rest.is_empty() => {
+                let rule = schema.rule_of(alloc, pair.0.as_slice())?;
+                Ok(has_text_key(rule, pair.1.as_slice()))
+            }
+            _ => match self.key(alloc, schema) {
+                Ok(_) => Ok(true),
+                Err(NameFault::Memory) => Err(NameFault::Memory),
+                Err(_) => Ok(false),
+            },
+        }
+    }
+
     /// The pairs of type and value, as spelled.
     pub fn pairs(&self) -> &[(Bytes, Bytes)]
         ensures value { result.now ≡ self.now }
@@ -134,7 +152,7 @@ fn pair_key(
 ) -> Result<(AttrKey, Bytes), NameFault>
     ensures { Gives (λ key. key) result (or_bad_dn (pair_key schema.now pair.now)) }
 {
-    let attr = AttrKey::of_type(alloc, schema.type_key(alloc, pair.0.as_slice())?);
+    let attr = schema.attr_of(alloc, pair.0.as_slice())?;
     match text_key(alloc, schema.rule(&attr), pair.1.as_slice()) {
         Ok(value) => Ok((attr, value)),
         Err(fault) => Err(as_bad_dn(fault)),
@@ -216,6 +234,18 @@ impl Dn {
             parts.push(self.rdns[at].key(alloc, schema)?)?;
         }
         DnKey::from_parts(alloc, parts)
+    }
+
+    /// Whether the name has a key: whether each of its RDNs has one.
+    pub fn has_key(&self, alloc: Global, schema: &Schema) -> Result<bool, NameFault>
+        ensures { Gives (λ has. has) result (Ok (is_some (name_key schema.now self.now))) }
+    {
+        for rdn in self.rdns.as_slice() {
+            if !rdn.has_key(alloc, schema)? {
+                return Ok(false);
+            }
+        }
+        Ok(true)
     }
 
     /// The RDNs, leaf first.

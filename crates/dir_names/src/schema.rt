@@ -1,5 +1,5 @@
 ghost use Rattle.std.specs.Prelude.{◌≡◌, ◌∷◌, All, IfErr, IfOk, IfSome, Ok, find, map, option_copied};
-ghost use Rattle.dir_names.specs.Descriptions.{description_of};
+ghost use Rattle.dir_names.specs.NameKeys.{IsReady, attr_of};
 ghost use Rattle.dir_names.specs.Rows.{type_row};
 ghost use Rattle.std.specs.List.{list_any};
 ghost use Rattle.std.specs.Str.{str_eq_ignore_ascii_case};
@@ -61,10 +61,10 @@ impl Model for Schema {
 
     ghost view = { λ schema. schema.rows.items };
 
-    ghost use Rattle.std.specs.Prelude.{◌≡◌, All, Ok};
-    ghost use Rattle.dir_names.specs.Descriptions.{description_of};
+    ghost use Rattle.std.specs.Prelude.{All};
+    ghost use Rattle.dir_names.specs.NameKeys.{IsReady};
 
-    ghost invariant = { λ schema. All (λ p. description_of schema.rows.items p.0 ≡ Ok p.1) schema.ready.items };
+    ghost invariant = { λ schema. All (IsReady schema.rows.items) schema.ready.items };
 }
 
 impl Schema {
@@ -86,7 +86,7 @@ impl Schema {
 
     /// The description of a text, where it need not be read again.
     pub(crate) fn ready(&self, text: &[u8]) -> Option<&Description>
-        ensures { IfSome result (λ d. description_of self.now text.now ≡ Ok d.now) }
+        ensures { IfSome result (λ d. IsReady self.now (text.now, d.now)) }
     {
         let Ok(at) = self
             .ready
@@ -122,6 +122,29 @@ impl Schema {
         }
     }
 
+    /// The attribute of a type without options.
+    pub(crate) fn attr_of(&self, alloc: Global, kind: &[u8]) -> Result<AttrKey, NameFault>
+        ensures { Gives (λ attr. attr) result (Ok (attr_of self.now kind.now)) }
+    {
+        match self.ready(kind) {
+            Some(description) => description.key().try_clone(alloc),
+            None => Ok(AttrKey::of_type(alloc, self.type_key(alloc, kind)?)),
+        }
+    }
+
+    /// The rule of a type without options.
+    pub(crate) fn rule_of(&self, alloc: Global, kind: &[u8]) -> Result<Rule, NameFault>
+        ensures { Gives (λ rule. rule) result (Ok (rule_of self.now (attr_of self.now kind.now))) }
+    {
+        match self.ready(kind) {
+            Some(description) => Ok(self.rule(description.key())),
+            None => {
+                let attr = self.attr_of(alloc, kind)?;
+                Ok(self.rule(&attr))
+            }
+        }
+    }
+
     /// The key of the type that a name or a number names: its primary name in lower case, or for a
     /// type that isn't known the text itself in lower case.
     pub(crate) fn type_key(&self, alloc: Global, kind: &[u8]) -> Result<Bytes, NameFault>
@@ -147,19 +170,35 @@ fn frequent_descriptions(
     alloc: Global,
     schema: &Schema,
 ) -> Result<Vec<(Bytes, Description)>, NameFault>
-    ensures ready { IfOk result (λ ready. All (λ p. description_of schema.now p.0 ≡ Ok p.1) ready.items) }
+    ensures ready { IfOk result (λ ready. All (IsReady schema.now) ready.items) }
     ensures memory { IfErr result (λ e. e ≡ NameFault.Memory) }
 {
     let mut ready = Vec::with_capacity(alloc, FREQUENT.len())?;
     for name in &FREQUENT {
-        let text = Bytes::copy_of(alloc, name.as_bytes())?;
-        match Description::read(alloc, schema, text.as_slice()) {
-            Ok(description) => ready.push((text, description))?,
-            Err(NameFault::Memory) => return Err(NameFault::Memory),
-            Err(_) => {}
+        if let Some(pair) = frequent_description(alloc, schema, name.as_bytes())? {
+            ready.push(pair)?;
         }
     }
     Ok(ready)
+}
+
+/// A type without options and its description, or none where the text is no such type.
+fn frequent_description(
+    alloc: Global,
+    schema: &Schema,
+    text: &[u8],
+) -> Result<Option<(Bytes, Description)>, NameFault>
+    ensures ready { IfOk result (λ pair. IfSome pair (IsReady schema.now)) }
+    ensures memory { IfErr result (λ e. e ≡ NameFault.Memory) }
+{
+    let attr = AttrKey::of_type(alloc, schema.type_key(alloc, text)?);
+    match Description::read(alloc, schema, text) {
+        Ok(description) if *description.key() == attr => {
+            Ok(Some((Bytes::copy_of(alloc, text)?, description)))
+        }
+        Err(NameFault::Memory) => Err(NameFault::Memory),
+        _ => Ok(None),
+    }
 }
 
 fn type_rows(alloc: Global, rows: &[Row]) -> Result<Vec<TypeRow>, NameFault>

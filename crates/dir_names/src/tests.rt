@@ -125,8 +125,14 @@ fn names_have_keys_unless_a_pair_has_none(rt: HostRuntime) -> Result<(), Fail> {
             Some(NameFault::BadDn),
             "{text}"
         );
+        assert!(rt; !name.has_key(alloc, &schema)?, "{text}");
+    }
+    for text in ["", "cn=a,dc=com", "cn=\\20,x-unknown=", "cn=a+sn=b,dc=com"] {
+        let name = Dn::read(alloc, text.as_bytes())?;
+        assert!(rt; name.has_key(alloc, &schema)?, "{text}");
     }
     let rdn = Rdn::read(alloc, b"SN=b+cn=a")?;
+    assert!(rt; rdn.has_key(alloc, &schema)?);
     let printed = rdn.print(alloc)?;
     assert_eq!(rt; printed.as_slice(), b"SN=b+cn=a".as_slice());
     let other = Rdn::read(alloc, b"cn=A+sn=B")?;

@@ -1,7 +1,8 @@
 ghost use Rattle.std.specs.Cmp.{partial_order_from_agreeing_total};
 ghost use Rattle.std.specs.List.{list_all};
 ghost use Rattle.std.specs.Ordering.{as_partial_cmp};
-ghost use Rattle.std.specs.Prelude.{◌≡◌, ◌&&◌, nat_lt, Ok, refl, option_copied};
+ghost use Rattle.dir_names.specs.NameKeys.{found};
+ghost use Rattle.std.specs.Prelude.{◌≡◌, ◌&&◌, is_some, nat_lt, Ok, refl, option_copied};
 ghost use Rattle.std.specs.Str.{str_to_ascii_lowercase};
 ghost use Rattle.dir_names.specs.Orders.{tied_equiv, tied_per};
 ghost use Rattle.dir_names.specs.Outcome.{Gives};
@@ -15,6 +16,7 @@ use crate::spaces::{tidied, without_spaces_and_hyphens};
 use crate::{AttrKey, Bytes, Dn, DnKey, NameFault, Rule, Schema};
 use std::alloc::Global;
 use std::cmp::Ordering;
+use std::str;
 
 /// What a value is compared by: two values with the same key are the same value.
 #[derive(Debug, Drop)]
@@ -151,6 +153,30 @@ pub(crate) fn text_key(alloc: Global, rule: Rule, value: &[u8]) -> Result<Bytes,
         Rule::Integer => integer_key(alloc, value),
         Rule::ObjectId => object_id_key(alloc, value),
         Rule::Name => Err(NameFault::BadValue),
+    }
+}
+
+/// Whether a value has a key under a rule other than `Name`, which gives none here.
+pub(crate) fn has_text_key(rule: Rule, value: &[u8]) -> bool
+    ensures { result ≡ is_some (found (text_key_of rule value.now)) }
+{
+    match rule {
+        Rule::Octet => true,
+        Rule::CaseIgnore | Rule::Telephone => is_text(value),
+        Rule::Ia5CaseIgnore | Rule::Ia5CaseExact => is_ascii(value),
+        Rule::Integer => is_integer(value),
+        Rule::ObjectId => is_object_id(value),
+        Rule::Name => false,
+    }
+}
+
+/// Whether a value is a text in UTF-8 that isn't empty.
+fn is_text(value: &[u8]) -> bool
+    ensures { result ≡ is_text value.now }
+{
+    match str::from_utf8(value) {
+        Ok(_) => !value.is_empty(),
+        Err(_) => false,
     }
 }
 

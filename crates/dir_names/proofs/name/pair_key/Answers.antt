@@ -10,7 +10,7 @@ use Rattle.dir_names.proofs.name.pair_key.Goals as goal
 pub returns-in-Ok : goal.returns-in-Ok
 returns-in-Ok c =
     let rows = c.args.schema.now in
-    let attr : c.of_type-attr.result ≡ attr_of rows c.args.pair.now.0 = search rules in
+    let attr : c.in_ok-attr.attr ≡ attr_of rows c.args.pair.now.0 = search rules in
     let rule = c.rule.ensures ∙ ap (rule_of rows) attr in
     let value : c.as_slice-2.result.now ≡ c.args.pair.now.1 = c.as_slice-2.ensures in
     let key = (λ i. text_key_of (sym rule i) (sym value i)) ∙ c.in-Ok.ensures in
@@ -19,7 +19,7 @@ returns-in-Ok c =
 pub returns-in-Err : goal.returns-in-Err
 returns-in-Err c =
     let rows = c.args.schema.now in
-    let attr : c.of_type-attr.result ≡ attr_of rows c.args.pair.now.0 = search rules in
+    let attr : c.in_ok-attr.attr ≡ attr_of rows c.args.pair.now.0 = search rules in
     let rule = c.rule.ensures ∙ ap (rule_of rows) attr in
     let value : c.as_slice-2.result.now ≡ c.args.pair.now.1 = c.as_slice-2.ensures in
     let key : text_key_of c.rule.result c.as_slice-2.result.now ≡ text_key_of (rule_of rows (attr_of rows c.args.pair.now.0)) c.args.pair.now.1 = λ i. text_key_of (rule i) (value i) in

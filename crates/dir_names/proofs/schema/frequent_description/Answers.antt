@@ -1,0 +1,16 @@
+use Rattle.std.proofs.Common.{◌≡◌, Ok, true, sym, ap, subst, ◌∙◌, rules}
+use Rattle.dir_names.specs.Descriptions.{description_of}
+use Rattle.dir_names.specs.NameKeys.{IsReady, attr_of}
+use Rattle.dir_names.specs.Orders.{attr_eq, attr_eq_decides}
+use Rattle.dir_names.proofs.schema.frequent_description.Goals as goal
+
+pub returns-in-Ok-clause-ready : goal.returns-in-Ok-clause-ready
+returns-in-Ok-clause-ready c =
+    let rows = c.args.schema.now in
+    let text : c.in_ok-copy_of-in-Ok.field-0 ≡ c.args.text.now = search rules in
+    let read : description_of rows c.args.text.now ≡ Ok c.in-Ok.description = search rules in
+    let attr : c.of_type-attr.result ≡ attr_of rows c.args.text.now = search rules in
+    let told : attr_eq c.key.result.now c.of_type-attr.result ≡ true = search rules in
+    let key : c.key.result.now ≡ c.in-Ok.description.key = search rules in
+    let same : c.key.result.now ≡ c.of_type-attr.result = (attr_eq_decides c.key.result.now c.of_type-attr.result).0 told in
+    subst (λ t. IsReady rows (t, c.in-Ok.description)) (sym text) (read, sym attr ∙ sym same ∙ key)
