@@ -6,6 +6,10 @@ use Rattle.dir_ldif.specs.declared.tape.Tape.{Tape}
 abbrev pub taken_by : Tape → List ℕ
 taken_by t = take t.at t.bytes.now
 
+-- those that were there at the last flush
+abbrev pub flushed_by : Tape → List ℕ
+flushed_by t = take t.flushed t.bytes.now
+
 -- for how many bytes more there is room
 abbrev pub room_of : Tape → ℕ
 room_of t = length t.bytes.now - t.at

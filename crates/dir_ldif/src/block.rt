@@ -5,10 +5,11 @@ ghost use Rattle.dir_ldif.specs.Block.{all_of, body_of, change_of, content_of, d
 ghost use Rattle.dir_ldif.specs.Laws.{AllBytes, KindIsSound, ModsAreBytes, NameIsSound, PartsAreSound, RdnIsSound, SuperiorIsSound, ValuesAreBytes};
 ghost use Rattle.dir_ldif.specs.Lines.{cut};
 ghost use Rattle.dir_ldif.specs.Outcome.{Tells, then_of};
+ghost use Rattle.dir_ldif.specs.Value.{bytes_of};
 
 use crate::faults::{RecordFault, Refusal};
 use crate::lines::Line;
-use crate::part::part_of;
+use crate::part::{Value, part_of};
 use crate::records::{Change, ChangeKind, Mod, ModOp, Mods, Record};
 use dir_names::{Bytes, Description, Dn, Lines, NameFault, Rdn, Schema, Texts};
 use std::alloc::Global;
@@ -126,7 +127,7 @@ fn value_line(alloc: Global, schema: &Schema, line: &Line) -> Result<(Descriptio
 {
     let (name, value) = part_of(alloc, line.text())?;
     let description = Description::read(alloc, schema, name)?;
-    Ok((description, value))
+    Ok((description, value.into_bytes(alloc)?))
 }
 
 /// The change of a changetype, with the lines behind it.
@@ -313,8 +314,8 @@ fn rename_behind_rdn(
 }
 
 /// The value of a line of a rename, which has one name only.
-fn rename_line(alloc: Global, word: &[u8], line: &Line) -> Result<Bytes, Refusal>
-    ensures { Tells (λ value. value) result (rename_line word.now line.now) }
+fn rename_line<'a>(alloc: Global, word: &[u8], line: &'a Line) -> Result<Value<'a>, Refusal>
+    ensures { Tells bytes_of result (rename_line word.now line.now) }
 {
     let (name, value) = part_of(alloc, line.text())?;
     if !is_word(name, word) {

@@ -1,4 +1,4 @@
-ghost use Rattle.std.specs.Prelude.{◌≡◌, ◌<◌, ◌≤◌, ℕ, List, Option, length, IfOk, refl};
+ghost use Rattle.std.specs.Prelude.{◌≡◌, ◌<◌, ◌≤◌, ℕ, List, Option, length, IfOk, OnOk, refl};
 ghost use Rattle.std.proofs.Common.{◌∙◌};
 ghost use Rattle.std.specs.Io.KnownBytes.{Keeps, ReadConsumes, WriteAppends};
 ghost use Rattle.dir_ldif.specs.Device.{Counts};
@@ -45,6 +45,9 @@ pub trait Sink {
     // Whether the sink may take no byte of a text that has one.
     ghost may_stall: { Self → Type 0 };
 
+    // Whether the sink has passed on what it took. A sink that does not tell is always said to have.
+    ghost is_flushed: { Self → Type 0 };
+
     /// Takes a front of `bytes`, and says how many.
     fn write(&mut self, bytes: &[u8]) -> Result<usize, DeviceFault>
         ensures bound { IfOk result (λ n. n ≤ length bytes.now) }
@@ -55,7 +58,8 @@ pub trait Sink {
     /// Passes on what was taken.
     fn flush(&mut self) -> Result<(), DeviceFault>
         ensures bytes { Keeps (taken self.old) (taken self.new) }
-        ensures count { Counts result (failures self.old) (failures self.new) };
+        ensures count { Counts result (failures self.old) (failures self.new) }
+        ensures passed { OnOk result (is_flushed self.new) };
 }
 
 impl<S: Source> Source for &mut S {
@@ -80,6 +84,8 @@ impl<S: Sink> Sink for &mut S {
     ghost failures = { λ s. S.failures s.now };
 
     ghost may_stall = { λ s. S.may_stall s.now };
+
+    ghost is_flushed = { λ s. S.is_flushed s.now };
 
     fn write(&mut self, bytes: &[u8]) -> Result<usize, DeviceFault> {
         (**self).write(bytes)

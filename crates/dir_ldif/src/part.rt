@@ -1,8 +1,9 @@
-ghost use Rattle.std.specs.Prelude.{◌≡◌, IfOk};
+ghost use Rattle.std.specs.Prelude.{◌≡◌, IfErr, IfOk};
 ghost use Rattle.std.specs.List.{list_any};
 ghost use Rattle.base64.specs.GeneralPurpose.{IsBytes};
 ghost use Rattle.dir_ldif.specs.Outcome.{Tells, then_of};
 ghost use Rattle.dir_ldif.specs.Part.{decoded, is_refused, limited, part_of, plain, value_of};
+ghost use Rattle.dir_ldif.specs.Value.{bytes_of};
 
 use crate::bytes::{cut_at, without_spaces};
 use crate::faults::{RecordFault, Refusal};
@@ -15,15 +16,51 @@ use std::alloc::Global;
 /// The greatest length of a value, in bytes, decoded.
 pub const MAX_VALUE: usize = 1_048_576;
 
+/// The value of a line: as it stands there, or decoded.
+#[derive(Drop)]
+pub(crate) enum Value<'a> {
+    Plain(&'a [u8]),
+    Decoded(Vec<u8>),
+}
+
+impl Value<'_> {
+    pub(crate) fn as_slice(&self) -> &[u8]
+        ensures { result.now ≡ bytes_of self.now }
+    {
+        match self {
+            Value::Plain(text) => text,
+            Value::Decoded(value) => value.as_slice(),
+        }
+    }
+
+    /// The value in memory of its own: only a plain one is copied.
+    pub(crate) fn into_bytes(self, alloc: Global) -> Result<Bytes, Refusal>
+        ensures ok { IfOk result (λ v. v ≡ bytes_of self.entry) }
+        ensures bytes { IfOk result (λ v. IsBytes v) }
+        ensures err { IfErr result (λ refusal. refusal ≡ Refusal.Memory) }
+    {
+        match self {
+            Value::Plain(text) => Ok(owned(text.to_vec(alloc)?)),
+            Value::Decoded(value) => Ok(owned(value)),
+        }
+    }
+}
+
+fn owned(value: Vec<u8>) -> Bytes
+    ensures value { result ≡ value.items }
+    ensures bytes { IsBytes result }
+{
+    Bytes::new(value)
+}
+
 /// The name and the value of a line (RFC 2849, `attrval-spec`).
 ///
 /// # Errors
 ///
 /// `BadLine` for a line without a name or a colon; then `UrlValue`, `BadBase64`, or `BadLine` for a
 /// NUL or a CR in a plain value; then `ValueTooLong`.
-pub(crate) fn part_of(alloc: Global, line: &[u8]) -> Result<(&[u8], Bytes), Refusal>
-    ensures read { Tells (λ p. (p.0.now, p.1)) result (part_of line.now) }
-    ensures bytes { IfOk result (λ p. IsBytes p.1) }
+pub(crate) fn part_of(alloc: Global, line: &[u8]) -> Result<(&[u8], Value<'_>), Refusal>
+    ensures { Tells (λ p. (p.0.now, bytes_of p.1)) result (part_of line.now) }
 {
     let Some((name, rest)) = cut_at(b':', line) else {
         return Err(Refusal::Fault(RecordFault::BadLine));
@@ -38,17 +75,16 @@ pub(crate) fn part_of(alloc: Global, line: &[u8]) -> Result<(&[u8], Bytes), Refu
 }
 
 /// The value that stands behind a name and its colon, within the limit.
-fn limited_value(alloc: Global, text: &[u8]) -> Result<Bytes, Refusal>
-    ensures read { Tells (λ v. v) result (then_of (value_of text.now) limited) }
-    ensures bytes { IfOk result (λ v. IsBytes v) }
+fn limited_value(alloc: Global, text: &[u8]) -> Result<Value<'_>, Refusal>
+    ensures { Tells bytes_of result (then_of (value_of text.now) limited) }
 {
     match text {
         [b':', rest @ ..] => match decoded(alloc, without_spaces(rest)) {
-            Ok(value) => limited(value),
+            Ok(value) => limited(Value::Decoded(value)),
             Err(refusal) => Err(refusal),
         },
         [b'<', ..] => Err(Refusal::Fault(RecordFault::UrlValue)),
-        _ => plain(alloc, without_spaces(text)),
+        _ => plain(without_spaces(text)),
     }
 }
 
@@ -62,28 +98,23 @@ fn decoded(alloc: Global, text: &[u8]) -> Result<Vec<u8>, Refusal>
     }
 }
 
-fn limited(value: Vec<u8>) -> Result<Bytes, Refusal>
-    ensures read { Tells (λ v. v) result (limited value.items) }
-    ensures bytes { IfOk result (λ v. IsBytes v) }
-{
-    if value.len() > MAX_VALUE {
-        return Err(Refusal::Fault(RecordFault::ValueTooLong));
-    }
-    Ok(Bytes::new(value))
-}
-
-/// A value that stands plainly. It is copied only where it is within the limit.
-fn plain(alloc: Global, text: &[u8]) -> Result<Bytes, Refusal>
-    ensures read { Tells (λ v. v) result (then_of (plain text.now) limited) }
-    ensures bytes { IfOk result (λ v. IsBytes v) }
+/// A value that stands plainly.
+fn plain(text: &[u8]) -> Result<Value<'_>, Refusal>
+    ensures { Tells bytes_of result (then_of (plain text.now) limited) }
 {
     if has_refused(text) {
         return Err(Refusal::Fault(RecordFault::BadLine));
     }
-    if text.len() > MAX_VALUE {
+    limited(Value::Plain(text))
+}
+
+fn limited(value: Value<'_>) -> Result<Value<'_>, Refusal>
+    ensures { Tells bytes_of result (limited (bytes_of value.entry)) }
+{
+    if value.as_slice().len() > MAX_VALUE {
         return Err(Refusal::Fault(RecordFault::ValueTooLong));
     }
-    Ok(Bytes::new(text.to_vec(alloc)?))
+    Ok(value)
 }
 
 /// Whether a text has a NUL or a CR.

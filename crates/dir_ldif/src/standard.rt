@@ -41,7 +41,8 @@ impl<R: Read> Source for Reader<R> {
     }
 }
 
-/// A sink over any writer.
+/// A sink over any writer. Its flush is the writer's, of which the contract of `Write` says only that the bytes
+/// that the writer holds stay.
 #[derive(Drop)]
 pub struct Writer<W> {
     inner: W,
@@ -63,6 +64,8 @@ impl<W: Write> Sink for Writer<W> {
     ghost failures = { λ s. s.failures };
 
     ghost may_stall = { λ _. ⊤ };
+
+    ghost is_flushed = { λ _. ⊤ };
 
     fn write(&mut self, bytes: &[u8]) -> Result<usize, DeviceFault> {
         match self.inner.write(bytes) {

@@ -56,8 +56,10 @@ fn a_lent_sink_is_one(rt: HostRuntime) {
     let mut room = [0u8; 6];
     let mut tape = Tape::new(&mut room).pieces(2).failing_from(5);
     assert_eq!(rt; written(&mut tape, b"abc"), Ok(()));
+    assert_eq!(rt; tape.flushed(), b"abc".as_slice());
     assert_eq!(rt; written(&mut tape, b"d"), Err(DeviceFault));
     assert_eq!(rt; tape.as_slice(), b"abcd".as_slice());
+    assert_eq!(rt; tape.flushed(), b"abc".as_slice());
 }
 
 #[test]
@@ -70,6 +72,7 @@ fn tapes_take_pieces(rt: HostRuntime) {
     assert_eq!(rt; tape.write(b"ef"), Ok(2));
     assert_eq!(rt; tape.write(b"g"), Ok(0));
     assert_eq!(rt; tape.as_slice(), b"abcdef".as_slice());
+    assert_eq!(rt; tape.flushed(), b"abcd".as_slice());
     let mut room = [0u8; 6];
     let mut stalled = Tape::new(&mut room).pieces(0);
     assert_eq!(rt; write_whole(&mut stalled, b""), Ok(()));

@@ -182,6 +182,12 @@ title;lang-en: Sales, Director
 
 ";
 
+/// What the base64 texts of that example say, in order, each before a `|`.
+const JAPANESE: &str = "営業部|営業部|えいぎょうぶ|\
+    ロドニー|小笠原|小笠原 ロドニー|営業部 部長|\
+    ロドニー|小笠原|小笠原 ロドニー|営業部 部長|\
+    ろどにー|おがさわら|おがさわら ろどにー|えいぎょうぶ ぶちょう|";
+
 const EXTERNAL: &str = "version: 1
 dn: cn=Horatio Jensen, ou=Product Testing, dc=airius, dc=com
 objectclass: top
@@ -363,5 +369,26 @@ fn the_careful_reader_is_read(rt: HostRuntime) -> Result<(), Fail> {
     assert_eq!(rt; *line, 2);
     let last = lines.as_slice().last().expect(&rt, "a line");
     assert_eq!(rt; last.1.as_slice(), CAREFUL_READER);
+    Ok(())
+}
+
+#[test]
+fn the_japanese_values_are_read(rt: HostRuntime) -> Result<(), Fail> {
+    let alloc = rt.alloc();
+    let schema = Schema::builtin(alloc)?;
+    let answers = read_all(alloc, &schema, LANGUAGES.as_bytes())?;
+    let mut found = Vec::new(alloc);
+    for (_, answer) in &answers {
+        let Ok(Record::Content { dn: _, lines }) = answer else {
+            return Err("no entry".into());
+        };
+        for (_, value) in lines.as_slice() {
+            if !value.as_slice().is_ascii() {
+                found.extend_from_slice(value.as_slice())?;
+                found.push(b'|')?;
+            }
+        }
+    }
+    assert_eq!(rt; found.as_slice(), JAPANESE.as_bytes());
     Ok(())
 }

@@ -3,6 +3,7 @@ use Rattle.dir_ldif.specs.declared.records.Record.TheVariants as form
 use Rattle.dir_ldif.specs.Block.{change_of}
 use Rattle.dir_ldif.specs.Outcome.{Tells, then_of}
 use Rattle.dir_ldif.specs.Part.{part_of}
+use Rattle.dir_ldif.specs.Value.{bytes_of}
 use Rattle.dir_ldif.proofs.BlockLemmas.{body_of-change}
 use Rattle.dir_ldif.proofs.block.body_of.Goals as goal
 
@@ -10,7 +11,7 @@ pub returns-then-is_word-2-clause-read : goal.returns-then-is_word-2-clause-read
 returns-then-is_word-2-clause-read c =
     let rows = c.args.schema.now in
     let further = c.in-Some.further.now in
-    let part = ap part_of (sym c.text.ensures) ∙ c.in_ok-name.ensures.read in
-    let same = body_of-change rows c.args.dn c.args.lines.now c.in-Some.second.now further (c.in_ok-name.name.now, c.in_ok-name.value) c.in-Some.ensures.cases.0 part (cc) (cc) in
+    let part = ap part_of (sym c.text.ensures) ∙ c.in_ok-name.ensures in
+    let same = body_of-change rows c.args.dn c.args.lines.now c.in-Some.second.now further (c.in_ok-name.name.now, bytes_of c.in_ok-name.value) c.in-Some.ensures.cases.0 part (cc) (cc) in
     subst (Tells (λ r. r) c.change_record.result) (sym same)
     (subst (λ w. Tells (λ r. r) c.change_record.result (then_of (change_of rows w further) (λ kind. Ok (form.Change (record { dn = c.args.dn; kind = kind }))))) c.as_slice.ensures c.change_record.ensures.read)
