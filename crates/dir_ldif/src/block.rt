@@ -95,7 +95,9 @@ fn legal_dn(alloc: Global, schema: &Schema, text: &[u8]) -> Result<Dn, Refusal>
     ensures sound { IfOk result (λ name. NameIsSound name) }
 {
     let dn = Dn::read(alloc, text)?;
-    let _ = dn.key(alloc, schema)?;
+    if !dn.has_key(alloc, schema)? {
+        return Err(Refusal::from(NameFault::BadDn));
+    }
     Ok(dn)
 }
 
@@ -105,7 +107,9 @@ fn legal_rdn(alloc: Global, schema: &Schema, text: &[u8]) -> Result<Rdn, Refusal
     ensures sound { IfOk result (λ rdn. RdnIsSound rdn) }
 {
     let rdn = Rdn::read(alloc, text)?;
-    let _ = rdn.key(alloc, schema)?;
+    if !rdn.has_key(alloc, schema)? {
+        return Err(Refusal::from(NameFault::BadDn));
+    }
     Ok(rdn)
 }
 
@@ -114,7 +118,7 @@ fn value_lines(alloc: Global, schema: &Schema, lines: &[Line]) -> Result<Lines, 
     ensures read { Tells (λ ls. ls) result (value_lines schema.now lines.now) }
     ensures sound { IfOk result (λ ls. ValuesAreBytes ls) }
 {
-    let mut items = Vec::new(alloc);
+    let mut items = Vec::with_capacity(alloc, lines.len())?;
     for line in lines {
         items.push(value_line(alloc, schema, line)?)?;
     }

@@ -14,6 +14,9 @@ use std::mem;
 /// The greatest length of a logical line, in bytes, after joining and without its final CR.
 pub const MAX_LINE: usize = 2_097_152;
 
+/// For how many lines room is made at once, where the block before had as many.
+const MAX_ROOM: usize = 64;
+
 /// A logical line, with the number of its first physical line.
 #[derive(Debug, Drop)]
 pub(crate) struct Line {
@@ -181,7 +184,12 @@ impl Joiner {
         ensures number { self.new.number ≡ self.old.number }
         ensures partial { self.new.partial ≡ self.old.partial }
     {
-        mem::replace(&mut self.block, Vec::new(self.alloc))
+        let room = self.block.len().min(MAX_ROOM);
+        let next = match Vec::with_capacity(self.alloc, room) {
+            Ok(next) => next,
+            Err(_) => Vec::new(self.alloc),
+        };
+        mem::replace(&mut self.block, next)
     }
 
     /// Takes a piece in which no line ends.
