@@ -49,7 +49,7 @@ pub struct TypeRow {
 #[derive(Debug, Drop)]
 pub struct Schema {
     rows: Vec<TypeRow>,
-    /// Descriptions that need not be read again, each behind its text, the shorter texts first.
+    /// Descriptions that need not be read again, each behind its text, in the order of `look_up_order`.
     ready: Vec<(Bytes, Description)>,
 }
 
@@ -90,7 +90,7 @@ impl Schema {
     {
         let Ok(at) = self
             .ready
-            .binary_search_by(|p| shorter_first(p.0.as_slice(), text))
+            .binary_search_by(|p| look_up_order(p.0.as_slice(), text))
         else {
             return None;
         };
@@ -157,10 +157,14 @@ impl Schema {
     }
 }
 
-/// Short texts come before long ones, so that most comparisons read no text.
-fn shorter_first(one: &[u8], another: &[u8]) -> Ordering {
+/// Short texts come before long ones, and of one length the last byte counts first, so that most
+/// comparisons read no more.
+fn look_up_order(one: &[u8], another: &[u8]) -> Ordering {
     match one.len().cmp(&another.len()) {
-        Ordering::Equal => one.cmp(another),
+        Ordering::Equal => match one.last().cmp(&another.last()) {
+            Ordering::Equal => one.cmp(another),
+            unequal => unequal,
+        },
         unequal => unequal,
     }
 }

@@ -1,4 +1,5 @@
 use super::*;
+use crate::table::FREQUENT;
 use std::alloc::Global;
 use std::process::Abort;
 use std::test::Fail;
@@ -144,6 +145,17 @@ fn names_have_keys_unless_a_pair_has_none(rt: HostRuntime) -> Result<(), Fail> {
     assert_eq!(rt; below.depth(), 2);
     assert!(rt; com.is_parent_of(&below) && below.at_or_below(&com) && !com.at_or_below(&below));
     assert!(rt; below.parent(alloc)? == Some(com.try_clone(alloc)?));
+    Ok(())
+}
+
+#[test]
+fn frequent_types_are_looked_up(rt: HostRuntime) -> Result<(), Fail> {
+    let alloc = rt.alloc();
+    let schema = Schema::builtin(alloc)?;
+    for name in &FREQUENT {
+        let is_ready = schema.ready(name.as_bytes()).is_some();
+        assert!(rt; is_ready, "{name}");
+    }
     Ok(())
 }
 
