@@ -1,8 +1,8 @@
 -- A canonical text reads back as its directory.
-use Rattle.std.proofs.Common.{◌≡◌, ℕ, Bool, true, false, cond, not, ◌&&◌, List, [], ◌∷◌, ◌++◌, map, Option, None, Some, is_some, Result, Ok, Err, T, refl, sym, ap, subst, ◌∙◌, true≢false, Less}
+use Rattle.std.proofs.Common.{◌≡◌, ℕ, Bool, true, false, cond, not, ◌&&◌, List, [], ◌∷◌, ◌++◌, map, Some, is_some, Result, Ok, Err, T, refl, sym, ap, subst, ◌∙◌, true≢false, Less}
 use Rattle.std.specs.List.{flat_map, filter}
 use Rattle.std.specs.FinMap as fin
-use Rattle.std.specs.FinMap.{find, entries_sorted, get-entries, is_sorted}
+use Rattle.std.specs.FinMap.{find, entries_sorted, get-entries}
 use Rattle.dir_names.specs.declared.schema.TypeRow.{TypeRow}
 use Rattle.dir_names.specs.Keys.{DnKeys}
 use Rattle.dir_names.specs.NameKeys.{name_key}
@@ -16,7 +16,7 @@ use Rattle.dir_ldif.specs.Legal.{is_legal_record}
 use Rattle.dir_ldif.specs.RecordText.{record_text_of}
 use Rattle.dir_ldif.specs.Records.{Answer, Found, records_of}
 use Rattle.dir_tree.specs.Content.{Content}
-use Rattle.dir_tree.specs.Dir.{Dir, entry_at, has_parent, put_entry}
+use Rattle.dir_tree.specs.Dir.{Dir, entry_at, has_parent}
 use Rattle.dir_tree.specs.Made.{made}
 use Rattle.dir_tree.specs.Spelled.{spelled_name}
 use Rattle.dir_tree.specs.WellFormed.{Each, IsWellFormed, IsWithinLimits, all_lines}
@@ -24,12 +24,12 @@ use Rattle.dir_tree.proofs.MadeAgain.{made_again}
 use Rattle.dir_tree.proofs.Relisted.{are_new, inserted, inserted_whole, new_whole}
 use Rattle.dir_tree.proofs.Walk.{Entries, Rising, find_here, find_later, rising}
 use Rattle.dir_change.specs.declared.result_code.ResultCode.TheVariants.{NoSuchObject, EntryAlreadyExists}
-use Rattle.dir_change.specs.Operation.{is_at_or_below, own_of}
+use Rattle.dir_change.specs.Operation.{own_of}
 use Rattle.dir_change.proofs.LegalUndo.{legal_attributes}
 use Rattle.dir_change.proofs.Undone.{own_spelled, spelled_key, stands_below}
 use Rattle.dir_change.proofs.Within.{bytes_all, name_sound}
 use Rattle.dir_tools.specs.Canonical.{canonical_of, entry_text}
-use Rattle.dir_tools.specs.CopyOf.{CopyFault, Loaded, and_on, copy_of, denied, entered, first_of, if_whole, line_or_none, loaded, nothing_under, orphan_lines, placed_at, taken_in, whole}
+use Rattle.dir_tools.specs.CopyOf.{Loaded, and_on, copy_of, denied, entered, first_of, if_whole, line_or_none, loaded, placed_at, taken_in, whole}
 use Rattle.dir_tools.specs.Headline.{CanonicalTextsReadBack}
 
 left : (a b : Bool) → (a && b) ≡ true → a ≡ true

@@ -1,5 +1,5 @@
 -- The texts of a run lead back to where it began.
-use Rattle.std.proofs.Common.{◌≡◌, ℕ, Bool, cond, List, [], ◌∷◌, ◌++◌, map, Result, Ok, Err, refl, sym, ap, subst, ◌∙◌}
+use Rattle.std.proofs.Common.{◌≡◌, Bool, List, [], ◌∷◌, map, Result, Ok, Err, refl, sym, ap, subst, ◌∙◌}
 use Rattle.dir_names.specs.declared.schema.TypeRow.{TypeRow}
 use Rattle.dir_ldif.specs.declared.faults.RecordFault.{RecordFault}
 use Rattle.dir_ldif.specs.declared.faults.StreamFault.{StreamFault}
@@ -9,17 +9,15 @@ use Rattle.dir_ldif.specs.declared.records.Record.TheVariants as form
 use Rattle.dir_ldif.specs.Laws.{without_line}
 use Rattle.dir_ldif.specs.Records.{Answer, Found, records_of}
 use Rattle.dir_tree.specs.Dir.{Dir}
-use Rattle.dir_tree.specs.WellFormed.{IsWellFormed, IsWithinLimits}
 use Rattle.dir_change.specs.declared.result_code.ResultCode.{ResultCode}
 use Rattle.dir_change.specs.Operation.{step}
-use Rattle.dir_change.specs.Runs.{Ending, LeadsBack, ReadsBack, RunsAreTakenBack, RunsStayInOrder, StaysInOrder, UndoTextsReadBack, goes_on, group_of, last_first}
+use Rattle.dir_change.specs.Runs.{Ending, LeadsBack, ReadsBack, RunsAreTakenBack, RunsStayInOrder, StaysInOrder, UndoTextsReadBack, group_of, last_first}
 use Rattle.dir_change.specs.Undo.{all_steps, and_then}
 use Rattle.dir_change.specs.UndoText.{undo_text_of}
 use Rattle.dir_tools.specs.Canonical.{canonical_of}
 use Rattle.dir_tools.specs.CopyOf.{copy_of}
-use Rattle.dir_tools.specs.Headline.{CanonicalTextsReadBack, IsTakenBackBy, WrittenRunsAreTakenBack, texts_of_run}
-use Rattle.dir_tools.specs.Ran.{Outcome, Ran, causes_in, groups_in, led, onto, run_of, stepped}
-use Rattle.dir_tools.specs.Running.{HasAccepted}
+use Rattle.dir_tools.specs.Headline.{CanonicalTextsReadBack, WrittenRunsAreTakenBack}
+use Rattle.dir_tools.specs.Ran.{Ran, causes_in, groups_in, led, onto, run_of, stepped}
 use Rattle.dir_tools.proofs.RunLemmas.{goes_accepted}
 
 abbrev fine : Change → Result (Result Record RecordFault) StreamFault

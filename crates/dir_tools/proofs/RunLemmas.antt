@@ -1,5 +1,5 @@
 -- A run's outcomes, one after the other.
-use Rattle.std.proofs.Common.{◌≡◌, ℕ, ◌+◌, Bool, true, false, cond, List, [], ◌∷◌, ◌++◌, length, suc, refl, sym, ap, subst, ◌∙◌, Option, None, Some, Result, Ok, Err, IfSome, arith}
+use Rattle.std.proofs.Common.{◌≡◌, ℕ, ◌+◌, Bool, true, false, cond, List, [], ◌∷◌, ◌++◌, length, refl, sym, ap, subst, ◌∙◌, Option, None, Some, Result, Ok, Err, IfSome, arith}
 use Rattle.std.specs.List.{flat_map}
 use Rattle.dir_names.specs.declared.schema.TypeRow.{TypeRow}
 use Rattle.dir_ldif.specs.declared.faults.RecordFault.{RecordFault}
@@ -15,7 +15,7 @@ use Rattle.dir_ldif.specs.Records.{Answer, Found}
 use Rattle.dir_tree.specs.Dir.{Dir}
 use Rattle.dir_tools.specs.declared.fault.Cause.{Cause}
 use Rattle.dir_tools.specs.declared.run.Run.{Run}
-use Rattle.dir_tools.specs.Ran.{Led, Outcome, Ran, cause_in, causes_in, ends_at, group_in, groups_in, led, led_on, onto, run_of, stepped}
+use Rattle.dir_tools.specs.Ran.{Led, Outcome, Ran, cause_in, ends_at, group_in, groups_in, led, led_on, onto, run_of, stepped}
 use Rattle.dir_tools.specs.Report.{outcome_line}
 use Rattle.dir_ldif.specs.SoundFound.{IsSoundFound}
 use Rattle.dir_ldif.specs.declared.records.Record.TheVariants as form

@@ -5,13 +5,9 @@ use Rattle.std.specs.Option.{option_map}
 use Rattle.dir_names.specs.declared.schema.TypeRow.{TypeRow}
 use Rattle.dir_ldif.specs.declared.faults.StreamFault.{StreamFault}
 use Rattle.dir_ldif.specs.declared.faults.StreamFault.TheVariants as stream
-use Rattle.dir_ldif.specs.Records.{Answer, records_of}
+use Rattle.dir_ldif.specs.Records.{records_of}
 use Rattle.dir_tree.specs.Dir.{Dir}
 use Rattle.dir_change.specs.UndoText.{undo_text_of}
-use Rattle.dir_tools.specs.Canonical.{canonical_of}
-use Rattle.dir_tools.specs.declared.fault.Input.{Input}
-use Rattle.dir_tools.specs.declared.fault.Input.TheVariants as input
-use Rattle.dir_tools.specs.declared.fault.Output.{Output}
 use Rattle.dir_tools.specs.declared.fault.Output.TheVariants as to
 use Rattle.dir_tools.specs.declared.fault.ToolFault.{ToolFault}
 use Rattle.dir_tools.specs.declared.fault.ToolFault.TheVariants as tool
@@ -22,15 +18,15 @@ use Rattle.dir_tools.specs.declared.modify.Summary.{Summary}
 use Rattle.dir_tools.specs.declared.run.Run.{Run}
 use Rattle.dir_tools.specs.Headline.{Answers, Blames, ChangesAreBad, HasRun, WrittenRunsAreTakenBack, key_read, nonempty_key, suffix_of, texts_of_run}
 use Rattle.dir_tools.specs.CopyOf.{copy_of}
-use Rattle.dir_tools.specs.Loading.{IsNamed}
+use Rattle.dir_tools.specs.Loading.{CopyBlamed, IsBare, IsNamed}
 use Rattle.dir_tree.specs.WellFormed.{IsWellFormed, IsWithinLimits}
 use Rattle.dir_names.specs.declared.fault.NameFault.{NameFault}
 use Rattle.dir_names.specs.Keys.{DnKeys}
 use Rattle.dir_names.specs.Names.{SpelledName}
 use Rattle.dir_names.specs.NameKeys.{name_key}
 use Rattle.dir_names.specs.Reading.{name_read}
-use Rattle.dir_tools.specs.Ran.{Outcome, Ran, causes_in, groups_in, run_of}
-use Rattle.dir_tools.specs.Report.{modify_report_of, numbers_line, outcome_line}
+use Rattle.dir_tools.specs.Ran.{Ran, causes_in, groups_in, run_of}
+use Rattle.dir_tools.specs.Report.{numbers_line, outcome_line}
 use Rattle.dir_tools.specs.RunTexts.{Holds, HoldsFiles, is_dry, texts_of}
 use Rattle.dir_tools.specs.Running.{AreItsFiles, AreItsTexts, BreaksOff, ChangesBlamed, IsBegun, RunsOver}
 use Rattle.dir_tools.specs.Written.{IsWriteFault, Tape, Texts, Written}
@@ -58,6 +54,16 @@ named_suffix rows text k = by (name_read text)
     by : (r : Result SpelledName NameFault) → key_read rows r ≡ Some k → IsNamed k
     by (Ok name) h = has_part (name_key rows name) k h
     by (Err fault) h = λ none. absurd (cc)
+
+-- a copy's fault, as it blames the text of the copy
+pub copy_blamed_so : (rows : List TypeRow) (suffix : List ℕ) (options : ModifyOptions) (copy left : Option (List ℕ)) (empty : Dir) (failures failures' : ℕ) (fault : ToolFault)
+    → suffix_of rows suffix ≡ Some empty.suffix → IsBare empty → CopyBlamed rows empty copy failures failures' fault → Blames rows suffix options copy left fault
+copy_blamed_so rows suffix options copy left empty failures failures' (tool.BadCopy line why) key bare h = (empty.suffix, key, h bare)
+copy_blamed_so rows suffix options copy left empty failures failures' (tool.Read input) key bare h = tt
+copy_blamed_so rows suffix options copy left empty failures failures' tool.Memory key bare h = tt
+copy_blamed_so rows suffix options copy left empty failures failures' (tool.Write output) key bare h = absurd (h)
+copy_blamed_so rows suffix options copy left empty failures failures' (tool.BadQuestion item) key bare h = absurd (h)
+copy_blamed_so rows suffix options copy left empty failures failures' (tool.BadChanges fault) key bare h = absurd (h)
 
 module _ {D : Type 0} (state : D → Dir) (rows : List TypeRow) (suffix : List ℕ) (options : ModifyOptions) (copy left : Option (List ℕ)) (begun : Run D)
     (reads : IfSome copy (λ text. copy_of rows (state begun.directory).suffix text ≡ Ok (state begun.directory))) where

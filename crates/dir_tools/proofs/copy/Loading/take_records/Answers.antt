@@ -1,7 +1,9 @@
-use Rattle.std.proofs.Common.{◌≡◌, rules, refl, subst, Ok}
+use Rattle.std.proofs.Common.{rules, refl, sym, subst, Ok}
 use Rattle.dir_ldif.specs.Next.{GivesFirst, GivesNone}
-use Rattle.dir_ldif.specs.Reader.{schema_of, to_give}
+use Rattle.dir_ldif.specs.Reader.{schema_of, source_of, to_give}
 use Rattle.dir_ldif.specs.SoundFound.{IsSoundFound}
+use Rattle.dir_tools.specs.Loading.{StopsLoading}
+use Rattle.dir_tools.proofs.CopyFaults.{loads_blamed, stops_at}
 use Rattle.dir_tools.proofs.CopyLemmas.{loads_begun, loads_further, loads_out, order_out}
 use Rattle.dir_tools.proofs.copy.Loading.take_records.Goals as goal
 
@@ -38,3 +40,17 @@ loop-turn-preserved g c =
       loads_further g.D.Directory.state c.args.schema.now (c.in-Ok-Some.line, c.in-Ok-Some.found) _ (to_give g.S.Source.left c.loop-turn.records) (to_give g.S.Source.left c.next.new.self) c.args.self.now c.loop-turn.self c.take.new.self
           sound c.in_default.ensures.reads gives inv.5,
     )
+
+pub returns-in-Err-take-clause-blamed : goal.returns-in-Err-take-clause-blamed
+returns-in-Err-take-clause-blamed g c =
+    let gives : GivesFirst (Ok (c.in-Ok-Some.line, c.in-Ok-Some.found)) (to_give g.S.Source.left c.loop-turn.records) (to_give g.S.Source.left c.next.new.self) = search rules in
+    stops_at g.D.Directory.state c.args.schema.now (c.in-Ok-Some.line, c.in-Ok-Some.found) _ (to_give g.S.Source.left c.loop-turn.records) (to_give g.S.Source.left c.next.new.self) c.args.self.now c.loop-turn.self _ _ c.in-Err-take.fault
+    c.in-Err-take.ensures.fault c.in-Err-take.ensures.cause gives c.loop-turn.invariant.5
+
+pub returns-in-Err-clause-blamed : goal.returns-in-Err-clause-blamed
+returns-in-Err-clause-blamed g c =
+    let inv = c.loop-turn.invariant in
+    subst (StopsLoading g.D.Directory.state c.args.schema.now (to_give g.S.Source.left c.args.records.now) (g.S.Source.failures (source_of c.args.records.now)) (g.S.Source.failures (source_of c.next.new.self)) c.args.self.now)
+    (sym c.ended.ensures)
+    (loads_blamed g.D.Directory.state c.args.schema.now g.S.Source.left g.S.Source.failures c.in-Err.fault _ _ c.loop-turn.records c.next.new.self c.args.self.now c.loop-turn.self
+    inv.1 inv.3 c.in-Err.ensures.err.0 inv.5)

@@ -1,4 +1,4 @@
-use Rattle.std.proofs.Common.{◌≡◌, refl, sym, ap, subst, ◌∙◌, true, false, Ok, rules}
+use Rattle.std.proofs.Common.{◌≡◌, sym, subst, true, false, Ok, rules}
 use Rattle.dir_ldif.specs.Next.{GivesFirst}
 use Rattle.dir_ldif.specs.Reader.{schema_of, source_of, to_give}
 use Rattle.dir_ldif.specs.SoundFound.{IsSoundFound}
