@@ -6,7 +6,7 @@ use Rattle.dir_ldif.specs.declared.faults.StreamFault.{StreamFault}
 use Rattle.dir_ldif.specs.declared.reader.RecordReader.{RecordReader}
 use Rattle.dir_ldif.specs.declared.reader.Place.TheVariants.{Reading, AtEnd, Ended}
 use Rattle.dir_ldif.specs.Next.{answers_ahead, answers_left, EndsSoon, Faults, GoesOn}
-use Rattle.dir_ldif.specs.Reading.{hand, IsInPieces}
+use Rattle.dir_ldif.specs.Reading.{hand, bytes_ahead, IsInPieces}
 use Rattle.dir_ldif.specs.Records.{Found, Answer}
 use Rattle.dir_ldif.specs.LegalFound.{IsLegalFound}
 use Rattle.dir_ldif.specs.SoundFound.{IsSoundFound}
@@ -31,6 +31,10 @@ module _ {R : Type 0} where
   -- the read calls that are left
   abbrev pub turns_left : RecordReader R → ℕ
   turns_left r = r.core.turns
+
+  -- the bytes that may still be used up: those in hand, and 8,192 for each read call that is left
+  abbrev pub budget : RecordReader R → ℕ
+  budget r = bytes_ahead r.core
 
   abbrev pub source_of : RecordReader R → R
   source_of r = r.source

@@ -16,6 +16,10 @@ use Rattle.dir_ldif.specs.Joining.{to_come}
 abbrev pub hand : Core → List ℕ
 hand c = take (c.end - c.at) (drop c.at c.buffer.items)
 
+-- how many bytes may still be taken: those in hand, and 8,192 for each read call that is left
+abbrev pub bytes_ahead : Core → ℕ
+bytes_ahead c = 8192 * c.turns + length (hand c)
+
 -- the parts to come where the source still gives this text
 abbrev pub coming : Core → List ℕ → List Part
 coming c text = to_come c.joiner (hand c ++ text)

@@ -43,10 +43,10 @@ pub struct RecordReader<'s, R> {
 }
 
 impl<'s, R: Source + Drop> RecordReader<'s, R> {
-    ghost use Rattle.std.specs.Prelude.{◌≡◌, ℕ, List, [], None, Ok, Err, IfErr, IfNone, IfOk, IfSome, OnOk};
+    ghost use Rattle.std.specs.Prelude.{◌≡◌, ◌<◌, ℕ, List, [], None, Ok, Err, IfErr, IfNone, IfOk, IfSome, OnOk};
     ghost use Rattle.std.specs.Option.{option_map};
     ghost use Rattle.dir_ldif.specs.Next.{GivesFirst, GivesNone};
-    ghost use Rattle.dir_ldif.specs.Reader.{GivesLegal, GivesSound, IsAtEnd, IsEnded, IsReading, ReadsPieces, SpendsTurns, StopsFor, StopsSoonFor, UsesUp, in_hand, schema_of, source_of, to_give, to_give_on, turns_left};
+    ghost use Rattle.dir_ldif.specs.Reader.{GivesLegal, GivesSound, IsAtEnd, IsEnded, IsReading, ReadsPieces, SpendsTurns, StopsFor, StopsSoonFor, UsesUp, budget, in_hand, schema_of, source_of, to_give, to_give_on, turns_left};
     ghost use Rattle.dir_ldif.specs.Records.{records_of};
 
     /// A reader that is allowed 1,099,511,627,776 read calls.
@@ -100,6 +100,7 @@ impl<'s, R: Source + Drop> RecordReader<'s, R> {
     pub fn next(&mut self) -> Result<Option<Answer>, StreamFault>
         ensures some { IfOk result (λ o. IfSome o (λ found. GivesFirst (Ok found) (to_give R.left self.old) (to_give R.left self.new))) }
         ensures used { IfOk result (λ o. IfSome o (λ found. IsReading self.new → UsesUp R.left found self.old self.new)) }
+        ensures shrinks { IfOk result (λ o. IfSome o (λ _. budget self.new < budget self.old)) }
         ensures none { IfOk result (λ o. IfNone o (GivesNone (to_give R.left self.old) × IsAtEnd self.new)) }
         ensures err { IfErr result (λ fault. StopsFor R.left R.failures fault self.old self.new × IsEnded self.new) }
         ensures soon { IfErr result (λ fault. StopsSoonFor R.left fault self.old self.new) }
@@ -153,7 +154,7 @@ impl Core {
     ghost use Rattle.dir_ldif.specs.Device.{FailsToRead};
     ghost use Rattle.dir_ldif.specs.Joining.{to_come};
     ghost use Rattle.dir_ldif.specs.Parts.{Ends, give, parts_of};
-    ghost use Rattle.dir_ldif.specs.Reading.{Finds, IsInPieces, Stops, StopsSoon, Uses, coming, hand};
+    ghost use Rattle.dir_ldif.specs.Reading.{Finds, IsInPieces, Stops, StopsSoon, Uses, bytes_ahead, coming, hand};
 
     fn new(alloc: Global, turns: u64) -> Result<Core, StreamFault>
         requires { turns ≤ MAX_TURNS }
@@ -182,6 +183,7 @@ impl Core {
         ensures some { IfOk result (λ o. IfSome o (λ found. GivesFirst (Ok found)
             (answers_left schema.now self.old (S.left source.old)) (answers_left schema.now self.new (S.left source.new)))) }
         ensures used { IfOk result (λ o. IfSome o (λ found. self.new.place ≡ Reading → GoesOn found schema.now self.old self.new (S.left source.old) (S.left source.new))) }
+        ensures shrinks { IfOk result (λ o. IfSome o (λ _. bytes_ahead self.new < bytes_ahead self.old)) }
         ensures none { IfOk result (λ o. IfNone o (GivesNone (answers_left schema.now self.old (S.left source.old)) × (self.new.place ≡ AtEnd))) }
         ensures err { IfErr result (λ fault. Faults fault schema.now self.old (S.left source.old) (S.left source.new) (S.failures source.old) (S.failures source.new)
             × (self.new.place ≡ Ended)) }
@@ -220,6 +222,7 @@ impl Core {
         ensures some { IfOk result (λ o. IfSome o (λ found. GivesFirst (Ok found)
             (answers_left schema.now self.old (S.left source.old)) (answers_left schema.now self.new (S.left source.new)))) }
         ensures used { IfOk result (λ o. IfSome o (λ found. self.new.place ≡ Reading → GoesOn found schema.now self.old self.new (S.left source.old) (S.left source.new))) }
+        ensures shrinks { IfOk result (λ _. bytes_ahead self.new < bytes_ahead self.old) }
         ensures none { IfOk result (λ o. IfNone o (GivesNone (answers_left schema.now self.old (S.left source.old)) × (self.new.place ≡ AtEnd))) }
         ensures err { IfErr result (λ fault. Faults fault schema.now self.old (S.left source.old) (S.left source.new) (S.failures source.old) (S.failures source.new)) }
         ensures soon { IfErr result (λ fault. EndsSoon fault schema.now self.old (S.left source.old) (S.left source.new)) }
@@ -253,6 +256,7 @@ impl Core {
             × Finds self.new.place (coming self.old) block.items (coming self.new) bytes (S.left source.new)
             × (self.new.place ≡ Reading → (self.old.turns ≤ self.new.turns + length bytes) × (is_empty block.items ≡ false))) }
         ensures used { IfOk result (λ block. self.new.place ≡ Reading → Uses self.old self.new block.items (S.left source.old) (S.left source.new)) }
+        ensures shrinks { IfOk result (λ _. bytes_ahead self.new < bytes_ahead self.old) }
         ensures err { IfErr result (λ fault. (bytes : List ℕ)
             × Consumes (S.left source.old) (S.left source.new) bytes
             × Stops fault self.old self.new bytes (S.left source.new) (S.failures source.old) (S.failures source.new)) }
@@ -284,6 +288,7 @@ impl Core {
             (λ block. (text : List ℕ) → coming self.old text ≡ give block.items (coming self.new text))) }
         ensures used { IfOk result (λ o. IfSome o (λ block. (used : List ℕ) × (hand self.old ≡ used ++ hand self.new)
             × ((text : List ℕ) → to_come self.old.joiner (used ++ text) ≡ give block.items (to_come self.new.joiner text)))) }
+        ensures shorter { IfOk result (λ o. IfSome o (λ _. length (hand self.new) < length (hand self.old))) }
         ensures none { IfOk result (λ o. IfNone o (self.new.at ≡ self.new.end)) }
         ensures some { IfOk result (λ o. IfSome o (λ block. is_empty block.items ≡ false)) }
         ensures err { IfErr result (λ fault. (text : List ℕ) → Ends fault (coming self.old text)) }
@@ -339,6 +344,7 @@ impl Core {
         requires empty { hand self.old ≡ [] }
         requires room { self.old.joiner.number + 8192 * self.old.turns + 1 < 2 ^ 62 }
         ensures place { self.new.place ≡ AtEnd }
+        ensures empty { hand self.new ≡ [] }
         ensures turns { self.new.turns ≡ self.old.turns }
         ensures ok { IfOk result (λ block. coming self.old [] ≡ give block.items []) }
         ensures err { IfErr result (λ fault. Ends fault (coming self.old [])) }

@@ -45,6 +45,7 @@ loop-block-preserved g c =
         omega (arith, so_far.4, c.take_hand.ensures.turns, c.in-Ok-true.ensures.turns, length_hand new, length-append so_far.0 (hand new)),
         takes_piece old c.loop-block.self new c.take_hand.new.self.joiner so_far.0 so_far.2 taken c.read_more.ensures.joiner,
       ),
+      omega (arith, c.loop-block.invariant.4, c.take_hand.ensures.turns, c.in-Ok-true.ensures.turns, length_hand new),
     )
 
 pub returns-in-Err-clause-soon : goal.returns-in-Err-clause-soon

@@ -1,7 +1,7 @@
 use Rattle.std.proofs.Common.{◌≡◌, ◌+◌, ◌*◌, ◌++◌, ◌≤◌, ℕ, List, length}
 use Rattle.std.specs.Io.KnownBytes.{Consumes}
 use Rattle.dir_ldif.specs.declared.reader.Place.TheVariants.{Reading}
-use Rattle.dir_ldif.specs.Reading.{coming}
+use Rattle.dir_ldif.specs.Reading.{bytes_ahead, coming}
 use Rattle.dir_ldif.proofs.SoonLemmas.{Takes}
 use Rattle.dir_ldif.proofs.reader.Core.next_block.Given as goal
 
@@ -16,6 +16,7 @@ invariant-loop-block g l =
     × (l.fn.self.turns ≤ l.self.turns + length bytes)
     × (length bytes + 8192 * l.self.turns ≤ 8192 * l.fn.self.turns)
     × Takes l.fn.self bytes l.self)
+    × (bytes_ahead l.self ≤ bytes_ahead l.fn.self)
 
 abbrev pub decreases-loop-block : goal.decreases-loop-block
 decreases-loop-block g l = l.self.turns
