@@ -31,6 +31,9 @@ use Rattle.dir_tools.specs.declared.fault.ToolFault.TheVariants as tool
 use Rattle.dir_tools.specs.CopyOf.{Loaded, and_on, copy_of, denied, entered, loaded, nothing_under, placed_at, taken_in, whole}
 use Rattle.dir_tools.specs.Loading.{CopyBlamed, Holds, IsBare, IsFaultOf, IsMadeOf, IsOfRecord, LoadsOver, LoadsTo, StopsLoading, copy_fault, waiting_or}
 use Rattle.dir_tools.specs.Running.{Continues}
+use Rattle.dir_tools.specs.Turns.{GaveAtLeast, IsLong}
+use Rattle.dir_ldif.specs.Reader.{SpendsTurns, turns_left}
+use Rattle.dir_tools.proofs.Turns.{spends_all}
 use Rattle.dir_tools.proofs.CopyLemmas.{LoadsSoFar}
 
 -- ---- a record
@@ -130,8 +133,20 @@ module _ {D : Type 0} {S : Type 0} where
       let so_far = was start at_start in ended_so rows start so_far.0 stream.BadVersion first (to_give left old) stops so_far.3
   loads_blamed state rows left failures stream.Read first count old new begun loading going same stops was = subst (λ n. HasFailed n (failures (source_of new))) same stops.0
   loads_blamed state rows left failures stream.Memory first count old new begun loading going same stops was = tt
-  loads_blamed state rows left failures stream.TooManyTurns first count old new begun loading going same stops was = tt
+  loads_blamed state rows left failures stream.TooManyTurns first count old new begun loading going same stops was = refl
   loads_blamed state rows left failures stream.Ended first count old new begun loading going same stops was = absurd (going stops)
+
+too_many : (fault : StreamFault) → copy_fault fault ≡ tool.BadCopy 0 (cause.Ended stream.TooManyTurns) → fault ≡ stream.TooManyTurns
+too_many stream.TooManyTurns is = refl
+too_many stream.LineTooLong is = absurd (cc)
+too_many stream.Read is = absurd (cc)
+too_many stream.Memory is = absurd (cc)
+too_many stream.Ended is = absurd (cc)
+too_many stream.BadVersion is = absurd (cc)
+
+pub copy_long : {S : Type 0} (left : S → Option (List ℕ)) (failures : S → ℕ) (fault : StreamFault) (a b c : RecordReader S) → copy_fault fault ≡ tool.BadCopy 0 (cause.Ended stream.TooManyTurns)
+    → SpendsTurns left a b → StopsFor left failures fault b c → GaveAtLeast (left (source_of a)) (left (source_of c)) (turns_left a)
+copy_long left failures fault a b c is first stops = spends_all left failures fault a b c (too_many fault is) first stops
 
 -- ---- the whole copy
 
@@ -146,26 +161,27 @@ module _ {D : Type 0} (state : D → Dir) (rows : List TypeRow) (empty : D) (giv
   -- a record, or the text's end
   pub blamed_read : (text : Option (List ℕ)) (old : Loading D) (failures failures' : ℕ) (fault : ToolFault) → given ≡ option_map (records_of rows) text
       → (IsBare (state empty) → Holds state (nothing_under (state empty).suffix) old)
+      → (fault ≡ tool.BadCopy 0 (cause.Ended stream.TooManyTurns) → IfSome text IsLong)
       → StopsLoading state rows given failures failures' old fault → CopyBlamed rows (state empty) text failures failures' fault
-  blamed_read text old failures failures' (tool.BadCopy line (cause.Code code)) known start h = λ bare. bad_text text line (cause.Code code) known (h (nothing_under (state empty).suffix) (start bare))
-  blamed_read text old failures failures' (tool.BadCopy line (cause.Fault fault)) known start h = λ bare. bad_text text line (cause.Fault fault) known (h (nothing_under (state empty).suffix) (start bare))
-  blamed_read text old failures failures' (tool.BadCopy line (cause.Ended stream.LineTooLong)) known start h = λ bare. bad_text text line (cause.Ended stream.LineTooLong) known (h (nothing_under (state empty).suffix) (start bare))
-  blamed_read text old failures failures' (tool.BadCopy line (cause.Ended stream.BadVersion)) known start h = λ bare. bad_text text line (cause.Ended stream.BadVersion) known (h (nothing_under (state empty).suffix) (start bare))
-  blamed_read text old failures failures' (tool.BadCopy line (cause.Ended stream.Read)) known start h = λ bare. bad_text text line (cause.Ended stream.Read) known (h (nothing_under (state empty).suffix) (start bare))
-  blamed_read text old failures failures' (tool.BadCopy line (cause.Ended stream.Memory)) known start h = λ bare. bad_text text line (cause.Ended stream.Memory) known (h (nothing_under (state empty).suffix) (start bare))
-  blamed_read text old failures failures' (tool.BadCopy line (cause.Ended stream.Ended)) known start h = λ bare. bad_text text line (cause.Ended stream.Ended) known (h (nothing_under (state empty).suffix) (start bare))
-  blamed_read text old failures failures' (tool.BadCopy line (cause.Ended stream.TooManyTurns)) known start h = λ bare. so text
+  blamed_read text old failures failures' (tool.BadCopy line (cause.Code code)) known start long h = λ bare. bad_text text line (cause.Code code) known (h (nothing_under (state empty).suffix) (start bare))
+  blamed_read text old failures failures' (tool.BadCopy line (cause.Fault fault)) known start long h = λ bare. bad_text text line (cause.Fault fault) known (h (nothing_under (state empty).suffix) (start bare))
+  blamed_read text old failures failures' (tool.BadCopy line (cause.Ended stream.LineTooLong)) known start long h = λ bare. bad_text text line (cause.Ended stream.LineTooLong) known (h (nothing_under (state empty).suffix) (start bare))
+  blamed_read text old failures failures' (tool.BadCopy line (cause.Ended stream.BadVersion)) known start long h = λ bare. bad_text text line (cause.Ended stream.BadVersion) known (h (nothing_under (state empty).suffix) (start bare))
+  blamed_read text old failures failures' (tool.BadCopy line (cause.Ended stream.Read)) known start long h = λ bare. bad_text text line (cause.Ended stream.Read) known (h (nothing_under (state empty).suffix) (start bare))
+  blamed_read text old failures failures' (tool.BadCopy line (cause.Ended stream.Memory)) known start long h = λ bare. bad_text text line (cause.Ended stream.Memory) known (h (nothing_under (state empty).suffix) (start bare))
+  blamed_read text old failures failures' (tool.BadCopy line (cause.Ended stream.Ended)) known start long h = λ bare. bad_text text line (cause.Ended stream.Ended) known (h (nothing_under (state empty).suffix) (start bare))
+  blamed_read text old failures failures' (tool.BadCopy line (cause.Ended stream.TooManyTurns)) known start long h = λ bare. so text (long (ap (λ n. tool.BadCopy n (cause.Ended stream.TooManyTurns)) h))
     where
-      so : (o : Option (List ℕ)) → IfSome o (λ _. Unit {0})
-      so None = tt
-      so (Some t) = tt
-  blamed_read text old failures failures' (tool.Read input.Copy) known start h = h
-  blamed_read text old failures failures' (tool.Read input.Changes) known start h = absurd (h)
-  blamed_read text old failures failures' (tool.Read input.Config) known start h = absurd (h)
-  blamed_read text old failures failures' tool.Memory known start h = tt
-  blamed_read text old failures failures' (tool.Write output) known start h = absurd (h)
-  blamed_read text old failures failures' (tool.BadQuestion item) known start h = absurd (h)
-  blamed_read text old failures failures' (tool.BadChanges fault) known start h = absurd (h)
+      so : (o : Option (List ℕ)) → IfSome o IsLong → IfSome o (λ t. (line ≡ 0) × IsLong t)
+      so None l = tt
+      so (Some t) l = (h, l)
+  blamed_read text old failures failures' (tool.Read input.Copy) known start long h = h
+  blamed_read text old failures failures' (tool.Read input.Changes) known start long h = absurd (h)
+  blamed_read text old failures failures' (tool.Read input.Config) known start long h = absurd (h)
+  blamed_read text old failures failures' tool.Memory known start long h = tt
+  blamed_read text old failures failures' (tool.Write output) known start long h = absurd (h)
+  blamed_read text old failures failures' (tool.BadQuestion item) known start long h = absurd (h)
+  blamed_read text old failures failures' (tool.BadChanges fault) known start long h = absurd (h)
 
   bad_whole : (text : Option (List ℕ)) (old new : Loading D) (line : ℕ) (why : Cause) → given ≡ option_map (records_of rows) text → LoadsOver state rows given old new
       → Holds state (nothing_under (state empty).suffix) old → ((m : Loaded) → Holds state m new → whole m ≡ Err (line, why)) → IfSome text (λ t. copy_of rows (state empty).suffix t ≡ Err (line, why))

@@ -6,3 +6,4 @@ pub mod Orphans
 pub mod RunBack
 pub mod RunLemmas
 pub mod TextLemmas
+pub mod Turns

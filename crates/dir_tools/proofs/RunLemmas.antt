@@ -9,7 +9,10 @@ use Rattle.dir_ldif.specs.declared.records.Record.{Record}
 use Rattle.dir_ldif.specs.Device.{HasFailed}
 use Rattle.dir_ldif.specs.declared.faults.StreamFault.TheVariants as stream
 use Rattle.dir_ldif.specs.declared.reader.RecordReader.{RecordReader}
-use Rattle.dir_ldif.specs.Reader.{IsEnded, StopsFor, source_of, to_give}
+use Rattle.dir_ldif.specs.Reader.{IsEnded, SpendsTurns, StopsFor, source_of, to_give, turns_left}
+use Rattle.dir_tools.specs.Turns.{GaveAtLeast}
+use Rattle.dir_tools.specs.declared.fault.ToolFault.TheVariants as tool
+use Rattle.dir_tools.proofs.Turns.{spends_all}
 use Rattle.dir_ldif.specs.Next.{GivesFirst, GivesNone}
 use Rattle.dir_ldif.specs.Records.{Answer, Found}
 use Rattle.dir_tree.specs.Dir.{Dir}
@@ -284,3 +287,15 @@ module _ {D : Type 0} {S : Type 0} where
   runs_blamed state rows left failures stream.Memory first count old new begun run going same stops was = tt
   runs_blamed state rows left failures stream.TooManyTurns first count old new begun run going same stops was = tt
   runs_blamed state rows left failures stream.Ended first count old new begun run going same stops was = absurd (going stops)
+
+too_many : (fault : StreamFault) → changes_fault fault ≡ tool.BadChanges stream.TooManyTurns → fault ≡ stream.TooManyTurns
+too_many stream.TooManyTurns is = refl
+too_many stream.LineTooLong is = absurd (cc)
+too_many stream.Read is = absurd (cc)
+too_many stream.Memory is = absurd (cc)
+too_many stream.Ended is = absurd (cc)
+too_many stream.BadVersion is = absurd (cc)
+
+pub changes_long : {S : Type 0} (left : S → Option (List ℕ)) (failures : S → ℕ) (fault : StreamFault) (a b c : RecordReader S) → changes_fault fault ≡ tool.BadChanges stream.TooManyTurns
+    → SpendsTurns left a b → StopsFor left failures fault b c → GaveAtLeast (left (source_of a)) (left (source_of c)) (turns_left a)
+changes_long left failures fault a b c is first stops = spends_all left failures fault a b c (too_many fault is) first stops

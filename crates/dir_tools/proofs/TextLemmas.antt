@@ -16,7 +16,7 @@ use Rattle.dir_tools.specs.declared.modify.ModifyOptions.{ModifyOptions}
 use Rattle.dir_tools.specs.declared.modify.RunTexts.{RunTexts}
 use Rattle.dir_tools.specs.declared.modify.Summary.{Summary}
 use Rattle.dir_tools.specs.declared.run.Run.{Run}
-use Rattle.dir_tools.specs.Headline.{Answers, Blames, ChangesAreBad, HasRun, WrittenRunsAreTakenBack, key_read, nonempty_key, suffix_of, texts_of_run}
+use Rattle.dir_tools.specs.Headline.{Answers, Blames, ChangesAreBad, HasRun, IsBadText, WrittenRunsAreTakenBack, key_read, nonempty_key, suffix_of, texts_of_run}
 use Rattle.dir_tools.specs.CopyOf.{copy_of}
 use Rattle.dir_tools.specs.Loading.{CopyBlamed, IsBare, IsNamed}
 use Rattle.dir_tree.specs.WellFormed.{IsWellFormed, IsWithinLimits}
@@ -29,12 +29,17 @@ use Rattle.dir_tools.specs.Ran.{Ran, causes_in, groups_in, run_of}
 use Rattle.dir_tools.specs.Report.{numbers_line, outcome_line}
 use Rattle.dir_tools.specs.RunTexts.{Holds, HoldsFiles, is_dry, texts_of}
 use Rattle.dir_tools.specs.Running.{AreItsFiles, AreItsTexts, BreaksOff, ChangesBlamed, IsBegun, RunsOver}
+use Rattle.dir_tools.specs.Turns.{IsLong}
 use Rattle.dir_tools.specs.Written.{IsWriteFault, Tape, Texts, Written}
 
 -- of the text, what is known of its records
 of_text : {A B : Type 0} (f : A → B) (P : B → Type 0) (left : Option A) → IfSome (option_map f left) P → IfSome left (λ t. P (f t))
 of_text f P None h = tt
 of_text f P (Some t) h = h
+
+known : {A : Type 0} {P Q : A → Type 0} (o : Option A) → ((x : A) → P x → Q x) → IfSome o P → IfSome o Q
+known None h p = tt
+known (Some x) h p = h x p
 
 -- the directory that was read, where the run begins
 pub read_so : (rows : List TypeRow) (copy : Option (List ℕ)) (suffix : DnKeys) (d begun : Dir) → d.suffix ≡ suffix → begun ≡ d
@@ -67,29 +72,32 @@ copy_blamed_so rows suffix options copy left empty failures failures' (tool.BadC
 
 module _ {D : Type 0} (state : D → Dir) (rows : List TypeRow) (suffix : List ℕ) (options : ModifyOptions) (copy left : Option (List ℕ)) (begun : Run D)
     (reads : IfSome copy (λ text. copy_of rows (state begun.directory).suffix text ≡ Ok (state begun.directory))) where
-  bad : (fault : StreamFault) → begun.options ≡ options → suffix_of rows suffix ≡ Some (state begun.directory).suffix → BreaksOff state rows (option_map (records_of rows) left) begun fault → ChangesAreBad rows suffix options copy left fault
-  bad fault same key h = (
+  bad : (fault : StreamFault) → ((text : List ℕ) → run_of rows options.go_on (state begun.directory) (records_of rows text) ≡ Err fault → IsBadText rows options.go_on (state begun.directory) text fault)
+      → begun.options ≡ options → suffix_of rows suffix ≡ Some (state begun.directory).suffix → BreaksOff state rows (option_map (records_of rows) left) begun fault → ChangesAreBad rows suffix options copy left fault
+  bad fault so same key h = (
     state begun.directory,
     key,
     reads,
-    of_text (records_of rows) (λ answers. run_of rows options.go_on (state begun.directory) answers ≡ Err fault) left
-        (subst (λ (o : ModifyOptions). IfSome (option_map (records_of rows) left) (λ answers. run_of rows o.go_on (state begun.directory) answers ≡ Err fault)) same h),
+    known left so
+        (of_text (records_of rows) (λ answers. run_of rows options.go_on (state begun.directory) answers ≡ Err fault) left
+        (subst (λ (o : ModifyOptions). IfSome (option_map (records_of rows) left) (λ answers. run_of rows o.go_on (state begun.directory) answers ≡ Err fault)) same h)),
   )
 
   -- a run's fault, as it blames the text of changes
   pub blamed_so : (failures failures' : ℕ) (fault : ToolFault) → begun.options ≡ options → suffix_of rows suffix ≡ Some (state begun.directory).suffix
+      → (fault ≡ tool.BadChanges stream.TooManyTurns → IfSome left IsLong)
       → ChangesBlamed state rows (option_map (records_of rows) left) failures failures' begun fault → Blames rows suffix options copy left fault
-  blamed_so failures failures' (tool.BadChanges stream.LineTooLong) same key h = bad stream.LineTooLong same key h
-  blamed_so failures failures' (tool.BadChanges stream.BadVersion) same key h = bad stream.BadVersion same key h
-  blamed_so failures failures' (tool.BadChanges stream.TooManyTurns) same key h = tt
-  blamed_so failures failures' (tool.BadChanges stream.Read) same key h = absurd (h)
-  blamed_so failures failures' (tool.BadChanges stream.Memory) same key h = absurd (h)
-  blamed_so failures failures' (tool.BadChanges stream.Ended) same key h = absurd (h)
-  blamed_so failures failures' (tool.Read input) same key h = tt
-  blamed_so failures failures' tool.Memory same key h = tt
-  blamed_so failures failures' (tool.BadCopy line why) same key h = absurd (h)
-  blamed_so failures failures' (tool.Write output) same key h = absurd (h)
-  blamed_so failures failures' (tool.BadQuestion item) same key h = absurd (h)
+  blamed_so failures failures' (tool.BadChanges stream.LineTooLong) same key long h = bad stream.LineTooLong (λ text e. e) same key h
+  blamed_so failures failures' (tool.BadChanges stream.BadVersion) same key long h = bad stream.BadVersion (λ text e. e) same key h
+  blamed_so failures failures' (tool.BadChanges stream.TooManyTurns) same key long h = (state begun.directory, key, reads, long refl)
+  blamed_so failures failures' (tool.BadChanges stream.Read) same key long h = absurd (h)
+  blamed_so failures failures' (tool.BadChanges stream.Memory) same key long h = absurd (h)
+  blamed_so failures failures' (tool.BadChanges stream.Ended) same key long h = absurd (h)
+  blamed_so failures failures' (tool.Read input) same key long h = tt
+  blamed_so failures failures' tool.Memory same key long h = tt
+  blamed_so failures failures' (tool.BadCopy line why) same key long h = absurd (h)
+  blamed_so failures failures' (tool.Write output) same key long h = absurd (h)
+  blamed_so failures failures' (tool.BadQuestion item) same key long h = absurd (h)
 
   from_none : (a b n : ℕ) → a ≡ b + n → b ≡ 0 → a ≡ n
   from_none a b n e z = grind (arith)

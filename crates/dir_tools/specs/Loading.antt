@@ -18,6 +18,7 @@ use Rattle.dir_ldif.specs.declared.faults.StreamFault.{StreamFault}
 use Rattle.dir_ldif.specs.declared.faults.StreamFault.TheVariants as stream
 use Rattle.dir_tree.specs.WellFormed.{IsSoundEntry, own_part}
 use Rattle.dir_tools.specs.CopyOf.{CopyFault, Loaded, copy_of, loaded}
+use Rattle.dir_tools.specs.Turns.{IsLong}
 use Rattle.dir_tools.specs.declared.copy.Loading.{Loading}
 use Rattle.dir_tools.specs.declared.copy.Waiting.{Waiting}
 use Rattle.dir_tools.specs.declared.fault.Cause.{Cause}
@@ -52,9 +53,9 @@ IsFaultOf wanted (tool.BadCopy line why) = wanted ≡ Err (line, why)
 IsFaultOf wanted tool.Memory = ⊤
 IsFaultOf wanted fault = ⊥
 
--- this is the first fault of the text of a copy
+-- this is the first fault of the text of a copy; or the text has a byte or more for each read call of a reader
 abbrev pub IsBadCopy : List TypeRow → DnKeys → List ℕ → ℕ → Cause → Type 0
-IsBadCopy rows suffix text line (cause.Ended stream.TooManyTurns) = ⊤
+IsBadCopy rows suffix text line (cause.Ended stream.TooManyTurns) = (line ≡ 0) × IsLong text
 IsBadCopy rows suffix text line why = copy_of rows suffix text ≡ Err (line, why)
 
 -- the copy is at fault, or its reader failed, or memory ran out
@@ -116,7 +117,7 @@ module _ {D : Type 0} where
 
   -- whatever was read before, the answers that were given come to this fault first; or the reader failed, or memory ran out
   abbrev pub StopsLoading : (D → Dir) → List TypeRow → Option (List Answer) → ℕ → ℕ → Loading D → ToolFault → Type 0
-  StopsLoading state rows given failures failures' old (tool.BadCopy line (cause.Ended stream.TooManyTurns)) = ⊤
+  StopsLoading state rows given failures failures' old (tool.BadCopy line (cause.Ended stream.TooManyTurns)) = line ≡ 0
   StopsLoading state rows given failures failures' old (tool.BadCopy line why) =
       (m : Loaded) → Holds state m old → IfSome given (λ answers. loaded rows m answers ≡ Err (line, why))
   StopsLoading state rows given failures failures' old (tool.Read input.Copy) = HasFailed failures failures'

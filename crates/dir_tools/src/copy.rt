@@ -5,7 +5,9 @@ ghost use Rattle.dir_names.specs.Keys.{parent_of};
 ghost use Rattle.dir_names.specs.Orders.{dn_key_cmp};
 ghost use Rattle.dir_tools.specs.CopyOf.{copy_of, earlier};
 ghost use Rattle.dir_tools.specs.Loading.{CopyBlamed, IsBare, IsNamed, IsPut, copy_fault, is_among};
+ghost use Rattle.dir_tools.specs.Turns.{GaveAtLeast};
 ghost use Rattle.dir_tools.specs.Written.{CopyWritten};
+ghost use Rattle.dir_ldif.specs.declared.faults.StreamFault.TheVariants as StreamFault;
 ghost use Rattle.dir_tools.specs.declared.fault.Cause.TheVariants as Cause;
 ghost use Rattle.dir_tools.specs.declared.fault.Output.TheVariants as Output;
 ghost use Rattle.dir_tools.specs.declared.fault.ToolFault.TheVariants as ToolFault;
@@ -30,7 +32,8 @@ use std::collections::{BTreeMap, BTreeSet};
 /// The first of these, in the order of the text: a record's own fault; `BadChangetype` for a change
 /// record; 32 for a name without a key, or outside the suffix; 68 for a name that stood before; 21, 20
 /// and 19 for its values; the fault in which the text ends. Then 32 for the first record whose parent
-/// is missing. A read fault, and want of memory, where they are met.
+/// is missing. A read fault, and want of memory, where they are met, and `TooManyTurns` after as many
+/// bytes as a reader has read calls.
 pub fn read_copy<R: Source, D: Directory>(
     alloc: Global,
     schema: &Schema,
@@ -111,7 +114,7 @@ struct Waiting {
 impl<D: Directory + Drop> Loading<D> {
     ghost use Rattle.std.specs.Prelude.{◌≡◌, IfErr, IfOk, Ok, OnOk};
     ghost use Rattle.std.specs.BTreeMap.{IsEmpty};
-    ghost use Rattle.dir_ldif.specs.Reader.{IsReading, schema_of, source_of, to_give};
+    ghost use Rattle.dir_ldif.specs.Reader.{IsReading, schema_of, source_of, to_give, turns_left};
     ghost use Rattle.dir_names.specs.NameKeys.{name_key};
     ghost use Rattle.dir_tree.specs.Dir.{IsClosed};
     ghost use Rattle.dir_tools.specs.CopyOf.{Loaded, placed_at, taken_in, whole};
@@ -140,9 +143,10 @@ impl<D: Directory + Drop> Loading<D> {
         ensures order { OnOk result (KeepsOrder D.state schema.now self.old self.new) }
         ensures reads { OnOk result (LoadsOver D.state schema.now (to_give S.left records.old) self.old self.new) }
         ensures blamed { IfErr result (StopsLoading D.state schema.now (to_give S.left records.old) (S.failures (source_of records.old)) (S.failures (source_of records.new)) self.old) }
+        ensures turns { result ≡ Err (ToolFault.BadCopy 0 (Cause.Ended StreamFault.TooManyTurns)) → GaveAtLeast (S.left (source_of records.old)) (S.left (source_of records.new)) (turns_left records.old) }
         ensures same { S.is_same (source_of records.old) (source_of records.new) }
     {
-        for _turn in 0..u64::MAX {
+        loop {
             match records.next() {
                 Ok(Some((line, found))) => {
                     if let Err(fault) = self.take(alloc, schema, line, found) {
@@ -153,7 +157,6 @@ impl<D: Directory + Drop> Loading<D> {
                 Err(fault) => return Err(ended(fault)),
             }
         }
-        Err(ended(StreamFault::TooManyTurns))
     }
 
     /// Takes the next record of the copy.

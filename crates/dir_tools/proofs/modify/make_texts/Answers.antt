@@ -24,7 +24,7 @@ returns-in-Err-take_all-clause-blamed g c =
     let bare : IsBare c.new.result = ap (λ (d : Dir). d.entries) c.new.ensures in
     let copy = g.R.Source.left c.args.copy.now in
     let reads : IfSome copy (λ text. copy_of c.args.schema.now c.new-run.result.directory.suffix text ≡ Ok c.new-run.result.directory) = read_so c.args.schema.now copy c.new.result.suffix c.in-Ok-read_copy.directory c.new-run.result.directory read begun (c.in-Ok-read_copy.ensures.reads bare) in
-    blamed_so (λ d. d) c.args.schema.now c.args.suffix.now c.args.options copy (g.R2.Source.left c.args.changes.now) c.new-run.result reads _ _ c.in-Err-take_all.fault c.new-run.ensures.6 key c.in-Err-take_all.ensures.blamed
+    blamed_so (λ d. d) c.args.schema.now c.args.suffix.now c.args.options copy (g.R2.Source.left c.args.changes.now) c.new-run.result reads _ _ c.in-Err-take_all.fault c.new-run.ensures.6 key (λ is. c.take_all.ensures.long (c.in-Err-take_all.is ∙ ap Err is)) c.in-Err-take_all.ensures.blamed
 
 pub returns-clause-ok : goal.returns-clause-ok
 returns-clause-ok g c =
