@@ -29,6 +29,7 @@ use Rattle.dir_tools.proofs.CopySound.{order_taken, order_whole}
 use Rattle.dir_tools.specs.Loading.{AllWait, AreInOrder, IsNamed, KeepsOrder, Holds, IsBare, IsMadeOf, IsPut, LoadsOver, LoadsTo, waiting_or}
 use Rattle.dir_tools.specs.Running.{Continues}
 use Rattle.dir_tools.proofs.Orphans.{waits}
+use Rattle.dir_tools.proofs.Small.{known}
 
 -- ---- an entry more
 
@@ -132,15 +133,11 @@ ends rows start m None old none was = tt
 ends rows start m (Some answers) None none was = absurd (was)
 ends rows start m (Some answers) (Some rest) none was = was ∙ ap (loaded rows m) none
 
-known : {A : Type 0} (o : Option A) (P Q : A → Type 0) → ((x : A) → P x → Q x) → IfSome o P → IfSome o Q
-known None P Q h p = tt
-known (Some x) P Q h p = h x p
-
 pub loads_out : {D : Type 0} (state : D → Dir) (rows : List TypeRow) (first old : Option (List Answer)) (begun loading : Loading D)
     → GivesNone old → LoadsSoFar state rows first old begun loading → LoadsOver state rows first begun loading
 loads_out state rows first old begun loading none was start at_start =
     let so_far = was start at_start in
-    known first _ _ (λ answers is. (so_far.0, is, so_far.1)) (ends rows start so_far.0 first old none so_far.3)
+    known first (λ answers is. (so_far.0, is, so_far.1)) (ends rows start so_far.0 first old none so_far.3)
 
 pub order_out : {D : Type 0} (state : D → Dir) (rows : List TypeRow) (first old : Option (List Answer)) (begun loading : Loading D)
     → LoadsSoFar state rows first old begun loading → KeepsOrder state rows begun loading

@@ -5,5 +5,6 @@ pub mod CopySound
 pub mod Orphans
 pub mod RunBack
 pub mod RunLemmas
+pub mod Small
 pub mod TextLemmas
 pub mod Turns

@@ -30,16 +30,13 @@ use Rattle.dir_tools.specs.Report.{numbers_line, outcome_line}
 use Rattle.dir_tools.specs.RunTexts.{Holds, HoldsFiles, is_dry, texts_of}
 use Rattle.dir_tools.specs.Running.{AreItsFiles, AreItsTexts, BreaksOff, ChangesBlamed, IsBegun, RunsOver}
 use Rattle.dir_tools.specs.Turns.{IsLong}
+use Rattle.dir_tools.proofs.Small.{known}
 use Rattle.dir_tools.specs.Written.{IsWriteFault, Tape, Texts, Written}
 
 -- of the text, what is known of its records
 of_text : {A B : Type 0} (f : A → B) (P : B → Type 0) (left : Option A) → IfSome (option_map f left) P → IfSome left (λ t. P (f t))
 of_text f P None h = tt
 of_text f P (Some t) h = h
-
-known : {A : Type 0} {P Q : A → Type 0} (o : Option A) → ((x : A) → P x → Q x) → IfSome o P → IfSome o Q
-known None h p = tt
-known (Some x) h p = h x p
 
 -- the directory that was read, where the run begins
 pub read_so : (rows : List TypeRow) (copy : Option (List ℕ)) (suffix : DnKeys) (d begun : Dir) → d.suffix ≡ suffix → begun ≡ d

@@ -1,4 +1,4 @@
-use Rattle.std.proofs.Common.{◌≡◌, rules, None, [], ◌∷◌, sym, subst, ◌∙◌}
+use Rattle.std.proofs.Common.{true, is_some, ◌≡◌, rules, None, [], ◌∷◌, sym, subst, ◌∙◌}
 use Rattle.std.specs.List.Sorted.{IsStrictlySortedBy}
 use Rattle.std.specs.Map.{keys_of}
 use Rattle.dir_names.specs.Orders.{dn_key_cmp}
@@ -15,7 +15,8 @@ returns-then-is_some-clause-cause g c m was =
     let d = g.D.Directory.state c.loop-key.directory in
     let split = subst (λ es. IsSplit m (waits es) c.loop-key.orphans.keys c.loop-key.orphans.first d) steps (c.loop-key.invariant.2 m was) in
     let free : entry_at d c.in-Some.key ≡ None = place_free m c.loop-key.orphans.keys c.loop-key.orphans.first d c.in-Some.key c.in-Some.waiting c.next.new.self split in
-    absurd (not_none c.get.result (sym c.if-is_some.ensures) (none_so c.get.result (c.get.ensures ∙ free)))
+    let there : is_some c.get.result ≡ true = sym c.if-is_some.ensures in
+    absurd (not_none c.get.result there (none_so c.get.result (c.get.ensures ∙ free)))
 
 pub loop-key-preserved-in_ok-add : goal.loop-key-preserved-in_ok-add
 loop-key-preserved-in_ok-add g c =
