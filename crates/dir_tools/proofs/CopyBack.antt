@@ -1,8 +1,8 @@
 -- A canonical text reads back as its directory.
-use Rattle.std.proofs.Common.{◌≡◌, ℕ, Bool, true, false, cond, not, ◌&&◌, List, [], ◌∷◌, ◌++◌, map, Option, None, Some, is_some, Result, Ok, Err, T, refl, sym, ap, subst, ◌∙◌, true≢false, Less}
+use Rattle.std.proofs.Common.{◌≡◌, ℕ, Bool, true, false, cond, not, ◌&&◌, List, [], ◌∷◌, ◌++◌, map, Some, is_some, Ok, Err, T, refl, ap, subst, ◌∙◌, Less}
 use Rattle.std.specs.List.{flat_map, filter}
 use Rattle.std.specs.FinMap as fin
-use Rattle.std.specs.FinMap.{find, entries_sorted, get-entries, is_sorted}
+use Rattle.std.specs.FinMap.{find, entries_sorted, get-entries}
 use Rattle.dir_names.specs.declared.schema.TypeRow.{TypeRow}
 use Rattle.dir_names.specs.Keys.{DnKeys}
 use Rattle.dir_names.specs.NameKeys.{name_key}
@@ -14,9 +14,9 @@ use Rattle.dir_ldif.specs.declared.records.Record.TheVariants as form
 use Rattle.dir_ldif.specs.Laws.{AllAreSound, PartsAreSound, RecordsReadBack, records_text, without_line}
 use Rattle.dir_ldif.specs.Legal.{is_legal_record}
 use Rattle.dir_ldif.specs.RecordText.{record_text_of}
-use Rattle.dir_ldif.specs.Records.{Answer, Found, records_of}
+use Rattle.dir_ldif.specs.Records.{Answer, records_of}
 use Rattle.dir_tree.specs.Content.{Content}
-use Rattle.dir_tree.specs.Dir.{Dir, entry_at, has_parent, put_entry}
+use Rattle.dir_tree.specs.Dir.{Dir, entry_at, has_parent}
 use Rattle.dir_tree.specs.Made.{made}
 use Rattle.dir_tree.specs.Spelled.{spelled_name}
 use Rattle.dir_tree.specs.WellFormed.{Each, IsWellFormed, IsWithinLimits, all_lines}
@@ -24,25 +24,14 @@ use Rattle.dir_tree.proofs.MadeAgain.{made_again}
 use Rattle.dir_tree.proofs.Relisted.{are_new, inserted, inserted_whole, new_whole}
 use Rattle.dir_tree.proofs.Walk.{Entries, Rising, find_here, find_later, rising}
 use Rattle.dir_change.specs.declared.result_code.ResultCode.TheVariants.{NoSuchObject, EntryAlreadyExists}
-use Rattle.dir_change.specs.Operation.{is_at_or_below, own_of}
+use Rattle.dir_change.specs.Operation.{own_of}
 use Rattle.dir_change.proofs.LegalUndo.{legal_attributes}
 use Rattle.dir_change.proofs.Undone.{own_spelled, spelled_key, stands_below}
 use Rattle.dir_change.proofs.Within.{bytes_all, name_sound}
 use Rattle.dir_tools.specs.Canonical.{canonical_of, entry_text}
-use Rattle.dir_tools.specs.CopyOf.{CopyFault, Loaded, and_on, copy_of, denied, entered, first_of, if_whole, line_or_none, loaded, nothing_under, orphan_lines, placed_at, taken_in, whole}
+use Rattle.dir_tools.specs.CopyOf.{Loaded, and_on, copy_of, denied, entered, first_of, if_whole, line_or_none, loaded, placed_at, taken_in, whole}
 use Rattle.dir_tools.specs.Headline.{CanonicalTextsReadBack}
-
-left : (a b : Bool) → (a && b) ≡ true → a ≡ true
-left true b h = refl
-left false b h = h
-
-right : (a b : Bool) → (a && b) ≡ true → b ≡ true
-right true b h = h
-right false b h = absurd (true≢false (sym h))
-
-not_true : (b : Bool) → not b ≡ true → b ≡ false
-not_true true h = sym h
-not_true false h = refl
+use Rattle.dir_tools.proofs.Small.{heads, left, not_true, one_found, right}
 
 -- ---- every entry that is listed stands at its key
 
@@ -109,12 +98,6 @@ module _ (rows : List TypeRow) (d : Dir) (well : IsWellFormed rows d) (within : 
 
   -- ---- all of them
 
-  head_same : (a : Answer) (r : Record) (later : List (Result (Result Record _) _)) (rs : List (Result (Result Record _) _)) → without_line a ∷ later ≡ Ok (Ok r) ∷ rs → (without_line a ≡ Ok (Ok r)) × (later ≡ rs)
-  head_same a r later rs same = (cc, cc)
-
-  one_found : (found : Found) (r : Record) → without_line (Ok found) ≡ Ok (Ok r) → found.1 ≡ Ok r
-  one_found found r same = cc
-
   load : (es : Entries) (m : fin.FinMap dn_key_cmp Content) (lines : fin.FinMap dn_key_cmp ℕ) (answers : List Answer)
       → Each Stands es → are_new dn_key_cmp_total dn_key_cmp_exact m es ≡ true → map without_line answers ≡ map (λ r. Ok (Ok r)) (map content_at es)
       → (end : Loaded) × (loaded rows (so_far m lines) answers ≡ Ok end) × (end.entries ≡ record { suffix = d.suffix; entries = inserted dn_key_cmp_total dn_key_cmp_exact m es })
@@ -123,7 +106,7 @@ module _ (rows : List TypeRow) (d : Dir) (well : IsWellFormed rows d) (within : 
   load (p ∷ es) m lines [] each new same = absurd (cc)
   load (p ∷ es) m lines (Err fault ∷ later) each new same = absurd (cc)
   load (p ∷ es) m lines (Ok found ∷ later) each new same =
-      let parts = head_same (Ok found) (content_at p) (map without_line later) (map (λ r. Ok (Ok r)) (map content_at es)) same in
+      let parts = heads (Ok found) (content_at p) (map without_line later) (map (λ r. Ok (Ok r)) (map content_at es)) same in
       let is : found.1 ≡ Ok (content_at p) = one_found found (content_at p) parts.0 in
       let free : fin.contains_key m p.0 ≡ false = not_true (fin.contains_key m p.0) (left _ (are_new dn_key_cmp_total dn_key_cmp_exact (fin.insert m p.0 p.1) es) new) in
       let took = ap (taken_in rows (so_far m lines) found.0) is ∙ taken m lines p found.0 each.0 free in

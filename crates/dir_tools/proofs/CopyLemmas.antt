@@ -1,22 +1,17 @@
 -- The entries of a copy as far as it was read.
-use Rattle.std.proofs.Common.{◌≡◌, ℕ, Bool, true, false, cond, not, List, [], ◌∷◌, map, Option, None, Some, is_some, Result, Ok, Err, IfOk, IfSome, Bor, refl, sym, ap, subst, ◌∙◌}
+use Rattle.std.proofs.Common.{◌≡◌, ℕ, Bool, true, false, cond, not, List, [], Option, None, Some, is_some, Result, Ok, Err, IfOk, IfSome, Bor, refl, sym, ap, subst, ◌∙◌}
 use Rattle.std.specs.Option.{option_copied, option_map}
-use Rattle.std.specs.Ordering.{is_eq, eq_by_cmp}
+use Rattle.std.specs.Ordering.{eq_by_cmp}
 use Rattle.std.specs.Cmp.{eq_by_cmp_equiv}
-use Rattle.std.specs.declared.cmp.Ordering.TheVariants.{Less}
-use Rattle.std.specs.List.{filter, AllByRecursion}
-use Rattle.std.specs.List.Sorted.{IsStrictlySortedBy}
-use Rattle.std.specs.Map.{keys_of, lookup}
 use Rattle.std.specs.BTreeMap.{get, is_at}
 use Rattle.std.specs.FinMap as fin
-use Rattle.std.specs.FinMap.{get-empty, same_map}
+use Rattle.std.specs.FinMap.{get-empty, get-insert}
 use Rattle.dir_names.specs.declared.schema.TypeRow.{TypeRow}
 use Rattle.dir_names.specs.Described.{Described}
 use Rattle.dir_names.specs.Keys.{DnKeys}
 use Rattle.dir_names.specs.Names.{SpelledName}
 use Rattle.dir_names.specs.Reading.{or_bad_dn}
-use Rattle.dir_names.specs.NameKeys.{name_key}
-use Rattle.dir_names.specs.Orders.{dn_key_cmp, dn_key_cmp_total, dn_key_cmp_exact}
+use Rattle.dir_names.specs.Orders.{dn_key_cmp, dn_key_cmp_total}
 use Rattle.dir_ldif.specs.Next.{GivesFirst, GivesNone}
 use Rattle.dir_ldif.specs.Records.{Answer, Found, records_of}
 use Rattle.dir_tree.specs.Content.{Content}
@@ -27,13 +22,14 @@ use Rattle.dir_change.specs.declared.result_code.ResultCode.TheVariants.{NoSuchO
 use Rattle.dir_change.specs.Operation.{is_at_or_below, own_of}
 use Rattle.dir_tools.specs.declared.copy.Loading.{Loading}
 use Rattle.dir_tools.specs.declared.copy.Waiting.{Waiting}
-use Rattle.dir_tools.specs.CopyOf.{CopyFault, Loaded, and_on, copy_of, denied, entered, first_of, if_whole, line_or_none, loaded, nothing_under, placed_at, taken_in, whole}
+use Rattle.dir_tools.specs.CopyOf.{Loaded, and_on, copy_of, denied, entered, loaded, nothing_under, placed_at, taken_in, whole}
 use Rattle.dir_ldif.specs.SoundFound.{IsSoundFound}
 use Rattle.dir_tree.specs.WellFormed.{IsWellFormed, IsWithinLimits}
 use Rattle.dir_tools.proofs.CopySound.{order_taken, order_whole}
-use Rattle.dir_tools.specs.Loading.{AreInOrder, IsNamed, KeepsOrder, Holds, IsBare, IsMadeOf, IsPut, LoadsOver, LoadsTo, waiting_or}
+use Rattle.dir_tools.specs.Loading.{AllWait, AreInOrder, IsNamed, KeepsOrder, Holds, IsBare, IsMadeOf, IsPut, LoadsOver, LoadsTo, waiting_or}
 use Rattle.dir_tools.specs.Running.{Continues}
-use Rattle.dir_tools.proofs.CopyBack.{all_filtered, entries_stand}
+use Rattle.dir_tools.proofs.Orphans.{waits}
+use Rattle.dir_tools.proofs.Small.{known}
 
 -- ---- an entry more
 
@@ -61,6 +57,33 @@ made_waiting d standing waiting waiting' k w updates was = (
     by q true = refl
     by q false = was.2 q
 
+-- what waited before goes on waiting
+pub all_standing : (m : Loaded) (standing next : Dir) (waiting : DnKeys → Option Waiting) (k : DnKeys) (e : Content) (line : ℕ) → waiting k ≡ None → next ≡ put_entry standing k e
+    → AllWait m waiting standing → AllWait (record { entries = put_entry m.entries k e; lines = fin.insert m.lines k line }) waiting next
+all_standing m standing next waiting k e line free is was q w there = by (eq_by_cmp dn_key_cmp q k) refl
+  where
+    none_some : {A : Type 0} (x : A) → None ≡ Some x → ⊥
+    none_some x h = cc
+
+    by : (b : Bool) → eq_by_cmp dn_key_cmp q k ≡ b → (entry_at next q ≡ None) × (fin.get (fin.insert m.lines k line) q ≡ Some w.line)
+    by true t = absurd (none_some w (sym free ∙ sym (ap waiting (same_key q k t)) ∙ there))
+    by false t = (
+      ap (λ d. entry_at d q) is ∙ get_put standing k e q ∙ (λ i. cond (t i) (Some e) (entry_at standing q)) ∙ (was q w there).0,
+      get-insert dn_key_cmp_total m.lines k line q ∙ (λ i. cond (t i) (Some line) (fin.get m.lines q)) ∙ (was q w there).1,
+    )
+
+pub all_waiting : (m : Loaded) (standing : Dir) (waiting waiting' : DnKeys → Option Waiting) (k : DnKeys) (w : Waiting) → ((q : DnKeys) → waiting' q ≡ cond (is_at (dn_key_cmp k) q) (Some w) (waiting q))
+    → entry_at standing k ≡ None → AllWait m waiting standing → AllWait (record { entries = put_entry m.entries k w.entry; lines = fin.insert m.lines k w.line }) waiting' standing
+all_waiting m standing waiting waiting' k w updates free was q x there = by (eq_by_cmp dn_key_cmp q k) refl (sym (updates q ∙ ap (λ b. cond b (Some w) (waiting q)) ((eq_by_cmp_equiv dn_key_cmp_total).symm k q)) ∙ there)
+  where
+    by : (b : Bool) → eq_by_cmp dn_key_cmp q k ≡ b → cond b (Some w) (waiting q) ≡ Some x → (entry_at standing q ≡ None) × (fin.get (fin.insert m.lines k w.line) q ≡ Some x.line)
+    by true t h =
+        let same : w ≡ x = cc in (
+          ap (entry_at standing) (same_key q k t) ∙ free,
+          get-insert dn_key_cmp_total m.lines k w.line q ∙ (λ i. cond (t i) (Some w.line) (fin.get m.lines q)) ∙ ap (λ (z : Waiting). Some z.line) same,
+        )
+    by false t h = ((was q x h).0, get-insert dn_key_cmp_total m.lines k w.line q ∙ (λ i. cond (t i) (Some w.line) (fin.get m.lines q)) ∙ (was q x h).1)
+
 -- ---- a record
 
 pub placed_ok : (rows : List TypeRow) (m : Loaded) (line : ℕ) (name : SpelledName) (lines : List (Described × List ℕ)) (key : Option DnKeys) (k : DnKeys) (e : Content)
@@ -69,47 +92,6 @@ pub placed_ok : (rows : List TypeRow) (m : Loaded) (line : ℕ) (name : SpelledN
 placed_ok rows m line name lines key k e named below free makes =
     ap (placed_at rows m line name lines) named
     ∙ (λ i. denied (not (below i)) line NoSuchObject (denied (is_some (free i)) line EntryAlreadyExists (entered m line k (makes i))))
-
--- ---- the entries that waited
-
-abbrev pub waits : List (DnKeys × Waiting) → DnKeys → Option Waiting
-waits es q = lookup (is_at (dn_key_cmp q)) es
-
-absent : (k : DnKeys) (es : List (DnKeys × Waiting)) → AllByRecursion (λ y. dn_key_cmp k y ≡ Less) (keys_of es) → waits es k ≡ None
-absent k [] h = refl
-absent k (e ∷ es) h = ap (λ o. cond (is_eq o) (Some e.1) (waits es k)) h.0 ∙ absent k es h.1
-
-pub absent_later : (k : DnKeys) (w : Waiting) (es : List (DnKeys × Waiting)) → IsStrictlySortedBy dn_key_cmp (keys_of ((k, w) ∷ es)) → waits es k ≡ None
-unfolding IsStrictlySortedBy
-absent_later k w es h = absent k es h.0
-
-pub ordered_later : (k : DnKeys) (w : Waiting) (es : List (DnKeys × Waiting)) → IsStrictlySortedBy dn_key_cmp (keys_of ((k, w) ∷ es)) → IsStrictlySortedBy dn_key_cmp (keys_of es)
-unfolding IsStrictlySortedBy
-ordered_later k w es h = h.1
-
-pub made_put : (d standing next : Dir) (k : DnKeys) (w : Waiting) (es : List (DnKeys × Waiting)) → waits es k ≡ None → has_parent standing k ≡ true → next ≡ put_entry standing k w.entry
-    → IsMadeOf d (waits ((k, w) ∷ es)) standing → IsMadeOf d (waits es) next
-made_put d standing next k w es gone parent is was =
-    subst (IsMadeOf d (waits es)) (sym is)
-    (was.0, closed_put standing k w.entry was.1 parent, λ q. was.2 q ∙ by q (eq_by_cmp dn_key_cmp q k) refl ∙ ap (waiting_or (waits es q)) (sym (get_put standing k w.entry q)))
-  where
-    by : (q : DnKeys) (b : Bool) → eq_by_cmp dn_key_cmp q k ≡ b → waiting_or (cond b (Some w) (waits es q)) (entry_at standing q) ≡ waiting_or (waits es q) (cond b (Some w.entry) (entry_at standing q))
-    by q true t = ap (λ o. waiting_or o (Some w.entry)) (sym (ap (waits es) (same_key q k t) ∙ gone))
-    by q false t = refl
-
-same_dir : (d e : Dir) → d.suffix ≡ e.suffix → ((q : DnKeys) → entry_at d q ≡ entry_at e q) → d ≡ e
-same_dir d e suffix entries = let same = same_map dn_key_cmp_total dn_key_cmp_exact d.entries e.entries entries in (λ i. record { suffix = suffix i; entries = same i })
-
--- a copy whose entries all stand in a closed directory is whole
-pub made_whole : (m : Loaded) (d : Dir) → IsMadeOf m.entries (waits []) d → (whole m ≡ Ok d) × (m.entries ≡ d) × IsClosed d
-made_whole m d was =
-    let same : m.entries ≡ d = same_dir m.entries d was.0 was.2 in (
-      ap (λ e. if_whole e (first_of (map (λ p. line_or_none (fin.get m.lines p.0)) (filter (λ p. not (has_parent e p.0)) (fin.entries e.entries))))) same
-          ∙ ap (λ ps. if_whole d (first_of (map (λ p. line_or_none (fin.get m.lines p.0)) ps)))
-          (all_filtered (λ p. not (has_parent d p.0)) (λ p. entry_at d p.0 ≡ Some p.1) (λ p there. ap not (was.1 p.0 (ap is_some there))) (fin.entries d.entries) (entries_stand d)),
-      same,
-      was.1,
-    )
 
 -- ---- over the answers of a reader
 
@@ -151,15 +133,11 @@ ends rows start m None old none was = tt
 ends rows start m (Some answers) None none was = absurd (was)
 ends rows start m (Some answers) (Some rest) none was = was ∙ ap (loaded rows m) none
 
-known : {A : Type 0} (o : Option A) (P Q : A → Type 0) → ((x : A) → P x → Q x) → IfSome o P → IfSome o Q
-known None P Q h p = tt
-known (Some x) P Q h p = h x p
-
 pub loads_out : {D : Type 0} (state : D → Dir) (rows : List TypeRow) (first old : Option (List Answer)) (begun loading : Loading D)
     → GivesNone old → LoadsSoFar state rows first old begun loading → LoadsOver state rows first begun loading
 loads_out state rows first old begun loading none was start at_start =
     let so_far = was start at_start in
-    known first _ _ (λ answers is. (so_far.0, is, so_far.1)) (ends rows start so_far.0 first old none so_far.3)
+    known first (λ answers is. (so_far.0, is, so_far.1)) (ends rows start so_far.0 first old none so_far.3)
 
 pub order_out : {D : Type 0} (state : D → Dir) (rows : List TypeRow) (first old : Option (List Answer)) (begun loading : Loading D)
     → LoadsSoFar state rows first old begun loading → KeepsOrder state rows begun loading
@@ -171,9 +149,14 @@ pub holds_nothing : {D : Type 0} (state : D → Dir) (empty : D) (loading : Load
     → Holds state (nothing_under (state empty).suffix) loading
 holds_nothing state empty loading same none bare =
     let d = state empty in
-    let is : d ≡ record { suffix = d.suffix; entries = fin.empty } = (λ i. record { suffix = d.suffix; entries = bare i }) in
-    subst (λ x. IsMadeOf (nothing_under d.suffix).entries (get dn_key_cmp loading.waiting) (state x)) (sym same)
-    (refl, subst IsClosed (sym is) (closed_empty d.suffix), λ q. (λ i. entry_at (sym is i) q) ∙ (λ i. waiting_or (waits (sym none i) q) (entry_at d q)))
+    let is : d ≡ record { suffix = d.suffix; entries = fin.empty } = (λ i. record { suffix = d.suffix; entries = bare i }) in (
+      subst (λ x. IsMadeOf (nothing_under d.suffix).entries (get dn_key_cmp loading.waiting) (state x)) (sym same)
+          (refl, subst IsClosed (sym is) (closed_empty d.suffix), λ q. (λ i. entry_at (sym is i) q) ∙ (λ i. waiting_or (waits (sym none i) q) (entry_at d q))),
+      λ q w there. absurd (none_some w (sym (λ i. waits (none i) q) ∙ there)),
+    )
+  where
+    none_some : (w : Waiting) → None ≡ Some w → ⊥
+    none_some w h = cc
 
 -- ---- what a call answered
 
@@ -185,13 +168,21 @@ pub put_there : (k : DnKeys) (e : Content) (old new : Dir) (back : Option Conten
 put_there k e old new None put none = put
 put_there k e old new (Some back) put none = absurd (cc)
 
+pub put_alone : (k : DnKeys) (e : Content) (old new : Dir) (back : Option Content) → IsPut k e old new back → is_some back ≡ true → (has_parent old k ≡ false) × (new ≡ old)
+put_alone k e old new None put some = absurd (cc)
+put_alone k e old new (Some back) put some = (put.1, put.2)
+
 pub put_back : (k : DnKeys) (e : Content) (old new : Dir) (back : Option Content) (b : Content) → IsPut k e old new back → back ≡ Some b → (b ≡ e) × (new ≡ old)
 put_back k e old new None b put is = absurd (cc)
-put_back k e old new (Some x) b put is = let same : x ≡ b = cc in (sym same ∙ put.0, put.1)
+put_back k e old new (Some x) b put is = let same : x ≡ b = cc in (sym same ∙ put.0, put.2)
 
 pub nothing : {A : Type 0} (o : Option A) → is_some o ≡ false → o ≡ None
 nothing None none = refl
 nothing (Some x) none = absurd (cc)
+
+pub none_so : {A : Type 0} (o : Option (Bor A)) → option_copied o ≡ None → o ≡ None
+none_so None e = refl
+none_so (Some x) e = absurd (cc)
 
 pub none_copied : {A : Type 0} (o : Option (Bor A)) → is_some o ≡ false → option_copied o ≡ None
 none_copied None e = refl

@@ -1,5 +1,5 @@
 -- The entries of a copy of sound records are in good order.
-use Rattle.std.proofs.Common.{◌≡◌, ℕ, ◌≤◌, Bool, true, false, cond, not, ◌&&◌, nat_le, List, [], ◌∷◌, length, take, Option, None, Some, is_some, Result, Ok, Err, refl, sym, ap, subst, ◌∙◌, true≢false, arith}
+use Rattle.std.proofs.Common.{◌≡◌, ℕ, ◌≤◌, Bool, true, false, cond, not, ◌&&◌, nat_le, List, [], ◌∷◌, length, take, Option, None, Some, is_some, Result, Ok, Err, refl, sym, ap, subst, ◌∙◌, arith}
 use Rattle.std.specs.List.{list_all}
 use Rattle.std.specs.Ordering.{eq_by_cmp}
 use Rattle.std.proofs.lemmas.Bool.Decides.{nat_tests}
@@ -30,14 +30,7 @@ use Rattle.dir_change.proofs.Kept.{legal_leaf, legal_lines}
 use Rattle.dir_change.proofs.Undone.{key_length, made_own, own_named}
 use Rattle.dir_tools.specs.CopyOf.{Loaded, denied, entered, placed_at, taken_in}
 use Rattle.dir_tools.specs.Loading.{AreInOrder, IsInOrder}
-
-left : (a b : Bool) → (a && b) ≡ true → a ≡ true
-left true b h = refl
-left false b h = h
-
-right : (a b : Bool) → (a && b) ≡ true → b ≡ true
-right true b h = h
-right false b h = absurd (true≢false (sym h))
+use Rattle.dir_tools.proofs.Small.{left, right}
 
 all_own_of : (p : SpelledRdn → Bool) (suffix k : DnKeys) (name : SpelledName) → list_all p name ≡ true → list_all p (own_of suffix k name) ≡ true
 all_own_of p suffix k name e = by (dn_key_eq k suffix)

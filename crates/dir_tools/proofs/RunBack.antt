@@ -1,5 +1,5 @@
 -- The texts of a run lead back to where it began.
-use Rattle.std.proofs.Common.{◌≡◌, ℕ, Bool, cond, List, [], ◌∷◌, ◌++◌, map, Result, Ok, Err, refl, sym, ap, subst, ◌∙◌}
+use Rattle.std.proofs.Common.{◌≡◌, Bool, List, [], ◌∷◌, map, Result, Ok, Err, refl, sym, ap, subst, ◌∙◌}
 use Rattle.dir_names.specs.declared.schema.TypeRow.{TypeRow}
 use Rattle.dir_ldif.specs.declared.faults.RecordFault.{RecordFault}
 use Rattle.dir_ldif.specs.declared.faults.StreamFault.{StreamFault}
@@ -9,18 +9,17 @@ use Rattle.dir_ldif.specs.declared.records.Record.TheVariants as form
 use Rattle.dir_ldif.specs.Laws.{without_line}
 use Rattle.dir_ldif.specs.Records.{Answer, Found, records_of}
 use Rattle.dir_tree.specs.Dir.{Dir}
-use Rattle.dir_tree.specs.WellFormed.{IsWellFormed, IsWithinLimits}
 use Rattle.dir_change.specs.declared.result_code.ResultCode.{ResultCode}
 use Rattle.dir_change.specs.Operation.{step}
-use Rattle.dir_change.specs.Runs.{Ending, LeadsBack, ReadsBack, RunsAreTakenBack, RunsStayInOrder, StaysInOrder, UndoTextsReadBack, goes_on, group_of, last_first}
+use Rattle.dir_change.specs.Runs.{Ending, LeadsBack, ReadsBack, RunsAreTakenBack, RunsStayInOrder, StaysInOrder, UndoTextsReadBack, group_of, last_first}
 use Rattle.dir_change.specs.Undo.{all_steps, and_then}
 use Rattle.dir_change.specs.UndoText.{undo_text_of}
 use Rattle.dir_tools.specs.Canonical.{canonical_of}
 use Rattle.dir_tools.specs.CopyOf.{copy_of}
-use Rattle.dir_tools.specs.Headline.{CanonicalTextsReadBack, IsTakenBackBy, WrittenRunsAreTakenBack, texts_of_run}
-use Rattle.dir_tools.specs.Ran.{Outcome, Ran, causes_in, groups_in, led, onto, run_of, stepped}
-use Rattle.dir_tools.specs.Running.{HasAccepted}
-use Rattle.dir_tools.proofs.RunLemmas.{goes_accepted}
+use Rattle.dir_tools.specs.Headline.{CanonicalTextsReadBack, WrittenRunsAreTakenBack}
+use Rattle.dir_tools.specs.Ran.{Ran, causes_in, groups_in, led, onto, run_of, stepped}
+use Rattle.dir_tools.proofs.RunLemmas.{goes}
+use Rattle.dir_tools.proofs.Small.{heads, one_found}
 
 abbrev fine : Change → Result (Result Record RecordFault) StreamFault
 fine c = Ok (Ok (form.Change c))
@@ -34,16 +33,10 @@ module _ (rows : List TypeRow) (go_on : Bool) where
   one_more e f d c found later is takes rest =
       let here : led rows e found.1 ≡ Ok (f, group_of rows e f c) = ap (led rows e) is ∙ ap (stepped rows e c) takes in (
         record { end = rest.0.end; outcomes = (found.0, Ok (group_of rows e f c)) ∷ rest.0.outcomes },
-        goes_accepted rows go_on e f found (group_of rows e f c) later here ∙ ap (onto ((found.0, Ok (group_of rows e f c)) ∷ [])) rest.1,
+        goes rows go_on e found (Ok (f, group_of rows e f c)) later here ∙ ap (onto ((found.0, Ok (group_of rows e f c)) ∷ [])) rest.1,
         rest.2,
         rest.3,
       )
-
-  heads : (a : Answer) (c : Change) (later rest : List (Result (Result Record RecordFault) StreamFault)) → without_line a ∷ later ≡ fine c ∷ rest → (without_line a ≡ fine c) × (later ≡ rest)
-  heads a c later rest same = (cc, cc)
-
-  one_found : (found : Found) (c : Change) → without_line (Ok found) ≡ fine c → found.1 ≡ Ok (form.Change c)
-  one_found found c same = cc
 
   all_accepted : (cs : List Change) (e d : Dir) (answers : List Answer) → map without_line answers ≡ map fine cs → all_steps rows e cs ≡ Ok d → AcceptsAll e answers d
   all_accepted [] e d [] same steps = (record { end = e; outcomes = [] }, refl, refl, cc)
@@ -53,10 +46,10 @@ module _ (rows : List TypeRow) (go_on : Bool) where
   all_accepted (c ∷ cs) e d (Ok found ∷ later) same steps = by (step rows e c) refl steps (λ f t. all_accepted cs f d later parts.1 t)
     where
       parts : (without_line (Ok found) ≡ fine c) × (map without_line later ≡ map fine cs)
-      parts = heads (Ok found) c (map without_line later) (map fine cs) same
+      parts = heads (Ok found) (form.Change c) (map without_line later) (map fine cs) same
 
       by : (r : Result Dir ResultCode) → step rows e c ≡ r → and_then r (λ f. all_steps rows f cs) ≡ Ok d → ((f : Dir) → all_steps rows f cs ≡ Ok d → AcceptsAll f later d) → AcceptsAll e (Ok found ∷ later) d
-      by (Ok f) takes t rest = one_more e f d c found later (one_found found c parts.0) takes (rest f t)
+      by (Ok f) takes t rest = one_more e f d c found later (one_found found (form.Change c) parts.0) takes (rest f t)
       by (Err code) takes t rest = absurd (cc)
 
 pub runs_back : CanonicalTextsReadBack → RunsAreTakenBack → RunsStayInOrder → UndoTextsReadBack → WrittenRunsAreTakenBack

@@ -1,5 +1,6 @@
 -- A run's outcomes, one after the other.
-use Rattle.std.proofs.Common.{◌≡◌, ℕ, ◌+◌, Bool, true, false, cond, List, [], ◌∷◌, ◌++◌, length, suc, refl, sym, ap, subst, ◌∙◌, Option, None, Some, Result, Ok, Err, IfSome, arith}
+use Rattle.std.proofs.Common.{◌≡◌, ℕ, ◌+◌, Bool, true, false, cond, List, [], ◌∷◌, ◌++◌, length, refl, sym, ap, subst, ◌∙◌, Option, None, Some, Result, Ok, Err, IfSome, arith, append_assoc, length-append}
+use Rattle.std.proofs.lemmas.List.{append-nil}
 use Rattle.std.specs.List.{flat_map}
 use Rattle.dir_names.specs.declared.schema.TypeRow.{TypeRow}
 use Rattle.dir_ldif.specs.declared.faults.RecordFault.{RecordFault}
@@ -9,13 +10,16 @@ use Rattle.dir_ldif.specs.declared.records.Record.{Record}
 use Rattle.dir_ldif.specs.Device.{HasFailed}
 use Rattle.dir_ldif.specs.declared.faults.StreamFault.TheVariants as stream
 use Rattle.dir_ldif.specs.declared.reader.RecordReader.{RecordReader}
-use Rattle.dir_ldif.specs.Reader.{IsEnded, StopsFor, source_of, to_give}
+use Rattle.dir_ldif.specs.Reader.{IsEnded, SpendsTurns, StopsFor, source_of, to_give, turns_left}
+use Rattle.dir_tools.specs.Turns.{GaveAtLeast}
+use Rattle.dir_tools.specs.declared.fault.ToolFault.TheVariants as tool
+use Rattle.dir_tools.proofs.Turns.{spends_all}
 use Rattle.dir_ldif.specs.Next.{GivesFirst, GivesNone}
 use Rattle.dir_ldif.specs.Records.{Answer, Found}
 use Rattle.dir_tree.specs.Dir.{Dir}
 use Rattle.dir_tools.specs.declared.fault.Cause.{Cause}
 use Rattle.dir_tools.specs.declared.run.Run.{Run}
-use Rattle.dir_tools.specs.Ran.{Led, Outcome, Ran, cause_in, causes_in, ends_at, group_in, groups_in, led, led_on, onto, run_of, stepped}
+use Rattle.dir_tools.specs.Ran.{Led, Outcome, Ran, cause_in, ends_at, group_in, groups_in, led, led_on, onto, run_of, stepped}
 use Rattle.dir_tools.specs.Report.{outcome_line}
 use Rattle.dir_ldif.specs.SoundFound.{IsSoundFound}
 use Rattle.dir_ldif.specs.declared.records.Record.TheVariants as form
@@ -26,26 +30,14 @@ use Rattle.dir_change.specs.Runs.{Ending, accepted_or, behind, goes_on, group_of
 use Rattle.dir_change.specs.Sound.{IsSoundChange}
 use Rattle.dir_tools.specs.Running.{HasAccepted, Adds, AddsAll, BreaksOff, ChangesBlamed, Continues, RunsOver, Takes, changes_fault}
 
-append_assoc : {A : Type 0} (xs ys zs : List A) → (xs ++ ys) ++ zs ≡ xs ++ (ys ++ zs)
-append_assoc [] ys zs = refl
-append_assoc (x ∷ xs) ys zs = ap (λ t. x ∷ t) (append_assoc xs ys zs)
-
-append_nil : {A : Type 0} (xs : List A) → xs ++ [] ≡ xs
-append_nil [] = refl
-append_nil (x ∷ xs) = ap (λ t. x ∷ t) (append_nil xs)
-
 flat_map_snoc : {A B : Type 0} (f : A → List B) (xs : List A) (x : A) → flat_map f (xs ++ x ∷ []) ≡ flat_map f xs ++ f x
-flat_map_snoc f [] x = append_nil (f x)
+flat_map_snoc f [] x = append-nil (f x)
 flat_map_snoc f (y ∷ xs) x = ap (λ t. f y ++ t) (flat_map_snoc f xs x) ∙ sym (append_assoc (f y) (flat_map f xs) (f x))
-
-length_append : {A : Type 0} (xs ys : List A) → length (xs ++ ys) ≡ length xs + length ys
-length_append [] ys = grind (arith)
-length_append (x ∷ xs) ys = let e = length_append xs ys in grind (arith)
 
 -- ---- what a run tells
 
 pub adds_none : {D : Type 0} (run : Run D) → AddsAll [] run run
-adds_none run = (sym (append_nil run.history), sym (append_nil run.report.text.items), refl, grind (arith), grind (arith))
+adds_none run = (sym (append-nil run.history), sym (append-nil run.report.text.items), refl, grind (arith), grind (arith))
 
 -- one list longer, step by step
 longer : {A B : Type 0} (f : A → List B) (os : List A) (o : A) (first then_ last : List B) → then_ ≡ first ++ flat_map f os → last ≡ then_ ++ f o → last ≡ first ++ flat_map f (os ++ o ∷ [])
@@ -54,7 +46,7 @@ longer f os o first then_ last e1 e2 =
 
 more : {A B : Type 0} (f : A → List B) (os : List A) (o : A) (first then_ last : ℕ) → then_ ≡ first + length (flat_map f os) → last ≡ then_ + length (f o) → last ≡ first + length (flat_map f (os ++ o ∷ []))
 more f os o first then_ last e1 e2 =
-    let e3 : length (flat_map f (os ++ o ∷ [])) ≡ length (flat_map f os) + length (f o) = ap length (flat_map_snoc f os o) ∙ length_append (flat_map f os) (f o) in
+    let e3 : length (flat_map f (os ++ o ∷ [])) ≡ length (flat_map f os) + length (f o) = ap length (flat_map_snoc f os o) ∙ length-append (flat_map f os) (f o) in
     grind (arith)
 
 pub adds_one : {D : Type 0} (os : List (ℕ × Outcome)) (o : ℕ × Outcome) (first between last : Run D) → AddsAll os first between → Adds o between last → AddsAll (os ++ o ∷ []) first last
@@ -78,19 +70,11 @@ pub onto_none : (r : Result Ran StreamFault) → r ≡ onto [] r
 onto_none (Ok ran) = refl
 onto_none (Err fault) = refl
 
--- an accepted record
-pub goes_accepted : (rows : List TypeRow) (go_on : Bool) (d e : Dir) (found : Found) (group : List Change) (rest : List Answer)
-    → led rows d found.1 ≡ Ok (e, group)
-    → run_of rows go_on d (Ok found ∷ rest) ≡ onto ((found.0, Ok group) ∷ []) (run_of rows go_on e rest)
-goes_accepted rows go_on d e found group rest is =
-    ap (λ (l : Led). led_on l found.0 (λ x. run_of rows go_on x rest) (cond go_on (run_of rows go_on d rest) (ends_at d))) is
-
--- a refused one
-pub goes_refused : (rows : List TypeRow) (go_on : Bool) (d : Dir) (found : Found) (why : Cause) (rest : List Answer)
-    → led rows d found.1 ≡ Err why
-    → run_of rows go_on d (Ok found ∷ rest) ≡ onto ((found.0, Err why) ∷ []) (cond go_on (run_of rows go_on d rest) (ends_at d))
-goes_refused rows go_on d found why rest is =
-    ap (λ (l : Led). led_on l found.0 (λ x. run_of rows go_on x rest) (cond go_on (run_of rows go_on d rest) (ends_at d))) is
+-- where a record leads the run
+pub goes : (rows : List TypeRow) (go_on : Bool) (d : Dir) (found : Found) (l : Led) (rest : List Answer)
+    → led rows d found.1 ≡ l
+    → run_of rows go_on d (Ok found ∷ rest) ≡ led_on l found.0 (λ x. run_of rows go_on x rest) (cond go_on (run_of rows go_on d rest) (ends_at d))
+goes rows go_on d found l rest is = ap (λ (l : Led). led_on l found.0 (λ x. run_of rows go_on x rest) (cond go_on (run_of rows go_on d rest) (ends_at d))) is
 
 -- ---- over the answers of a reader
 
@@ -103,7 +87,7 @@ on_accepted rows go_on d0 d e os found group None old new is gives was = tt
 on_accepted rows go_on d0 d e os found group (Some answers) None new is gives was = absurd (was)
 on_accepted rows go_on d0 d e os found group (Some answers) (Some now) None is gives was = absurd (gives)
 on_accepted rows go_on d0 d e os found group (Some answers) (Some now) (Some rest) is gives was =
-    was ∙ ap (λ t. onto os (run_of rows go_on d t)) gives ∙ ap (onto os) (goes_accepted rows go_on d e found group rest is) ∙ onto_onto os ((found.0, Ok group) ∷ []) (run_of rows go_on e rest)
+    was ∙ ap (λ t. onto os (run_of rows go_on d t)) gives ∙ ap (onto os) (goes rows go_on d found (Ok (e, group)) rest is) ∙ onto_onto os ((found.0, Ok group) ∷ []) (run_of rows go_on e rest)
 
 pub on_refused : (rows : List TypeRow) (go_on : Bool) (d0 d e : Dir) (os : List (ℕ × Outcome)) (found : Found) (why : Cause) (first old new : Option (List Answer))
     → go_on ≡ true → led rows d found.1 ≡ Err why → e ≡ d → GivesFirst (Ok found) old new
@@ -113,7 +97,7 @@ on_refused rows go_on d0 d e os found why None old new on is same gives was = tt
 on_refused rows go_on d0 d e os found why (Some answers) None new on is same gives was = absurd (was)
 on_refused rows go_on d0 d e os found why (Some answers) (Some now) None on is same gives was = absurd (gives)
 on_refused rows go_on d0 d e os found why (Some answers) (Some now) (Some rest) on is same gives was =
-    was ∙ ap (λ t. onto os (run_of rows go_on d t)) gives ∙ ap (onto os) (goes_refused rows go_on d found why rest is) ∙ onto_onto os ((found.0, Err why) ∷ []) _
+    was ∙ ap (λ t. onto os (run_of rows go_on d t)) gives ∙ ap (onto os) (goes rows go_on d found (Err why) rest is) ∙ onto_onto os ((found.0, Err why) ∷ []) _
     ∙ ap (λ (b : Bool). onto (os ++ (found.0, Err why) ∷ []) (cond b (run_of rows go_on d rest) (ends_at d))) on
     ∙ ap (λ x. onto (os ++ (found.0, Err why) ∷ []) (run_of rows go_on x rest)) (sym same)
 
@@ -126,9 +110,9 @@ on_stopped rows go_on d0 d e os found why None old new off is same gives was = t
 on_stopped rows go_on d0 d e os found why (Some answers) None new off is same gives was = absurd (was)
 on_stopped rows go_on d0 d e os found why (Some answers) (Some now) None off is same gives was = absurd (gives)
 on_stopped rows go_on d0 d e os found why (Some answers) (Some now) (Some rest) off is same gives was =
-    was ∙ ap (λ t. onto os (run_of rows go_on d t)) gives ∙ ap (onto os) (goes_refused rows go_on d found why rest is) ∙ onto_onto os ((found.0, Err why) ∷ []) _
+    was ∙ ap (λ t. onto os (run_of rows go_on d t)) gives ∙ ap (onto os) (goes rows go_on d found (Err why) rest is) ∙ onto_onto os ((found.0, Err why) ∷ []) _
     ∙ ap (λ (b : Bool). onto (os ++ (found.0, Err why) ∷ []) (cond b (run_of rows go_on d rest) (ends_at d))) off
-    ∙ ap (λ t. Ok (record { end = d; outcomes = t })) (append_nil (os ++ (found.0, Err why) ∷ []))
+    ∙ ap (λ t. Ok (record { end = d; outcomes = t })) (append-nil (os ++ (found.0, Err why) ∷ []))
     ∙ ap (λ x. Ok (record { end = x; outcomes = os ++ (found.0, Err why) ∷ [] })) (sym same)
 
 pub on_end : (rows : List TypeRow) (go_on : Bool) (d0 d : Dir) (os : List (ℕ × Outcome)) (first old : Option (List Answer))
@@ -138,7 +122,7 @@ pub on_end : (rows : List TypeRow) (go_on : Bool) (d0 d : Dir) (os : List (ℕ �
 on_end rows go_on d0 d os None old none was = tt
 on_end rows go_on d0 d os (Some answers) None none was = absurd (was)
 on_end rows go_on d0 d os (Some answers) (Some rest) none was =
-    was ∙ ap (λ t. onto os (run_of rows go_on d t)) none ∙ ap (λ t. Ok (record { end = d; outcomes = t })) (append_nil os)
+    was ∙ ap (λ t. onto os (run_of rows go_on d t)) none ∙ ap (λ t. Ok (record { end = d; outcomes = t })) (append-nil os)
 
 pub on_fault : (rows : List TypeRow) (go_on : Bool) (d0 d : Dir) (os : List (ℕ × Outcome)) (fault : StreamFault) (first old : Option (List Answer))
     → IfSome old (λ known. known ≡ Err fault ∷ [])
@@ -218,7 +202,7 @@ accepted_still rows d0 d e os line why same was = (
   was.0,
   was.1,
   was.2 ∙ ap (λ z. record { end = z; groups = groups_in os }) (sym same)
-      ∙ ap (λ gs. record { end = e; groups = gs }) (sym (append_nil (groups_in os)) ∙ sym (flat_map_snoc group_in os (line, Err why))),
+      ∙ ap (λ gs. record { end = e; groups = gs }) (sym (append-nil (groups_in os)) ∙ sym (flat_map_snoc group_in os (line, Err why))),
 )
 
 -- ---- one record of the loop
@@ -284,3 +268,15 @@ module _ {D : Type 0} {S : Type 0} where
   runs_blamed state rows left failures stream.Memory first count old new begun run going same stops was = tt
   runs_blamed state rows left failures stream.TooManyTurns first count old new begun run going same stops was = tt
   runs_blamed state rows left failures stream.Ended first count old new begun run going same stops was = absurd (going stops)
+
+too_many : (fault : StreamFault) → changes_fault fault ≡ tool.BadChanges stream.TooManyTurns → fault ≡ stream.TooManyTurns
+too_many stream.TooManyTurns is = refl
+too_many stream.LineTooLong is = absurd (cc)
+too_many stream.Read is = absurd (cc)
+too_many stream.Memory is = absurd (cc)
+too_many stream.Ended is = absurd (cc)
+too_many stream.BadVersion is = absurd (cc)
+
+pub changes_long : {S : Type 0} (left : S → Option (List ℕ)) (failures : S → ℕ) (fault : StreamFault) (a b c : RecordReader S) → changes_fault fault ≡ tool.BadChanges stream.TooManyTurns
+    → SpendsTurns left a b → StopsFor left failures fault b c → GaveAtLeast (left (source_of a)) (left (source_of c)) (turns_left a)
+changes_long left failures fault a b c is first stops = spends_all left failures fault a b c (too_many fault is) first stops

@@ -5,13 +5,9 @@ use Rattle.std.specs.Option.{option_map}
 use Rattle.dir_names.specs.declared.schema.TypeRow.{TypeRow}
 use Rattle.dir_ldif.specs.declared.faults.StreamFault.{StreamFault}
 use Rattle.dir_ldif.specs.declared.faults.StreamFault.TheVariants as stream
-use Rattle.dir_ldif.specs.Records.{Answer, records_of}
+use Rattle.dir_ldif.specs.Records.{records_of}
 use Rattle.dir_tree.specs.Dir.{Dir}
 use Rattle.dir_change.specs.UndoText.{undo_text_of}
-use Rattle.dir_tools.specs.Canonical.{canonical_of}
-use Rattle.dir_tools.specs.declared.fault.Input.{Input}
-use Rattle.dir_tools.specs.declared.fault.Input.TheVariants as input
-use Rattle.dir_tools.specs.declared.fault.Output.{Output}
 use Rattle.dir_tools.specs.declared.fault.Output.TheVariants as to
 use Rattle.dir_tools.specs.declared.fault.ToolFault.{ToolFault}
 use Rattle.dir_tools.specs.declared.fault.ToolFault.TheVariants as tool
@@ -20,19 +16,21 @@ use Rattle.dir_tools.specs.declared.modify.ModifyOptions.{ModifyOptions}
 use Rattle.dir_tools.specs.declared.modify.RunTexts.{RunTexts}
 use Rattle.dir_tools.specs.declared.modify.Summary.{Summary}
 use Rattle.dir_tools.specs.declared.run.Run.{Run}
-use Rattle.dir_tools.specs.Headline.{Answers, Blames, ChangesAreBad, HasRun, WrittenRunsAreTakenBack, key_read, nonempty_key, suffix_of, texts_of_run}
+use Rattle.dir_tools.specs.Headline.{Answers, Blames, ChangesAreBad, HasRun, IsBadText, WrittenRunsAreTakenBack, key_read, nonempty_key, suffix_of, texts_of_run}
 use Rattle.dir_tools.specs.CopyOf.{copy_of}
-use Rattle.dir_tools.specs.Loading.{IsNamed}
+use Rattle.dir_tools.specs.Loading.{CopyBlamed, IsBare, IsNamed}
 use Rattle.dir_tree.specs.WellFormed.{IsWellFormed, IsWithinLimits}
 use Rattle.dir_names.specs.declared.fault.NameFault.{NameFault}
 use Rattle.dir_names.specs.Keys.{DnKeys}
 use Rattle.dir_names.specs.Names.{SpelledName}
 use Rattle.dir_names.specs.NameKeys.{name_key}
 use Rattle.dir_names.specs.Reading.{name_read}
-use Rattle.dir_tools.specs.Ran.{Outcome, Ran, causes_in, groups_in, run_of}
-use Rattle.dir_tools.specs.Report.{modify_report_of, numbers_line, outcome_line}
+use Rattle.dir_tools.specs.Ran.{Ran, causes_in, groups_in, run_of}
+use Rattle.dir_tools.specs.Report.{numbers_line, outcome_line}
 use Rattle.dir_tools.specs.RunTexts.{Holds, HoldsFiles, is_dry, texts_of}
 use Rattle.dir_tools.specs.Running.{AreItsFiles, AreItsTexts, BreaksOff, ChangesBlamed, IsBegun, RunsOver}
+use Rattle.dir_tools.specs.Turns.{IsLong}
+use Rattle.dir_tools.proofs.Small.{known}
 use Rattle.dir_tools.specs.Written.{IsWriteFault, Tape, Texts, Written}
 
 -- of the text, what is known of its records
@@ -59,31 +57,44 @@ named_suffix rows text k = by (name_read text)
     by (Ok name) h = has_part (name_key rows name) k h
     by (Err fault) h = λ none. absurd (cc)
 
+-- a copy's fault, as it blames the text of the copy
+pub copy_blamed_so : (rows : List TypeRow) (suffix : List ℕ) (options : ModifyOptions) (copy left : Option (List ℕ)) (empty : Dir) (failures failures' : ℕ) (fault : ToolFault)
+    → suffix_of rows suffix ≡ Some empty.suffix → IsBare empty → CopyBlamed rows empty copy failures failures' fault → Blames rows suffix options copy left fault
+copy_blamed_so rows suffix options copy left empty failures failures' (tool.BadCopy line why) key bare h = (empty.suffix, key, h bare)
+copy_blamed_so rows suffix options copy left empty failures failures' (tool.Read input) key bare h = tt
+copy_blamed_so rows suffix options copy left empty failures failures' tool.Memory key bare h = tt
+copy_blamed_so rows suffix options copy left empty failures failures' (tool.Write output) key bare h = absurd (h)
+copy_blamed_so rows suffix options copy left empty failures failures' (tool.BadQuestion item) key bare h = absurd (h)
+copy_blamed_so rows suffix options copy left empty failures failures' (tool.BadChanges fault) key bare h = absurd (h)
+
 module _ {D : Type 0} (state : D → Dir) (rows : List TypeRow) (suffix : List ℕ) (options : ModifyOptions) (copy left : Option (List ℕ)) (begun : Run D)
     (reads : IfSome copy (λ text. copy_of rows (state begun.directory).suffix text ≡ Ok (state begun.directory))) where
-  bad : (fault : StreamFault) → begun.options ≡ options → suffix_of rows suffix ≡ Some (state begun.directory).suffix → BreaksOff state rows (option_map (records_of rows) left) begun fault → ChangesAreBad rows suffix options copy left fault
-  bad fault same key h = (
+  bad : (fault : StreamFault) → ((text : List ℕ) → run_of rows options.go_on (state begun.directory) (records_of rows text) ≡ Err fault → IsBadText rows options.go_on (state begun.directory) text fault)
+      → begun.options ≡ options → suffix_of rows suffix ≡ Some (state begun.directory).suffix → BreaksOff state rows (option_map (records_of rows) left) begun fault → ChangesAreBad rows suffix options copy left fault
+  bad fault so same key h = (
     state begun.directory,
     key,
     reads,
-    of_text (records_of rows) (λ answers. run_of rows options.go_on (state begun.directory) answers ≡ Err fault) left
-        (subst (λ (o : ModifyOptions). IfSome (option_map (records_of rows) left) (λ answers. run_of rows o.go_on (state begun.directory) answers ≡ Err fault)) same h),
+    known left so
+        (of_text (records_of rows) (λ answers. run_of rows options.go_on (state begun.directory) answers ≡ Err fault) left
+        (subst (λ (o : ModifyOptions). IfSome (option_map (records_of rows) left) (λ answers. run_of rows o.go_on (state begun.directory) answers ≡ Err fault)) same h)),
   )
 
   -- a run's fault, as it blames the text of changes
   pub blamed_so : (failures failures' : ℕ) (fault : ToolFault) → begun.options ≡ options → suffix_of rows suffix ≡ Some (state begun.directory).suffix
+      → (fault ≡ tool.BadChanges stream.TooManyTurns → IfSome left IsLong)
       → ChangesBlamed state rows (option_map (records_of rows) left) failures failures' begun fault → Blames rows suffix options copy left fault
-  blamed_so failures failures' (tool.BadChanges stream.LineTooLong) same key h = bad stream.LineTooLong same key h
-  blamed_so failures failures' (tool.BadChanges stream.BadVersion) same key h = bad stream.BadVersion same key h
-  blamed_so failures failures' (tool.BadChanges stream.TooManyTurns) same key h = tt
-  blamed_so failures failures' (tool.BadChanges stream.Read) same key h = absurd (h)
-  blamed_so failures failures' (tool.BadChanges stream.Memory) same key h = absurd (h)
-  blamed_so failures failures' (tool.BadChanges stream.Ended) same key h = absurd (h)
-  blamed_so failures failures' (tool.Read input) same key h = tt
-  blamed_so failures failures' tool.Memory same key h = tt
-  blamed_so failures failures' (tool.BadCopy line why) same key h = absurd (h)
-  blamed_so failures failures' (tool.Write output) same key h = absurd (h)
-  blamed_so failures failures' (tool.BadQuestion item) same key h = absurd (h)
+  blamed_so failures failures' (tool.BadChanges stream.LineTooLong) same key long h = bad stream.LineTooLong (λ text e. e) same key h
+  blamed_so failures failures' (tool.BadChanges stream.BadVersion) same key long h = bad stream.BadVersion (λ text e. e) same key h
+  blamed_so failures failures' (tool.BadChanges stream.TooManyTurns) same key long h = (state begun.directory, key, reads, long refl)
+  blamed_so failures failures' (tool.BadChanges stream.Read) same key long h = absurd (h)
+  blamed_so failures failures' (tool.BadChanges stream.Memory) same key long h = absurd (h)
+  blamed_so failures failures' (tool.BadChanges stream.Ended) same key long h = absurd (h)
+  blamed_so failures failures' (tool.Read input) same key long h = tt
+  blamed_so failures failures' tool.Memory same key long h = tt
+  blamed_so failures failures' (tool.BadCopy line why) same key long h = absurd (h)
+  blamed_so failures failures' (tool.Write output) same key long h = absurd (h)
+  blamed_so failures failures' (tool.BadQuestion item) same key long h = absurd (h)
 
   from_none : (a b n : ℕ) → a ≡ b + n → b ≡ 0 → a ≡ n
   from_none a b n e z = grind (arith)

@@ -1,5 +1,5 @@
 -- What a run answers and writes, and that it is taken back.
-use Rattle.std.specs.Prelude.{◌≡◌, ℕ, Bool, List, [], ◌∷◌, length, IfSome, IsSome, Option, Some, None, Result, Ok, Err, ⊤}
+use Rattle.std.specs.Prelude.{◌≡◌, ℕ, Bool, List, [], ◌∷◌, length, IfSome, Option, Some, None, Result, Ok, Err, ⊤}
 use Rattle.dir_names.specs.declared.schema.TypeRow.{TypeRow}
 use Rattle.dir_names.specs.Keys.{DnKeys}
 use Rattle.dir_names.specs.declared.fault.NameFault.{NameFault}
@@ -15,9 +15,12 @@ use Rattle.dir_tools.specs.Running.{HasAccepted}
 use Rattle.dir_change.specs.UndoText.{undo_text_of}
 use Rattle.dir_tools.specs.Canonical.{canonical_of}
 use Rattle.dir_tools.specs.CopyOf.{copy_of}
-use Rattle.dir_tools.specs.Ran.{Outcome, Ran, causes_in, groups_in, run_of}
+use Rattle.dir_tools.specs.Loading.{IsBadCopy}
+use Rattle.dir_tools.specs.Ran.{Ran, causes_in, groups_in, run_of}
 use Rattle.dir_tools.specs.Report.{modify_report_of}
+use Rattle.dir_tools.specs.Turns.{IsLong}
 use Rattle.dir_tools.specs.Written.{Texts}
+use Rattle.dir_tools.specs.declared.fault.Cause.{Cause}
 use Rattle.dir_tools.specs.declared.fault.Item.TheVariants as item
 use Rattle.dir_tools.specs.declared.fault.ToolFault.{ToolFault}
 use Rattle.dir_tools.specs.declared.fault.ToolFault.TheVariants as tool
@@ -61,19 +64,27 @@ HasRun rows suffix options copy changes summary texts =
     × (texts ≡ texts_of_run options.verbose ran) × IsCounted summary ran
     × ((go_on : Bool) → IsTakenBackBy rows first.suffix first texts go_on)
 
--- the copy reads as a directory, and the text of changes ends in a fault that the run from there comes to
+-- the run from a directory comes to this fault of the text of changes; or the text has a byte or more for each read call of
+-- a reader
+abbrev pub IsBadText : List TypeRow → Bool → Dir → List ℕ → StreamFault → Type 0
+IsBadText rows go_on first text stream.TooManyTurns = IsLong text
+IsBadText rows go_on first text fault = run_of rows go_on first (records_of rows text) ≡ Err fault
+
+-- the copy reads as a directory, and from there the text of changes is at fault
 abbrev pub ChangesAreBad : List TypeRow → List ℕ → ModifyOptions → Option (List ℕ) → Option (List ℕ) → StreamFault → Type 0
 ChangesAreBad rows suffix options copy changes fault =
     (first : Dir) × (suffix_of rows suffix ≡ Some first.suffix)
     × IfSome copy (λ text. copy_of rows first.suffix text ≡ Ok first)
-    × IfSome changes (λ text. run_of rows options.go_on first (records_of rows text) ≡ Err fault)
+    × IfSome changes (λ text. IsBadText rows options.go_on first text fault)
 
--- what a fault before the writing says of the texts that were read; want of memory, a read fault and too many read
--- calls say nothing of them, and a fault of the copy only that the suffix is one
+-- the fault is that of the copy's text
+abbrev pub CopyIsBad : List TypeRow → List ℕ → Option (List ℕ) → ℕ → Cause → Type 0
+CopyIsBad rows suffix copy line why = (key : DnKeys) × (suffix_of rows suffix ≡ Some key) × IfSome copy (λ text. IsBadCopy rows key text line why)
+
+-- what a fault before the writing says of the texts that were read; want of memory and a read fault say nothing of them
 abbrev pub Blames : List TypeRow → List ℕ → ModifyOptions → Option (List ℕ) → Option (List ℕ) → ToolFault → Type 0
 Blames rows suffix options copy changes (tool.BadQuestion item.Suffix) = suffix_of rows suffix ≡ None
-Blames rows suffix options copy changes (tool.BadCopy line why) = IsSome (suffix_of rows suffix)
-Blames rows suffix options copy changes (tool.BadChanges stream.TooManyTurns) = ⊤
+Blames rows suffix options copy changes (tool.BadCopy line why) = CopyIsBad rows suffix copy line why
 Blames rows suffix options copy changes (tool.BadChanges fault) = ChangesAreBad rows suffix options copy changes fault
 Blames rows suffix options copy changes (tool.Read input) = ⊤
 Blames rows suffix options copy changes tool.Memory = ⊤

@@ -1,7 +1,8 @@
 -- What a copy holds as far as it was read, and why it is not read.
-use Rattle.std.specs.Prelude.{◌≡◌, ℕ, ◌≤◌, ⊤, true, List, [], length, Option, None, Some, IsTrue, Result, Ok, IfSome}
+use Rattle.std.specs.Prelude.{◌≡◌, ℕ, ◌≤◌, ⊤, Bool, true, false, List, [], length, Option, None, Some, IsTrue, Result, Ok, Err, IfSome}
 use Rattle.std.specs.List.{list_all}
 use Rattle.std.specs.BTreeMap.{get}
+use Rattle.std.specs.BTreeSet.{BTreeSet, contains}
 use Rattle.std.specs.FinMap as fin
 use Rattle.dir_names.specs.declared.schema.TypeRow.{TypeRow}
 use Rattle.dir_names.specs.Keys.{DnKeys}
@@ -16,13 +17,19 @@ use Rattle.dir_ldif.specs.Device.{HasFailed}
 use Rattle.dir_ldif.specs.declared.faults.StreamFault.{StreamFault}
 use Rattle.dir_ldif.specs.declared.faults.StreamFault.TheVariants as stream
 use Rattle.dir_tree.specs.WellFormed.{IsSoundEntry, own_part}
-use Rattle.dir_tools.specs.CopyOf.{CopyFault, Loaded, loaded}
+use Rattle.dir_tools.specs.CopyOf.{CopyFault, Loaded, copy_of, loaded}
+use Rattle.dir_tools.specs.Turns.{IsLong}
 use Rattle.dir_tools.specs.declared.copy.Loading.{Loading}
 use Rattle.dir_tools.specs.declared.copy.Waiting.{Waiting}
+use Rattle.dir_tools.specs.declared.fault.Cause.{Cause}
 use Rattle.dir_tools.specs.declared.fault.Cause.TheVariants as cause
 use Rattle.dir_tools.specs.declared.fault.Input.TheVariants as input
 use Rattle.dir_tools.specs.declared.fault.ToolFault.{ToolFault}
 use Rattle.dir_tools.specs.declared.fault.ToolFault.TheVariants as tool
+
+-- a directory without entries
+abbrev pub IsBare : Dir → Type 0
+IsBare d = d.entries ≡ fin.empty
 
 -- what a fault that ends the text of a copy means
 abbrev pub copy_fault : StreamFault → ToolFault
@@ -35,16 +42,28 @@ copy_fault stream.BadVersion = tool.BadCopy 0 (cause.Ended stream.BadVersion)
 
 -- a fault of a record, or want of memory
 abbrev pub IsOfRecord : ToolFault → Type 0
-IsOfRecord (tool.BadCopy line why) = ⊤
+IsOfRecord (tool.BadCopy line (cause.Code code)) = ⊤
+IsOfRecord (tool.BadCopy line (cause.Fault fault)) = ⊤
 IsOfRecord tool.Memory = ⊤
 IsOfRecord fault = ⊥
 
+-- the fault is the definition's, unless memory ran out
+abbrev pub IsFaultOf : {A : Type 0} → Result A CopyFault → ToolFault → Type 0
+IsFaultOf wanted (tool.BadCopy line why) = wanted ≡ Err (line, why)
+IsFaultOf wanted tool.Memory = ⊤
+IsFaultOf wanted fault = ⊥
+
+-- this is the first fault of the text of a copy; or the text has a byte or more for each read call of a reader
+abbrev pub IsBadCopy : List TypeRow → DnKeys → List ℕ → ℕ → Cause → Type 0
+IsBadCopy rows suffix text line (cause.Ended stream.TooManyTurns) = (line ≡ 0) × IsLong text
+IsBadCopy rows suffix text line why = copy_of rows suffix text ≡ Err (line, why)
+
 -- the copy is at fault, or its reader failed, or memory ran out
-abbrev pub CopyBlamed : ℕ → ℕ → ToolFault → Type 0
-CopyBlamed failures failures' (tool.BadCopy line why) = ⊤
-CopyBlamed failures failures' (tool.Read input.Copy) = HasFailed failures failures'
-CopyBlamed failures failures' tool.Memory = ⊤
-CopyBlamed failures failures' fault = ⊥
+abbrev pub CopyBlamed : List TypeRow → Dir → Option (List ℕ) → ℕ → ℕ → ToolFault → Type 0
+CopyBlamed rows empty copy failures failures' (tool.BadCopy line why) = IsBare empty → IfSome copy (λ text. IsBadCopy rows empty.suffix text line why)
+CopyBlamed rows empty copy failures failures' (tool.Read input.Copy) = HasFailed failures failures'
+CopyBlamed rows empty copy failures failures' tool.Memory = ⊤
+CopyBlamed rows empty copy failures failures' fault = ⊥
 
 -- an entry that waits, or else the one that stands
 abbrev pub waiting_or : Option Waiting → Option Content → Option Content
@@ -56,14 +75,19 @@ abbrev pub IsMadeOf : Dir → (DnKeys → Option Waiting) → Dir → Type 0
 IsMadeOf d waiting standing =
     (d.suffix ≡ standing.suffix) × IsClosed standing × ((k : DnKeys) → entry_at d k ≡ waiting_or (waiting k) (entry_at standing k))
 
+-- nothing stands where an entry waits, and it has the line of its record
+abbrev pub AllWait : Loaded → (DnKeys → Option Waiting) → Dir → Type 0
+AllWait m waiting standing = (k : DnKeys) (w : Waiting) → waiting k ≡ Some w → (entry_at standing k ≡ None) × (fin.get m.lines k ≡ Some w.line)
+
+-- whether there is a key, and it is among these
+abbrev pub is_among : BTreeSet DnKeys → Option DnKeys → Bool
+is_among keys None = false
+is_among keys (Some k) = contains dn_key_cmp keys k
+
 -- an entry is put under its parent, or comes back
 abbrev pub IsPut : DnKeys → Content → Dir → Dir → Option Content → Type 0
 IsPut k e old new None = IsTrue (has_parent old k) × (new ≡ put_entry old k e)
-IsPut k e old new (Some back) = (back ≡ e) × (new ≡ old)
-
--- a directory without entries
-abbrev pub IsBare : Dir → Type 0
-IsBare d = d.entries ≡ fin.empty
+IsPut k e old new (Some back) = (back ≡ e) × (has_parent old k ≡ false) × (new ≡ old)
 
 abbrev pub IsNamed : DnKeys → Type 0
 IsNamed suffix = suffix ≡ [] → ⊥
@@ -79,7 +103,8 @@ AreInOrder rows d = (k : DnKeys) (e : Content) → entry_at d k ≡ Some e → I
 module _ {D : Type 0} where
   -- the entries of the records so far stand or wait
   abbrev pub Holds : (D → Dir) → Loaded → Loading D → Type 0
-  Holds state m loading = IsMadeOf m.entries (get dn_key_cmp loading.waiting) (state loading.directory)
+  Holds state m loading =
+      IsMadeOf m.entries (get dn_key_cmp loading.waiting) (state loading.directory) × AllWait m (get dn_key_cmp loading.waiting) (state loading.directory)
 
   -- the records lead to entries that stand or wait
   abbrev pub LoadsTo : (D → Dir) → Result Loaded CopyFault → Loading D → Type 0
@@ -89,6 +114,15 @@ module _ {D : Type 0} where
   abbrev pub LoadsOver : (D → Dir) → List TypeRow → Option (List Answer) → Loading D → Loading D → Type 0
   LoadsOver state rows given old new =
       (m : Loaded) → Holds state m old → IfSome given (λ answers. LoadsTo state (loaded rows m answers) new)
+
+  -- whatever was read before, the answers that were given come to this fault first; or the reader failed, or memory ran out
+  abbrev pub StopsLoading : (D → Dir) → List TypeRow → Option (List Answer) → ℕ → ℕ → Loading D → ToolFault → Type 0
+  StopsLoading state rows given failures failures' old (tool.BadCopy line (cause.Ended stream.TooManyTurns)) = line ≡ 0
+  StopsLoading state rows given failures failures' old (tool.BadCopy line why) =
+      (m : Loaded) → Holds state m old → IfSome given (λ answers. loaded rows m answers ≡ Err (line, why))
+  StopsLoading state rows given failures failures' old (tool.Read input.Copy) = HasFailed failures failures'
+  StopsLoading state rows given failures failures' old tool.Memory = ⊤
+  StopsLoading state rows given failures failures' old fault = ⊥
 
   -- whatever was read before, entries in order stay so
   abbrev pub KeepsOrder : (D → Dir) → List TypeRow → Loading D → Loading D → Type 0

@@ -1,5 +1,5 @@
 -- The report of a run: a line for each refused record, and for an accepted one where it is verbose; last the numbers.
-use Rattle.std.specs.Prelude.{ℕ, Bool, cond, List, [], ◌∷◌, ◌++◌, codes, length, Result, Ok, Err}
+use Rattle.std.specs.Prelude.{ℕ, Bool, cond, List, [], ◌++◌, codes, length, Ok, Err}
 use Rattle.std.specs.Fmt.{decimal}
 use Rattle.std.specs.List.{flat_map}
 use Rattle.dir_ldif.specs.FaultText.{record_fault_text, stream_fault_text}

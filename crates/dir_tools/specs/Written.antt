@@ -1,5 +1,5 @@
 -- What the writers of a run hold.
-use Rattle.std.specs.Prelude.{◌≡◌, ℕ, Bool, true, false, List, [], Option, None, Some, Result, Ok, Err, ⊤}
+use Rattle.std.specs.Prelude.{◌≡◌, ℕ, Bool, true, false, List, Option, Result, Ok, Err, ⊤}
 use Rattle.std.specs.Io.KnownBytes.{Appends}
 use Rattle.dir_ldif.specs.Device.{AppendsFront}
 use Rattle.dir_tools.specs.declared.fault.ToolFault.{ToolFault}

@@ -1,9 +1,14 @@
-ghost use Rattle.std.specs.Prelude.{◌≡◌, ◌⊎◌, Err, IfErr, IfOk, IfSome, IsSome, None, Ok, OnOk};
+ghost use Rattle.std.specs.Prelude.{◌≡◌, ◌⊎◌, ◌&&◌, Err, IfErr, IfOk, IfSome, None, Ok, OnOk, cond, not, true};
 ghost use Rattle.dir_ldif.specs.Device.{HasFailed};
 ghost use Rattle.dir_tools.specs.Canonical.{canonical_of};
-ghost use Rattle.dir_tools.specs.CopyOf.{copy_of};
-ghost use Rattle.dir_tools.specs.Loading.{CopyBlamed, IsBare, IsNamed, IsOfRecord, IsPut, copy_fault};
+ghost use Rattle.dir_names.specs.Keys.{parent_of};
+ghost use Rattle.dir_names.specs.Orders.{dn_key_cmp};
+ghost use Rattle.dir_tools.specs.CopyOf.{copy_of, earlier};
+ghost use Rattle.dir_tools.specs.Loading.{CopyBlamed, IsBare, IsNamed, IsPut, copy_fault, is_among};
+ghost use Rattle.dir_tools.specs.Turns.{GaveAtLeast};
 ghost use Rattle.dir_tools.specs.Written.{CopyWritten};
+ghost use Rattle.dir_ldif.specs.declared.faults.StreamFault.TheVariants as StreamFault;
+ghost use Rattle.dir_tools.specs.declared.fault.Cause.TheVariants as Cause;
 ghost use Rattle.dir_tools.specs.declared.fault.Output.TheVariants as Output;
 ghost use Rattle.dir_tools.specs.declared.fault.ToolFault.TheVariants as ToolFault;
 ghost use Rattle.dir_tree.specs.Dir.{entry_at};
@@ -14,7 +19,7 @@ use crate::write::write_text;
 use crate::{Cause, Input, Output, ToolFault};
 use dir_change::{Refusal, ResultCode};
 use dir_ldif::{Record, RecordFault, RecordReader, Sink, Source, StreamFault};
-use dir_names::{Dn, DnKey, Lines, Schema};
+use dir_names::{Dn, DnKey, Lines, NameFault, Schema};
 use dir_tree::{Directory, Entry, may_stand, own_rdns};
 use std::alloc::Global;
 use std::collections::{BTreeMap, BTreeSet};
@@ -24,9 +29,11 @@ use std::collections::{BTreeMap, BTreeSet};
 ///
 /// # Errors
 ///
-/// In the order of the text: a record's own fault; `BadChangetype` for a change record; 32 outside
-/// the suffix; 68 for a name that stood before; 21, 20 and 19 for its values; the fault in which the
-/// text ends. Then 32 for the first record whose parent is missing.
+/// The first of these, in the order of the text: a record's own fault; `BadChangetype` for a change
+/// record; 32 for a name without a key, or outside the suffix; 68 for a name that stood before; 21, 20
+/// and 19 for its values; the fault in which the text ends. Then 32 for the first record whose parent
+/// is missing. A read fault, and want of memory, where they are met, and `TooManyTurns` after as many
+/// bytes as a reader has read calls.
 pub fn read_copy<R: Source, D: Directory>(
     alloc: Global,
     schema: &Schema,
@@ -38,7 +45,7 @@ where
     ensures suffix { IfOk result (λ d. (D.state d).suffix ≡ (D.state empty).suffix) }
     ensures reads { IfOk result (λ d. IsBare (D.state empty) → IfSome (R.left copy.old) (λ text. copy_of schema.now (D.state empty).suffix text ≡ Ok (D.state d))) }
     ensures sound { IfOk result (λ d. IsBare (D.state empty) → IsNamed (D.state empty).suffix → IsWellFormed schema.now (D.state d) × IsWithinLimits (D.state d)) }
-    ensures blamed { IfErr result (CopyBlamed (R.failures copy.old) (R.failures copy.new)) }
+    ensures blamed { IfErr result (CopyBlamed schema.now (D.state empty) (R.left copy.old) (R.failures copy.old) (R.failures copy.new)) }
 {
     let mut loading = Loading::new(alloc, empty);
     let mut records = match RecordReader::new(alloc, schema, copy) {
@@ -85,7 +92,7 @@ fn ended(fault: StreamFault) -> ToolFault
 }
 
 fn refused(line: u64, code: ResultCode) -> ToolFault
-    ensures { IsOfRecord result }
+    ensures { result ≡ ToolFault.BadCopy line (Cause.Code code) }
 {
     ToolFault::BadCopy(line, Cause::Code(code))
 }
@@ -107,11 +114,11 @@ struct Waiting {
 impl<D: Directory + Drop> Loading<D> {
     ghost use Rattle.std.specs.Prelude.{◌≡◌, IfErr, IfOk, Ok, OnOk};
     ghost use Rattle.std.specs.BTreeMap.{IsEmpty};
-    ghost use Rattle.dir_ldif.specs.Reader.{IsReading, schema_of, source_of, to_give};
+    ghost use Rattle.dir_ldif.specs.Reader.{IsReading, schema_of, source_of, to_give, turns_left};
     ghost use Rattle.dir_names.specs.NameKeys.{name_key};
     ghost use Rattle.dir_tree.specs.Dir.{IsClosed};
     ghost use Rattle.dir_tools.specs.CopyOf.{Loaded, placed_at, taken_in, whole};
-    ghost use Rattle.dir_tools.specs.Loading.{CopyBlamed, Holds, IsOfRecord, KeepsOrder, LoadsOver, LoadsTo};
+    ghost use Rattle.dir_tools.specs.Loading.{Holds, IsFaultOf, IsOfRecord, KeepsOrder, LoadsOver, LoadsTo, StopsLoading};
 
     fn new(alloc: Global, directory: D) -> Loading<D>
         ensures directory { result.directory ≡ directory }
@@ -135,10 +142,11 @@ impl<D: Directory + Drop> Loading<D> {
         ensures suffix { OnOk result ((D.state self.new.directory).suffix ≡ (D.state self.old.directory).suffix) }
         ensures order { OnOk result (KeepsOrder D.state schema.now self.old self.new) }
         ensures reads { OnOk result (LoadsOver D.state schema.now (to_give S.left records.old) self.old self.new) }
-        ensures blamed { IfErr result (CopyBlamed (S.failures (source_of records.old)) (S.failures (source_of records.new))) }
+        ensures blamed { IfErr result (StopsLoading D.state schema.now (to_give S.left records.old) (S.failures (source_of records.old)) (S.failures (source_of records.new)) self.old) }
+        ensures turns { result ≡ Err (ToolFault.BadCopy 0 (Cause.Ended StreamFault.TooManyTurns)) → GaveAtLeast (S.left (source_of records.old)) (S.left (source_of records.new)) (turns_left records.old) }
         ensures same { S.is_same (source_of records.old) (source_of records.new) }
     {
-        for _turn in 0..u64::MAX {
+        loop {
             match records.next() {
                 Ok(Some((line, found))) => {
                     if let Err(fault) = self.take(alloc, schema, line, found) {
@@ -149,7 +157,6 @@ impl<D: Directory + Drop> Loading<D> {
                 Err(fault) => return Err(ended(fault)),
             }
         }
-        Err(ended(StreamFault::TooManyTurns))
     }
 
     /// Takes the next record of the copy.
@@ -163,6 +170,7 @@ impl<D: Directory + Drop> Loading<D> {
         ensures suffix { OnOk result ((D.state self.new.directory).suffix ≡ (D.state self.old.directory).suffix) }
         ensures reads { OnOk result ((m : Loaded) → Holds D.state m self.old → LoadsTo D.state (taken_in schema.now m line found) self.new) }
         ensures fault { IfErr result IsOfRecord }
+        ensures cause { IfErr result (λ fault. (m : Loaded) → Holds D.state m self.old → IsFaultOf (taken_in schema.now m line found) fault) }
     {
         match found {
             Ok(Record::Content { dn, lines }) => self.take_entry(alloc, schema, line, dn, lines),
@@ -185,8 +193,13 @@ impl<D: Directory + Drop> Loading<D> {
         ensures suffix { OnOk result ((D.state self.new.directory).suffix ≡ (D.state self.old.directory).suffix) }
         ensures reads { OnOk result ((m : Loaded) → Holds D.state m self.old → LoadsTo D.state (placed_at schema.now m line name lines (name_key schema.now name)) self.new) }
         ensures fault { IfErr result IsOfRecord }
+        ensures cause { IfErr result (λ fault. (m : Loaded) → Holds D.state m self.old → IsFaultOf (placed_at schema.now m line name lines (name_key schema.now name)) fault) }
     {
-        let key = name.key(alloc, schema)?;
+        let key = match name.key(alloc, schema) {
+            Ok(key) => key,
+            Err(NameFault::Memory) => return Err(ToolFault::Memory),
+            Err(_) => return Err(refused(line, ResultCode::NoSuchObject)),
+        };
         if !key.at_or_below(self.directory.suffix()) {
             return Err(refused(line, ResultCode::NoSuchObject));
         }
@@ -215,6 +228,7 @@ impl<D: Directory + Drop> Loading<D> {
         ensures suffix { IfOk result (λ d. (D.state d).suffix ≡ (D.state self.directory).suffix) }
         ensures reads { IfOk result (λ d. (m : Loaded) → Holds D.state m self → (whole m ≡ Ok (D.state d)) × (m.entries ≡ D.state d) × IsClosed (D.state d)) }
         ensures fault { IfErr result IsOfRecord }
+        ensures cause { IfErr result (λ fault. (m : Loaded) → Holds D.state m self → IsFaultOf (whole m) fault) }
     {
         let Loading {
             mut directory,
@@ -223,6 +237,7 @@ impl<D: Directory + Drop> Loading<D> {
         let mut orphans = Orphans::new(alloc);
         for (key, waiting) in waiting {
             let Waiting { line, entry } = waiting;
+            // Never so, since no entry waits where one stands.
             if directory.get(&key).is_some() {
                 return Err(refused(line, ResultCode::EntryAlreadyExists));
             }
@@ -247,7 +262,7 @@ fn put<D: Directory>(
     requires { entry_at (D.state directory.old) key.now ≡ None }
     ensures suffix { (D.state directory.new).suffix ≡ (D.state directory.old).suffix }
     ensures put { IfOk result (IsPut key.now entry (D.state directory.old) (D.state directory.new)) }
-    ensures fault { IfErr result IsOfRecord }
+    ensures fault { IfErr result (λ fault. fault ≡ ToolFault.Memory) }
 {
     if !may_stand(alloc, directory, key)? {
         return Ok(Some(entry));
@@ -267,8 +282,12 @@ struct Orphans {
 }
 
 impl Orphans {
+    ghost use Rattle.std.specs.Prelude.{Some};
+    ghost use Rattle.std.specs.BTreeSet.{IsEmpty, Updates};
+
     fn new(alloc: Global) -> Orphans
-        ensures { result.first ≡ None }
+        ensures keys { IsEmpty result.keys }
+        ensures first { result.first ≡ None }
     {
         Orphans {
             keys: BTreeSet::new(alloc),
@@ -276,24 +295,34 @@ impl Orphans {
         }
     }
 
-    /// Adds an entry that found no parent, in the order of keys: the first of them is below no other.
+    /// Adds an entry that found no parent, in the order of keys. One that is below another of them isn't
+    /// the first, since its parent stands in the copy.
     fn add(&mut self, alloc: Global, key: DnKey, line: u64) -> Result<(), ToolFault>
-        ensures some { OnOk result (IsSome self.new.first) }
-        ensures fault { IfErr result IsOfRecord }
+        ensures first { OnOk result (self.new.first ≡ cond (is_among self.old.keys (parent_of key)) self.old.first (earlier line self.old.first)) }
+        ensures keys { OnOk result (Updates dn_key_cmp self.old.keys self.new.keys key true) }
+        ensures fault { IfErr result (λ fault. fault ≡ ToolFault.Memory) }
     {
-        let is_first = match self.first {
-            Some(first) => line < first && !self.is_below(alloc, &key)?,
-            None => true,
-        };
-        if is_first {
+        if self.is_earlier(line) && !self.is_below(alloc, &key)? {
             self.first = Some(line);
         }
         self.keys.insert(key)?;
         Ok(())
     }
 
+    /// Whether the line is before the first one.
+    fn is_earlier(&self, line: u64) -> bool
+        ensures { earlier line self.now.first ≡ cond result (Some line) self.now.first }
+    {
+        match self.first {
+            Some(first) => line < first,
+            None => true,
+        }
+    }
+
+    /// Whether the parent is one of the entries.
     fn is_below(&self, alloc: Global, key: &DnKey) -> Result<bool, ToolFault>
-        ensures { IfErr result IsOfRecord }
+        ensures ok { IfOk result (λ is_below. is_below ≡ is_among self.now.keys (parent_of key.now)) }
+        ensures fault { IfErr result (λ fault. fault ≡ ToolFault.Memory) }
     {
         Ok(match key.parent(alloc)? {
             Some(parent) => self.keys.contains(&parent),

@@ -45,7 +45,8 @@ pub struct Summary {
 /// # Errors
 ///
 /// In this order: the suffix is no name of at least one RDN; the copy, as `read_copy` answers; the
-/// fault in which the text of changes ends; a writer's fault. Want of memory wherever it is met.
+/// fault in which the text of changes ends, if the run comes to it; a writer's fault. Want of memory
+/// wherever it is met.
 pub fn run_modify<R: Source, R2: Source, W: Sink, W2: Sink, W3: Sink>(
     alloc: Global,
     schema: &Schema,

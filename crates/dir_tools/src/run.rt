@@ -22,11 +22,13 @@ pub(crate) struct Run<D: Directory + Drop> {
 }
 
 impl<D: Directory + Drop> Run<D> {
-    ghost use Rattle.std.specs.Prelude.{◌≡◌, ◌<◌, ◌+◌, ◌^◌, ◌-◌, IfErr, IfOk, OnOk};
+    ghost use Rattle.std.specs.Prelude.{◌≡◌, ◌<◌, ◌+◌, ◌^◌, ◌-◌, Err, IfErr, IfOk, IfSome, OnOk};
+    ghost use Rattle.dir_ldif.specs.declared.faults.StreamFault.TheVariants as StreamFault;
+    ghost use Rattle.dir_tools.specs.Turns.{GaveAtLeast, IsLong};
     ghost use Rattle.dir_tools.specs.declared.fault.ToolFault.TheVariants as ToolFault;
     ghost use Rattle.std.specs.Option.{option_map};
     ghost use Rattle.dir_ldif.specs.Records.{records_of};
-    ghost use Rattle.dir_ldif.specs.Reader.{IsReading, schema_of, source_of, to_give};
+    ghost use Rattle.dir_ldif.specs.Reader.{IsReading, schema_of, source_of, to_give, turns_left};
     ghost use Rattle.dir_tools.specs.Running.{AreItsTexts, ChangesBlamed, IsBegun, Keeps, Leads, LeadsChange, RunsOver, Takes, room};
 
     /// A run that has taken no record.
@@ -55,6 +57,7 @@ impl<D: Directory + Drop> Run<D> {
         requires { room self.old ≡ 0 }
         ensures ok { OnOk result (RunsOver D.state schema.now (option_map (records_of schema.now) (R.left changes.old)) self.old self.new) }
         ensures blamed { IfErr result (ChangesBlamed D.state schema.now (option_map (records_of schema.now) (R.left changes.old)) (R.failures changes.old) (R.failures changes.new) self.old) }
+        ensures long { result ≡ Err (ToolFault.BadChanges StreamFault.TooManyTurns) → IfSome (R.left changes.old) IsLong }
         ensures options { self.new.options ≡ self.old.options }
     {
         let mut records = match RecordReader::new(alloc, schema, changes) {
@@ -77,10 +80,11 @@ impl<D: Directory + Drop> Run<D> {
         requires schema { schema_of records.old ≡ schema.now }
         ensures ok { OnOk result (RunsOver D.state schema.now (to_give S.left records.old) self.old self.new) }
         ensures blamed { IfErr result (ChangesBlamed D.state schema.now (to_give S.left records.old) (S.failures (source_of records.old)) (S.failures (source_of records.new)) self.old) }
+        ensures turns { result ≡ Err (ToolFault.BadChanges StreamFault.TooManyTurns) → GaveAtLeast (S.left (source_of records.old)) (S.left (source_of records.new)) (turns_left records.old) }
         ensures same { S.is_same (source_of records.old) (source_of records.new) }
         ensures options { self.new.options ≡ self.old.options }
     {
-        for _turn in 0..u64::MAX {
+        loop {
             match records.next() {
                 Ok(Some((line, found))) => {
                     let is_accepted = match self.take(alloc, schema, line, found) {
@@ -95,7 +99,6 @@ impl<D: Directory + Drop> Run<D> {
                 Err(fault) => return Err(ended(fault)),
             }
         }
-        Err(ended(StreamFault::TooManyTurns))
     }
 
     /// Takes one record, and tells whether it is accepted.

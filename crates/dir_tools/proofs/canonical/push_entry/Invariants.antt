@@ -1,6 +1,6 @@
-use Rattle.std.proofs.Common.{◌≡◌, ◌++◌, codes}
+use Rattle.std.proofs.Common.{◌≡◌, ◌++◌}
 use Rattle.std.specs.List.{flat_map}
-use Rattle.dir_ldif.specs.RecordText.{name_line, value_text}
+use Rattle.dir_ldif.specs.RecordText.{value_text}
 use Rattle.dir_tree.specs.WellFormed.{all_lines, attribute_lines}
 use Rattle.dir_tools.proofs.canonical.push_entry.Given as goal
 

@@ -1,5 +1,9 @@
-use Rattle.std.proofs.Common.{◌∙◌, ap}
+use Rattle.std.proofs.Common.{◌∙◌, ap, subst, rules, Err}
+use Rattle.dir_ldif.specs.Reader.{source_of, turns_left}
+use Rattle.dir_tools.specs.Turns.{GaveAtLeast}
+use Rattle.dir_tools.proofs.CopyFaults.{blamed_read, finish_blamed}
 use Rattle.dir_tools.proofs.CopyLemmas.{holds_nothing, if_both, if_ok, read_order, read_whole}
+use Rattle.dir_tools.proofs.Turns.{long_text}
 use Rattle.dir_tools.proofs.copy.read_copy.Goals as goal
 
 pub returns-in-Ok-answer-clause-reads : goal.returns-in-Ok-answer-clause-reads
@@ -20,3 +24,20 @@ returns-in-Ok-answer-clause-sound g c =
     (holds_nothing g.D.Directory.state c.args.empty c.new-loading.result c.new-loading.ensures.directory c.new-loading.ensures.waiting bare)
     (both.0 ∙ c.in-Ok-answer.ensures.suffix ∙ ap (λ x. (g.D.Directory.state x).suffix) c.new-loading.ensures.directory) named both.1)
     (if_both _ _ c.finish.result c.finish.ensures.suffix c.finish.ensures.reads)
+
+pub returns-in-Ok-answer-clause-blamed : goal.returns-in-Ok-answer-clause-blamed
+returns-in-Ok-answer-clause-blamed g c =
+    finish_blamed g.D.Directory.state c.args.schema.now c.args.empty _ c.finish.result (g.R.Source.left c.args.copy.now) c.new-loading.result c.take_records-answer.new.self _ _
+    c.in-Ok.ensures.answers c.in-Ok-answer.ensures.reads
+    (holds_nothing g.D.Directory.state c.args.empty c.new-loading.result c.new-loading.ensures.directory c.new-loading.ensures.waiting)
+    c.finish.ensures.fault c.finish.ensures.cause
+
+pub returns-in-Err-answer-clause-blamed : goal.returns-in-Err-answer-clause-blamed
+returns-in-Err-answer-clause-blamed g c =
+    blamed_read g.D.Directory.state c.args.schema.now c.args.empty _ (g.R.Source.left c.args.copy.now) c.new-loading.result _ _ c.in-Err-answer.fault
+    c.in-Ok.ensures.answers
+    (holds_nothing g.D.Directory.state c.args.empty c.new-loading.result c.new-loading.ensures.directory c.new-loading.ensures.waiting)
+    (λ is. long_text (g.R.Source.left c.args.copy.now) _ (turns_left c.in-Ok.records) c.in-Ok.ensures.turns
+    (subst (λ s. GaveAtLeast (g.R.Source.left s.now) (g.R.Source.left (source_of c.take_records-answer.new.records).now) (turns_left c.in-Ok.records)) c.in-Ok.ensures.source.0
+    (c.take_records-answer.ensures.turns (c.in-Err-answer.is ∙ ap Err is))))
+    (search rules)

@@ -1,5 +1,4 @@
 use Rattle.std.proofs.Common.{◌≡◌, sym, ap, subst, ◌∙◌, Ok, Err, Some, IfOk, IfSome, Result}
-use Rattle.dir_names.specs.Keys.{DnKeys}
 use Rattle.dir_tree.specs.Dir.{Dir}
 use Rattle.dir_tree.specs.WellFormed.{IsWellFormed, IsWithinLimits}
 use Rattle.dir_tools.specs.declared.fault.ToolFault.{ToolFault}
@@ -7,8 +6,14 @@ use Rattle.dir_tools.specs.declared.modify.RunTexts.{RunTexts}
 use Rattle.dir_tools.specs.CopyOf.{copy_of}
 use Rattle.dir_tools.specs.Headline.{suffix_of}
 use Rattle.dir_tools.specs.Loading.{IsBare, IsNamed}
-use Rattle.dir_tools.proofs.TextLemmas.{blamed_so, named_suffix, read_so, told}
+use Rattle.dir_tools.proofs.TextLemmas.{blamed_so, copy_blamed_so, named_suffix, read_so, told}
 use Rattle.dir_tools.proofs.modify.make_texts.Goals as goal
+
+pub returns-in-Err-read_copy-clause-blamed : goal.returns-in-Err-read_copy-clause-blamed
+returns-in-Err-read_copy-clause-blamed g c =
+    let key : suffix_of c.args.schema.now c.args.suffix.now ≡ Some c.new.result.suffix = c.in-Ok.ensures.ok ∙ ap Some (sym (ap (λ (d : Dir). d.suffix) c.new.ensures)) in
+    let bare : IsBare c.new.result = ap (λ (d : Dir). d.entries) c.new.ensures in
+    copy_blamed_so c.args.schema.now c.args.suffix.now c.args.options (g.R.Source.left c.args.copy.now) (g.R2.Source.left c.args.changes.now) c.new.result _ _ c.in-Err-read_copy.fault key bare c.in-Err-read_copy.ensures.blamed
 
 pub returns-in-Err-take_all-clause-blamed : goal.returns-in-Err-take_all-clause-blamed
 returns-in-Err-take_all-clause-blamed g c =
@@ -19,7 +24,7 @@ returns-in-Err-take_all-clause-blamed g c =
     let bare : IsBare c.new.result = ap (λ (d : Dir). d.entries) c.new.ensures in
     let copy = g.R.Source.left c.args.copy.now in
     let reads : IfSome copy (λ text. copy_of c.args.schema.now c.new-run.result.directory.suffix text ≡ Ok c.new-run.result.directory) = read_so c.args.schema.now copy c.new.result.suffix c.in-Ok-read_copy.directory c.new-run.result.directory read begun (c.in-Ok-read_copy.ensures.reads bare) in
-    blamed_so (λ d. d) c.args.schema.now c.args.suffix.now c.args.options copy (g.R2.Source.left c.args.changes.now) c.new-run.result reads _ _ c.in-Err-take_all.fault c.new-run.ensures.6 key c.in-Err-take_all.ensures.blamed
+    blamed_so (λ d. d) c.args.schema.now c.args.suffix.now c.args.options copy (g.R2.Source.left c.args.changes.now) c.new-run.result reads _ _ c.in-Err-take_all.fault c.new-run.ensures.6 key (λ is. c.take_all.ensures.long (c.in-Err-take_all.is ∙ ap Err is)) c.in-Err-take_all.ensures.blamed
 
 pub returns-clause-ok : goal.returns-clause-ok
 returns-clause-ok g c =

@@ -1,4 +1,4 @@
-use Rattle.std.proofs.Common.{◌≡◌, [], Ok, Err, refl}
+use Rattle.std.proofs.Common.{[], Err, refl}
 use Rattle.dir_tools.specs.declared.modify.Summary.{Summary}
 use Rattle.dir_tools.specs.Written.{Tape, Texts}
 use Rattle.dir_tools.proofs.TextLemmas.{answers_write, dry_of, unwritten, written_so}

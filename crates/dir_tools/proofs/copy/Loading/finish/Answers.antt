@@ -1,33 +1,63 @@
-use Rattle.std.proofs.Common.{◌≡◌, rules, List, [], ◌∷◌, true, false, refl, sym, ap, subst, ◌∙◌}
+use Rattle.std.proofs.Common.{true, is_some, ◌≡◌, rules, None, [], ◌∷◌, sym, subst, ◌∙◌}
 use Rattle.std.specs.List.Sorted.{IsStrictlySortedBy}
 use Rattle.std.specs.Map.{keys_of}
-use Rattle.dir_names.specs.Keys.{DnKeys}
 use Rattle.dir_names.specs.Orders.{dn_key_cmp}
-use Rattle.dir_tools.specs.declared.copy.Waiting.{Waiting}
-use Rattle.dir_tools.specs.Loading.{IsMadeOf}
-use Rattle.dir_tools.proofs.CopyLemmas.{absent_later, made_put, made_whole, not_none, ordered_later, put_there, waits}
+use Rattle.dir_tree.specs.Dir.{entry_at}
+use Rattle.dir_tools.specs.CopyOf.{whole}
+use Rattle.dir_tools.specs.Loading.{IsFaultOf}
+use Rattle.dir_tools.proofs.CopyLemmas.{none_so, not_none, put_alone, put_there}
+use Rattle.dir_tools.proofs.Orphans.{IsSplit, absent_later, ordered_later, place_free, split_broken, split_orphan, split_put, split_whole, waits}
 use Rattle.dir_tools.proofs.copy.Loading.finish.Goals as goal
+
+pub returns-then-is_some-clause-cause : goal.returns-then-is_some-clause-cause
+returns-then-is_some-clause-cause g c m was =
+    let steps : c.loop-key.key-iterator ≡ (c.in-Some.key, c.in-Some.waiting) ∷ c.next.new.self = c.in-Some.ensures.steps in
+    let d = g.D.Directory.state c.loop-key.directory in
+    let split = subst (λ es. IsSplit m (waits es) c.loop-key.orphans.keys c.loop-key.orphans.first d) steps (c.loop-key.invariant.2 m was) in
+    let free : entry_at d c.in-Some.key ≡ None = place_free m c.loop-key.orphans.keys c.loop-key.orphans.first d c.in-Some.key c.in-Some.waiting c.next.new.self split in
+    let there : is_some c.get.result ≡ true = sym c.if-is_some.ensures in
+    absurd (not_none c.get.result there (none_so c.get.result (c.get.ensures ∙ free)))
 
 pub loop-key-preserved-in_ok-add : goal.loop-key-preserved-in_ok-add
 loop-key-preserved-in_ok-add g c =
     let steps : c.loop-key.key-iterator ≡ (c.in-Some.key, c.in-Some.waiting) ∷ c.next.new.self = c.in-Some.ensures.steps in
     let ordered = subst (λ es. IsStrictlySortedBy dn_key_cmp (keys_of es)) steps c.loop-key.invariant.1 in
-    (search rules, ordered_later c.in-Some.key c.in-Some.waiting c.next.new.self ordered, λ none. absurd (not_none _ c.in_ok-add.ensures.some none))
+    let d = g.D.Directory.state c.loop-key.directory in
+    let d' = g.D.Directory.state c.put.new.directory in
+    let put = put_alone c.in-Some.key c.in-Some.waiting.entry d d' c.in_ok-put.field-0 c.in_ok-put.ensures.put (sym c.if-is_some-2.ensures) in (
+      search rules,
+      ordered_later c.in-Some.key c.in-Some.waiting c.next.new.self ordered,
+      λ m was. subst (IsSplit m (waits c.next.new.self) c.add.new.self.keys c.add.new.self.first) (sym put.1)
+          (split_orphan m c.loop-key.orphans.keys c.add.new.self.keys c.loop-key.orphans.first c.add.new.self.first d c.in-Some.key c.in-Some.waiting c.next.new.self
+          ordered put.0 c.in_ok-add.ensures.keys.0 c.in_ok-add.ensures.first
+          (subst (λ es. IsSplit m (waits es) c.loop-key.orphans.keys c.loop-key.orphans.first d) steps (c.loop-key.invariant.2 m was))),
+    )
 
 pub loop-key-preserved : goal.loop-key-preserved
 loop-key-preserved g c =
     let steps : c.loop-key.key-iterator ≡ (c.in-Some.key, c.in-Some.waiting) ∷ c.next.new.self = c.in-Some.ensures.steps in
     let ordered = subst (λ es. IsStrictlySortedBy dn_key_cmp (keys_of es)) steps c.loop-key.invariant.1 in
-    let put = put_there c.in-Some.key c.in-Some.waiting.entry (g.D.Directory.state c.loop-key.directory) (g.D.Directory.state c.put.new.directory) c.in_ok-put.field-0 c.in_ok-put.ensures.put (sym c.if-is_some-2.ensures) in (
+    let d = g.D.Directory.state c.loop-key.directory in
+    let d' = g.D.Directory.state c.put.new.directory in
+    let put = put_there c.in-Some.key c.in-Some.waiting.entry d d' c.in_ok-put.field-0 c.in_ok-put.ensures.put (sym c.if-is_some-2.ensures) in (
       search rules,
       ordered_later c.in-Some.key c.in-Some.waiting c.next.new.self ordered,
-      λ none d was. made_put d (g.D.Directory.state c.loop-key.directory) (g.D.Directory.state c.put.new.directory) c.in-Some.key c.in-Some.waiting c.next.new.self
+      λ m was. split_put m c.loop-key.orphans.keys c.loop-key.orphans.first d d' c.in-Some.key c.in-Some.waiting c.next.new.self
           (absent_later c.in-Some.key c.in-Some.waiting c.next.new.self ordered) put.0 put.1
-          (subst (λ es. IsMadeOf d (waits es) (g.D.Directory.state c.loop-key.directory)) steps (c.loop-key.invariant.2 none d was)),
+          (subst (λ es. IsSplit m (waits es) c.loop-key.orphans.keys c.loop-key.orphans.first d) steps (c.loop-key.invariant.2 m was)),
     )
+
+pub returns-in-Some-first-clause-cause : goal.returns-in-Some-first-clause-cause
+returns-in-Some-first-clause-cause g c m was =
+    let d = g.D.Directory.state c.loop-key.directory in
+    let ended : c.loop-key.key-iterator ≡ [] = search rules in
+    let split = subst (λ o. IsSplit m (waits []) c.loop-key.orphans.keys o d) c.in-Some-first.is
+    (subst (λ es. IsSplit m (waits es) c.loop-key.orphans.keys c.loop-key.orphans.first d) ended (c.loop-key.invariant.2 m was)) in
+    subst (IsFaultOf (whole m)) (sym c.refused-in-Some-first.ensures) (split_broken m c.loop-key.orphans.keys c.in-Some-first.line d split)
 
 pub returns-in-None-first-clause-reads : goal.returns-in-None-first-clause-reads
 returns-in-None-first-clause-reads g c m was =
     let d = g.D.Directory.state c.loop-key.directory in
     let ended : c.loop-key.key-iterator ≡ [] = search rules in
-    made_whole m d (subst (λ es. IsMadeOf m.entries (waits es) d) ended (c.loop-key.invariant.2 c.in-None-first.is m.entries was))
+    split_whole m c.loop-key.orphans.keys d (subst (λ o. IsSplit m (waits []) c.loop-key.orphans.keys o d) c.in-None-first.is
+    (subst (λ es. IsSplit m (waits es) c.loop-key.orphans.keys c.loop-key.orphans.first d) ended (c.loop-key.invariant.2 m was)))

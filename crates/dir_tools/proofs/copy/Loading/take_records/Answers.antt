@@ -1,40 +1,66 @@
-use Rattle.std.proofs.Common.{◌≡◌, rules, refl, subst, Ok}
+use Rattle.std.proofs.Common.{◌∙◌, rules, refl, sym, subst, Ok}
 use Rattle.dir_ldif.specs.Next.{GivesFirst, GivesNone}
-use Rattle.dir_ldif.specs.Reader.{schema_of, to_give}
+use Rattle.dir_ldif.specs.Reader.{IsReading, schema_of, source_of, to_give}
 use Rattle.dir_ldif.specs.SoundFound.{IsSoundFound}
+use Rattle.dir_tools.specs.Loading.{StopsLoading}
+use Rattle.dir_tools.proofs.CopyFaults.{copy_long, loads_blamed, stops_at}
 use Rattle.dir_tools.proofs.CopyLemmas.{loads_begun, loads_further, loads_out, order_out}
+use Rattle.dir_tools.proofs.Turns.{err_same, fault_none, reads_on, some_none, spends_more, spends_none}
 use Rattle.dir_tools.proofs.copy.Loading.take_records.Goals as goal
 
-pub loop-turn-init : goal.loop-turn-init
-loop-turn-init g c = (
+pub loop-line-init : goal.loop-line-init
+loop-line-init g c = (
   refl,
   (λ ended. cc),
   c.requires.schema,
   refl,
   g.met.S.Source.same_refl _,
   loads_begun g.D.Directory.state c.args.schema.now (to_give g.S.Source.left c.args.records.now) c.args.self.now,
+  (λ _. spends_none g.S.Source.left c.args.records.now),
 )
 
 pub returns-in-Ok-None-clause-reads : goal.returns-in-Ok-None-clause-reads
 returns-in-Ok-None-clause-reads g c =
-    let none : GivesNone (to_give g.S.Source.left c.loop-turn.records) = search rules in
-    loads_out g.D.Directory.state c.args.schema.now (to_give g.S.Source.left c.args.records.now) (to_give g.S.Source.left c.loop-turn.records) c.args.self.now c.loop-turn.self none c.loop-turn.invariant.5
+    let none : GivesNone (to_give g.S.Source.left c.loop-line.records) = search rules in
+    loads_out g.D.Directory.state c.args.schema.now (to_give g.S.Source.left c.args.records.now) (to_give g.S.Source.left c.loop-line.records) c.args.self.now c.loop-line.self none c.loop-line.invariant.5
 
 pub returns-in-Ok-None-clause-order : goal.returns-in-Ok-None-clause-order
 returns-in-Ok-None-clause-order g c =
-    order_out g.D.Directory.state c.args.schema.now (to_give g.S.Source.left c.args.records.now) (to_give g.S.Source.left c.loop-turn.records) c.args.self.now c.loop-turn.self c.loop-turn.invariant.5
+    order_out g.D.Directory.state c.args.schema.now (to_give g.S.Source.left c.args.records.now) (to_give g.S.Source.left c.loop-line.records) c.args.self.now c.loop-line.self c.loop-line.invariant.5
 
-pub loop-turn-preserved : goal.loop-turn-preserved
-loop-turn-preserved g c =
-    let inv = c.loop-turn.invariant in
-    let given : IsSoundFound (schema_of c.loop-turn.records) (c.in-Ok-Some.line, c.in-Ok-Some.found) = search rules in
+pub loop-line-preserved : goal.loop-line-preserved
+loop-line-preserved g c =
+    let inv = c.loop-line.invariant in
+    let given : IsSoundFound (schema_of c.loop-line.records) (c.in-Ok-Some.line, c.in-Ok-Some.found) = search rules in
     let sound : IsSoundFound c.args.schema.now (c.in-Ok-Some.line, c.in-Ok-Some.found) = subst (λ rows. IsSoundFound rows (c.in-Ok-Some.line, c.in-Ok-Some.found)) inv.2 given in
-    let gives : GivesFirst (Ok (c.in-Ok-Some.line, c.in-Ok-Some.found)) (to_give g.S.Source.left c.loop-turn.records) (to_give g.S.Source.left c.next.new.self) = search rules in (
+    let gives : GivesFirst (Ok (c.in-Ok-Some.line, c.in-Ok-Some.found)) (to_give g.S.Source.left c.loop-line.records) (to_give g.S.Source.left c.next.new.self) = search rules in
+    let was_reading : IsReading c.loop-line.records = reads_on c.loop-line.records inv.1 (λ at_end. some_none c.next.result c.in-Ok-Some.field-0 (c.in-Ok-Some.line, c.in-Ok-Some.found) c.in-Ok-Some.is c.in-Ok-Some.field-0-is (c.next.ensures.at_end at_end)) in (
       search rules,
       search rules,
       search rules,
       search rules,
       g.met.S.Source.same_trans _ _ _ inv.4 c.next.ensures.same,
-      loads_further g.D.Directory.state c.args.schema.now (c.in-Ok-Some.line, c.in-Ok-Some.found) _ (to_give g.S.Source.left c.loop-turn.records) (to_give g.S.Source.left c.next.new.self) c.args.self.now c.loop-turn.self c.take.new.self
+      loads_further g.D.Directory.state c.args.schema.now (c.in-Ok-Some.line, c.in-Ok-Some.found) _ (to_give g.S.Source.left c.loop-line.records) (to_give g.S.Source.left c.next.new.self) c.args.self.now c.loop-line.self c.take.new.self
           sound c.in_default.ensures.reads gives inv.5,
+      (λ reading. spends_more g.S.Source.left c.args.records.now c.loop-line.records c.next.new.self (inv.6 was_reading) (c.in-Ok-Some.ensures.turns reading)),
     )
+
+pub returns-in-Err-take-clause-blamed : goal.returns-in-Err-take-clause-blamed
+returns-in-Err-take-clause-blamed g c =
+    let gives : GivesFirst (Ok (c.in-Ok-Some.line, c.in-Ok-Some.found)) (to_give g.S.Source.left c.loop-line.records) (to_give g.S.Source.left c.next.new.self) = search rules in
+    stops_at g.D.Directory.state c.args.schema.now (c.in-Ok-Some.line, c.in-Ok-Some.found) _ (to_give g.S.Source.left c.loop-line.records) (to_give g.S.Source.left c.next.new.self) c.args.self.now c.loop-line.self _ _ c.in-Err-take.fault
+    c.in-Err-take.ensures.fault c.in-Err-take.ensures.cause gives c.loop-line.invariant.5
+
+pub returns-in-Err-clause-blamed : goal.returns-in-Err-clause-blamed
+returns-in-Err-clause-blamed g c =
+    let inv = c.loop-line.invariant in
+    subst (StopsLoading g.D.Directory.state c.args.schema.now (to_give g.S.Source.left c.args.records.now) (g.S.Source.failures (source_of c.args.records.now)) (g.S.Source.failures (source_of c.next.new.self)) c.args.self.now)
+    (sym c.ended.ensures)
+    (loads_blamed g.D.Directory.state c.args.schema.now g.S.Source.left g.S.Source.failures c.in-Err.fault _ _ c.loop-line.records c.next.new.self c.args.self.now c.loop-line.self
+    inv.1 inv.3 c.in-Err.ensures.err.0 inv.5)
+
+pub returns-in-Err-clause-turns : goal.returns-in-Err-clause-turns
+returns-in-Err-clause-turns g c is =
+    let inv = c.loop-line.invariant in
+    let was_reading : IsReading c.loop-line.records = reads_on c.loop-line.records inv.1 (λ at_end. fault_none c.next.result c.in-Err.fault c.in-Err.is (c.next.ensures.at_end at_end)) in
+    copy_long g.S.Source.left g.S.Source.failures c.in-Err.fault c.args.records.now c.loop-line.records c.next.new.self (sym c.ended.ensures ∙ err_same is) (inv.6 was_reading) c.in-Err.ensures.err.0

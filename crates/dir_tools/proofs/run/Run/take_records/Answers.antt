@@ -1,48 +1,51 @@
-use Rattle.std.proofs.Common.{◌≡◌, refl, sym, ap, subst, ◌∙◌, true, false, Ok, rules}
+use Rattle.std.proofs.Common.{◌≡◌, sym, subst, true, false, Ok, rules, ◌∙◌}
 use Rattle.dir_ldif.specs.Next.{GivesFirst}
-use Rattle.dir_ldif.specs.Reader.{schema_of, source_of, to_give}
+use Rattle.dir_ldif.specs.Reader.{IsReading, schema_of, source_of, to_give}
 use Rattle.dir_ldif.specs.SoundFound.{IsSoundFound}
 use Rattle.dir_tools.specs.Running.{ChangesBlamed}
-use Rattle.dir_tools.proofs.RunLemmas.{runs_begun, runs_blamed, runs_further, runs_stopped}
+use Rattle.dir_tools.proofs.RunLemmas.{changes_long, runs_begun, runs_blamed, runs_further, runs_stopped}
 use Rattle.dir_tools.proofs.run.Run.take_records.Goals.{else-not-is_accepted-via-then-not-is_accepted+else-not-self, else-not-is_accepted-via-else-not-is_accepted}
+use Rattle.dir_tools.proofs.Turns.{err_same, fault_none, reads_on, some_none, spends_more, spends_none}
 use Rattle.dir_tools.proofs.run.Run.take_records.Goals as goal
 
 pub returns-then-not-self-clause-ok : goal.returns-then-not-self-clause-ok
 returns-then-not-self-clause-ok g c =
-    let inv = c.loop-turn.invariant in
+    let inv = c.loop-line.invariant in
     let off : c.args.self.now.options.go_on ≡ false = cc in
-    let gives : GivesFirst (Ok (c.in-Ok-Some.line, c.in-Ok-Some.found)) (to_give g.S.Source.left c.loop-turn.records) (to_give g.S.Source.left c.next.new.self) = search rules in
-    runs_stopped g.D.Directory.state c.args.schema.now c.in-Ok.is_accepted (c.in-Ok-Some.line, c.in-Ok-Some.found) _ (to_give g.S.Source.left c.loop-turn.records) (to_give g.S.Source.left c.next.new.self) c.args.self.now c.loop-turn.self c.take.new.self
+    let gives : GivesFirst (Ok (c.in-Ok-Some.line, c.in-Ok-Some.found)) (to_give g.S.Source.left c.loop-line.records) (to_give g.S.Source.left c.next.new.self) = search rules in
+    runs_stopped g.D.Directory.state c.args.schema.now c.in-Ok.is_accepted (c.in-Ok-Some.line, c.in-Ok-Some.found) _ (to_give g.S.Source.left c.loop-line.records) (to_give g.S.Source.left c.next.new.self) c.args.self.now c.loop-line.self c.take.new.self
     c.if-not-is_accepted.true off c.in-Ok.ensures.ok gives inv.6
 
 pub returns-in-Err-clause-blamed : goal.returns-in-Err-clause-blamed
 returns-in-Err-clause-blamed g c =
-    let inv = c.loop-turn.invariant in
+    let inv = c.loop-line.invariant in
     subst (λ e. ChangesBlamed g.D.Directory.state c.args.schema.now (to_give g.S.Source.left c.args.records.now) (g.S.Source.failures (source_of c.args.records.now)) (g.S.Source.failures (source_of c.next.new.self)) c.args.self.now e)
     (sym c.ended.ensures)
-    (runs_blamed g.D.Directory.state c.args.schema.now g.S.Source.left g.S.Source.failures c.in-Err.fault _ _ c.loop-turn.records c.next.new.self c.args.self.now c.loop-turn.self
+    (runs_blamed g.D.Directory.state c.args.schema.now g.S.Source.left g.S.Source.failures c.in-Err.fault _ _ c.loop-line.records c.next.new.self c.args.self.now c.loop-line.self
     inv.1 inv.4 c.in-Err.ensures.err.0 inv.6)
 
-pub loop-turn-preserved : goal.loop-turn-preserved
-loop-turn-preserved g c =
-    let inv = c.loop-turn.invariant in
-    let gives : GivesFirst (Ok (c.in-Ok-Some.line, c.in-Ok-Some.found)) (to_give g.S.Source.left c.loop-turn.records) (to_give g.S.Source.left c.next.new.self) = search rules in
+pub loop-line-preserved : goal.loop-line-preserved
+loop-line-preserved g c =
+    let inv = c.loop-line.invariant in
+    let gives : GivesFirst (Ok (c.in-Ok-Some.line, c.in-Ok-Some.found)) (to_give g.S.Source.left c.loop-line.records) (to_give g.S.Source.left c.next.new.self) = search rules in
     let on : c.in-Ok.is_accepted ≡ false → c.args.self.now.options.go_on ≡ true =
     elim c.else-not-is_accepted.branch [ else-not-is_accepted-via-then-not-is_accepted+else-not-self w ↦ (λ _. cc) | else-not-is_accepted-via-else-not-is_accepted w ↦ (λ e. absurd (cc)) ] in
-    let given : IsSoundFound (schema_of c.loop-turn.records) (c.in-Ok-Some.line, c.in-Ok-Some.found) = search rules in
-    let sound : IsSoundFound c.args.schema.now (c.in-Ok-Some.line, c.in-Ok-Some.found) = subst (λ rows. IsSoundFound rows (c.in-Ok-Some.line, c.in-Ok-Some.found)) inv.2 given in (
+    let given : IsSoundFound (schema_of c.loop-line.records) (c.in-Ok-Some.line, c.in-Ok-Some.found) = search rules in
+    let sound : IsSoundFound c.args.schema.now (c.in-Ok-Some.line, c.in-Ok-Some.found) = subst (λ rows. IsSoundFound rows (c.in-Ok-Some.line, c.in-Ok-Some.found)) inv.2 given in
+    let was_reading : IsReading c.loop-line.records = reads_on c.loop-line.records inv.1 (λ at_end. some_none c.next.result c.in-Ok-Some.field-0 (c.in-Ok-Some.line, c.in-Ok-Some.found) c.in-Ok-Some.is c.in-Ok-Some.field-0-is (c.next.ensures.at_end at_end)) in (
       search rules,
       search rules,
       search rules,
       search rules,
       search rules,
       g.met.S.Source.same_trans _ _ _ inv.5 c.next.ensures.same,
-      runs_further g.D.Directory.state c.args.schema.now c.in-Ok.is_accepted (c.in-Ok-Some.line, c.in-Ok-Some.found) _ (to_give g.S.Source.left c.loop-turn.records) (to_give g.S.Source.left c.next.new.self) c.args.self.now c.loop-turn.self c.take.new.self
+      runs_further g.D.Directory.state c.args.schema.now c.in-Ok.is_accepted (c.in-Ok-Some.line, c.in-Ok-Some.found) _ (to_give g.S.Source.left c.loop-line.records) (to_give g.S.Source.left c.next.new.self) c.args.self.now c.loop-line.self c.take.new.self
           on sound c.in-Ok.ensures.ok gives inv.6,
+      (λ reading. spends_more g.S.Source.left c.args.records.now c.loop-line.records c.next.new.self (inv.7 was_reading) (c.in-Ok-Some.ensures.turns reading)),
     )
 
-pub loop-turn-init : goal.loop-turn-init
-loop-turn-init g c = (
+pub loop-line-init : goal.loop-line-init
+loop-line-init g c = (
   search rules,
   (λ ended. cc),
   search rules,
@@ -50,4 +53,11 @@ loop-turn-init g c = (
   search rules,
   g.met.S.Source.same_refl _,
   runs_begun g.D.Directory.state c.args.schema.now (to_give g.S.Source.left c.args.records.now) c.args.self.now,
+  (λ _. spends_none g.S.Source.left c.args.records.now),
 )
+
+pub returns-in-Err-clause-turns : goal.returns-in-Err-clause-turns
+returns-in-Err-clause-turns g c is =
+    let inv = c.loop-line.invariant in
+    let was_reading : IsReading c.loop-line.records = reads_on c.loop-line.records inv.1 (λ at_end. fault_none c.next.result c.in-Err.fault c.in-Err.is (c.next.ensures.at_end at_end)) in
+    changes_long g.S.Source.left g.S.Source.failures c.in-Err.fault c.args.records.now c.loop-line.records c.next.new.self (sym c.ended.ensures ∙ err_same is) (inv.7 was_reading) c.in-Err.ensures.err.0

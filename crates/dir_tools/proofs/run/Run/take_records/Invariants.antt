@@ -1,16 +1,20 @@
-use Rattle.std.proofs.Common.{◌≡◌}
-use Rattle.dir_ldif.specs.Reader.{IsEnded, schema_of, source_of, to_give}
+use Rattle.std.proofs.Common.{◌≡◌, ◌+◌, ◌≤◌}
+use Rattle.dir_ldif.specs.Reader.{IsEnded, IsReading, SpendsTurns, budget, schema_of, source_of, to_give}
 use Rattle.dir_tools.specs.Running.{room}
 use Rattle.dir_tools.proofs.RunLemmas.{RunsSoFar}
 use Rattle.dir_tools.proofs.run.Run.take_records.Given as goal
 
-abbrev pub invariant-loop-turn : goal.invariant-loop-turn
-invariant-loop-turn g l =
+abbrev pub invariant-loop-line : goal.invariant-loop-line
+invariant-loop-line g l =
     let first = l.initial.self in
     (l.self.options ≡ first.options)
     × (IsEnded l.records → ⊥)
     × (schema_of l.records ≡ l.schema)
-    × (room l.self ≡ l._turn)
+    × (room l.self + budget l.records ≤ budget l.initial.records)
     × (g.S.Source.failures (source_of l.records) ≡ g.S.Source.failures (source_of l.initial.records))
     × (g.S.Source.is_same (source_of l.initial.records) (source_of l.records))
     × RunsSoFar g.D.Directory.state l.schema (to_give g.S.Source.left l.initial.records) (to_give g.S.Source.left l.records) first l.self
+    × (IsReading l.records → SpendsTurns g.S.Source.left l.initial.records l.records)
+
+abbrev pub decreases-loop-line : goal.decreases-loop-line
+decreases-loop-line g l = budget l.records

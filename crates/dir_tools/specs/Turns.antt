@@ -1,0 +1,12 @@
+-- What it says of a text that its reader had no read call left.
+use Rattle.std.specs.Prelude.{ℕ, ◌≤◌, List, length, Option}
+use Rattle.std.specs.Io.KnownBytes.{Consumes}
+use Rattle.dir_ldif.specs.declared.reader.TheConstants.{MAX_TURNS}
+
+-- the source gave at least so many bytes
+abbrev pub GaveAtLeast : Option (List ℕ) → Option (List ℕ) → ℕ → Type 0
+GaveAtLeast left left' n = (bytes : List ℕ) × Consumes left left' bytes × (n ≤ length bytes)
+
+-- a text of a byte or more for each read call of a reader
+abbrev pub IsLong : List ℕ → Type 0
+IsLong text = MAX_TURNS ≤ length text
