@@ -101,7 +101,7 @@ abbrev pub AreInOrder : List TypeRow → Dir → Type 0
 AreInOrder rows d = (k : DnKeys) (e : Content) → entry_at d k ≡ Some e → IsInOrder rows d.suffix k e
 
 module _ {D : Type 0} where
-  -- the entries of the records so far stand or wait
+  -- the entries of the records so far stand, or wait with the lines of their records
   abbrev pub Holds : (D → Dir) → Loaded → Loading D → Type 0
   Holds state m loading =
       IsMadeOf m.entries (get dn_key_cmp loading.waiting) (state loading.directory) × AllWait m (get dn_key_cmp loading.waiting) (state loading.directory)
