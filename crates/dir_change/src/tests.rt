@@ -1,4 +1,7 @@
-use crate::{History, Refusal, ResultCode, apply, runs_are_taken_back, undo_texts_read_back};
+use crate::{
+    History, Refusal, ResultCode, apply, runs_are_taken_back, runs_stay_in_order,
+    undo_texts_read_back,
+};
 use dir_ldif::{Change, Record, read_all};
 use dir_names::{Dn, Schema};
 use dir_tree::{Directory, FlatDirectory};
@@ -90,6 +93,7 @@ fn adds_are_taken_back_by_deletes_the_last_first(rt: HostRuntime) -> Result<(), 
     }
     assert!(rt; directory.walk()?.is_empty());
     runs_are_taken_back();
+    runs_stay_in_order();
     undo_texts_read_back();
     Ok(())
 }

@@ -166,8 +166,7 @@ fn a_record_comes_before_the_next_read(rt: HostRuntime) -> Result<(), Fail> {
     };
     let mut reader = RecordReader::new(alloc, &schema, &mut source)?;
     assert!(rt; matches!(reader.next(), Ok(Some((1, Ok(_))))));
-    drop(reader);
-    assert_eq!(rt; source.calls, 1);
+    assert_eq!(rt; reader.into_source().calls, 1);
     let reader = RecordReader::new(alloc, &schema, Script::new(text).failing_from(2))?;
     assert_eq!(rt;
         shown_records(&rt, alloc, reader).as_str(),

@@ -1,4 +1,5 @@
 use super::{GO_ON, Ran, STOP, Want, assert_text, assert_wrote, run_over};
+use crate::{canonical_texts_read_back, written_runs_are_taken_back};
 use std::alloc::Global;
 use std::process::Abort;
 use std::test::Fail;
@@ -37,6 +38,8 @@ fn the_first_entry_of_a_directory_is_taken_back(rt: HostRuntime) -> Result<(), F
             report: "accepted 1, refused 0\n",
         },
     );
+    canonical_texts_read_back();
+    written_runs_are_taken_back();
     Ok(())
 }
 
