@@ -3,7 +3,7 @@
 
 For each size it writes a copy of N inetOrgPerson-like entries and a text of M changes (half of them add an
 entry, half delete one), runs the program, and prints its CPU time and peak memory, also as ratios: to the CPU
-time of `sha256sum` over the same copy, and to the copy's size.
+time of `sha256sum` over the same copy, and to the copy's size. Each figure is the least of three runs.
 
     bench/bench.py [--program PATH] [--size N]... [--changes M]
 """
@@ -90,17 +90,21 @@ def run(command, allowed=(0,)):
     return cpu, usage.ru_maxrss * 1024, text.decode()
 
 
+def modify(program, copy, out, undo, changes):
+    for path in (out, undo):
+        if os.path.exists(path):
+            os.remove(path)
+    return run([program, "slapmodify", "-b", "dc=example,dc=com", "--data", copy, "--out", out, "--undo", undo, "-l", changes])
+
+
 def measure(program, n, m, folder):
     copy, changes = os.path.join(folder, "copy.ldif"), os.path.join(folder, "changes.ldif")
     out, undo = os.path.join(folder, "new.ldif"), os.path.join(folder, "undo.ldif")
     write_copy(copy, n)
     write_changes(changes, n, m)
     size = os.path.getsize(copy)
-    for path in (out, undo):
-        if os.path.exists(path):
-            os.remove(path)
     hashed = min(run(["sha256sum", copy])[0] for _ in range(3))
-    cpu, memory, report = run([program, "slapmodify", "-b", "dc=example,dc=com", "--data", copy, "--out", out, "--undo", undo, "-l", changes])
+    cpu, memory, report = min(modify(program, copy, out, undo, changes) for _ in range(3))
     print(
         f"{n} entries, {size / 1e6:.1f} MB ({size // n} bytes an entry), {m} changes: "
         f"{cpu:.2f} s CPU = {cpu / hashed:.1f} x sha256sum ({hashed:.2f} s), "
