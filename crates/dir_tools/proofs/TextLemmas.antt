@@ -8,6 +8,7 @@ use Rattle.dir_ldif.specs.declared.faults.StreamFault.TheVariants as stream
 use Rattle.dir_ldif.specs.Records.{records_of}
 use Rattle.dir_tree.specs.Dir.{Dir}
 use Rattle.dir_change.specs.UndoText.{undo_text_of}
+use Rattle.dir_tools.specs.declared.fault.Input.TheVariants as input
 use Rattle.dir_tools.specs.declared.fault.Output.TheVariants as to
 use Rattle.dir_tools.specs.declared.fault.ToolFault.{ToolFault}
 use Rattle.dir_tools.specs.declared.fault.ToolFault.TheVariants as tool
@@ -61,7 +62,9 @@ named_suffix rows text k = by (name_read text)
 pub copy_blamed_so : (rows : List TypeRow) (suffix : List ℕ) (options : ModifyOptions) (copy left : Option (List ℕ)) (empty : Dir) (failures failures' : ℕ) (fault : ToolFault)
     → suffix_of rows suffix ≡ Some empty.suffix → IsBare empty → CopyBlamed rows empty copy failures failures' fault → Blames rows suffix options copy left fault
 copy_blamed_so rows suffix options copy left empty failures failures' (tool.BadCopy line why) key bare h = (empty.suffix, key, h bare)
-copy_blamed_so rows suffix options copy left empty failures failures' (tool.Read input) key bare h = tt
+copy_blamed_so rows suffix options copy left empty failures failures' (tool.Read input.Copy) key bare h = tt
+copy_blamed_so rows suffix options copy left empty failures failures' (tool.Read input.Changes) key bare h = absurd (h)
+copy_blamed_so rows suffix options copy left empty failures failures' (tool.Read input.Config) key bare h = absurd (h)
 copy_blamed_so rows suffix options copy left empty failures failures' tool.Memory key bare h = tt
 copy_blamed_so rows suffix options copy left empty failures failures' (tool.Write output) key bare h = absurd (h)
 copy_blamed_so rows suffix options copy left empty failures failures' (tool.BadQuestion item) key bare h = absurd (h)
@@ -90,7 +93,9 @@ module _ {D : Type 0} (state : D → Dir) (rows : List TypeRow) (suffix : List �
   blamed_so failures failures' (tool.BadChanges stream.Read) same key long h = absurd (h)
   blamed_so failures failures' (tool.BadChanges stream.Memory) same key long h = absurd (h)
   blamed_so failures failures' (tool.BadChanges stream.Ended) same key long h = absurd (h)
-  blamed_so failures failures' (tool.Read input) same key long h = tt
+  blamed_so failures failures' (tool.Read input.Changes) same key long h = tt
+  blamed_so failures failures' (tool.Read input.Copy) same key long h = absurd (h)
+  blamed_so failures failures' (tool.Read input.Config) same key long h = absurd (h)
   blamed_so failures failures' tool.Memory same key long h = tt
   blamed_so failures failures' (tool.BadCopy line why) same key long h = absurd (h)
   blamed_so failures failures' (tool.Write output) same key long h = absurd (h)
@@ -141,7 +146,8 @@ module _ {D : Type 0} (state : D → Dir) (rows : List TypeRow) (suffix : List �
             (subst (λ (o : ModifyOptions). IfSome (option_map (records_of rows) left) (λ answers. run_of rows o.go_on (state begun.directory) answers ≡ Ok ran)) starts.6 over.3),
         refl,
         (ap (λ (n : Summary). n.accepted) made.1 ∙ accepted, ap (λ (n : Summary). n.refused) made.1 ∙ refused),
-        λ go_on. law rows (state begun.directory) ran options.verbose go_on well within over.2,
+        (law rows (state begun.directory) ran options.verbose well within over.2).0,
+        (law rows (state begun.directory) ran options.verbose well within over.2).1,
       ),
     )
 
@@ -198,7 +204,9 @@ pub unwritten : (A : Type 0) (rows : List TypeRow) (suffix : List ℕ) (options 
     → Written {A = A} options.dry (Err fault) s u o w × Answers rows suffix options copy left (Err fault) s
 unwritten A rows suffix options copy left s (tool.Write output) u o w h a b c = absurd (h)
 unwritten A rows suffix options copy left s (tool.BadCopy line why) u o w h a b c = ((a, b, c), h)
-unwritten A rows suffix options copy left s (tool.Read input) u o w h a b c = ((a, b, c), h)
+unwritten A rows suffix options copy left s (tool.Read input.Copy) u o w h a b c = ((a, b, c), h)
+unwritten A rows suffix options copy left s (tool.Read input.Changes) u o w h a b c = ((a, b, c), h)
+unwritten A rows suffix options copy left s (tool.Read input.Config) u o w h a b c = absurd (h)
 unwritten A rows suffix options copy left s tool.Memory u o w h a b c = ((a, b, c), h)
 unwritten A rows suffix options copy left s (tool.BadQuestion item) u o w h a b c = ((a, b, c), h)
 unwritten A rows suffix options copy left s (tool.BadChanges fault) u o w h a b c = ((a, b, c), h)

@@ -1,5 +1,6 @@
 -- What a run answers and writes, and that it is taken back.
-use Rattle.std.specs.Prelude.{◌≡◌, ℕ, Bool, List, [], ◌∷◌, length, IfSome, Option, Some, None, Result, Ok, Err, ⊤}
+use Rattle.std.specs.Prelude.{◌≡◌, ℕ, Bool, List, [], ◌∷◌, length, map, reverse, IfSome, Option, Some, None, Result, Ok, Err, ⊤}
+use Rattle.std.specs.List.{flat_map}
 use Rattle.dir_names.specs.declared.schema.TypeRow.{TypeRow}
 use Rattle.dir_names.specs.Keys.{DnKeys}
 use Rattle.dir_names.specs.declared.fault.NameFault.{NameFault}
@@ -8,6 +9,9 @@ use Rattle.dir_names.specs.NameKeys.{name_key}
 use Rattle.dir_names.specs.Reading.{name_read}
 use Rattle.dir_ldif.specs.declared.faults.StreamFault.{StreamFault}
 use Rattle.dir_ldif.specs.declared.faults.StreamFault.TheVariants as stream
+use Rattle.dir_ldif.specs.declared.records.Change.{Change}
+use Rattle.dir_ldif.specs.declared.records.Record.TheVariants as form
+use Rattle.dir_ldif.specs.Laws.{without_line}
 use Rattle.dir_ldif.specs.Records.{records_of}
 use Rattle.dir_tree.specs.Dir.{Dir}
 use Rattle.dir_tree.specs.WellFormed.{IsWellFormed, IsWithinLimits}
@@ -21,6 +25,7 @@ use Rattle.dir_tools.specs.Report.{modify_report_of}
 use Rattle.dir_tools.specs.Turns.{IsLong}
 use Rattle.dir_tools.specs.Written.{Texts}
 use Rattle.dir_tools.specs.declared.fault.Cause.{Cause}
+use Rattle.dir_tools.specs.declared.fault.Input.TheVariants as input
 use Rattle.dir_tools.specs.declared.fault.Item.TheVariants as item
 use Rattle.dir_tools.specs.declared.fault.ToolFault.{ToolFault}
 use Rattle.dir_tools.specs.declared.fault.ToolFault.TheVariants as tool
@@ -47,6 +52,10 @@ texts_of_run verbose ran = record { undo = undo_text_of (groups_in ran.outcomes)
 abbrev pub IsCounted : Summary → Ran → Type 0
 IsCounted summary ran = (summary.accepted ≡ length (groups_in ran.outcomes)) × (summary.refused ≡ length (causes_in ran.outcomes))
 
+-- the records of the undo text are the changes of the groups, those of the last accepted record first, and none is faulty
+abbrev pub ReadsAsGroups : List TypeRow → List ℕ → List (List Change) → Type 0
+ReadsAsGroups rows undo groups = map without_line (records_of rows undo) ≡ map (λ c. Ok (Ok (form.Change c))) (flat_map (λ group. group) (reverse groups))
+
 -- the undo text, run on the written copy, in both modes, is accepted whole, and leads to the first directory
 abbrev pub IsTakenBackBy : List TypeRow → DnKeys → Dir → Texts → Bool → Type 0
 IsTakenBackBy rows suffix first texts go_on =
@@ -62,6 +71,7 @@ HasRun rows suffix options copy changes summary texts =
     × IfSome copy (λ text. copy_of rows first.suffix text ≡ Ok first)
     × IfSome changes (λ text. run_of rows options.go_on first (records_of rows text) ≡ Ok ran)
     × (texts ≡ texts_of_run options.verbose ran) × IsCounted summary ran
+    × ReadsAsGroups rows texts.undo (groups_in ran.outcomes)
     × ((go_on : Bool) → IsTakenBackBy rows first.suffix first texts go_on)
 
 -- the run from a directory comes to this fault of the text of changes; or the text has a byte or more for each read call of
@@ -86,7 +96,8 @@ abbrev pub Blames : List TypeRow → List ℕ → ModifyOptions → Option (List
 Blames rows suffix options copy changes (tool.BadQuestion item.Suffix) = suffix_of rows suffix ≡ None
 Blames rows suffix options copy changes (tool.BadCopy line why) = CopyIsBad rows suffix copy line why
 Blames rows suffix options copy changes (tool.BadChanges fault) = ChangesAreBad rows suffix options copy changes fault
-Blames rows suffix options copy changes (tool.Read input) = ⊤
+Blames rows suffix options copy changes (tool.Read input.Copy) = ⊤
+Blames rows suffix options copy changes (tool.Read input.Changes) = ⊤
 Blames rows suffix options copy changes tool.Memory = ⊤
 Blames rows suffix options copy changes fault = ⊥
 
@@ -111,5 +122,5 @@ CanonicalTextsReadBack = (rows : List TypeRow) (d : Dir) → IsWellFormed rows d
 -- the texts of a run lead back to the directory in which it began
 abbrev pub WrittenRunsAreTakenBack : Type 0
 WrittenRunsAreTakenBack =
-    (rows : List TypeRow) (d : Dir) (ran : Ran) (verbose go_on : Bool) → IsWellFormed rows d → IsWithinLimits d → HasAccepted rows d ran.outcomes ran.end
-    → IsTakenBackBy rows d.suffix d (texts_of_run verbose ran) go_on
+    (rows : List TypeRow) (d : Dir) (ran : Ran) (verbose : Bool) → IsWellFormed rows d → IsWithinLimits d → HasAccepted rows d ran.outcomes ran.end
+    → ReadsAsGroups rows (texts_of_run verbose ran).undo (groups_in ran.outcomes) × ((go_on : Bool) → IsTakenBackBy rows d.suffix d (texts_of_run verbose ran) go_on)

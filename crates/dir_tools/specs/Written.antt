@@ -48,6 +48,22 @@ abbrev pub Written : {A : Type 0} → Bool → Result A ToolFault → Texts → 
 Written dry (Ok x) s undo out report = File dry undo s.undo × File dry out s.out × Whole report s.report
 Written dry (Err e) s undo out report = left_off dry e s undo out report
 
+-- in a dry run the first two are not written, and need not be flushed
+abbrev pub FileFlushed : Bool → Type 0 → Type 0
+FileFlushed true flushed = ⊤
+FileFlushed false flushed = flushed
+
+-- each writer was flushed before the next had a byte, and at the end the last one too
+abbrev pub flushed_before : Bool → Output → Type 0 → Type 0 → Type 0
+flushed_before dry to.Undo undo out = ⊤
+flushed_before dry to.Out undo out = undo
+flushed_before dry to.Report undo out = FileFlushed dry undo × FileFlushed dry out
+
+abbrev pub Flushed : {A : Type 0} → Bool → Result A ToolFault → Type 0 → Type 0 → Type 0 → Type 0
+Flushed dry (Ok x) undo out report = FileFlushed dry undo × FileFlushed dry out × report
+Flushed dry (Err (fault.Write output)) undo out report = flushed_before dry output undo out
+Flushed dry (Err e) undo out report = ⊤
+
 -- one text alone
 abbrev pub copy_at : Output → Tape → List ℕ → Type 0
 copy_at to.Out tape text = Front tape text
@@ -56,12 +72,8 @@ copy_at output tape text = ⊥
 abbrev pub CopyWritten : {A : Type 0} → Result A ToolFault → Tape → List ℕ → Type 0
 CopyWritten (Ok x) tape text = Whole tape text
 CopyWritten (Err (fault.Write output)) tape text = copy_at output tape text
-CopyWritten (Err e) tape text = Nothing tape
-
--- a fault before the writing
-abbrev pub IsUnwritten : ToolFault → Type 0
-IsUnwritten (fault.Write output) = ⊥
-IsUnwritten e = ⊤
+CopyWritten (Err fault.Memory) tape text = Nothing tape
+CopyWritten (Err e) tape text = ⊥
 
 -- a fault of a writer
 abbrev pub IsWriteFault : ToolFault → Type 0

@@ -45,6 +45,7 @@ where
     ensures suffix { IfOk result (λ d. (D.state d).suffix ≡ (D.state empty).suffix) }
     ensures reads { IfOk result (λ d. IsBare (D.state empty) → IfSome (R.left copy.old) (λ text. copy_of schema.now (D.state empty).suffix text ≡ Ok (D.state d))) }
     ensures sound { IfOk result (λ d. IsBare (D.state empty) → IsNamed (D.state empty).suffix → IsWellFormed schema.now (D.state d) × IsWithinLimits (D.state d)) }
+    ensures unfailed { OnOk result (R.failures copy.new ≡ R.failures copy.old) }
     ensures blamed { IfErr result (CopyBlamed schema.now (D.state empty) (R.left copy.old) (R.failures copy.old) (R.failures copy.new)) }
 {
     let mut loading = Loading::new(alloc, empty);
@@ -72,6 +73,7 @@ pub fn write_copy<D: Directory, W: Sink>(
 ) -> Result<(), ToolFault>
     ensures text { CopyWritten result (W.taken out.old, W.taken out.new) (canonical_of (D.state directory.now)) }
     ensures unfailed { OnOk result (W.failures out.new ≡ W.failures out.old) }
+    ensures flushed { OnOk result (W.is_flushed out.new) }
     ensures cause { result ≡ Err (ToolFault.Write Output.Out) → HasFailed (W.failures out.old) (W.failures out.new) ⊎ W.may_stall out.new }
 {
     let Ok(text) = canonical_text(alloc, directory) else {
@@ -144,6 +146,7 @@ impl<D: Directory + Drop> Loading<D> {
         ensures reads { OnOk result (LoadsOver D.state schema.now (to_give S.left records.old) self.old self.new) }
         ensures blamed { IfErr result (StopsLoading D.state schema.now (to_give S.left records.old) (S.failures (source_of records.old)) (S.failures (source_of records.new)) self.old) }
         ensures turns { result ≡ Err (ToolFault.BadCopy 0 (Cause.Ended StreamFault.TooManyTurns)) → GaveAtLeast (S.left (source_of records.old)) (S.left (source_of records.new)) (turns_left records.old) }
+        ensures unfailed { OnOk result (S.failures (source_of records.new) ≡ S.failures (source_of records.old)) }
         ensures same { S.is_same (source_of records.old) (source_of records.new) }
     {
         loop {

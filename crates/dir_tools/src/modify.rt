@@ -2,7 +2,7 @@ ghost use Rattle.std.specs.Prelude.{◌≡◌, ◌⊎◌, Err, IfErr, IfOk, OnOk
 ghost use Rattle.dir_ldif.specs.Device.{HasFailed};
 ghost use Rattle.dir_tools.specs.Headline.{Answers, Blames, HasRun, IsNoSuffix, suffix_of};
 ghost use Rattle.dir_tools.specs.RunTexts.{Holds, is_dry, texts_of};
-ghost use Rattle.dir_tools.specs.Written.{IsWriteFault, Texts, Written};
+ghost use Rattle.dir_tools.specs.Written.{Flushed, IsWriteFault, Texts, Written};
 ghost use Rattle.dir_tools.specs.declared.fault.Input.TheVariants as Input;
 ghost use Rattle.dir_tools.specs.declared.fault.Output.TheVariants as Output;
 ghost use Rattle.dir_tools.specs.declared.fault.ToolFault.TheVariants as ToolFault;
@@ -61,8 +61,11 @@ pub fn run_modify<R: Source, R2: Source, W: Sink, W2: Sink, W3: Sink>(
     ensures unfailed { OnOk result ((W.failures undo.new ≡ W.failures undo.old) × (W2.failures out.new ≡ W2.failures out.old) × (W3.failures report.new ≡ W3.failures report.old)) }
     ensures texts { (s : Texts) × Written options.dry result s (W.taken undo.old, W.taken undo.new) (W2.taken out.old, W2.taken out.new) (W3.taken report.old, W3.taken report.new)
         × Answers schema.now suffix.now options (R.left copy.old) (R2.left changes.old) result s }
+    ensures unfailed_copy { OnOk result (R.failures copy.new ≡ R.failures copy.old) }
+    ensures unfailed_changes { OnOk result (R2.failures changes.new ≡ R2.failures changes.old) }
     ensures read_copy { result ≡ Err (ToolFault.Read Input.Copy) → HasFailed (R.failures copy.old) (R.failures copy.new) }
     ensures read_changes { result ≡ Err (ToolFault.Read Input.Changes) → HasFailed (R2.failures changes.old) (R2.failures changes.new) }
+    ensures flushed { Flushed options.dry result (W.is_flushed undo.new) (W2.is_flushed out.new) (W3.is_flushed report.new) }
     ensures write_undo { result ≡ Err (ToolFault.Write Output.Undo) → HasFailed (W.failures undo.old) (W.failures undo.new) ⊎ W.may_stall undo.new }
     ensures write_out { result ≡ Err (ToolFault.Write Output.Out) → HasFailed (W2.failures out.old) (W2.failures out.new) ⊎ W2.may_stall out.new }
     ensures write_report { result ≡ Err (ToolFault.Write Output.Report) → HasFailed (W3.failures report.old) (W3.failures report.new) ⊎ W3.may_stall report.new }
@@ -87,6 +90,7 @@ fn write_texts<W: Sink, W2: Sink, W3: Sink>(
     ensures unfailed { OnOk result ((W.failures undo.new ≡ W.failures undo.old) × (W2.failures out.new ≡ W2.failures out.old) × (W3.failures report.new ≡ W3.failures report.old)) }
     ensures texts { Written (is_dry texts.now) result (texts_of texts.now) (W.taken undo.old, W.taken undo.new) (W2.taken out.old, W2.taken out.new) (W3.taken report.old, W3.taken report.new) }
     ensures fault { IfErr result IsWriteFault }
+    ensures flushed { Flushed (is_dry texts.now) result (W.is_flushed undo.new) (W2.is_flushed out.new) (W3.is_flushed report.new) }
     ensures write_undo { result ≡ Err (ToolFault.Write Output.Undo) → HasFailed (W.failures undo.old) (W.failures undo.new) ⊎ W.may_stall undo.new }
     ensures write_out { result ≡ Err (ToolFault.Write Output.Out) → HasFailed (W2.failures out.old) (W2.failures out.new) ⊎ W2.may_stall out.new }
     ensures write_report { result ≡ Err (ToolFault.Write Output.Report) → HasFailed (W3.failures report.old) (W3.failures report.new) ⊎ W3.may_stall report.new }
@@ -128,6 +132,8 @@ fn make_texts<R: Source, R2: Source>(
 ) -> Result<RunTexts, ToolFault>
     ensures ok { IfOk result (λ texts. (s : Texts) × Holds options.dry s texts × HasRun schema.now suffix.now options (R.left copy.old) (R2.left changes.old) texts.summary s) }
     ensures blamed { IfErr result (Blames schema.now suffix.now options (R.left copy.old) (R2.left changes.old)) }
+    ensures unfailed_copy { OnOk result (R.failures copy.new ≡ R.failures copy.old) }
+    ensures unfailed_changes { OnOk result (R2.failures changes.new ≡ R2.failures changes.old) }
     ensures read_copy { result ≡ Err (ToolFault.Read Input.Copy) → HasFailed (R.failures copy.old) (R.failures copy.new) }
     ensures read_changes { result ≡ Err (ToolFault.Read Input.Changes) → HasFailed (R2.failures changes.old) (R2.failures changes.new) }
 {

@@ -57,6 +57,7 @@ impl<D: Directory + Drop> Run<D> {
         requires { room self.old ≡ 0 }
         ensures ok { OnOk result (RunsOver D.state schema.now (option_map (records_of schema.now) (R.left changes.old)) self.old self.new) }
         ensures blamed { IfErr result (ChangesBlamed D.state schema.now (option_map (records_of schema.now) (R.left changes.old)) (R.failures changes.old) (R.failures changes.new) self.old) }
+        ensures unfailed { OnOk result (R.failures changes.new ≡ R.failures changes.old) }
         ensures long { result ≡ Err (ToolFault.BadChanges StreamFault.TooManyTurns) → IfSome (R.left changes.old) IsLong }
         ensures options { self.new.options ≡ self.old.options }
     {
@@ -81,6 +82,7 @@ impl<D: Directory + Drop> Run<D> {
         ensures ok { OnOk result (RunsOver D.state schema.now (to_give S.left records.old) self.old self.new) }
         ensures blamed { IfErr result (ChangesBlamed D.state schema.now (to_give S.left records.old) (S.failures (source_of records.old)) (S.failures (source_of records.new)) self.old) }
         ensures turns { result ≡ Err (ToolFault.BadChanges StreamFault.TooManyTurns) → GaveAtLeast (S.left (source_of records.old)) (S.left (source_of records.new)) (turns_left records.old) }
+        ensures unfailed { OnOk result (S.failures (source_of records.new) ≡ S.failures (source_of records.old)) }
         ensures same { S.is_same (source_of records.old) (source_of records.new) }
         ensures options { self.new.options ≡ self.old.options }
     {

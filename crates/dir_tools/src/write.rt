@@ -19,6 +19,7 @@ pub(crate) fn write_text<W: Sink>(
     ensures ok { OnOk result (Appends (W.taken writer.old) (W.taken writer.new) text.now) }
     ensures front { (n : ℕ) × AppendsFront (W.taken writer.old) (W.taken writer.new) text.now n }
     ensures unfailed { OnOk result (W.failures writer.new ≡ W.failures writer.old) }
+    ensures flushed { OnOk result (W.is_flushed writer.new) }
     ensures fault { IfErr result (λ e. e ≡ ToolFault.Write output) }
     ensures err { OnErr result (HasFailed (W.failures writer.old) (W.failures writer.new) ⊎ W.may_stall writer.new) }
 {
