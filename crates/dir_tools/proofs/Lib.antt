@@ -5,6 +5,7 @@ pub mod CopySound
 pub mod Orphans
 pub mod RunBack
 pub mod RunLemmas
+pub mod Settled
 pub mod Small
 pub mod TextLemmas
 pub mod Turns

@@ -8,6 +8,7 @@ use Rattle.dir_ldif.specs.declared.faults.StreamFault.TheVariants as stream
 use Rattle.dir_ldif.specs.Records.{records_of}
 use Rattle.dir_tree.specs.Dir.{Dir}
 use Rattle.dir_change.specs.UndoText.{undo_text_of}
+use Rattle.dir_tools.specs.declared.fault.Cause.TheVariants as cause
 use Rattle.dir_tools.specs.declared.fault.Input.TheVariants as input
 use Rattle.dir_tools.specs.declared.fault.Output.TheVariants as to
 use Rattle.dir_tools.specs.declared.fault.ToolFault.{ToolFault}
@@ -17,8 +18,9 @@ use Rattle.dir_tools.specs.declared.modify.ModifyOptions.{ModifyOptions}
 use Rattle.dir_tools.specs.declared.modify.RunTexts.{RunTexts}
 use Rattle.dir_tools.specs.declared.modify.Summary.{Summary}
 use Rattle.dir_tools.specs.declared.run.Run.{Run}
-use Rattle.dir_tools.specs.Headline.{Answers, Blames, ChangesAreBad, HasRun, IsBadText, WrittenRunsAreTakenBack, key_read, nonempty_key, suffix_of, texts_of_run}
-use Rattle.dir_tools.specs.CopyOf.{copy_of}
+use Rattle.dir_tools.specs.Headline.{Answers, Blames, ChangesAreBad, ComesFirst, Told, HasRun, IsBadText, WrittenRunsAreTakenBack, key_read, nonempty_key, suffix_of, texts_of_run}
+use Rattle.dir_tools.specs.CopyOf.{copy_of, nothing_under}
+use Rattle.dir_tools.specs.Settled.{AllAccepted, AllTaken, Gave, IsOfReading, answers_behind}
 use Rattle.dir_tools.specs.Loading.{CopyBlamed, IsBare, IsNamed}
 use Rattle.dir_tree.specs.WellFormed.{IsWellFormed, IsWithinLimits}
 use Rattle.dir_names.specs.declared.fault.NameFault.{NameFault}
@@ -70,6 +72,27 @@ copy_blamed_so rows suffix options copy left empty failures failures' (tool.Writ
 copy_blamed_so rows suffix options copy left empty failures failures' (tool.BadQuestion item) key bare h = absurd (h)
 copy_blamed_so rows suffix options copy left empty failures failures' (tool.BadChanges fault) key bare h = absurd (h)
 
+-- what stands before the fault of a copy's reader
+pub copy_first : (rows : List TypeRow) (suffix : List ℕ) (options : ModifyOptions) (copy copy' : Option (List ℕ)) (changes : Told) (empty : Dir) (failures failures' : ℕ) (fault : ToolFault)
+    → suffix_of rows suffix ≡ Some empty.suffix → CopyBlamed rows empty copy failures failures' fault
+    → (IsOfReading fault → Gave copy copy' (λ bytes. AllTaken rows (nothing_under empty.suffix) (answers_behind rows bytes)))
+    → ComesFirst rows suffix options (copy, copy') changes fault
+copy_first rows suffix options copy copy' changes empty failures failures' (tool.Read input.Copy) key h settled = (empty.suffix, key, settled tt)
+copy_first rows suffix options copy copy' changes empty failures failures' (tool.Read input.Changes) key h settled = absurd (h)
+copy_first rows suffix options copy copy' changes empty failures failures' (tool.Read input.Config) key h settled = absurd (h)
+copy_first rows suffix options copy copy' changes empty failures failures' (tool.BadCopy line (cause.Code code)) key h settled = tt
+copy_first rows suffix options copy copy' changes empty failures failures' (tool.BadCopy line (cause.Fault fault)) key h settled = tt
+copy_first rows suffix options copy copy' changes empty failures failures' (tool.BadCopy line (cause.Ended stream.TooManyTurns)) key h settled = (empty.suffix, key, settled tt)
+copy_first rows suffix options copy copy' changes empty failures failures' (tool.BadCopy line (cause.Ended stream.LineTooLong)) key h settled = tt
+copy_first rows suffix options copy copy' changes empty failures failures' (tool.BadCopy line (cause.Ended stream.Read)) key h settled = tt
+copy_first rows suffix options copy copy' changes empty failures failures' (tool.BadCopy line (cause.Ended stream.Memory)) key h settled = tt
+copy_first rows suffix options copy copy' changes empty failures failures' (tool.BadCopy line (cause.Ended stream.Ended)) key h settled = tt
+copy_first rows suffix options copy copy' changes empty failures failures' (tool.BadCopy line (cause.Ended stream.BadVersion)) key h settled = tt
+copy_first rows suffix options copy copy' changes empty failures failures' tool.Memory key h settled = tt
+copy_first rows suffix options copy copy' changes empty failures failures' (tool.Write output) key h settled = absurd (h)
+copy_first rows suffix options copy copy' changes empty failures failures' (tool.BadQuestion item) key h settled = absurd (h)
+copy_first rows suffix options copy copy' changes empty failures failures' (tool.BadChanges fault) key h settled = absurd (h)
+
 module _ {D : Type 0} (state : D → Dir) (rows : List TypeRow) (suffix : List ℕ) (options : ModifyOptions) (copy left : Option (List ℕ)) (begun : Run D)
     (reads : IfSome copy (λ text. copy_of rows (state begun.directory).suffix text ≡ Ok (state begun.directory))) where
   bad : (fault : StreamFault) → ((text : List ℕ) → run_of rows options.go_on (state begun.directory) (records_of rows text) ≡ Err fault → IsBadText rows options.go_on (state begun.directory) text fault)
@@ -100,6 +123,25 @@ module _ {D : Type 0} (state : D → Dir) (rows : List TypeRow) (suffix : List �
   blamed_so failures failures' (tool.BadCopy line why) same key long h = absurd (h)
   blamed_so failures failures' (tool.Write output) same key long h = absurd (h)
   blamed_so failures failures' (tool.BadQuestion item) same key long h = absurd (h)
+
+  -- and before that of the changes' reader
+  pub changes_first : (copy' left' : Option (List ℕ)) (failures failures' : ℕ) (fault : ToolFault) → suffix_of rows suffix ≡ Some (state begun.directory).suffix
+      → ChangesBlamed state rows (option_map (records_of rows) left) failures failures' begun fault
+      → (IsOfReading fault → options.go_on ≡ false → Gave left left' (λ bytes. AllAccepted rows (state begun.directory) (answers_behind rows bytes)))
+      → ComesFirst rows suffix options (copy, copy') (left, left') fault
+  changes_first copy' left' failures failures' (tool.Read input.Changes) key h settled = (state begun.directory, key, reads, settled tt)
+  changes_first copy' left' failures failures' (tool.Read input.Copy) key h settled = absurd (h)
+  changes_first copy' left' failures failures' (tool.Read input.Config) key h settled = absurd (h)
+  changes_first copy' left' failures failures' (tool.BadChanges stream.TooManyTurns) key h settled = (state begun.directory, key, reads, settled tt)
+  changes_first copy' left' failures failures' (tool.BadChanges stream.LineTooLong) key h settled = tt
+  changes_first copy' left' failures failures' (tool.BadChanges stream.BadVersion) key h settled = tt
+  changes_first copy' left' failures failures' (tool.BadChanges stream.Read) key h settled = absurd (h)
+  changes_first copy' left' failures failures' (tool.BadChanges stream.Memory) key h settled = absurd (h)
+  changes_first copy' left' failures failures' (tool.BadChanges stream.Ended) key h settled = absurd (h)
+  changes_first copy' left' failures failures' tool.Memory key h settled = tt
+  changes_first copy' left' failures failures' (tool.BadCopy line why) key h settled = absurd (h)
+  changes_first copy' left' failures failures' (tool.Write output) key h settled = absurd (h)
+  changes_first copy' left' failures failures' (tool.BadQuestion item) key h settled = absurd (h)
 
   from_none : (a b n : ℕ) → a ≡ b + n → b ≡ 0 → a ≡ n
   from_none a b n e z = grind (arith)

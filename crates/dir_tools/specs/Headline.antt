@@ -1,5 +1,5 @@
 -- What a run answers and writes, and that it is taken back.
-use Rattle.std.specs.Prelude.{◌≡◌, ℕ, Bool, List, [], ◌∷◌, length, map, reverse, IfSome, Option, Some, None, Result, Ok, Err, ⊤}
+use Rattle.std.specs.Prelude.{◌≡◌, ℕ, Bool, false, List, [], ◌∷◌, length, map, reverse, IfSome, Option, Some, None, Result, Ok, Err, ⊤}
 use Rattle.std.specs.List.{flat_map}
 use Rattle.dir_names.specs.declared.schema.TypeRow.{TypeRow}
 use Rattle.dir_names.specs.Keys.{DnKeys}
@@ -18,13 +18,15 @@ use Rattle.dir_tree.specs.WellFormed.{IsWellFormed, IsWithinLimits}
 use Rattle.dir_tools.specs.Running.{HasAccepted}
 use Rattle.dir_change.specs.UndoText.{undo_text_of}
 use Rattle.dir_tools.specs.Canonical.{canonical_of}
-use Rattle.dir_tools.specs.CopyOf.{copy_of}
+use Rattle.dir_tools.specs.CopyOf.{copy_of, nothing_under}
 use Rattle.dir_tools.specs.Loading.{IsBadCopy}
 use Rattle.dir_tools.specs.Ran.{Ran, causes_in, groups_in, run_of}
 use Rattle.dir_tools.specs.Report.{modify_report_of}
+use Rattle.dir_tools.specs.Settled.{AllAccepted, AllTaken, Gave, answers_behind}
 use Rattle.dir_tools.specs.Turns.{IsLong}
 use Rattle.dir_tools.specs.Written.{Texts}
 use Rattle.dir_tools.specs.declared.fault.Cause.{Cause}
+use Rattle.dir_tools.specs.declared.fault.Cause.TheVariants as cause
 use Rattle.dir_tools.specs.declared.fault.Input.TheVariants as input
 use Rattle.dir_tools.specs.declared.fault.Item.TheVariants as item
 use Rattle.dir_tools.specs.declared.fault.ToolFault.{ToolFault}
@@ -91,7 +93,8 @@ ChangesAreBad rows suffix options copy changes fault =
 abbrev pub CopyIsBad : List TypeRow → List ℕ → Option (List ℕ) → ℕ → Cause → Type 0
 CopyIsBad rows suffix copy line why = (key : DnKeys) × (suffix_of rows suffix ≡ Some key) × IfSome copy (λ text. IsBadCopy rows key text line why)
 
--- what a fault before the writing says of the texts that were read; want of memory and a read fault say nothing of them
+-- what a fault before the writing says of the texts that were read; want of memory says nothing of them, and of a read fault
+-- `ComesFirst` tells
 abbrev pub Blames : List TypeRow → List ℕ → ModifyOptions → Option (List ℕ) → Option (List ℕ) → ToolFault → Type 0
 Blames rows suffix options copy changes (tool.BadQuestion item.Suffix) = suffix_of rows suffix ≡ None
 Blames rows suffix options copy changes (tool.BadCopy line why) = CopyIsBad rows suffix copy line why
@@ -100,6 +103,31 @@ Blames rows suffix options copy changes (tool.Read input.Copy) = ⊤
 Blames rows suffix options copy changes (tool.Read input.Changes) = ⊤
 Blames rows suffix options copy changes tool.Memory = ⊤
 Blames rows suffix options copy changes fault = ⊥
+
+-- what a source tells of its bytes, before a call and behind it
+abbrev pub Told : Type 0
+Told = Option (List ℕ) × Option (List ℕ)
+
+-- the suffix is a name, and the records of the copy that its bytes settle are taken in
+abbrev pub CopyWasTaken : List TypeRow → List ℕ → Told → Type 0
+CopyWasTaken rows suffix copy =
+    (key : DnKeys) × (suffix_of rows suffix ≡ Some key) × Gave copy.0 copy.1 (λ bytes. AllTaken rows (nothing_under key) (answers_behind rows bytes))
+
+-- the copy reads as a directory; and where a refused record ends the run, those that the bytes of the changes settle are
+-- accepted
+abbrev pub ChangesWereAccepted : List TypeRow → List ℕ → ModifyOptions → Told → Told → Type 0
+ChangesWereAccepted rows suffix options copy changes =
+    (first : Dir) × (suffix_of rows suffix ≡ Some first.suffix)
+    × IfSome copy.0 (λ text. copy_of rows first.suffix text ≡ Ok first)
+    × (options.go_on ≡ false → Gave changes.0 changes.1 (λ bytes. AllAccepted rows first (answers_behind rows bytes)))
+
+-- what stands before the fault of a reader that came to no end
+abbrev pub ComesFirst : List TypeRow → List ℕ → ModifyOptions → Told → Told → ToolFault → Type 0
+ComesFirst rows suffix options copy changes (tool.Read input.Copy) = CopyWasTaken rows suffix copy
+ComesFirst rows suffix options copy changes (tool.BadCopy line (cause.Ended stream.TooManyTurns)) = CopyWasTaken rows suffix copy
+ComesFirst rows suffix options copy changes (tool.Read input.Changes) = ChangesWereAccepted rows suffix options copy changes
+ComesFirst rows suffix options copy changes (tool.BadChanges stream.TooManyTurns) = ChangesWereAccepted rows suffix options copy changes
+ComesFirst rows suffix options copy changes fault = ⊤
 
 -- what the answer says of them
 abbrev pub Answers : List TypeRow → List ℕ → ModifyOptions → Option (List ℕ) → Option (List ℕ) → Result Summary ToolFault → Texts → Type 0

@@ -3,8 +3,9 @@ ghost use Rattle.dir_ldif.specs.Device.{HasFailed};
 ghost use Rattle.dir_tools.specs.Canonical.{canonical_of};
 ghost use Rattle.dir_names.specs.Keys.{parent_of};
 ghost use Rattle.dir_names.specs.Orders.{dn_key_cmp};
-ghost use Rattle.dir_tools.specs.CopyOf.{copy_of, earlier};
+ghost use Rattle.dir_tools.specs.CopyOf.{copy_of, earlier, nothing_under};
 ghost use Rattle.dir_tools.specs.Loading.{CopyBlamed, IsBare, IsNamed, IsPut, copy_fault, is_among};
+ghost use Rattle.dir_tools.specs.Settled.{AllTaken, Gave, GaveTo, IsOfReading, answers_behind};
 ghost use Rattle.dir_tools.specs.Turns.{GaveAtLeast};
 ghost use Rattle.dir_tools.specs.Written.{CopyWritten};
 ghost use Rattle.dir_ldif.specs.declared.faults.StreamFault.TheVariants as StreamFault;
@@ -47,6 +48,8 @@ where
     ensures sound { IfOk result (λ d. IsBare (D.state empty) → IsNamed (D.state empty).suffix → IsWellFormed schema.now (D.state d) × IsWithinLimits (D.state d)) }
     ensures unfailed { OnOk result (R.failures copy.new ≡ R.failures copy.old) }
     ensures blamed { IfErr result (CopyBlamed schema.now (D.state empty) (R.left copy.old) (R.failures copy.old) (R.failures copy.new)) }
+    ensures settled { IfErr result (λ fault. IsOfReading fault → IsBare (D.state empty) → Gave (R.left copy.old) (R.left copy.new)
+        (λ bytes. AllTaken schema.now (nothing_under (D.state empty).suffix) (answers_behind schema.now bytes))) }
 {
     let mut loading = Loading::new(alloc, empty);
     let mut records = match RecordReader::new(alloc, schema, copy) {
@@ -145,6 +148,7 @@ impl<D: Directory + Drop> Loading<D> {
         ensures order { OnOk result (KeepsOrder D.state schema.now self.old self.new) }
         ensures reads { OnOk result (LoadsOver D.state schema.now (to_give S.left records.old) self.old self.new) }
         ensures blamed { IfErr result (StopsLoading D.state schema.now (to_give S.left records.old) (S.failures (source_of records.old)) (S.failures (source_of records.new)) self.old) }
+        ensures settled { IfErr result (λ fault. IsOfReading fault → (start : Loaded) → Holds D.state start self.old → GaveTo S.left records.old records.new (AllTaken schema.now start)) }
         ensures turns { result ≡ Err (ToolFault.BadCopy 0 (Cause.Ended StreamFault.TooManyTurns)) → GaveAtLeast (S.left (source_of records.old)) (S.left (source_of records.new)) (turns_left records.old) }
         ensures unfailed { OnOk result (S.failures (source_of records.new) ≡ S.failures (source_of records.old)) }
         ensures same { S.is_same (source_of records.old) (source_of records.new) }

@@ -1,6 +1,6 @@
 ghost use Rattle.std.specs.Prelude.{◌≡◌, ◌⊎◌, Err, IfErr, IfOk, OnOk, Some};
 ghost use Rattle.dir_ldif.specs.Device.{HasFailed};
-ghost use Rattle.dir_tools.specs.Headline.{Answers, Blames, HasRun, IsNoSuffix, suffix_of};
+ghost use Rattle.dir_tools.specs.Headline.{Answers, Blames, ComesFirst, HasRun, IsNoSuffix, suffix_of};
 ghost use Rattle.dir_tools.specs.RunTexts.{Holds, is_dry, texts_of};
 ghost use Rattle.dir_tools.specs.Written.{Flushed, IsWriteFault, Texts, Written};
 ghost use Rattle.dir_tools.specs.declared.fault.Input.TheVariants as Input;
@@ -61,6 +61,7 @@ pub fn run_modify<R: Source, R2: Source, W: Sink, W2: Sink, W3: Sink>(
     ensures unfailed { OnOk result ((W.failures undo.new ≡ W.failures undo.old) × (W2.failures out.new ≡ W2.failures out.old) × (W3.failures report.new ≡ W3.failures report.old)) }
     ensures texts { (s : Texts) × Written options.dry result s (W.taken undo.old, W.taken undo.new) (W2.taken out.old, W2.taken out.new) (W3.taken report.old, W3.taken report.new)
         × Answers schema.now suffix.now options (R.left copy.old) (R2.left changes.old) result s }
+    ensures first { IfErr result (ComesFirst schema.now suffix.now options (R.left copy.old, R.left copy.new) (R2.left changes.old, R2.left changes.new)) }
     ensures unfailed_copy { OnOk result (R.failures copy.new ≡ R.failures copy.old) }
     ensures unfailed_changes { OnOk result (R2.failures changes.new ≡ R2.failures changes.old) }
     ensures read_copy { result ≡ Err (ToolFault.Read Input.Copy) → HasFailed (R.failures copy.old) (R.failures copy.new) }
@@ -132,6 +133,7 @@ fn make_texts<R: Source, R2: Source>(
 ) -> Result<RunTexts, ToolFault>
     ensures ok { IfOk result (λ texts. (s : Texts) × Holds options.dry s texts × HasRun schema.now suffix.now options (R.left copy.old) (R2.left changes.old) texts.summary s) }
     ensures blamed { IfErr result (Blames schema.now suffix.now options (R.left copy.old) (R2.left changes.old)) }
+    ensures first { IfErr result (ComesFirst schema.now suffix.now options (R.left copy.old, R.left copy.new) (R2.left changes.old, R2.left changes.new)) }
     ensures unfailed_copy { OnOk result (R.failures copy.new ≡ R.failures copy.old) }
     ensures unfailed_changes { OnOk result (R2.failures changes.new ≡ R2.failures changes.old) }
     ensures read_copy { result ≡ Err (ToolFault.Read Input.Copy) → HasFailed (R.failures copy.old) (R.failures copy.new) }

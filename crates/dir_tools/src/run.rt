@@ -22,8 +22,9 @@ pub(crate) struct Run<D: Directory + Drop> {
 }
 
 impl<D: Directory + Drop> Run<D> {
-    ghost use Rattle.std.specs.Prelude.{◌≡◌, ◌<◌, ◌+◌, ◌^◌, ◌-◌, Err, IfErr, IfOk, IfSome, OnOk};
+    ghost use Rattle.std.specs.Prelude.{◌≡◌, ◌<◌, ◌+◌, ◌^◌, ◌-◌, Err, IfErr, IfOk, IfSome, OnOk, false};
     ghost use Rattle.dir_ldif.specs.declared.faults.StreamFault.TheVariants as StreamFault;
+    ghost use Rattle.dir_tools.specs.Settled.{AllAccepted, Gave, GaveTo, IsOfReading, answers_behind};
     ghost use Rattle.dir_tools.specs.Turns.{GaveAtLeast, IsLong};
     ghost use Rattle.dir_tools.specs.declared.fault.ToolFault.TheVariants as ToolFault;
     ghost use Rattle.std.specs.Option.{option_map};
@@ -58,6 +59,8 @@ impl<D: Directory + Drop> Run<D> {
         ensures ok { OnOk result (RunsOver D.state schema.now (option_map (records_of schema.now) (R.left changes.old)) self.old self.new) }
         ensures blamed { IfErr result (ChangesBlamed D.state schema.now (option_map (records_of schema.now) (R.left changes.old)) (R.failures changes.old) (R.failures changes.new) self.old) }
         ensures unfailed { OnOk result (R.failures changes.new ≡ R.failures changes.old) }
+        ensures settled { IfErr result (λ fault. IsOfReading fault → self.old.options.go_on ≡ false → Gave (R.left changes.old) (R.left changes.new)
+            (λ bytes. AllAccepted schema.now (D.state self.old.directory) (answers_behind schema.now bytes))) }
         ensures long { result ≡ Err (ToolFault.BadChanges StreamFault.TooManyTurns) → IfSome (R.left changes.old) IsLong }
         ensures options { self.new.options ≡ self.old.options }
     {
@@ -81,6 +84,7 @@ impl<D: Directory + Drop> Run<D> {
         requires schema { schema_of records.old ≡ schema.now }
         ensures ok { OnOk result (RunsOver D.state schema.now (to_give S.left records.old) self.old self.new) }
         ensures blamed { IfErr result (ChangesBlamed D.state schema.now (to_give S.left records.old) (S.failures (source_of records.old)) (S.failures (source_of records.new)) self.old) }
+        ensures settled { IfErr result (λ fault. IsOfReading fault → self.old.options.go_on ≡ false → GaveTo S.left records.old records.new (AllAccepted schema.now (D.state self.old.directory))) }
         ensures turns { result ≡ Err (ToolFault.BadChanges StreamFault.TooManyTurns) → GaveAtLeast (S.left (source_of records.old)) (S.left (source_of records.new)) (turns_left records.old) }
         ensures unfailed { OnOk result (S.failures (source_of records.new) ≡ S.failures (source_of records.old)) }
         ensures same { S.is_same (source_of records.old) (source_of records.new) }

@@ -3,6 +3,9 @@ use Rattle.dir_ldif.specs.Reader.{source_of, turns_left}
 use Rattle.dir_tools.specs.Turns.{GaveAtLeast}
 use Rattle.dir_tools.proofs.CopyFaults.{blamed_read, finish_blamed}
 use Rattle.dir_tools.proofs.CopyLemmas.{holds_nothing, if_both, if_ok, read_order, read_whole}
+use Rattle.dir_tools.specs.CopyOf.{nothing_under}
+use Rattle.dir_tools.specs.Settled.{AllTaken}
+use Rattle.dir_tools.proofs.Settled.{from_start, taken_so}
 use Rattle.dir_tools.proofs.Turns.{long_text}
 use Rattle.dir_tools.proofs.copy.read_copy.Goals as goal
 
@@ -41,3 +44,10 @@ returns-in-Err-answer-clause-blamed g c =
     (subst (λ s. GaveAtLeast (g.R.Source.left s.now) (g.R.Source.left (source_of c.take_records-answer.new.records).now) (turns_left c.in-Ok.records)) c.in-Ok.ensures.source.0
     (c.take_records-answer.ensures.turns (c.in-Err-answer.is ∙ ap Err is))))
     (search rules)
+
+pub returns-in-Err-answer-clause-settled : goal.returns-in-Err-answer-clause-settled
+returns-in-Err-answer-clause-settled g c is bare =
+    let start = nothing_under (g.D.Directory.state c.args.empty).suffix in
+    from_start c.args.schema.now (λ s. g.R.Source.left s.now) (AllTaken c.args.schema.now start) (taken_so c.args.schema.now start) c.in-Ok.records c.take_records-answer.new.records _ _
+    c.in-Ok.ensures.ahead.0 c.in-Ok.ensures.ahead.1 (ap (λ s. g.R.Source.left s.now) c.in-Ok.ensures.source.0) (search rules)
+    (c.in-Err-answer.ensures.settled is start (holds_nothing g.D.Directory.state c.args.empty c.new-loading.result c.new-loading.ensures.directory c.new-loading.ensures.waiting bare))

@@ -1,12 +1,13 @@
-use Rattle.std.proofs.Common.{◌≡◌, sym, ap, subst, ◌∙◌, Ok, Err, Some, IfOk, IfSome, Result}
+use Rattle.std.proofs.Common.{◌≡◌, false, sym, ap, subst, ◌∙◌, Ok, Err, Some, IfOk, IfSome, Result}
 use Rattle.dir_tree.specs.Dir.{Dir}
 use Rattle.dir_tree.specs.WellFormed.{IsWellFormed, IsWithinLimits}
 use Rattle.dir_tools.specs.declared.fault.ToolFault.{ToolFault}
+use Rattle.dir_tools.specs.declared.modify.ModifyOptions.{ModifyOptions}
 use Rattle.dir_tools.specs.declared.modify.RunTexts.{RunTexts}
 use Rattle.dir_tools.specs.CopyOf.{copy_of}
 use Rattle.dir_tools.specs.Headline.{suffix_of}
 use Rattle.dir_tools.specs.Loading.{IsBare, IsNamed}
-use Rattle.dir_tools.proofs.TextLemmas.{blamed_so, copy_blamed_so, named_suffix, read_so, told}
+use Rattle.dir_tools.proofs.TextLemmas.{blamed_so, changes_first, copy_blamed_so, copy_first, named_suffix, read_so, told}
 use Rattle.dir_tools.proofs.modify.make_texts.Goals as goal
 
 pub returns-in-Err-read_copy-clause-blamed : goal.returns-in-Err-read_copy-clause-blamed
@@ -25,6 +26,25 @@ returns-in-Err-take_all-clause-blamed g c =
     let copy = g.R.Source.left c.args.copy.now in
     let reads : IfSome copy (λ text. copy_of c.args.schema.now c.new-run.result.directory.suffix text ≡ Ok c.new-run.result.directory) = read_so c.args.schema.now copy c.new.result.suffix c.in-Ok-read_copy.directory c.new-run.result.directory read begun (c.in-Ok-read_copy.ensures.reads bare) in
     blamed_so (λ d. d) c.args.schema.now c.args.suffix.now c.args.options copy (g.R2.Source.left c.args.changes.now) c.new-run.result reads _ _ c.in-Err-take_all.fault c.new-run.ensures.6 key (λ is. c.take_all.ensures.long (c.in-Err-take_all.is ∙ ap Err is)) c.in-Err-take_all.ensures.blamed
+
+pub returns-in-Err-read_copy-clause-first : goal.returns-in-Err-read_copy-clause-first
+returns-in-Err-read_copy-clause-first g c =
+    let key : suffix_of c.args.schema.now c.args.suffix.now ≡ Some c.new.result.suffix = c.in-Ok.ensures.ok ∙ ap Some (sym (ap (λ (d : Dir). d.suffix) c.new.ensures)) in
+    let bare : IsBare c.new.result = ap (λ (d : Dir). d.entries) c.new.ensures in
+    copy_first c.args.schema.now c.args.suffix.now c.args.options _ _ _ c.new.result _ _ c.in-Err-read_copy.fault key c.in-Err-read_copy.ensures.blamed (λ is. c.in-Err-read_copy.ensures.settled is bare)
+
+pub returns-in-Err-take_all-clause-first : goal.returns-in-Err-take_all-clause-first
+returns-in-Err-take_all-clause-first g c =
+    let read : c.in-Ok-read_copy.directory.suffix ≡ c.new.result.suffix = c.in-Ok-read_copy.ensures.suffix in
+    let fresh : c.new.result.suffix ≡ c.in-Ok.key = ap (λ (d : Dir). d.suffix) c.new.ensures in
+    let begun : c.new-run.result.directory ≡ c.in-Ok-read_copy.directory = c.new-run.ensures.0 in
+    let key : suffix_of c.args.schema.now c.args.suffix.now ≡ Some c.new-run.result.directory.suffix = c.in-Ok.ensures.ok ∙ ap Some (sym (ap (λ (d : Dir). d.suffix) begun ∙ read ∙ fresh)) in
+    let bare : IsBare c.new.result = ap (λ (d : Dir). d.entries) c.new.ensures in
+    let copy = g.R.Source.left c.args.copy.now in
+    let reads : IfSome copy (λ text. copy_of c.args.schema.now c.new-run.result.directory.suffix text ≡ Ok c.new-run.result.directory) = read_so c.args.schema.now copy c.new.result.suffix c.in-Ok-read_copy.directory c.new-run.result.directory read begun (c.in-Ok-read_copy.ensures.reads bare) in
+    let off : c.args.options.go_on ≡ false → c.new-run.result.options.go_on ≡ false = (λ is. ap (λ (o : ModifyOptions). o.go_on) c.new-run.ensures.6 ∙ is) in
+    changes_first (λ d. d) c.args.schema.now c.args.suffix.now c.args.options copy (g.R2.Source.left c.args.changes.now) c.new-run.result reads _ _ _ _ c.in-Err-take_all.fault key
+    c.in-Err-take_all.ensures.blamed (λ is stops. c.in-Err-take_all.ensures.settled is (off stops))
 
 pub returns-clause-ok : goal.returns-clause-ok
 returns-clause-ok g c =

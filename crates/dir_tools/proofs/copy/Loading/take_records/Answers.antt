@@ -1,10 +1,12 @@
 use Rattle.std.proofs.Common.{◌∙◌, rules, refl, sym, subst, Ok}
 use Rattle.dir_ldif.specs.Next.{GivesFirst, GivesNone}
-use Rattle.dir_ldif.specs.Reader.{IsReading, schema_of, source_of, to_give}
+use Rattle.dir_ldif.specs.Reader.{IsReading, UsesUp, schema_of, source_of, to_give}
 use Rattle.dir_ldif.specs.SoundFound.{IsSoundFound}
 use Rattle.dir_tools.specs.Loading.{StopsLoading}
 use Rattle.dir_tools.proofs.CopyFaults.{copy_long, loads_blamed, stops_at}
 use Rattle.dir_tools.proofs.CopyLemmas.{loads_begun, loads_further, loads_out, order_out}
+use Rattle.dir_tools.specs.Settled.{IsOfReading}
+use Rattle.dir_tools.proofs.Settled.{of_record, taken_begun, taken_further, taken_stopped}
 use Rattle.dir_tools.proofs.Turns.{err_same, fault_none, reads_on, some_none, spends_more, spends_none}
 use Rattle.dir_tools.proofs.copy.Loading.take_records.Goals as goal
 
@@ -17,6 +19,7 @@ loop-line-init g c = (
   g.met.S.Source.same_refl _,
   loads_begun g.D.Directory.state c.args.schema.now (to_give g.S.Source.left c.args.records.now) c.args.self.now,
   (λ _. spends_none g.S.Source.left c.args.records.now),
+  (λ _. taken_begun g.D.Directory.state c.args.schema.now g.S.Source.left c.args.records.now c.args.self.now),
 )
 
 pub returns-in-Ok-None-clause-reads : goal.returns-in-Ok-None-clause-reads
@@ -34,6 +37,7 @@ loop-line-preserved g c =
     let given : IsSoundFound (schema_of c.loop-line.records) (c.in-Ok-Some.line, c.in-Ok-Some.found) = search rules in
     let sound : IsSoundFound c.args.schema.now (c.in-Ok-Some.line, c.in-Ok-Some.found) = subst (λ rows. IsSoundFound rows (c.in-Ok-Some.line, c.in-Ok-Some.found)) inv.2 given in
     let gives : GivesFirst (Ok (c.in-Ok-Some.line, c.in-Ok-Some.found)) (to_give g.S.Source.left c.loop-line.records) (to_give g.S.Source.left c.next.new.self) = search rules in
+    let uses : IsReading c.next.new.self → UsesUp g.S.Source.left (c.in-Ok-Some.line, c.in-Ok-Some.found) c.loop-line.records c.next.new.self = search rules in
     let was_reading : IsReading c.loop-line.records = reads_on c.loop-line.records inv.1 (λ at_end. some_none c.next.result c.in-Ok-Some.field-0 (c.in-Ok-Some.line, c.in-Ok-Some.found) c.in-Ok-Some.is c.in-Ok-Some.field-0-is (c.next.ensures.at_end at_end)) in (
       search rules,
       search rules,
@@ -43,6 +47,8 @@ loop-line-preserved g c =
       loads_further g.D.Directory.state c.args.schema.now (c.in-Ok-Some.line, c.in-Ok-Some.found) _ (to_give g.S.Source.left c.loop-line.records) (to_give g.S.Source.left c.next.new.self) c.args.self.now c.loop-line.self c.take.new.self
           sound c.in_default.ensures.reads gives inv.5,
       (λ reading. spends_more g.S.Source.left c.args.records.now c.loop-line.records c.next.new.self (inv.6 was_reading) (c.in-Ok-Some.ensures.turns reading)),
+      (λ reading. taken_further g.D.Directory.state c.args.schema.now g.S.Source.left c.args.records.now c.loop-line.records c.next.new.self c.args.self.now c.loop-line.self c.take.new.self (c.in-Ok-Some.line, c.in-Ok-Some.found)
+          c.next.ensures.schema (uses reading) c.in_default.ensures.reads (inv.7 was_reading)),
     )
 
 pub returns-in-Err-take-clause-blamed : goal.returns-in-Err-take-clause-blamed
@@ -64,3 +70,13 @@ returns-in-Err-clause-turns g c is =
     let inv = c.loop-line.invariant in
     let was_reading : IsReading c.loop-line.records = reads_on c.loop-line.records inv.1 (λ at_end. fault_none c.next.result c.in-Err.fault c.in-Err.is (c.next.ensures.at_end at_end)) in
     copy_long g.S.Source.left g.S.Source.failures c.in-Err.fault c.args.records.now c.loop-line.records c.next.new.self (sym c.ended.ensures ∙ err_same is) (inv.6 was_reading) c.in-Err.ensures.err.0
+
+pub returns-in-Err-clause-settled : goal.returns-in-Err-clause-settled
+returns-in-Err-clause-settled g c is start holds =
+    let inv = c.loop-line.invariant in
+    let was_reading : IsReading c.loop-line.records = reads_on c.loop-line.records inv.1 (λ at_end. fault_none c.next.result c.in-Err.fault c.in-Err.is (c.next.ensures.at_end at_end)) in
+    taken_stopped g.D.Directory.state c.args.schema.now g.S.Source.left g.S.Source.failures c.in-Err.fault c.args.records.now c.loop-line.records c.next.new.self c.args.self.now c.loop-line.self
+    (subst IsOfReading c.ended.ensures is) c.in-Err.ensures.err.0 (inv.7 was_reading) start holds
+
+pub returns-in-Err-take-clause-settled : goal.returns-in-Err-take-clause-settled
+returns-in-Err-take-clause-settled g c is = absurd (of_record c.in-Err-take.fault c.in-Err-take.ensures.fault is)

@@ -1,6 +1,7 @@
 use Rattle.std.proofs.Common.{◌≡◌}
 use Rattle.dir_ldif.specs.Reader.{IsEnded, IsReading, SpendsTurns, budget, schema_of, source_of, to_give}
 use Rattle.dir_tools.proofs.CopyLemmas.{LoadsSoFar}
+use Rattle.dir_tools.proofs.Settled.{TakenSoFar}
 use Rattle.dir_tools.proofs.copy.Loading.take_records.Given as goal
 
 abbrev pub invariant-loop-line : goal.invariant-loop-line
@@ -12,6 +13,7 @@ invariant-loop-line g l =
     × (g.S.Source.is_same (source_of l.initial.records) (source_of l.records))
     × LoadsSoFar g.D.Directory.state l.schema (to_give g.S.Source.left l.initial.records) (to_give g.S.Source.left l.records) l.initial.self l.self
     × (IsReading l.records → SpendsTurns g.S.Source.left l.initial.records l.records)
+    × (IsReading l.records → TakenSoFar g.D.Directory.state l.schema g.S.Source.left l.initial.records l.records l.initial.self l.self)
 
 abbrev pub decreases-loop-line : goal.decreases-loop-line
 decreases-loop-line g l = budget l.records

@@ -1,10 +1,12 @@
 use Rattle.std.proofs.Common.{◌≡◌, sym, subst, true, false, Ok, rules, ◌∙◌}
 use Rattle.dir_ldif.specs.Next.{GivesFirst}
-use Rattle.dir_ldif.specs.Reader.{IsReading, schema_of, source_of, to_give}
+use Rattle.dir_ldif.specs.Reader.{IsReading, UsesUp, schema_of, source_of, to_give}
 use Rattle.dir_ldif.specs.SoundFound.{IsSoundFound}
 use Rattle.dir_tools.specs.Running.{ChangesBlamed}
 use Rattle.dir_tools.proofs.RunLemmas.{changes_long, runs_begun, runs_blamed, runs_further, runs_stopped}
 use Rattle.dir_tools.proofs.run.Run.take_records.Goals.{else-not-is_accepted-via-then-not-is_accepted+else-not-self, else-not-is_accepted-via-else-not-is_accepted}
+use Rattle.dir_tools.specs.Settled.{IsOfReading}
+use Rattle.dir_tools.proofs.Settled.{accepted_begun, accepted_further, accepted_stopped}
 use Rattle.dir_tools.proofs.Turns.{err_same, fault_none, reads_on, some_none, spends_more, spends_none}
 use Rattle.dir_tools.proofs.run.Run.take_records.Goals as goal
 
@@ -32,6 +34,7 @@ loop-line-preserved g c =
     elim c.else-not-is_accepted.branch [ else-not-is_accepted-via-then-not-is_accepted+else-not-self w ↦ (λ _. cc) | else-not-is_accepted-via-else-not-is_accepted w ↦ (λ e. absurd (cc)) ] in
     let given : IsSoundFound (schema_of c.loop-line.records) (c.in-Ok-Some.line, c.in-Ok-Some.found) = search rules in
     let sound : IsSoundFound c.args.schema.now (c.in-Ok-Some.line, c.in-Ok-Some.found) = subst (λ rows. IsSoundFound rows (c.in-Ok-Some.line, c.in-Ok-Some.found)) inv.2 given in
+    let uses : IsReading c.next.new.self → UsesUp g.S.Source.left (c.in-Ok-Some.line, c.in-Ok-Some.found) c.loop-line.records c.next.new.self = search rules in
     let was_reading : IsReading c.loop-line.records = reads_on c.loop-line.records inv.1 (λ at_end. some_none c.next.result c.in-Ok-Some.field-0 (c.in-Ok-Some.line, c.in-Ok-Some.found) c.in-Ok-Some.is c.in-Ok-Some.field-0-is (c.next.ensures.at_end at_end)) in (
       search rules,
       search rules,
@@ -42,6 +45,8 @@ loop-line-preserved g c =
       runs_further g.D.Directory.state c.args.schema.now c.in-Ok.is_accepted (c.in-Ok-Some.line, c.in-Ok-Some.found) _ (to_give g.S.Source.left c.loop-line.records) (to_give g.S.Source.left c.next.new.self) c.args.self.now c.loop-line.self c.take.new.self
           on sound c.in-Ok.ensures.ok gives inv.6,
       (λ reading. spends_more g.S.Source.left c.args.records.now c.loop-line.records c.next.new.self (inv.7 was_reading) (c.in-Ok-Some.ensures.turns reading)),
+      (λ reading. accepted_further g.D.Directory.state c.args.schema.now g.S.Source.left c.args.records.now c.loop-line.records c.next.new.self c.args.self.now c.loop-line.self c.take.new.self c.in-Ok.is_accepted (c.in-Ok-Some.line, c.in-Ok-Some.found)
+          c.next.ensures.schema (uses reading) on c.in-Ok.ensures.ok (inv.8 was_reading)),
     )
 
 pub loop-line-init : goal.loop-line-init
@@ -54,6 +59,7 @@ loop-line-init g c = (
   g.met.S.Source.same_refl _,
   runs_begun g.D.Directory.state c.args.schema.now (to_give g.S.Source.left c.args.records.now) c.args.self.now,
   (λ _. spends_none g.S.Source.left c.args.records.now),
+  (λ _. accepted_begun g.D.Directory.state c.args.schema.now g.S.Source.left c.args.records.now c.args.self.now),
 )
 
 pub returns-in-Err-clause-turns : goal.returns-in-Err-clause-turns
@@ -61,3 +67,10 @@ returns-in-Err-clause-turns g c is =
     let inv = c.loop-line.invariant in
     let was_reading : IsReading c.loop-line.records = reads_on c.loop-line.records inv.1 (λ at_end. fault_none c.next.result c.in-Err.fault c.in-Err.is (c.next.ensures.at_end at_end)) in
     changes_long g.S.Source.left g.S.Source.failures c.in-Err.fault c.args.records.now c.loop-line.records c.next.new.self (sym c.ended.ensures ∙ err_same is) (inv.7 was_reading) c.in-Err.ensures.err.0
+
+pub returns-in-Err-clause-settled : goal.returns-in-Err-clause-settled
+returns-in-Err-clause-settled g c is off =
+    let inv = c.loop-line.invariant in
+    let was_reading : IsReading c.loop-line.records = reads_on c.loop-line.records inv.1 (λ at_end. fault_none c.next.result c.in-Err.fault c.in-Err.is (c.next.ensures.at_end at_end)) in
+    accepted_stopped g.D.Directory.state c.args.schema.now g.S.Source.left g.S.Source.failures c.in-Err.fault c.args.records.now c.loop-line.records c.next.new.self c.args.self.now c.loop-line.self
+    (subst IsOfReading c.ended.ensures is) c.in-Err.ensures.err.0 (inv.8 was_reading) off

@@ -2,6 +2,7 @@ use Rattle.std.proofs.Common.{◌≡◌, ◌+◌, ◌≤◌}
 use Rattle.dir_ldif.specs.Reader.{IsEnded, IsReading, SpendsTurns, budget, schema_of, source_of, to_give}
 use Rattle.dir_tools.specs.Running.{room}
 use Rattle.dir_tools.proofs.RunLemmas.{RunsSoFar}
+use Rattle.dir_tools.proofs.Settled.{AcceptedSoFar}
 use Rattle.dir_tools.proofs.run.Run.take_records.Given as goal
 
 abbrev pub invariant-loop-line : goal.invariant-loop-line
@@ -15,6 +16,7 @@ invariant-loop-line g l =
     × (g.S.Source.is_same (source_of l.initial.records) (source_of l.records))
     × RunsSoFar g.D.Directory.state l.schema (to_give g.S.Source.left l.initial.records) (to_give g.S.Source.left l.records) first l.self
     × (IsReading l.records → SpendsTurns g.S.Source.left l.initial.records l.records)
+    × (IsReading l.records → AcceptedSoFar g.D.Directory.state l.schema g.S.Source.left l.initial.records l.records first l.self)
 
 abbrev pub decreases-loop-line : goal.decreases-loop-line
 decreases-loop-line g l = budget l.records
