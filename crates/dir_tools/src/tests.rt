@@ -50,6 +50,22 @@ fn run_over(
     copy: &[u8],
     changes: &[u8],
 ) -> Result<Ran, Fail> {
+    run_reading(
+        alloc,
+        suffix,
+        options,
+        Script::new(copy),
+        Script::new(changes),
+    )
+}
+
+fn run_reading(
+    alloc: Global,
+    suffix: &str,
+    options: ModifyOptions,
+    mut copy: Script<'_>,
+    mut changes: Script<'_>,
+) -> Result<Ran, Fail> {
     let schema = Schema::builtin(alloc)?;
     let mut undo = vec![in alloc; 0u8; 65536]?;
     let mut out = vec![in alloc; 0u8; 65536]?;
@@ -62,8 +78,8 @@ fn run_over(
         &schema,
         suffix.as_bytes(),
         options,
-        &mut Script::new(copy),
-        &mut Script::new(changes),
+        &mut copy,
+        &mut changes,
         &mut undo_tape,
         &mut out_tape,
         &mut report_tape,

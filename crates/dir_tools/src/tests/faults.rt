@@ -1,6 +1,6 @@
-use super::{Ran, STOP, assert_text, run_over};
-use crate::{Input, Output, Summary, ToolFault, run_modify};
-use dir_ldif::{Script, Tape};
+use super::{GO_ON, Ran, STOP, assert_text, run_over, run_reading};
+use crate::{Cause, Input, Item, Output, Summary, ToolFault, run_modify};
+use dir_ldif::{RecordFault, Script, StreamFault, Tape};
 use dir_names::Schema;
 use std::alloc::Global;
 use std::test::Fail;
@@ -194,6 +194,90 @@ fn a_fault_behind_the_first_refusal_is_not_looked_at(rt: HostRuntime) -> Result<
         &rt,
         ran.report.as_slice(),
         "line 1: refused, 32 noSuchObject\naccepted 0, refused 1\n",
+    );
+    Ok(())
+}
+
+/// One refused record, and what a run tells of it that stops there.
+const REFUSED: &str = "dn: cn=c,dc=com\nchangetype: delete\n\n";
+
+const TOLD: &str = "line 1: refused, 32 noSuchObject\naccepted 0, refused 1\n";
+
+/// In stop mode a reader that fails behind the first refused record isn't read.
+#[test]
+fn a_reader_that_fails_behind_the_first_refusal_is_not_read(rt: HostRuntime) -> Result<(), Fail> {
+    let alloc = rt.alloc();
+    let copy = COPY.as_bytes();
+    let changes = REFUSED.as_bytes();
+    let ran = run_reading(
+        alloc,
+        "dc=com",
+        STOP,
+        Script::new(copy),
+        Script::new(changes).failing_from(2),
+    )?;
+    assert_text(&rt, ran.report.as_slice(), TOLD);
+    let ran = run_reading(
+        alloc,
+        "dc=com",
+        GO_ON,
+        Script::new(copy),
+        Script::new(changes).failing_from(2),
+    )?;
+    assert_eq!(rt; ran.answer, Err(ToolFault::Read(Input::Changes)));
+    Ok(())
+}
+
+/// In stop mode a line that is too long isn't come to behind the first refused record.
+#[test]
+fn a_long_line_behind_the_first_refusal_is_not_come_to(rt: HostRuntime) -> Result<(), Fail> {
+    let alloc = rt.alloc();
+    let mut changes = REFUSED.as_bytes().to_vec(alloc)?;
+    let line = vec![in alloc; b'a'; 2_097_153]?;
+    changes.extend_from_slice(line.as_slice())?;
+    let ran = run_over(alloc, "dc=com", STOP, COPY.as_bytes(), changes.as_slice())?;
+    assert_text(&rt, ran.report.as_slice(), TOLD);
+    let ran = run_over(alloc, "dc=com", GO_ON, COPY.as_bytes(), changes.as_slice())?;
+    assert_eq!(rt;
+        ran.answer,
+        Err(ToolFault::BadChanges(StreamFault::LineTooLong))
+    );
+    Ok(())
+}
+
+/// A bad suffix, and then a bad copy, come before a reader that fails.
+#[test]
+fn what_comes_first_is_answered(rt: HostRuntime) -> Result<(), Fail> {
+    let alloc = rt.alloc();
+    let ran = run_reading(
+        alloc,
+        "",
+        STOP,
+        Script::new(COPY.as_bytes()).failing_from(1),
+        Script::new(CHANGES.as_bytes()).failing_from(1),
+    )?;
+    assert_eq!(rt; ran.answer, Err(ToolFault::BadQuestion(Item::Suffix)));
+    let ran = run_reading(
+        alloc,
+        "dc=com",
+        STOP,
+        Script::new(b"x\n\n"),
+        Script::new(CHANGES.as_bytes()).failing_from(1),
+    )?;
+    assert_eq!(rt;
+        ran.answer,
+        Err(ToolFault::BadCopy(1, Cause::Fault(RecordFault::BadLine)))
+    );
+    let ran = run_reading(
+        alloc,
+        "dc=com",
+        STOP,
+        Script::new(b"x\n\n").failing_from(2),
+        Script::new(CHANGES.as_bytes()).failing_from(1),
+    )?;
+    assert_eq!(rt;
+        ran.answer,
+        Err(ToolFault::BadCopy(1, Cause::Fault(RecordFault::BadLine)))
     );
     Ok(())
 }
