@@ -2,7 +2,7 @@ ghost use Rattle.dir_change.specs.Runs.{RunsAreTakenBack, RunsStayInOrder, UndoT
 
 use dir_ldif::written_records_read_back;
 
-/// A law: for every list of legal changes on a well-formed directory, going on behind refused ones or
+/// A law: for every list of sound changes on a well-formed directory, going on behind refused ones or
 /// not, the groups of the accepted changes, the last first, are all accepted from where the list ends,
 /// and lead back to where it began.
 pub fn runs_are_taken_back()

@@ -99,7 +99,7 @@ impl Entry {
         self.attributes.iter()
     }
 
-    /// The same fields, free to be changed. It takes no memory.
+    /// The same fields, taken apart. It takes no memory.
     pub fn into_parts(self) -> Parts
         ensures { content_of result ≡ self }
     {

@@ -8,7 +8,7 @@ use crate::attributes::AttributeMap;
 use crate::{Entry, EntryFault};
 use dir_names::{AttrKey, Bytes, Rdn, RdnKey, Schema};
 
-/// The fields of an entry, free to be changed.
+/// The fields of an entry, taken apart: each can be put in the place of another's before they are closed.
 #[derive(Debug, Drop)]
 pub struct Parts {
     /// The own name as spelled, leaf first: one RDN, or all of the suffix.

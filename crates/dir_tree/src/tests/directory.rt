@@ -116,7 +116,8 @@ fn a_flat_directory_spells_names_as_its_entries_do(rt: HostRuntime) -> Result<()
     let mut directory = empty(alloc, &schema, b"dc=com")?;
     add(alloc, &schema, &mut directory, b"dc=com")?;
     add(alloc, &schema, &mut directory, b"cn=A,dc=com")?;
-    add(alloc, &schema, &mut directory, b"cn=b,cn=a,DC=COM")?;
+    let (key, entry) = bare(alloc, &schema, &directory, b"cn=b,cn=a,DC=COM")?;
+    put(alloc, &mut directory, &key, entry.try_clone(alloc)?)?;
     assert_spelled(
         &rt,
         alloc,
