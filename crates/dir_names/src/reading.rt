@@ -4,6 +4,7 @@ ghost use Rattle.dir_names.specs.Outcome.{Gives};
 ghost use Rattle.dir_names.specs.Reading.{is_hex, hex_of, is_refused, is_escapable, is_outside, has_digit, keeps_digit, step_of, all_of, begins_with_hash, value_of, pieces, pieces_left, pair_of, rdn_of, name_of, is_small, or_bad_dn, limited, name_read, rdn_read};
 
 use crate::attribute::{cut, is_reserved, is_type};
+use crate::few::Few;
 use crate::limits::MAX_RDN_TEXT;
 use crate::printing::{is_refused_sign, print_rdn};
 use crate::spaces::{trimmed_end, trimmed_front};
@@ -90,11 +91,11 @@ fn read_rdns(alloc: Global, text: &[u8]) -> Result<Vec<Rdn>, NameFault>
 fn read_rdn(alloc: Global, text: &[u8]) -> Result<Rdn, NameFault>
     ensures { Gives (λ rdn. rdn) result (or_bad_dn (rdn_of text.now)) }
 {
-    let mut pairs = Vec::with_capacity(alloc, 1)?;
+    let mut pairs = Few::None;
     let mut rest = Some(text);
     while let Some(more) = rest {
         let (piece, after) = cut_unescaped(more, b'+');
-        pairs.push(read_pair(alloc, piece)?)?;
+        pairs = pairs.with_last(alloc, read_pair(alloc, piece)?)?;
         rest = after;
     }
     Rdn::from_pairs(alloc, pairs)
