@@ -57,13 +57,33 @@ fn are_small(alloc: Global, rdns: &[Rdn]) -> Result<bool, NameFault>
     Ok(true)
 }
 
-/// Whether an RDN prints within the limit; it is printed into `scratch`.
+/// Whether an RDN prints within the limit; where its length leaves that open it is printed into
+/// `scratch`.
 fn is_small(rdn: &Rdn, scratch: &mut Vec<u8>) -> Result<bool, NameFault>
     ensures { Gives (λ small. small) result (Ok (is_small rdn.now)) }
 {
+    if are_short(rdn.pairs()) {
+        return Ok(true);
+    }
     scratch.clear();
     print_rdn(rdn, scratch)?;
     Ok(scratch.len() <= MAX_RDN_TEXT)
+}
+
+/// Whether pairs print within the limit even if each byte of their values is escaped, as three bytes.
+fn are_short(pairs: &[(Bytes, Bytes)]) -> bool
+    ensures { IsTrue result → IsTrue (is_small pairs.now) }
+{
+    let mut room = MAX_RDN_TEXT;
+    for pair in pairs {
+        let kind = pair.0.as_slice().len();
+        let value = pair.1.as_slice().len();
+        if kind > room || value > room || kind + 3 * value + 2 > room {
+            return false;
+        }
+        room -= kind + 3 * value + 2;
+    }
+    true
 }
 
 fn rdns_of(alloc: Global, text: &[u8]) -> Result<Vec<Rdn>, NameFault>
