@@ -1,13 +1,12 @@
 -- Whether a name has a key, said of its RDNs and their pairs.
-use Rattle.std.proofs.Common.{◌≡◌, ℕ, ◌<◌, length, get_or, Bool, true, false, ◌&&◌, List, [], ◌∷◌, ◌++◌, reverse, Option, Some, None, is_some, refl, sym, ap, ◌∙◌}
+use Rattle.std.proofs.Common.{◌≡◌, ℕ, ◌<◌, length, get_or, Bool, true, false, ◌&&◌, List, [], ◌∷◌, reverse, Option, Some, None, is_some, refl, sym, ap, ◌∙◌}
 use Rattle.std.specs.List.{list_all}
 use Rattle.std.specs.Option.{option_map}
 use Rattle.std.proofs.lemmas.List.{reverse-append}
 use Rattle.std.proofs.lemmas.List.Folds.{list_all-append, list_all_at}
 use Rattle.dir_names.specs.declared.schema.TypeRow.{TypeRow}
-use Rattle.dir_names.specs.Attr.{Attr}
-use Rattle.dir_names.specs.NameKeys.{and_then, attr_of, found, name_key, pair_key, rdn_key, set_if_apart}
-use Rattle.dir_names.specs.Names.{SpelledPair, SpelledRdn, SpelledName}
+use Rattle.dir_names.specs.NameKeys.{and_then, attr_of, found, name_key, rdn_key, set_if_apart}
+use Rattle.dir_names.specs.Names.{SpelledPair, SpelledName}
 use Rattle.dir_names.specs.Reading.{all_of, and_all}
 use Rattle.dir_names.specs.Table.{rule_of}
 use Rattle.dir_names.specs.ValueKeys.{text_key_of}

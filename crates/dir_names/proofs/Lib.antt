@@ -12,6 +12,7 @@ pub mod Pairs
 pub mod PieceLemmas
 pub mod Placed
 pub mod PrintLemmas
+pub mod PrintedLengths
 pub mod ReadNames
 pub mod ReadValues
 pub mod ReadsSpells

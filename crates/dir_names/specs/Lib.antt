@@ -5,6 +5,7 @@ pub mod Cut
 pub mod Described
 pub mod Descriptions
 pub mod FaultText
+pub mod Few
 pub mod Keys
 pub mod NameKeys
 pub mod Names

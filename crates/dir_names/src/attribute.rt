@@ -19,9 +19,14 @@ use std::marker::Model;
 use std::rc::Rc;
 
 /// What an attribute description means: the key of its type and the set of its options, in lower
-/// case (RFC 4512, section 2.5).
+/// case (RFC 4512, section 2.5). Copies share its memory.
 #[derive(Debug, Drop)]
 pub struct AttrKey {
+    shared: Rc<AttrParts>,
+}
+
+#[derive(Debug, Drop)]
+struct AttrParts {
     kind: Bytes,
     options: Texts,
 }
@@ -31,9 +36,7 @@ impl Model for AttrKey {
 
     ghost Value = { Attr };
 
-    ghost view = { λ a. record { kind = a.kind; options = a.options } };
-
-    ghost inverse = { λ a. record { kind = a.kind; options = a.options } };
+    ghost view = { λ a. record { kind = a.shared.value.kind; options = a.shared.value.options } };
 }
 
 impl AttrKey {
@@ -43,37 +46,43 @@ impl AttrKey {
         ensures value { result ≡ covers self.now other.now }
         ensures meaning { IsTrue result ↔ Covers self.now other.now }
     {
-        self.kind == other.kind && is_subset(self.options.as_slice(), other.options.as_slice())
+        self.shared.kind == other.shared.kind && is_subset(self.options(), other.options())
     }
 
-    pub fn try_clone(&self, alloc: Global) -> Result<AttrKey, NameFault>
+    /// The same key, in the same memory.
+    pub fn try_clone(&self, _alloc: Global) -> Result<AttrKey, NameFault>
         ensures { Gives (λ key. key) result (Ok self.now) }
     {
         Ok(AttrKey {
-            kind: self.kind.try_clone(alloc)?,
-            options: self.options.try_clone(alloc)?,
+            shared: self.shared.clone()?,
         })
     }
 
-    pub(crate) fn of_type(alloc: Global, kind: Bytes) -> AttrKey
-        ensures { result ≡ record { kind = kind; options = [] } }
+    /// The key of a type without options.
+    pub(crate) fn of_type(alloc: Global, kind: Bytes) -> Result<AttrKey, NameFault>
+        ensures { Gives (λ key. key) result (Ok (record { kind = kind; options = [] })) }
     {
-        AttrKey {
-            kind,
-            options: Texts::new(Vec::new(alloc)),
-        }
+        AttrKey::of(alloc, kind, Texts::new(Vec::new(alloc)))
+    }
+
+    fn of(alloc: Global, kind: Bytes, options: Texts) -> Result<AttrKey, NameFault>
+        ensures { Gives (λ key. key) result (Ok (record { kind = kind; options = options })) }
+    {
+        Ok(AttrKey {
+            shared: Rc::new(alloc, AttrParts { kind, options })?,
+        })
     }
 
     pub(crate) fn kind(&self) -> &[u8]
         ensures { result.now ≡ self.now.kind }
     {
-        self.kind.as_slice()
+        self.shared.kind.as_slice()
     }
 
     pub(crate) fn options(&self) -> &[Bytes]
         ensures { result.now ≡ self.now.options }
     {
-        self.options.as_slice()
+        self.shared.options.as_slice()
     }
 }
 
@@ -83,7 +92,7 @@ impl PartialEq for AttrKey {
     ghost laws = { tied_per attr_cmp attr_cmp_total attr_cmp_ties };
 
     fn eq(&self, other: &AttrKey) -> bool {
-        self.kind == other.kind && self.options == other.options
+        self.shared.kind == other.shared.kind && self.shared.options == other.shared.options
     }
 }
 
@@ -111,9 +120,10 @@ impl Ord for AttrKey {
     ghost matches_eq = { attr_cmp_ties };
 
     fn cmp(&self, other: &AttrKey) -> Ordering {
-        self.kind
-            .cmp(&other.kind)
-            .then_with(|| self.options.cmp(&other.options))
+        self.shared
+            .kind
+            .cmp(&other.shared.kind)
+            .then_with(|| self.shared.options.cmp(&other.shared.options))
     }
 }
 
@@ -172,10 +182,7 @@ impl Description {
             return Err(NameFault::ReservedName);
         }
         let spelling = Bytes::copy_of(alloc, text)?;
-        let key = AttrKey {
-            kind: schema.type_key(alloc, kind)?,
-            options,
-        };
+        let key = AttrKey::of(alloc, schema.type_key(alloc, kind)?, options)?;
         Ok(Description {
             shared: Rc::new(alloc, Spelled { spelling, key })?,
         })

@@ -1,10 +1,11 @@
 ghost use Rattle.std.specs.Cmp.{partial_order_from_agreeing_total};
 ghost use Rattle.std.specs.Ordering.{as_partial_cmp};
-ghost use Rattle.std.specs.Prelude.{◌≡◌, ◌↔◌, [], ◌∷◌, ◌++◌, IfErr, IfOk, IsTrue, Ok, refl, length};
+ghost use Rattle.std.specs.Prelude.{◌≡◌, ◌↔◌, [], ◌∷◌, ◌++◌, IsTrue, Ok, refl, length};
 ghost use Rattle.dir_names.specs.Keys.{is_rdn_key, with_pair, IsAtOrBelow, IsParent, parent_of};
 ghost use Rattle.dir_names.specs.Orders.{rdn_key_cmp, rdn_key_eq, rdn_key_cmp_total, rdn_key_cmp_ties, dn_key_cmp, dn_key_eq, dn_key_cmp_total, dn_key_cmp_ties, tied_equiv, tied_per};
 ghost use Rattle.dir_names.specs.Outcome.{Gives};
 
+use crate::few::Few;
 use crate::sorting::{put_name, put_part};
 use crate::{AttrKey, Bytes, NameFault};
 use std::alloc::Global;
@@ -15,7 +16,7 @@ use std::rc::Rc;
 /// The pairs of type key and value key of an RDN, in order.
 #[derive(Debug, Drop)]
 pub(crate) struct PairSet {
-    pairs: Vec<(AttrKey, Bytes)>,
+    pairs: Few<(AttrKey, Bytes)>,
 }
 
 impl Model for PairSet {
@@ -24,35 +25,37 @@ impl Model for PairSet {
 
     ghost Value = { List (Attr × List ℕ) };
 
-    ghost view = { λ set. set.pairs.items };
-
     ghost use Rattle.std.specs.Prelude.{IsTrue};
+    ghost use Rattle.dir_names.specs.Few.{listed};
     ghost use Rattle.dir_names.specs.Keys.{is_rdn_key};
 
-    ghost invariant = { λ set. IsTrue (is_rdn_key set.pairs.items) };
+    ghost view = { λ set. listed set.pairs };
+
+    ghost invariant = { λ set. IsTrue (is_rdn_key (listed set.pairs)) };
 }
 
 impl PairSet {
-    /// The set of no pair, with room for so many.
-    pub(crate) fn with_room(alloc: Global, room: usize) -> Result<PairSet, NameFault>
-        ensures empty { IfOk result (λ set. set ≡ []) }
-        ensures memory { IfErr result (λ e. e ≡ NameFault.Memory) }
+    pub(crate) fn empty() -> PairSet
+        ensures { result ≡ [] }
     {
-        Ok(PairSet {
-            pairs: Vec::with_capacity(alloc, room)?,
-        })
+        PairSet { pairs: Few::None }
     }
 
-    /// Puts a pair in its place, unless its type is there.
-    pub(crate) fn put(&mut self, attr: AttrKey, value: Bytes) -> Result<(), NameFault>
-        ensures { Gives (λ _. self.new) result (with_pair attr value self.old) }
+    /// The set with one pair more, unless its type is there.
+    pub(crate) fn with(
+        self,
+        alloc: Global,
+        attr: AttrKey,
+        value: Bytes,
+    ) -> Result<PairSet, NameFault>
+        ensures { Gives (λ set. set) result (with_pair attr value self) }
     {
-        match self.pairs.binary_search_by(|pair| pair.0.cmp(&attr)) {
+        let pairs = self.pairs;
+        match pairs.as_slice().binary_search_by(|pair| pair.0.cmp(&attr)) {
             Ok(_) => Err(NameFault::BadDn),
-            Err(at) => {
-                self.pairs.insert(at, (attr, value))?;
-                Ok(())
-            }
+            Err(at) => Ok(PairSet {
+                pairs: pairs.with(alloc, at, (attr, value))?,
+            }),
         }
     }
 

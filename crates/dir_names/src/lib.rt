@@ -4,6 +4,7 @@
 
 mod attribute;
 mod fault;
+mod few;
 mod folding;
 mod key;
 mod limits;

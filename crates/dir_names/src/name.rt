@@ -1,4 +1,5 @@
 ghost use Rattle.std.specs.Prelude.{◌≡◌, cond, is_some, length, nat_le, Ok, Err, Some, IsTrue, IsFalse, IfOk, IsErrOf};
+ghost use Rattle.dir_names.specs.Few.{listed};
 ghost use Rattle.dir_names.specs.NameKeys.{pair_key, rdn_key, name_key};
 ghost use Rattle.dir_names.specs.Names.{name_eq, rdn_eq, name_eq_laws, rdn_eq_laws, partial_name_eq_laws, partial_rdn_eq_laws, SpelledRdn, SpelledName};
 ghost use Rattle.dir_names.specs.Outcome.{Gives};
@@ -11,6 +12,7 @@ ghost use Rattle.dir_names.specs.declared.fault.NameFault.TheVariants.{BadDn, Na
 
 use crate::attribute::AttrKey;
 use crate::fault::as_bad_dn;
+use crate::few::Few;
 use crate::key::PairSet;
 use crate::limits::MAX_RDNS;
 use crate::printing::{print_name, print_rdn};
@@ -25,7 +27,7 @@ use std::rc::Rc;
 /// section 2.3.1). Copies share its memory.
 #[derive(Debug, Drop)]
 pub struct Rdn {
-    pairs: Rc<Vec<(Bytes, Bytes)>>,
+    pairs: Rc<Few<(Bytes, Bytes)>>,
 }
 
 impl Model for Rdn {
@@ -33,12 +35,13 @@ impl Model for Rdn {
 
     ghost Value = { List (List ℕ × List ℕ) };
 
-    ghost view = { λ rdn. rdn.pairs.value.items };
-
     ghost use Rattle.std.specs.Prelude.{IsTrue};
+    ghost use Rattle.dir_names.specs.Few.{listed};
     ghost use Rattle.dir_names.specs.Sound.{is_rdn};
 
-    ghost invariant = { λ rdn. IsTrue (is_rdn rdn.pairs.value.items) };
+    ghost view = { λ rdn. listed rdn.pairs.value };
+
+    ghost invariant = { λ rdn. IsTrue (is_rdn (listed rdn.pairs.value)) };
 }
 
 impl Rdn {
@@ -77,10 +80,10 @@ impl Rdn {
     pub fn key(&self, alloc: Global, schema: &Schema) -> Result<RdnKey, NameFault>
         ensures { Gives (λ key. key) result (or_bad_dn (rdn_key schema.now self.now)) }
     {
-        let mut key = PairSet::with_room(alloc, self.pairs.len())?;
+        let mut key = PairSet::empty();
         for pair in self.pairs.as_slice() {
             let (attr, value) = pair_key(alloc, schema, pair)?;
-            key.put(attr, value)?;
+            key = key.with(alloc, attr, value)?;
         }
         RdnKey::of(alloc, key)
     }
@@ -90,7 +93,7 @@ impl Rdn {
     pub fn has_key(&self, alloc: Global, schema: &Schema) -> Result<bool, NameFault>
         ensures { Gives (λ has. has) result (Ok (is_some (rdn_key schema.now self.now))) }
     {
-        match self.pairs.split_first() {
+        match self.pairs.as_slice().split_first() {
             Some((pair, rest)) if rest.is_empty() => {
                 let rule = schema.rule_of(alloc, pair.0.as_slice())?;
                 Ok(has_text_key(rule, pair.1.as_slice()))
@@ -120,9 +123,9 @@ impl Rdn {
         })
     }
 
-    pub(crate) fn from_pairs(alloc: Global, pairs: Vec<(Bytes, Bytes)>) -> Result<Rdn, NameFault>
-        requires { IsTrue (is_rdn pairs.items) }
-        ensures { Gives (λ rdn. rdn) result (Ok pairs.items) }
+    pub(crate) fn from_pairs(alloc: Global, pairs: Few<(Bytes, Bytes)>) -> Result<Rdn, NameFault>
+        requires { IsTrue (is_rdn (listed pairs)) }
+        ensures { Gives (λ rdn. rdn) result (Ok (listed pairs)) }
     {
         Ok(Rdn {
             pairs: Rc::new(alloc, pairs)?,

@@ -4,6 +4,7 @@ ghost use Rattle.dir_names.specs.Outcome.{Gives};
 ghost use Rattle.dir_names.specs.Reading.{is_hex, hex_of, is_refused, is_escapable, is_outside, has_digit, keeps_digit, step_of, all_of, begins_with_hash, value_of, pieces, pieces_left, pair_of, rdn_of, name_of, is_small, or_bad_dn, limited, name_read, rdn_read};
 
 use crate::attribute::{cut, is_reserved, is_type};
+use crate::few::Few;
 use crate::limits::MAX_RDN_TEXT;
 use crate::printing::{is_refused_sign, print_rdn};
 use crate::spaces::{trimmed_end, trimmed_front};
@@ -56,13 +57,33 @@ fn are_small(alloc: Global, rdns: &[Rdn]) -> Result<bool, NameFault>
     Ok(true)
 }
 
-/// Whether an RDN prints within the limit; it is printed into `scratch`.
+/// Whether an RDN prints within the limit; where its length leaves that open it is printed into
+/// `scratch`.
 fn is_small(rdn: &Rdn, scratch: &mut Vec<u8>) -> Result<bool, NameFault>
     ensures { Gives (λ small. small) result (Ok (is_small rdn.now)) }
 {
+    if are_short(rdn.pairs()) {
+        return Ok(true);
+    }
     scratch.clear();
     print_rdn(rdn, scratch)?;
     Ok(scratch.len() <= MAX_RDN_TEXT)
+}
+
+/// Whether pairs print within the limit even if each byte of their values is escaped, as three bytes.
+fn are_short(pairs: &[(Bytes, Bytes)]) -> bool
+    ensures { IsTrue result → IsTrue (is_small pairs.now) }
+{
+    let mut room = MAX_RDN_TEXT;
+    for pair in pairs {
+        let kind = pair.0.as_slice().len();
+        let value = pair.1.as_slice().len();
+        if kind > room || value > room || kind + 3 * value + 2 > room {
+            return false;
+        }
+        room -= kind + 3 * value + 2;
+    }
+    true
 }
 
 fn rdns_of(alloc: Global, text: &[u8]) -> Result<Vec<Rdn>, NameFault>
@@ -90,11 +111,11 @@ fn read_rdns(alloc: Global, text: &[u8]) -> Result<Vec<Rdn>, NameFault>
 fn read_rdn(alloc: Global, text: &[u8]) -> Result<Rdn, NameFault>
     ensures { Gives (λ rdn. rdn) result (or_bad_dn (rdn_of text.now)) }
 {
-    let mut pairs = Vec::with_capacity(alloc, 1)?;
+    let mut pairs = Few::None;
     let mut rest = Some(text);
     while let Some(more) = rest {
         let (piece, after) = cut_unescaped(more, b'+');
-        pairs.push(read_pair(alloc, piece)?)?;
+        pairs = pairs.with_last(alloc, read_pair(alloc, piece)?)?;
         rest = after;
     }
     Rdn::from_pairs(alloc, pairs)

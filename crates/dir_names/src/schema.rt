@@ -128,7 +128,7 @@ impl Schema {
     {
         match self.ready(kind) {
             Some(description) => description.key().try_clone(alloc),
-            None => Ok(AttrKey::of_type(alloc, self.type_key(alloc, kind)?)),
+            None => AttrKey::of_type(alloc, self.type_key(alloc, kind)?),
         }
     }
 
@@ -195,7 +195,7 @@ fn frequent_description(
     ensures ready { IfOk result (λ pair. IfSome pair (IsReady schema.now)) }
     ensures memory { IfErr result (λ e. e ≡ NameFault.Memory) }
 {
-    let attr = AttrKey::of_type(alloc, schema.type_key(alloc, text)?);
+    let attr = AttrKey::of_type(alloc, schema.type_key(alloc, text)?)?;
     match Description::read(alloc, schema, text) {
         Ok(description) if *description.key() == attr => {
             Ok(Some((Bytes::copy_of(alloc, text)?, description)))

@@ -1,13 +1,22 @@
-use Rattle.std.proofs.Common.{◌≡◌, Some, ap, ◌∙◌, arith}
+use Rattle.std.proofs.Common.{◌≡◌, [], ◌∷◌, ◌++◌, Some, false, ap, ◌∙◌, arith, rules}
 use Rattle.std.specs.Option.{option_copied}
 use Rattle.std.proofs.lemmas.List.{append-nil}
-use Rattle.dir_names.specs.Reading.{pair_of, rdn_of, all_of, pieces_left}
-use Rattle.dir_names.proofs.AllLemmas.{prefixed}
+use Rattle.dir_names.specs.Few.{listed}
+use Rattle.dir_names.specs.Reading.{pair_of, rdn_of, all_of, pieces, pieces_left}
+use Rattle.dir_names.proofs.AllLemmas.{prefixed, ok_some, all_more}
 use Rattle.dir_names.proofs.SoundLemmas.{bytes_from_fits, sound_rdn}
 use Rattle.dir_names.proofs.reading.read_rdn.Goals as goal
 
+pub loop-rest-preserved : goal.loop-rest-preserved
+loop-rest-preserved c =
+    let parted : pieces_left 43 (option_copied c.loop-rest.rest) ≡ c.cut_unescaped.result.0.now ∷ pieces_left 43 (option_copied c.cut_unescaped.result.1) = search rules in
+    let so_far = c.loop-rest.invariant ∙ ap (λ ps. prefixed (listed c.loop-rest.pairs) (all_of pair_of ps)) parted in
+    let read = ok_some (pair_of c.cut_unescaped.result.0.now) c.in_ok-read_pair.field-0 c.in_ok-read_pair.ensures in
+    let longer : listed c.in_ok-pairs.pairs ≡ listed c.loop-rest.pairs ++ c.in_ok-read_pair.field-0 ∷ [] = search rules in
+    rw longer (all_more pair_of (pieces 43 false c.args.text.now) (listed c.loop-rest.pairs) c.cut_unescaped.result.0.now (pieces_left 43 (option_copied c.cut_unescaped.result.1)) so_far c.in_ok-read_pair.field-0 read)
+
 pub from_pairs-requires : goal.from_pairs-requires
 from_pairs-requires c =
-    let read : rdn_of c.args.text.now ≡ Some c.loop-rest.pairs.items =
-    c.loop-rest.invariant ∙ ap (λ r. prefixed c.loop-rest.pairs.items (all_of pair_of (pieces_left 43 (option_copied r)))) c.in_default.is ∙ ap Some (append-nil c.loop-rest.pairs.items) in
-    sound_rdn c.args.text.now c.loop-rest.pairs.items (bytes_from_fits c.args.text.now (λ i. omega (arith, c.type_inv.text i))) read
+    let read : rdn_of c.args.text.now ≡ Some (listed c.loop-rest.pairs) =
+    c.loop-rest.invariant ∙ ap (λ r. prefixed (listed c.loop-rest.pairs) (all_of pair_of (pieces_left 43 (option_copied r)))) c.in_default.is ∙ ap Some (append-nil (listed c.loop-rest.pairs)) in
+    sound_rdn c.args.text.now (listed c.loop-rest.pairs) (bytes_from_fits c.args.text.now (λ i. omega (arith, c.type_inv.text i))) read

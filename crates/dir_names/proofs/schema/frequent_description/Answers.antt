@@ -1,4 +1,4 @@
-use Rattle.std.proofs.Common.{◌≡◌, Ok, true, sym, ap, subst, ◌∙◌, rules}
+use Rattle.std.proofs.Common.{◌≡◌, Ok, true, sym, subst, ◌∙◌, rules}
 use Rattle.dir_names.specs.Descriptions.{description_of}
 use Rattle.dir_names.specs.NameKeys.{IsReady, attr_of}
 use Rattle.dir_names.specs.Orders.{attr_eq, attr_eq_decides}
@@ -9,8 +9,8 @@ returns-in-Ok-clause-ready c =
     let rows = c.args.schema.now in
     let text : c.in_ok-copy_of-in-Ok.field-0 ≡ c.args.text.now = search rules in
     let read : description_of rows c.args.text.now ≡ Ok c.in-Ok.description = search rules in
-    let attr : c.of_type-attr.result ≡ attr_of rows c.args.text.now = search rules in
-    let told : attr_eq c.key.result.now c.of_type-attr.result ≡ true = search rules in
+    let attr : c.in_ok-attr.attr ≡ attr_of rows c.args.text.now = search rules in
+    let told : attr_eq c.key.result.now c.in_ok-attr.attr ≡ true = search rules in
     let key : c.key.result.now ≡ c.in-Ok.description.key = search rules in
-    let same : c.key.result.now ≡ c.of_type-attr.result = (attr_eq_decides c.key.result.now c.of_type-attr.result).0 told in
+    let same : c.key.result.now ≡ c.in_ok-attr.attr = (attr_eq_decides c.key.result.now c.in_ok-attr.attr).0 told in
     subst (λ t. IsReady rows (t, c.in-Ok.description)) (sym text) (read, sym attr ∙ sym same ∙ key)

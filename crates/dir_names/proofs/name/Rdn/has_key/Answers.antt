@@ -17,6 +17,6 @@ returns-in_ok-rule-in-Some c =
     let pair = c.in-Some.pair.now in
     let rest : c.in-Some.rest.now ≡ [] = grind (arith, common_steps) in
     let whole : c.args.self.now ≡ pair ∷ c.in-Some.rest.now = search rules in
-    let rule : c.in_ok-rule-in-Some.rule ≡ rule_of rows (attr_of rows pair.0) = sym (ok_rule c.in_ok-rule-in-Some.ensures) ∙ ap (λ k. rule_of rows (attr_of rows k)) c.as_slice.ensures in
-    let value : c.as_slice-in-Some.result.now ≡ pair.1 = search rules in
+    let rule : c.in_ok-rule-in-Some.rule ≡ rule_of rows (attr_of rows pair.0) = sym (ok_rule c.in_ok-rule-in-Some.ensures) ∙ ap (λ k. rule_of rows (attr_of rows k)) c.as_slice-in-Some.ensures in
+    let value : c.as_slice-in-Some-2.result.now ≡ pair.1 = search rules in
     ap Ok (ap (λ r. is_some (rdn_key rows r)) (whole ∙ ap (λ xs. pair ∷ xs) rest) ∙ one_pair rows pair ∙ (λ i. is_some (found (text_key_of (sym rule i) (sym value i)))) ∙ sym c.has_text_key.ensures)
