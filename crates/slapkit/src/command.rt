@@ -145,5 +145,5 @@ fn flag<'a>(alloc: Global, id: &'a str, letter: char, help: &'a str) -> Arg<'a> 
 
 const ABOUT: &str = "\
 Applies LDIF change records to an LDIF copy of a directory, and writes the new copy, an undo file and \
-a report. The undo file is a text of changes too: run on the new copy, it makes the first copy again. \
+a report. The undo file is a text of changes too: run on the new copy, it leads back to the first directory. \
 The report goes to standard output. The exit status is 0 where every record was accepted, and else 1.";
