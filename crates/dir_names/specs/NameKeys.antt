@@ -1,8 +1,9 @@
 -- The key of a name: the keys of its RDNs, root first, each the set of its pairs of type key and value key.
-use Rattle.std.specs.Prelude.{◌≡◌, ℕ, Bool, true, cond, not, ◌&&◌, List, [], ◌∷◌, reverse, Option, Some, None, option_map, Result, Ok, Err}
+use Rattle.std.specs.Prelude.{◌≡◌, ℕ, Bool, true, cond, not, ◌&&◌, List, [], ◌∷◌, reverse, Option, Some, None, IfSome, option_map, Result, Ok, Err}
 use Rattle.std.specs.List.{list_any}
 use Rattle.dir_names.specs.declared.fault.NameFault.{NameFault}
 use Rattle.dir_names.specs.declared.fault.NameFault.TheVariants.{BadValue}
+use Rattle.dir_names.specs.declared.schema.Ready.{Ready}
 use Rattle.dir_names.specs.declared.schema.Rule.{Rule}
 use Rattle.dir_names.specs.declared.schema.Rule.TheVariants.{Octet, CaseIgnore, Ia5CaseIgnore, Ia5CaseExact, Telephone, Integer, Name, ObjectId}
 use Rattle.dir_names.specs.declared.schema.TypeRow.{TypeRow}
@@ -26,6 +27,13 @@ attr_of rows kind = record { kind = type_key_of rows kind; options = [] }
 -- a text that is a type without options, and its description
 abbrev pub IsReady : List TypeRow → List ℕ × Described → Type 0
 IsReady rows p = (description_of rows p.0 ≡ Ok p.1) × (attr_of rows p.0 ≡ p.1.key)
+
+-- and the rule of its values
+abbrev pub IsReadyType : List TypeRow → Ready → Type 0
+IsReadyType rows ready = IsReady rows (ready.text, ready.description) × (rule_of rows ready.description.key ≡ ready.rule)
+
+abbrev pub AreReady : List TypeRow → Option Ready → Type 0
+AreReady rows slot = IfSome slot (IsReadyType rows)
 
 -- what an answer holds, if it is no fault
 abbrev pub found : {A : Type 0} → Result A NameFault → Option A

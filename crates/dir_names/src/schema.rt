@@ -1,5 +1,5 @@
-ghost use Rattle.std.specs.Prelude.{◌≡◌, ◌∷◌, All, IfErr, IfOk, IfSome, Ok, find, map, option_copied};
-ghost use Rattle.dir_names.specs.NameKeys.{IsReady, attr_of};
+ghost use Rattle.std.specs.Prelude.{◌≡◌, ◌<◌, ◌∷◌, All, IfErr, IfOk, IfSome, Ok, find, map, option_copied};
+ghost use Rattle.dir_names.specs.NameKeys.{AreReady, IsReady, IsReadyType, attr_of};
 ghost use Rattle.dir_names.specs.Rows.{type_row};
 ghost use Rattle.std.specs.List.{list_any};
 ghost use Rattle.std.specs.Str.{str_eq_ignore_ascii_case};
@@ -10,7 +10,6 @@ use crate::attribute::lower;
 use crate::table::{FREQUENT, ROWS, Row};
 use crate::{AttrKey, Bytes, Description, NameFault, Texts};
 use std::alloc::Global;
-use std::cmp::Ordering;
 use std::marker::Model;
 
 /// How the values of an attribute type are compared (RFC 4517, section 4.2).
@@ -49,8 +48,19 @@ pub struct TypeRow {
 #[derive(Debug, Drop)]
 pub struct Schema {
     rows: Vec<TypeRow>,
-    /// Descriptions that need not be read again, each behind its text, in the order of `look_up_order`.
-    ready: Vec<(Bytes, Description)>,
+    /// The types that copies have most, each in the slot of its text.
+    ready: Vec<Option<Ready>>,
+}
+
+/// How many slots there are for types that copies have most.
+const SLOTS: usize = 256;
+
+/// What is kept of a type without options, so that it need not be looked up in the table.
+#[derive(Debug, Drop)]
+struct Ready {
+    text: Bytes,
+    description: Description,
+    rule: Rule,
 }
 
 impl Model for Schema {
@@ -62,9 +72,9 @@ impl Model for Schema {
     ghost view = { λ schema. schema.rows.items };
 
     ghost use Rattle.std.specs.Prelude.{All};
-    ghost use Rattle.dir_names.specs.NameKeys.{IsReady};
+    ghost use Rattle.dir_names.specs.NameKeys.{AreReady};
 
-    ghost invariant = { λ schema. All (IsReady schema.rows.items) schema.ready.items };
+    ghost invariant = { λ schema. All (AreReady schema.rows.items) schema.ready.items };
 }
 
 impl Schema {
@@ -79,24 +89,28 @@ impl Schema {
             rows: type_rows(alloc, &ROWS)?,
             ready: Vec::new(alloc),
         };
-        let ready = frequent_descriptions(alloc, &bare)?;
+        let ready = frequent_types(alloc, &bare)?;
         let Schema { rows, ready: _ } = bare;
         Ok(Schema { rows, ready })
+    }
+
+    /// What is kept of the type in the slot of this text.
+    fn slot(&self, text: &[u8]) -> Option<&Ready>
+        ensures { IfSome result (λ ready. IsReadyType self.now ready.now) }
+    {
+        match self.ready.get(slot_of(text)) {
+            Some(Some(ready)) => Some(ready),
+            _ => None,
+        }
     }
 
     /// The description of a text, where it need not be read again.
     pub(crate) fn ready(&self, text: &[u8]) -> Option<&Description>
         ensures { IfSome result (λ d. IsReady self.now (text.now, d.now)) }
     {
-        let Ok(at) = self
-            .ready
-            .binary_search_by(|p| look_up_order(p.0.as_slice(), text))
-        else {
-            return None;
-        };
-        let found = &self.ready[at];
-        if found.0.as_slice() == text {
-            Some(&found.1)
+        let ready = self.slot(text)?;
+        if ready.text.as_slice() == text {
+            Some(&ready.description)
         } else {
             None
         }
@@ -104,6 +118,15 @@ impl Schema {
 
     /// The rule by which values of this type are compared.
     pub fn rule(&self, attr: &AttrKey) -> Rule
+        ensures { result ≡ rule_of self.now attr.now }
+    {
+        match self.slot(attr.kind()) {
+            Some(ready) if ready.description.key().kind() == attr.kind() => ready.rule,
+            _ => self.rule_in_table(attr),
+        }
+    }
+
+    fn rule_in_table(&self, attr: &AttrKey) -> Rule
         ensures { result ≡ rule_of self.now attr.now }
     {
         match row_of(self.rows.as_slice(), attr.kind()) {
@@ -157,49 +180,62 @@ impl Schema {
     }
 }
 
-/// Short texts come before long ones, and of one length the last byte counts first, so that most
-/// comparisons read no more.
-fn look_up_order(one: &[u8], another: &[u8]) -> Ordering {
-    match one.len().cmp(&another.len()) {
-        Ordering::Equal => match one.last().cmp(&another.last()) {
-            Ordering::Equal => one.cmp(another),
-            unequal => unequal,
-        },
-        unequal => unequal,
-    }
+/// Where a type that is frequent is looked up, in any ASCII case. No two of `FREQUENT` share a slot.
+fn slot_of(text: &[u8]) -> usize {
+    let (Some(first), Some(last), Some(middle)) = (
+        text.first(),
+        text.last(),
+        text.get(text.len() / 2),
+    ) else {
+        return 0;
+    };
+    let letters = (small(*first) * 23 + small(*last)) * 23 + small(*middle);
+    (letters * 23 + text.len() % SLOTS) % SLOTS
 }
 
-/// The descriptions that copies have most, each behind its text.
-fn frequent_descriptions(
-    alloc: Global,
-    schema: &Schema,
-) -> Result<Vec<(Bytes, Description)>, NameFault>
-    ensures ready { IfOk result (λ ready. All (IsReady schema.now) ready.items) }
+/// A letter's number, in any ASCII case.
+fn small(b: u8) -> usize
+    ensures { result < 256 }
+{
+    usize::from(b | 32)
+}
+
+/// The types that copies have most, each in its slot.
+fn frequent_types(alloc: Global, schema: &Schema) -> Result<Vec<Option<Ready>>, NameFault>
+    ensures ready { IfOk result (λ slots. All (AreReady schema.now) slots.items) }
     ensures memory { IfErr result (λ e. e ≡ NameFault.Memory) }
 {
-    let mut ready = Vec::with_capacity(alloc, FREQUENT.len())?;
-    for name in &FREQUENT {
-        if let Some(pair) = frequent_description(alloc, schema, name.as_bytes())? {
-            ready.push(pair)?;
-        }
+    let mut slots = Vec::with_capacity(alloc, SLOTS)?;
+    for slot in 0..SLOTS {
+        slots.push(frequent_type_at(alloc, schema, slot)?)?;
     }
-    Ok(ready)
+    Ok(slots)
 }
 
-/// A type without options and its description, or none where the text is no such type.
-fn frequent_description(
-    alloc: Global,
-    schema: &Schema,
-    text: &[u8],
-) -> Result<Option<(Bytes, Description)>, NameFault>
-    ensures ready { IfOk result (λ pair. IfSome pair (IsReady schema.now)) }
+fn frequent_type_at(alloc: Global, schema: &Schema, slot: usize) -> Result<Option<Ready>, NameFault>
+    ensures ready { IfOk result (AreReady schema.now) }
+    ensures memory { IfErr result (λ e. e ≡ NameFault.Memory) }
+{
+    for name in &FREQUENT {
+        if slot_of(name.as_bytes()) == slot {
+            return ready_type(alloc, schema, name.as_bytes());
+        }
+    }
+    Ok(None)
+}
+
+/// What is kept of a type without options, or none where the text is no such type.
+fn ready_type(alloc: Global, schema: &Schema, text: &[u8]) -> Result<Option<Ready>, NameFault>
+    ensures ready { IfOk result (AreReady schema.now) }
     ensures memory { IfErr result (λ e. e ≡ NameFault.Memory) }
 {
     let attr = AttrKey::of_type(alloc, schema.type_key(alloc, text)?)?;
     match Description::read(alloc, schema, text) {
-        Ok(description) if *description.key() == attr => {
-            Ok(Some((Bytes::copy_of(alloc, text)?, description)))
-        }
+        Ok(description) if *description.key() == attr => Ok(Some(Ready {
+            text: Bytes::copy_of(alloc, text)?,
+            rule: schema.rule(description.key()),
+            description,
+        })),
         Err(NameFault::Memory) => Err(NameFault::Memory),
         _ => Ok(None),
     }

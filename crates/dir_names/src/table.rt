@@ -177,7 +177,7 @@ pub(crate) const ROWS: [Row; 27] = [
     },
 ];
 
-/// Descriptions that copies of directories have most, in the order in which they are looked up.
+/// Types that copies of directories have most.
 pub(crate) static FREQUENT: [&str; 68] = [
     "c",
     "l",

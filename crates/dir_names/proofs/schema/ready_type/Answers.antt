@@ -2,7 +2,8 @@ use Rattle.std.proofs.Common.{◌≡◌, Ok, true, sym, subst, ◌∙◌, rules}
 use Rattle.dir_names.specs.Descriptions.{description_of}
 use Rattle.dir_names.specs.NameKeys.{IsReady, attr_of}
 use Rattle.dir_names.specs.Orders.{attr_eq, attr_eq_decides}
-use Rattle.dir_names.proofs.schema.frequent_description.Goals as goal
+use Rattle.dir_names.specs.Table.{rule_of}
+use Rattle.dir_names.proofs.schema.ready_type.Goals as goal
 
 pub returns-in-Ok-clause-ready : goal.returns-in-Ok-clause-ready
 returns-in-Ok-clause-ready c =
@@ -13,4 +14,5 @@ returns-in-Ok-clause-ready c =
     let told : attr_eq c.key.result.now c.in_ok-attr.attr ≡ true = search rules in
     let key : c.key.result.now ≡ c.in-Ok.description.key = search rules in
     let same : c.key.result.now ≡ c.in_ok-attr.attr = (attr_eq_decides c.key.result.now c.in_ok-attr.attr).0 told in
-    subst (λ t. IsReady rows (t, c.in-Ok.description)) (sym text) (read, sym attr ∙ sym same ∙ key)
+    let rule : rule_of rows c.in-Ok.description.key ≡ c.rule.result = search rules in
+    (subst (λ t. IsReady rows (t, c.in-Ok.description)) (sym text) (read, sym attr ∙ sym same ∙ key), rule)
