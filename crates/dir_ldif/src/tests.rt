@@ -307,3 +307,38 @@ fn a_long_line_ends_the_text(rt: HostRuntime) -> Result<(), Fail> {
     );
     Ok(())
 }
+
+#[test]
+fn long_base64_texts_are_base64_or_not(rt: HostRuntime) -> Result<(), Fail> {
+    let alloc = rt.alloc();
+    let schema = Schema::builtin(alloc)?;
+    // The longest line of `x:: ` and a base64 text, with one sign changed.
+    for (at, sign, want) in [
+        (0, b'A', RecordFault::ValueTooLong),
+        (0, b'*', RecordFault::BadBase64),
+        (1023, b'=', RecordFault::BadBase64),
+        (1024, b' ', RecordFault::BadBase64),
+        (MAX_LINE - 6, b'=', RecordFault::BadBase64),
+        (MAX_LINE - 5, b'=', RecordFault::ValueTooLong),
+        (MAX_LINE - 5, b'B', RecordFault::ValueTooLong),
+    ] {
+        let mut signs = vec![in alloc; b'A'; MAX_LINE - 4]?;
+        if let Some(changed) = signs.get_mut(at) {
+            *changed = sign;
+        }
+        let mut text = b"dn: cn=a\nx:: ".to_vec(alloc)?;
+        text.extend_from_slice(signs.as_slice())?;
+        assert_eq!(rt;
+            fault_of(alloc, &schema, text.as_slice())?,
+            Some(want),
+            "at {at}"
+        );
+        // Without its last sign it has no whole groups.
+        text.truncate(text.len() - 1);
+        assert_eq!(rt;
+            fault_of(alloc, &schema, text.as_slice())?,
+            Some(RecordFault::BadBase64)
+        );
+    }
+    Ok(())
+}
