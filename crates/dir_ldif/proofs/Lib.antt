@@ -1,3 +1,4 @@
+pub mod Base64Lemmas
 pub mod BlockLemmas
 pub mod BytesLemmas
 pub mod BlocksRead

@@ -1,4 +1,5 @@
--- The parts of a text, said of all its lines at once: a law beside the definition in Parts, which goes from line to line.
+-- The parts of a text (RFC 2849, "Formal Syntax Definition of LDIF", and notes 1 to 3), said of all its lines at once: a
+-- law beside the definition in Parts, which goes from line to line.
 use Rattle.std.specs.Prelude.{◌≡◌, ℕ, Bool, true, false, not, if◌then◌else◌, List, [], ◌∷◌, ◌++◌, map, Ok, Err}
 use Rattle.std.specs.List.{filter, list_any}
 use Rattle.dir_ldif.specs.declared.faults.StreamFault.TheVariants.{LineTooLong, BadVersion}

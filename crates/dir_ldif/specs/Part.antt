@@ -1,6 +1,7 @@
 -- The name and the value of a line (RFC 2849, attrval-spec).
 use Rattle.std.specs.Prelude.{ℕ, Bool, ◌||◌, if◌then◌else◌, ◌==◌, nat_lt, List, [], ◌∷◌, length, Option, None, Some, Result, Ok, Err}
 use Rattle.std.specs.List.{list_any}
+use Rattle.std.specs.Result.{is_ok}
 use Rattle.base64.specs.Engines.{standard}
 use Rattle.base64.specs.GeneralPurpose.{decode_of}
 use Rattle.dir_ldif.specs.declared.faults.RecordFault.{RecordFault}
@@ -16,6 +17,10 @@ or_bad (Err e) = Err BadBase64
 -- the bytes that a text is the base64 of (RFC 4648, section 4)
 unfoldable pub decoded : List ℕ → Result (List ℕ) RecordFault
 decoded text = or_bad (decode_of standard text)
+
+-- whether a text is base64
+unfoldable pub is_base64 : List ℕ → Bool
+is_base64 text = is_ok (decoded text)
 
 -- NUL and CR
 abbrev pub is_refused : ℕ → Bool

@@ -1,4 +1,4 @@
--- The blocks of a text, and the fault in which it may end.
+-- The blocks of a text (RFC 2849, "Formal Syntax Definition of LDIF"), and the fault in which it may end.
 use Rattle.std.specs.Prelude.{◌≡◌, ℕ, Bool, true, false, if◌then◌else◌, List, [], ◌∷◌, ◌++◌, Option, None, Some, Result, Ok, Err}
 use Rattle.std.specs.Str.{str_eq_ignore_ascii_case, bytes_eq}
 use Rattle.dir_ldif.specs.declared.faults.StreamFault.{StreamFault}
@@ -16,7 +16,8 @@ Part = Result (List Line) StreamFault
 abbrev pub version_word : List ℕ
 version_word = 118 ∷ 101 ∷ 114 ∷ 115 ∷ 105 ∷ 111 ∷ 110 ∷ []
 
--- what a line cut at its first colon says of the version: its plain value is 1, or another (version-spec)
+-- what a line cut at its first colon says of the version: its plain value is 1, or another (RFC 2849, "Formal Syntax
+-- Definition of LDIF", version-spec)
 abbrev pub version_of_cut : Option (List ℕ × List ℕ) → Version
 version_of_cut None = Absent
 version_of_cut (Some p) =

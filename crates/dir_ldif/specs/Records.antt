@@ -1,4 +1,5 @@
--- The records of a text, each with its line, and how the text ends.
+-- The records of a text (RFC 2849, "Formal Syntax Definition of LDIF", ldif-file), each with its line, and how the text
+-- ends.
 use Rattle.std.specs.Prelude.{◌≡◌, ℕ, ◌<◌, List, [], ◌∷◌, ◌++◌, map, length, Result, Ok, Err}
 use Rattle.dir_names.specs.declared.schema.TypeRow.{TypeRow}
 use Rattle.dir_ldif.specs.declared.faults.RecordFault.{RecordFault}

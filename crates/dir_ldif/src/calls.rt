@@ -1,5 +1,6 @@
-ghost use Rattle.std.specs.Prelude.{◌≡◌, ◌==◌, ◌-◌, ◌↔◌, IsTrue, MatchBool, if◌then◌else◌};
+ghost use Rattle.std.specs.Prelude.{◌≡◌, ◌-◌, ◌↔◌, IsTrue, MatchBool};
 ghost use Rattle.dir_ldif.specs.Device.{one_more};
+ghost use Rattle.dir_ldif.specs.Trial.{calls_behind};
 
 /// The calls of a device for tests: how many still succeed, and how many have failed.
 #[derive(Clone, Copy)]
@@ -29,7 +30,7 @@ impl Calls {
     pub(crate) fn fails(&mut self) -> bool
         ensures fails { IsTrue result ↔ (self.old.good ≡ 0) }
         ensures failures { MatchBool result (self.new.failures ≡ one_more self.old.failures) (self.new.failures ≡ self.old.failures) }
-        ensures good { self.new.good ≡ (if self.old.good == u64.MAX then u64.MAX else self.old.good - 1) }
+        ensures good { self.new.good ≡ calls_behind self.old.good }
     {
         if self.good == 0 {
             self.failures = self.failures.saturating_add(1);

@@ -1,8 +1,8 @@
-ghost use Rattle.std.specs.Prelude.{◌≡◌, IfErr, IfOk};
+ghost use Rattle.std.specs.Prelude.{◌≡◌, ◌<◌, ◌&&◌, ◌++◌, ℕ, List, IfErr, IfOk, length};
 ghost use Rattle.std.specs.List.{list_any};
 ghost use Rattle.base64.specs.GeneralPurpose.{IsBytes};
 ghost use Rattle.dir_ldif.specs.Outcome.{Tells, then_of};
-ghost use Rattle.dir_ldif.specs.Part.{decoded, is_refused, limited, part_of, plain, value_of};
+ghost use Rattle.dir_ldif.specs.Part.{decoded, is_base64, is_refused, limited, part_of, plain, value_of};
 ghost use Rattle.dir_ldif.specs.Value.{bytes_of};
 
 use crate::bytes::{cut_at, without_spaces};
@@ -15,6 +15,15 @@ use std::alloc::Global;
 
 /// The greatest length of a value, in bytes, decoded.
 pub const MAX_VALUE: usize = 1_048_576;
+
+/// The greatest length of a base64 text whose value may be within the limit.
+const MAX_ENCODED: usize = 1_398_104;
+
+/// So many bytes of a base64 text are tested at once, in whole groups of four.
+const ENCODED_PIECE: usize = 1024;
+
+/// So many bytes such a piece decodes to, where it has no padding.
+const DECODED_PIECE: usize = 768;
 
 /// The value of a line: as it stands there, or decoded.
 #[derive(Drop)]
@@ -79,12 +88,53 @@ fn limited_value(alloc: Global, text: &[u8]) -> Result<Value<'_>, Refusal>
     ensures { Tells bytes_of result (then_of (value_of text.now) limited) }
 {
     match text {
-        [b':', rest @ ..] => match decoded(alloc, without_spaces(rest)) {
-            Ok(value) => limited(Value::Decoded(value)),
-            Err(refusal) => Err(refusal),
-        },
+        [b':', rest @ ..] => limited_decoded(alloc, without_spaces(rest)),
         [b'<', ..] => Err(Refusal::Fault(RecordFault::UrlValue)),
         _ => plain(without_spaces(text)),
+    }
+}
+
+/// The value of a base64 text, within the limit. A text that is longer than those of such values is not decoded.
+fn limited_decoded(alloc: Global, text: &[u8]) -> Result<Value<'_>, Refusal>
+    ensures { Tells bytes_of result (then_of (decoded text.now) limited) }
+{
+    if text.len() > MAX_ENCODED {
+        if is_base64(text) {
+            return Err(Refusal::Fault(RecordFault::ValueTooLong));
+        }
+        return Err(Refusal::Fault(RecordFault::BadBase64));
+    }
+    match decoded(alloc, text) {
+        Ok(value) => limited(Value::Decoded(value)),
+        Err(refusal) => Err(refusal),
+    }
+}
+
+/// Whether a text is base64. It takes no memory.
+fn is_base64(text: &[u8]) -> bool
+    ensures { result ≡ is_base64 text.now }
+{
+    let mut rest = text;
+    while rest.len() > ENCODED_PIECE {
+        let (front, behind) = rest.split_at(ENCODED_PIECE);
+        if !is_whole_piece(front) {
+            return false;
+        }
+        rest = behind;
+    }
+    let mut value = [0u8; DECODED_PIECE];
+    STANDARD.decode_slice_unchecked(rest, &mut value).is_ok()
+}
+
+/// Whether a piece is a base64 text without padding, so that the rest of its text decides.
+fn is_whole_piece(piece: &[u8]) -> bool
+    requires { length piece.now ≡ ENCODED_PIECE }
+    ensures { (rest : List ℕ) → IsBytes rest → 0 < length rest → is_base64 (piece.now ++ rest) ≡ (result && is_base64 rest) }
+{
+    let mut value = [0u8; DECODED_PIECE];
+    match STANDARD.decode_slice_unchecked(piece, &mut value) {
+        Ok(length) => length == DECODED_PIECE,
+        Err(_) => false,
     }
 }
 

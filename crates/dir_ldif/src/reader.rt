@@ -68,7 +68,11 @@ impl<'s, R: Source + Drop> RecordReader<'s, R> {
         RecordReader::with_turns(alloc, schema, source, MAX_TURNS)
     }
 
-    /// A reader that is allowed this number of read calls.
+    /// A reader that is allowed this number of read calls, which is at most `MAX_TURNS`.
+    ///
+    /// # Errors
+    ///
+    /// `Memory` alone.
     pub fn with_turns(
         alloc: Global,
         schema: &'s Schema,

@@ -74,10 +74,11 @@ impl<'a> Tape<'a> {
 }
 
 impl Sink for Tape<'_> {
-    ghost use Rattle.std.specs.Prelude.{◌≡◌, ◌-◌, ◌<◌, ◌≤◌, ◌⊎◌, ◌↔◌, IfOk, IsErr, OnErr, OnOk, Some, length, min};
+    ghost use Rattle.std.specs.Prelude.{◌≡◌, ◌-◌, ◌<◌, ◌≤◌, ◌⊎◌, ◌↔◌, IfOk, IsErr, MatchResult, OnErr, OnOk, Some, length, min};
     ghost use Rattle.std.specs.Io.KnownBytes.{Keeps, WriteAppends};
     ghost use Rattle.dir_ldif.specs.Device.{Counts};
     ghost use Rattle.dir_ldif.specs.Taken.{flushed_by, room_of, tape_failures, tape_good_calls, tape_piece, taken_by};
+    ghost use Rattle.dir_ldif.specs.Trial.{calls_behind};
 
     ghost taken = { λ t. Some (taken_by t) };
 
@@ -93,6 +94,9 @@ impl Sink for Tape<'_> {
         ensures count { Counts result (tape_failures self.old) (tape_failures self.new) }
         ensures stalls { IfOk result (λ n. n ≡ 0 → 0 < length bytes.now → (room_of self.new ≡ 0) ⊎ (tape_piece self.new ≡ 0)) }
         ensures fails { IsErr result ↔ (tape_good_calls self.old ≡ 0) }
+        ensures calls { tape_good_calls self.new ≡ calls_behind (tape_good_calls self.old) }
+        ensures size { tape_piece self.new ≡ tape_piece self.old }
+        ensures room { MatchResult result (λ n. room_of self.new ≡ room_of self.old - n) (λ _. room_of self.new ≡ room_of self.old) }
         ensures piece { IfOk result (λ n. n ≡ min (min (tape_piece self.old) (length bytes.now)) (room_of self.old)) }
         ensures unflushed { flushed_by self.new ≡ flushed_by self.old }
     {
@@ -112,6 +116,9 @@ impl Sink for Tape<'_> {
         ensures passed { OnOk result (flushed_by self.new ≡ taken_by self.new) }
         ensures unflushed { OnErr result (flushed_by self.new ≡ flushed_by self.old) }
         ensures fails { IsErr result ↔ (tape_good_calls self.old ≡ 0) }
+        ensures calls { tape_good_calls self.new ≡ calls_behind (tape_good_calls self.old) }
+        ensures size { tape_piece self.new ≡ tape_piece self.old }
+        ensures room { room_of self.new ≡ room_of self.old }
     {
         if self.calls.fails() {
             return Err(DeviceFault);

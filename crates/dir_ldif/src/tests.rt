@@ -1,6 +1,6 @@
 use super::*;
 use base64::engine::general_purpose::STANDARD;
-use dir_names::Schema;
+use dir_names::{Bytes, Description, Dn, Lines, Schema};
 use std::alloc::Global;
 use std::process::Abort;
 use std::test::Fail;
@@ -166,12 +166,57 @@ const FOLDED: &str =
 const FOLDED_SHOWN: &str =
     "3 dn: cn=e,dc=com|changetype: modify|add: description|description:: dHdvIHdvcmRzIA==|-||;10 dn: cn=f,dc=com|note:: AP8=|note: x||;";
 
+/// The bytes whose base64 text is the whole alphabet in its order (RFC 4648, section 4).
+const ALL_SIGNS: [u8; 48] = [
+    0x00, 0x10, 0x83, 0x10, 0x51, 0x87, 0x20, 0x92, 0x8b, 0x30, 0xd3, 0x8f, 0x41, 0x14, 0x93, 0x51,
+    0x55, 0x97, 0x61, 0x96, 0x9b, 0x71, 0xd7, 0x9f, 0x82, 0x18, 0xa3, 0x92, 0x59, 0xa7, 0xa2, 0x9a,
+    0xab, 0xb2, 0xdb, 0xaf, 0xc3, 0x1c, 0xb3, 0xd3, 0x5d, 0xb7, 0xe3, 0x9e, 0xbb, 0xf3, 0xdf, 0xbf,
+];
+
+/// Folded behind 76 bytes.
+const ALL_SIGNS_TEXT: &str =
+    "dn: cn=a\ndescription:: ABCDEFGHIJKLMNOPQRSTUVWXYZabcdefghijklmnopqrstuvwxyz0123456789\n +/\n\n";
+
+#[test]
+fn all_base64_signs_are_read_and_written(rt: HostRuntime) -> Result<(), Fail> {
+    let alloc = rt.alloc();
+    let schema = Schema::builtin(alloc)?;
+    let answers = read_all(alloc, &schema, ALL_SIGNS_TEXT.as_bytes())?;
+    let [(line, Ok(Record::Content { dn: _, lines }))] = answers.as_slice() else {
+        return Err("no entry".into());
+    };
+    assert_eq!(rt; *line, 1);
+    let [(_, value)] = lines.as_slice() else {
+        return Err("not one line".into());
+    };
+    assert_eq!(rt; value.as_slice(), ALL_SIGNS.as_slice());
+    let mut items = Vec::new(alloc);
+    items.push((
+        Description::read(alloc, &schema, b"description")?,
+        Bytes::copy_of(alloc, ALL_SIGNS.as_slice())?,
+    ))?;
+    let record = Record::Content {
+        dn: Dn::read(alloc, b"cn=a")?,
+        lines: Lines::new(items),
+    };
+    assert_eq!(rt;
+        record_text(alloc, &record)?.as_slice(),
+        ALL_SIGNS_TEXT.as_bytes()
+    );
+    Ok(())
+}
+
 #[test]
 fn pieces_change_nothing(rt: HostRuntime) -> Result<(), Fail> {
     let alloc = rt.alloc();
     let schema = Schema::builtin(alloc)?;
     let text = FOLDED.as_bytes();
     assert_eq!(rt; shown(&rt, alloc, text).as_str(), FOLDED_SHOWN);
+    let mut whole = String::new(alloc);
+    for (line, answer) in read_all(alloc, &schema, text)? {
+        show(&rt, alloc, &mut whole, line, answer);
+    }
+    assert_eq!(rt; whole.as_str(), FOLDED_SHOWN);
     let single = RecordReader::new(alloc, &schema, Script::new(text).pieces(1))?;
     assert_eq!(rt; shown_records(&rt, alloc, single).as_str(), FOLDED_SHOWN);
     for at in 1..text.len() {
@@ -260,5 +305,40 @@ fn a_long_line_ends_the_text(rt: HostRuntime) -> Result<(), Fail> {
         read_all(alloc, &schema, comment.as_slice()).err(),
         Some(StreamFault::LineTooLong)
     );
+    Ok(())
+}
+
+#[test]
+fn long_base64_texts_are_base64_or_not(rt: HostRuntime) -> Result<(), Fail> {
+    let alloc = rt.alloc();
+    let schema = Schema::builtin(alloc)?;
+    // The longest line of `x:: ` and a base64 text, with one sign changed.
+    for (at, sign, want) in [
+        (0, b'A', RecordFault::ValueTooLong),
+        (0, b'*', RecordFault::BadBase64),
+        (1023, b'=', RecordFault::BadBase64),
+        (1024, b' ', RecordFault::BadBase64),
+        (MAX_LINE - 6, b'=', RecordFault::BadBase64),
+        (MAX_LINE - 5, b'=', RecordFault::ValueTooLong),
+        (MAX_LINE - 5, b'B', RecordFault::ValueTooLong),
+    ] {
+        let mut signs = vec![in alloc; b'A'; MAX_LINE - 4]?;
+        if let Some(changed) = signs.get_mut(at) {
+            *changed = sign;
+        }
+        let mut text = b"dn: cn=a\nx:: ".to_vec(alloc)?;
+        text.extend_from_slice(signs.as_slice())?;
+        assert_eq!(rt;
+            fault_of(alloc, &schema, text.as_slice())?,
+            Some(want),
+            "at {at}"
+        );
+        // Without its last sign it has no whole groups.
+        text.truncate(text.len() - 1);
+        assert_eq!(rt;
+            fault_of(alloc, &schema, text.as_slice())?,
+            Some(RecordFault::BadBase64)
+        );
+    }
     Ok(())
 }

@@ -98,10 +98,10 @@ impl<'a> Script<'a> {
 }
 
 impl Source for Script<'_> {
-    ghost use Rattle.std.specs.Prelude.{◌≡◌, ◌≤◌, ◌↔◌, ⊤, IfOk, IsErr, length};
+    ghost use Rattle.std.specs.Prelude.{◌≡◌, ◌≤◌, ◌↔◌, ⊤, IfOk, IsErr, MatchResult, length};
     ghost use Rattle.std.specs.Io.KnownBytes.{ReadConsumes};
     ghost use Rattle.dir_ldif.specs.Device.{Counts};
-    ghost use Rattle.dir_ldif.specs.Trial.{failures_of, first_size, good_calls, left_of, piece_size};
+    ghost use Rattle.dir_ldif.specs.Trial.{calls_behind, failures_of, first_size, good_calls, left_of, piece_size};
 
     ghost left = { left_of };
 
@@ -119,7 +119,9 @@ impl Source for Script<'_> {
         ensures count { Counts result (failures_of self.old) (failures_of self.new) }
         ensures same { ⊤ }
         ensures fails { IsErr result ↔ (good_calls self.old ≡ 0) }
-        ensures pieces { IfOk result (λ n. (n ≤ first_size self.old) × (first_size self.new ≡ piece_size self.old) × (piece_size self.new ≡ piece_size self.old)) }
+        ensures calls { good_calls self.new ≡ calls_behind (good_calls self.old) }
+        ensures pieces { MatchResult result (λ n. (n ≤ first_size self.old) × (first_size self.new ≡ piece_size self.old)) (λ _. first_size self.new ≡ first_size self.old) }
+        ensures size { piece_size self.new ≡ piece_size self.old }
     {
         if self.calls.fails() {
             return Err(DeviceFault);

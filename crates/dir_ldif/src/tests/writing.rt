@@ -1,5 +1,5 @@
 use super::*;
-use dir_names::{Bytes, Description, Dn, Lines, NameFault, Rdn, Texts};
+use dir_names::{NameFault, Rdn, Texts};
 
 /// A text whose LF are written as `|`.
 fn unfolded(rt: &impl Abort, alloc: Global, text: &str) -> String {
