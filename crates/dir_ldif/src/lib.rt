@@ -12,6 +12,7 @@ mod lines;
 mod part;
 mod reader;
 mod records;
+mod spare;
 mod standard;
 mod tape;
 mod trial;

@@ -6,6 +6,7 @@ ghost use Rattle.dir_ldif.specs.Lines.{is_comment, is_lf, is_long};
 
 use crate::bytes::{begins_with_space, cut_at, parts_without_cr, without_cr};
 use crate::faults::StreamFault;
+use crate::spare::Spare;
 use crate::version::{Version, version_of};
 use std::alloc::Global;
 use std::marker::Model;
@@ -62,6 +63,13 @@ impl Line {
         Ok(self)
     }
 
+    /// The text of the line, moved out of it.
+    pub(crate) fn into_text(self) -> Vec<u8>
+        ensures { result.items ≡ self.1 }
+    {
+        self.text
+    }
+
     fn is_long(&self) -> bool
         ensures { result ≡ is_long self.now }
     {
@@ -111,6 +119,7 @@ impl Joiner {
     /// is left of the piece behind it, or none where all was taken.
     pub(crate) fn take_piece<'a>(
         &mut self,
+        spare: &mut Spare,
         piece: &'a [u8],
     ) -> Result<Option<(Vec<Line>, &'a [u8])>, StreamFault>
         requires { self.old.number + length piece.now < 2 ^ 63 }
@@ -129,7 +138,7 @@ impl Joiner {
         let mut rest = piece;
         while let Some((text, after)) = cut_at(b'\n', rest) {
             rest = after;
-            match self.take_line(text) {
+            match self.take_line(spare, text) {
                 Ok(None) => {}
                 Ok(Some(block)) => return Ok(Some((block, rest))),
                 Err(fault) => return Err(fault),
@@ -142,7 +151,11 @@ impl Joiner {
     }
 
     /// Takes the bytes before an LF. Answers the block, if that ends one with a line.
-    fn take_line(&mut self, text: &[u8]) -> Result<Option<Vec<Line>>, StreamFault>
+    fn take_line(
+        &mut self,
+        spare: &mut Spare,
+        text: &[u8],
+    ) -> Result<Option<Vec<Line>>, StreamFault>
         requires room { self.old.number < 2 ^ 63 }
         requires line { list_any is_lf text.now ≡ false }
         ensures number { self.new.number ≡ self.old.number + 1 }
@@ -152,7 +165,7 @@ impl Joiner {
         ensures some { IfOk result (λ o. IfSome o (λ block. is_empty block.items ≡ false)) }
         ensures err { IfErr result (λ fault. (rest : List ℕ) → Ends fault (to_come self.old (text.now ++ 10 ∷ rest))) }
     {
-        match self.end_line(text) {
+        match self.end_line(spare, text) {
             Ok(true) => Ok(self.ended_block()),
             Ok(false) => Ok(None),
             Err(fault) => Err(fault),
@@ -282,7 +295,7 @@ impl Joiner {
 
     /// Ends the physical line in hand, with the bytes before its LF. Answers whether it is an empty line,
     /// which ends the block.
-    fn end_line(&mut self, text: &[u8]) -> Result<bool, StreamFault>
+    fn end_line(&mut self, spare: &mut Spare, text: &[u8]) -> Result<bool, StreamFault>
         requires room { self.old.number < 2 ^ 63 }
         ensures number { self.new.number ≡ self.old.number + 1 }
         ensures partial { self.new.partial.items ≡ [] }
@@ -292,11 +305,17 @@ impl Joiner {
         let number = self.number;
         self.number = number + 1;
         let line = mem::replace(&mut self.partial, Vec::new(self.alloc));
-        self.join(number, line, text)
+        self.join(number, line, text, spare)
     }
 
     /// Joins a physical line, in two parts, to what stands before it.
-    fn join(&mut self, number: u64, front: Vec<u8>, back: &[u8]) -> Result<bool, StreamFault>
+    fn join(
+        &mut self,
+        number: u64,
+        front: Vec<u8>,
+        back: &[u8],
+        spare: &mut Spare,
+    ) -> Result<bool, StreamFault>
         requires { self.old.partial.items ≡ [] }
         ensures number { self.new.number ≡ self.old.number }
         ensures partial { self.new.partial ≡ self.old.partial }
@@ -312,7 +331,7 @@ impl Joiner {
                 return Err(fault);
             }
         }
-        let mut text = front;
+        let mut text = spare.text(front);
         text.extend_from_slice(back)?;
         drop_cr(&mut text);
         self.keep(Line::new(number, text))
@@ -389,13 +408,13 @@ impl Joiner {
     }
 
     /// Ends the text: what is in hand is its last line. Answers the last block.
-    pub(crate) fn finish(&mut self) -> Result<Vec<Line>, StreamFault>
+    pub(crate) fn finish(&mut self, spare: &mut Spare) -> Result<Vec<Line>, StreamFault>
         requires { self.old.number < 2 ^ 63 }
         ensures number { self.new.number ≤ self.old.number + 1 }
         ensures ok { IfOk result (λ block. to_come self.old [] ≡ give block.items []) }
         ensures err { IfErr result (λ fault. Ends fault (to_come self.old [])) }
     {
-        if let Err(fault) = self.end_partial() {
+        if let Err(fault) = self.end_partial(spare) {
             return Err(fault);
         }
         if let Err(fault) = self.close_last() {
@@ -405,7 +424,7 @@ impl Joiner {
     }
 
     /// Ends the physical line in hand, if there is one, with the text.
-    fn end_partial(&mut self) -> Result<(), StreamFault>
+    fn end_partial(&mut self, spare: &mut Spare) -> Result<(), StreamFault>
         requires { self.old.number < 2 ^ 63 }
         ensures number { self.new.number ≤ self.old.number + 1 }
         ensures ok { OnOk result (to_come self.old [] ≡ parts_before self.new []) }
@@ -414,7 +433,7 @@ impl Joiner {
         if self.partial.is_empty() {
             return Ok(());
         }
-        match self.end_line(&[]) {
+        match self.end_line(spare, &[]) {
             Ok(_) => Ok(()),
             Err(fault) => Err(fault),
         }

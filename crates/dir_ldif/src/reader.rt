@@ -8,6 +8,7 @@ use crate::device::Source;
 use crate::faults::{RecordFault, Refusal, StreamFault};
 use crate::lines::{Joiner, Line};
 use crate::records::Record;
+use crate::spare::Spare;
 use dir_names::Schema;
 use std::alloc::Global;
 
@@ -135,6 +136,7 @@ impl<'s, R: Source + Drop> RecordReader<'s, R> {
 #[derive(Drop)]
 struct Core {
     joiner: Joiner,
+    spare: Spare,
     buffer: Vec<u8>,
     at: usize,
     end: usize,
@@ -170,6 +172,7 @@ impl Core {
     {
         Ok(Core {
             joiner: Joiner::new(alloc),
+            spare: Spare::new(alloc),
             buffer: vec![in alloc; 0; PIECE]?,
             at: 0,
             end: 0,
@@ -247,7 +250,10 @@ impl Core {
             return Ok(None);
         }
         match answer_of(self.alloc, schema, block.as_slice()) {
-            Ok(answer) => Ok(Some(answer)),
+            Ok(answer) => {
+                self.spare.keep(block);
+                Ok(Some(answer))
+            }
             Err(fault) => Err(fault),
         }
     }
@@ -298,7 +304,7 @@ impl Core {
         ensures err { IfErr result (λ fault. (text : List ℕ) → Ends fault (coming self.old text)) }
     {
         let piece = &self.buffer[self.at..self.end];
-        match self.joiner.take_piece(piece) {
+        match self.joiner.take_piece(&mut self.spare, piece) {
             Ok(Some((block, rest))) => {
                 self.at = self.end - rest.len();
                 Ok(Some(block))
@@ -356,7 +362,7 @@ impl Core {
         self.place = Place::AtEnd;
         self.at = 0;
         self.end = 0;
-        self.joiner.finish()
+        self.joiner.finish(&mut self.spare)
     }
 }
 
@@ -388,21 +394,23 @@ pub fn read_all(alloc: Global, schema: &Schema, text: &[u8]) -> Result<Vec<Answe
         return Err(StreamFault::TooManyTurns);
     }
     let mut joiner = Joiner::new(alloc);
+    let mut spare = Spare::new(alloc);
     let mut answers = Vec::new(alloc);
     let mut rest = text;
     loop {
-        match joiner.take_piece(rest) {
+        match joiner.take_piece(&mut spare, rest) {
             Ok(Some((block, after))) => {
                 rest = after;
                 if let Err(fault) = push_answer(alloc, schema, &mut answers, block.as_slice()) {
                     return Err(fault);
                 }
+                spare.keep(block);
             }
             Ok(None) => break,
             Err(fault) => return Err(fault),
         }
     }
-    let block = match joiner.finish() {
+    let block = match joiner.finish(&mut spare) {
         Ok(block) => block,
         Err(fault) => return Err(fault),
     };
