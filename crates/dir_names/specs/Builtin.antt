@@ -1,4 +1,4 @@
--- The attribute types that are known from the start (RFC 4519, section 2; RFC 4524, section 2; RFC 2798, section 2; RFC 2307, section 3).
+-- The attribute types that are known from the start (RFC 4519, section 2; RFC 4524, section 2; RFC 2798, section 2; RFC 2307, section 3; for `objectClass` RFC 4512, section 3.3).
 use Rattle.std.specs.Prelude.{ℕ, Bool, true, false, List, [], ◌∷◌, codes}
 use Rattle.std.specs.Str.{str_to_ascii_lowercase}
 use Rattle.dir_names.specs.declared.schema.Rule.{Rule}

@@ -1,4 +1,4 @@
--- The key of a name: the keys of its RDNs, root first, each the set of its pairs of type key and value key.
+-- The key of a name (RFC 4512, section 2.3; RFC 4517, section 4.2.15): the keys of its RDNs, root first, each the set of its pairs of type key and value key.
 use Rattle.std.specs.Prelude.{◌≡◌, ℕ, Bool, true, cond, not, ◌&&◌, List, [], ◌∷◌, reverse, Option, Some, None, IfSome, option_map, Result, Ok, Err}
 use Rattle.std.specs.List.{list_any}
 use Rattle.dir_names.specs.declared.fault.NameFault.{NameFault}

@@ -1,4 +1,4 @@
--- Names as they are spelled: lists of RDNs, leaf first, each a list of pairs of type and value.
+-- Names as they are spelled (RFC 4514, section 2): lists of RDNs, leaf first, each a list of pairs of type and value.
 use Rattle.std.specs.Prelude.{◌≡◌, ℕ, Bool, ◌&&◌, List, Decides}
 use Rattle.std.specs.Cmp.{IsEquivalence, IsPartialEquivalence, partial_equiv_from_equiv, and_equiv, on_equiv, nat_eq_equiv}
 use Rattle.std.specs.Cmp.Lexicographic.{pointwise, lists_equiv, pointwise_decides}

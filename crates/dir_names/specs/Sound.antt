@@ -1,4 +1,4 @@
--- Names whose parts are legal: each RDN has a pair, and each type is one that a name may have.
+-- Names whose parts are legal (RFC 4514, section 2): each RDN has a pair, and each type is one that a name may have.
 use Rattle.std.specs.Prelude.{Bool, not, ◌&&◌, ◌==◌, nat_lt, length}
 use Rattle.std.specs.List.{list_all}
 use Rattle.dir_names.specs.Descriptions.{is_type, is_reserved}

@@ -49,7 +49,8 @@ impl AttrKey {
         self.shared.kind == other.shared.kind && is_subset(self.options(), other.options())
     }
 
-    /// The same key, in the same memory.
+    /// The same key, in the same memory. The one fault is `Memory`, where it has no count for one copy
+    /// more.
     pub fn try_clone(&self, _alloc: Global) -> Result<AttrKey, NameFault>
         ensures { Gives (λ key. key) result (Ok self.now) }
     {

@@ -41,6 +41,8 @@ impl Lines {
         self.items
     }
 
+    /// A copy whose list and values have memory of their own, and whose descriptions share that of
+    /// these. The one fault is want of memory.
     pub fn try_clone(&self, alloc: Global) -> Result<Lines, NameFault>
         ensures { Gives (λ lines. lines) result (Ok self.now) }
     {

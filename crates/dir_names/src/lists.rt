@@ -36,7 +36,7 @@ impl Bytes {
         self.items.as_slice()
     }
 
-    /// A copy of `text` in memory of its own.
+    /// A copy of `text` in memory of its own. The one fault is want of memory.
     pub fn copy_of(alloc: Global, text: &[u8]) -> Result<Bytes, NameFault>
         ensures { Gives (λ b. b) result (Ok text.now) }
     {
@@ -45,6 +45,7 @@ impl Bytes {
         })
     }
 
+    /// A copy in memory of its own. The one fault is want of memory.
     pub fn try_clone(&self, alloc: Global) -> Result<Bytes, NameFault>
         ensures { Gives (λ b. b) result (Ok self.now) }
     {
@@ -117,6 +118,7 @@ impl Texts {
         self.items.as_slice()
     }
 
+    /// A copy whose list and texts have memory of their own. The one fault is want of memory.
     pub fn try_clone(&self, alloc: Global) -> Result<Texts, NameFault>
         ensures { Gives (λ t. t) result (Ok self.now) }
     {

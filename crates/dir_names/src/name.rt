@@ -284,6 +284,8 @@ impl Dn {
         Ok(Dn { rdns })
     }
 
+    /// A copy whose list has memory of its own, and whose RDNs share that of these. The one fault is
+    /// want of memory.
     pub fn try_clone(&self, alloc: Global) -> Result<Dn, NameFault>
         ensures { Gives (λ name. name) result (Ok self.now) }
     {

@@ -81,7 +81,8 @@ impl Schema {
     ghost use Rattle.dir_names.specs.Builtin.{builtin_rows};
     ghost use Rattle.dir_names.specs.Table.{type_key_of, row_of, rule_of, single_of};
 
-    /// The types of RFC 4519, 4524, 2798 and 2307 that this kit knows from the start.
+    /// The types of RFC 4519, 4524, 2798 and 2307 that this kit knows from the start, and `objectClass`
+    /// (RFC 4512, section 3.3).
     pub fn builtin(alloc: Global) -> Result<Schema, NameFault>
         ensures { Gives (λ schema. schema) result (Ok builtin_rows) }
     {

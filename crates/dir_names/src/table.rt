@@ -11,7 +11,8 @@ pub(crate) struct Row {
     pub single: bool,
 }
 
-/// The types of RFC 4519, 4524, 2798 and 2307 that this kit knows from the start.
+/// The types of RFC 4519, 4524, 2798 and 2307 that this kit knows from the start, and `objectClass`
+/// (RFC 4512, section 3.3).
 pub(crate) const ROWS: [Row; 27] = [
     Row {
         name: "cn",

@@ -36,6 +36,14 @@ fn descriptions_have_keys_of_their_types(rt: HostRuntime) -> Result<(), Fail> {
     let plain = described(alloc, &schema, "cn")?;
     let number = described(alloc, &schema, "2.5.4.3")?;
     assert_eq!(rt; english.spelling(), b"CommonName;lang-en".as_slice());
+    assert_eq!(rt; english.key().kind(), b"cn".as_slice());
+    assert_eq!(rt; english.key().options().len(), 1);
+    assert_eq!(rt;
+        english.key().options()[0].as_slice(),
+        b"lang-en".as_slice()
+    );
+    assert_eq!(rt; plain.key().kind(), b"cn".as_slice());
+    assert_eq!(rt; plain.key().options().len(), 0);
     assert!(rt; plain.key().covers(english.key()));
     assert!(rt; !english.key().covers(plain.key()));
     assert!(rt; number.key() == plain.key());
@@ -178,6 +186,57 @@ fn names_are_made_of_rdns_and_copied(rt: HostRuntime) -> Result<(), Fail> {
     assert!(rt; description.key().try_clone(alloc)? == *description.key());
     let value = schema.value_key(alloc, description.key(), b"A")?;
     assert!(rt; value.try_clone(alloc)? == value);
+    Ok(())
+}
+
+#[test]
+fn a_name_is_made_of_a_leaf_and_the_name_above_it(rt: HostRuntime) -> Result<(), Fail> {
+    let alloc = rt.alloc();
+    let schema = Schema::builtin(alloc)?;
+    let above = Dn::read(alloc, b"ou=People,dc=com")?;
+    let mut rdns = Vec::new(alloc);
+    rdns.push(Rdn::read(alloc, b"cn=Ann")?)?;
+    for rdn in above.rdns() {
+        rdns.push(rdn.try_clone(alloc)?)?;
+    }
+    let name = Dn::from_rdns(rdns)?;
+    assert!(rt; name == Dn::read(alloc, b"cn=Ann,ou=People,dc=com")?);
+    let key = name.key(alloc, &schema)?;
+    assert!(rt; key.parent(alloc)? == Some(above.key(alloc, &schema)?));
+    Ok(())
+}
+
+#[test]
+fn copies_are_equal_to_what_they_copy(rt: HostRuntime) -> Result<(), Fail> {
+    let alloc = rt.alloc();
+    let schema = Schema::builtin(alloc)?;
+    let rdn = Rdn::read(alloc, b"SN=B+cn=A")?;
+    let copy = rdn.try_clone(alloc)?;
+    assert!(rt; copy == rdn);
+    assert_eq!(rt; copy.print(alloc)?.as_slice(), b"SN=B+cn=A".as_slice());
+    let key = rdn.key(alloc, &schema)?;
+    let copy = key.try_clone(alloc)?;
+    assert!(rt; copy == key);
+    assert_eq!(rt; copy.pairs().len(), 2);
+    let mut texts = Vec::new(alloc);
+    for text in ["a", "b"] {
+        texts.push(Bytes::copy_of(alloc, text.as_bytes())?.try_clone(alloc)?)?;
+    }
+    let texts = Texts::new(texts).try_clone(alloc)?;
+    assert_eq!(rt; texts.as_slice().len(), 2);
+    assert_eq!(rt; texts.as_slice()[0].as_slice(), b"a".as_slice());
+    assert_eq!(rt; texts.as_slice()[1].as_slice(), b"b".as_slice());
+    let mut items = Vec::new(alloc);
+    items.push((
+        described(alloc, &schema, "CN;lang-en")?,
+        Bytes::copy_of(alloc, b"Ann")?,
+    ))?;
+    let lines = Lines::new(items);
+    let copy = lines.try_clone(alloc)?;
+    assert!(rt; copy == lines);
+    assert_eq!(rt; copy.as_slice().len(), 1);
+    assert_eq!(rt; copy.as_slice()[0].0.spelling(), b"CN;lang-en".as_slice());
+    assert_eq!(rt; copy.as_slice()[0].1.as_slice(), b"Ann".as_slice());
     Ok(())
 }
 

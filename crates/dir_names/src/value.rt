@@ -46,6 +46,8 @@ impl ValueKey {
         }
     }
 
+    /// A copy: of a text in memory of its own, of a name in the memory of this one. The one fault is
+    /// want of memory.
     pub fn try_clone(&self, alloc: Global) -> Result<ValueKey, NameFault>
         ensures { Gives (λ key. key) result (Ok self.now) }
     {
