@@ -134,7 +134,7 @@ fn all_safe(text: &[u8]) -> bool
 fn is_safe(b: u8) -> bool
     ensures { result ≡ is_safe b }
 {
-    b < 128 && b != 0 && b != b'\n' && b != b'\r'
+    b < 128 && (b > b'\r' || (b != 0 && b != b'\n' && b != b'\r'))
 }
 
 /// `SAFE-INIT-CHAR`: no space, colon or less-than sign either.
