@@ -1,6 +1,7 @@
 pub mod Climb
 pub mod DirLemmas
 pub mod Faults
+pub mod Held
 pub mod Kept
 pub mod MadeAgain
 pub mod NextKey

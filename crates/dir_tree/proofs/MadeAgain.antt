@@ -18,7 +18,8 @@ use Rattle.dir_tree.specs.Arranged.{are_free}
 use Rattle.dir_tree.specs.Content.{Content, Stored, StoredAttributes, has_in, has_value}
 use Rattle.dir_tree.specs.Made.{attributes_of, gathered, or_else_fault, then, unless_crowded, gained, gained_by, keyed_line, keyed_lines, leaf_lines, made, with_line, with_lines, with_value}
 use Rattle.dir_tree.specs.WellFormed.{Each, IsSoundAttribute, IsSoundEntry, IsSoundValue, all_lines, attribute_lines, has_each}
-use Rattle.dir_tree.proofs.Orderless.{free_of_empty, value_in}
+use Rattle.dir_tree.specs.Held.{value_in}
+use Rattle.dir_tree.proofs.Orderless.{free_of_empty}
 use Rattle.dir_tree.proofs.Relisted.{are_new, inserted, inserted_whole, insert_over, new_whole}
 
 -- a value of an attribute, as a line with its key

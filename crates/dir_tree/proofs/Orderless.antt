@@ -12,17 +12,10 @@ use Rattle.dir_names.specs.Values.{value_key_cmp, value_key_cmp_total, value_key
 use Rattle.dir_tree.specs.declared.lines.KeyedLine.{KeyedLine}
 use Rattle.dir_tree.specs.Arranged.{are_free, declared, has_key, is_under, IsArranged}
 use Rattle.dir_tree.specs.Content.{Stored, StoredAttributes, has_in, has_value}
+use Rattle.dir_tree.specs.Held.{is_given, spelled_in, value_in}
 use Rattle.dir_tree.specs.Made.{are_apart, gives_alike, with_description, with_line, with_lines, with_value}
 
 -- ---- an attribute by its spelling and its values
-
-abbrev pub spelled_in : Option Stored → Option (List ℕ)
-spelled_in None = None
-spelled_in (Some a) = Some a.spelling
-
-abbrev pub value_in : ValueKey → Option Stored → Option (List ℕ)
-value_in v None = None
-value_in v (Some a) = fin.get a.values v
 
 pub same_stored : (x y : Option Stored) → spelled_in x ≡ spelled_in y → ((v : ValueKey) → value_in v x ≡ value_in v y) → x ≡ y
 same_stored None None s h = refl
@@ -36,10 +29,6 @@ same_stored (Some a) (Some b) s h =
 pub has_as_value : (v : ValueKey) (x : Option Stored) → has_in v x ≡ is_some (value_in v x)
 has_as_value v None = refl
 has_as_value v (Some a) = refl
-
--- the value that a line gives, by attribute and key
-abbrev pub is_given : Attr → ValueKey → KeyedLine → Bool
-is_given k v l = is_under k l && has_key v l
 
 abbrev pub or_spelled : Option (List ℕ) → List ℕ → Option (List ℕ)
 or_spelled None t = Some t
@@ -66,14 +55,14 @@ value_with : (v : ValueKey) (o : Option Stored) (l : KeyedLine) → value_in v (
 value_with v None l = get-insert value_key_cmp_total fin.empty l.key l.bytes v ∙ ap (cond (eq_by_cmp value_key_cmp v l.key) (Some l.bytes)) (get-empty value_key_cmp v) ∙ ap (λ b. cond b (Some l.bytes) None) (sym (value_key_cmp_ties v l.key))
 value_with v (Some a) l = get-insert value_key_cmp_total a.values l.key l.bytes v ∙ ap (λ b. cond b (Some l.bytes) (fin.get a.values v)) (sym (value_key_cmp_ties v l.key))
 
-spelled_line : (xs : StoredAttributes) (l : KeyedLine) (k : Attr) → spelled_in (fin.get (with_line xs l) k) ≡ cond (is_under k l) (or_spelled (spelled_in (fin.get xs k)) l.description.spelling) (spelled_in (fin.get xs k))
+pub spelled_line : (xs : StoredAttributes) (l : KeyedLine) (k : Attr) → spelled_in (fin.get (with_line xs l) k) ≡ cond (is_under k l) (or_spelled (spelled_in (fin.get xs k)) l.description.spelling) (spelled_in (fin.get xs k))
 spelled_line xs l k = ap spelled_in (get_put xs l.description.key (with_value (fin.get xs l.description.key) l) k) ∙ by (is_under k l) refl
   where
     by : (b : Bool) → is_under k l ≡ b → spelled_in (cond b (Some (with_value (fin.get xs l.description.key) l)) (fin.get xs k)) ≡ cond b (or_spelled (spelled_in (fin.get xs k)) l.description.spelling) (spelled_in (fin.get xs k))
     by false e = refl
     by true e = spelled_with (fin.get xs l.description.key) l ∙ ap (λ j. or_spelled (spelled_in (fin.get xs j)) l.description.spelling) (sym ((attr_eq_decides k l.description.key).0 e))
 
-value_line : (xs : StoredAttributes) (l : KeyedLine) (k : Attr) (v : ValueKey) → value_in v (fin.get (with_line xs l) k) ≡ cond (is_given k v l) (Some l.bytes) (value_in v (fin.get xs k))
+pub value_line : (xs : StoredAttributes) (l : KeyedLine) (k : Attr) (v : ValueKey) → value_in v (fin.get (with_line xs l) k) ≡ cond (is_given k v l) (Some l.bytes) (value_in v (fin.get xs k))
 value_line xs l k v = ap (value_in v) (get_put xs l.description.key (with_value (fin.get xs l.description.key) l) k) ∙ by (is_under k l) refl
   where
     by : (b : Bool) → is_under k l ≡ b → value_in v (cond b (Some (with_value (fin.get xs l.description.key) l)) (fin.get xs k)) ≡ cond (b && has_key v l) (Some l.bytes) (value_in v (fin.get xs k))
@@ -223,7 +212,7 @@ pub free_of_empty : (xs : StoredAttributes) (ls : List KeyedLine) → ((k : Attr
 free_of_empty xs ls none = free_apart xs ls ∙ ap (λ b. are_apart ls && b) (nothing_given xs ls none) ∙ and_true (are_apart ls)
 
 -- no two in the list
-abbrev few : {A : Type 0} → List A → Bool
+abbrev pub few : {A : Type 0} → List A → Bool
 few [] = true
 few (x ∷ []) = true
 few (x ∷ y ∷ ys) = false
@@ -244,7 +233,7 @@ none_any p (l ∷ ls) e = by (none_any p ls) (p l) e
     by rest true h = absurd (cc)
     by rest false h = rest h
 
-given_same : (k : Attr) (v : ValueKey) (l : KeyedLine) → is_given k v l ≡ true → (k ≡ l.description.key) × (v ≡ l.key)
+pub given_same : (k : Attr) (v : ValueKey) (l : KeyedLine) → is_given k v l ≡ true → (k ≡ l.description.key) × (v ≡ l.key)
 given_same k v l e = by (is_under k l) refl (has_key v l) refl e
   where
     by : (a : Bool) → is_under k l ≡ a → (b : Bool) → has_key v l ≡ b → (a && b) ≡ true → (k ≡ l.description.key) × (v ≡ l.key)
@@ -267,7 +256,7 @@ not_true : (a : Bool) → not a ≡ true → a ≡ false
 not_true true e = sym e
 not_true false e = refl
 
-apart_few : (ls : List KeyedLine) → are_apart ls ≡ true → (k : Attr) (v : ValueKey) → few (filter (is_given k v) ls) ≡ true
+pub apart_few : (ls : List KeyedLine) → are_apart ls ≡ true → (k : Attr) (v : ValueKey) → few (filter (is_given k v) ls) ≡ true
 apart_few [] e k v = refl
 apart_few (l ∷ ls) e k v = by (apart_few ls (and_right (not (list_any (gives_alike l) ls)) (are_apart ls) e) k v) (is_given k v l) refl
   where
@@ -278,7 +267,7 @@ apart_few (l ∷ ls) e k v = by (apart_few ls (and_right (not (list_any (gives_a
         let none : filter (is_given k v) ls ≡ [] = (λ i. filter (is_given (same.0 i) (same.1 i)) ls) ∙ any_none (gives_alike l) ls (not_true _ (and_left (not (list_any (gives_alike l) ls)) (are_apart ls) e)) in
         ap (λ ms. few (l ∷ ms)) none
 
-few_tail : {A : Type 0} (x : A) (xs : List A) → few (x ∷ xs) ≡ true → xs ≡ []
+pub few_tail : {A : Type 0} (x : A) (xs : List A) → few (x ∷ xs) ≡ true → xs ≡ []
 few_tail x [] e = refl
 few_tail x (y ∷ ys) e = absurd (true≢false (sym e))
 

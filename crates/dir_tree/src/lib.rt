@@ -6,6 +6,7 @@ mod directory;
 mod entry;
 mod fault;
 mod flat;
+mod laws;
 mod lines;
 mod list;
 mod parts;
@@ -17,6 +18,7 @@ pub use directory::{Directory, may_stand};
 pub use entry::{Entry, own_rdns};
 pub use fault::EntryFault;
 pub use flat::FlatDirectory;
+pub use laws::entries_hold_their_lines;
 pub use parts::Parts;
 pub use values::{ValueMap, Values};
 

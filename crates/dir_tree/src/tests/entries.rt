@@ -1,4 +1,4 @@
-use crate::{Entry, EntryFault};
+use crate::{Entry, EntryFault, entries_hold_their_lines};
 use dir_names::{AttrKey, Bytes, Description, Dn, Lines, Schema, ValueKey};
 use std::alloc::Global;
 use std::process::Abort;
@@ -43,6 +43,7 @@ fn value(alloc: Global, schema: &Schema, kind: &[u8], text: &[u8]) -> Result<Val
 
 #[test]
 fn an_entry_has_its_lines_and_its_own_rdn(rt: HostRuntime) -> Result<(), Fail> {
+    entries_hold_their_lines();
     let alloc = rt.alloc();
     let schema = Schema::builtin(alloc)?;
     let entry = make(
