@@ -3,15 +3,18 @@
 
 For each size it writes a copy of N inetOrgPerson-like entries and a text of M changes (half of them add an
 entry, half delete one), runs the program, and prints its CPU time and peak memory, also as ratios: to the CPU
-time of `sha256sum` over the same copy, and to the copy's size. Each figure is the least of three runs.
+time of `sha256sum` over the same copy, and to the copy's size. Each run of the program stands between two of
+`sha256sum`, and its ratio is taken to these, since the speed of a virtual machine changes from minute to minute.
+Times and memory are the least of all rounds, ratios the median, with the least and the greatest behind it.
 
-    bench/bench.py [--program PATH] [--size N]... [--changes M]
+    bench/bench.py [--program PATH] [--size N]... [--changes M] [--rounds R]
 """
 
 import argparse
 import base64
 import os
 import resource
+import statistics
 import subprocess
 import sys
 import tempfile
@@ -97,17 +100,22 @@ def modify(program, copy, out, undo, changes):
     return run([program, "slapmodify", "-b", "dc=example,dc=com", "--data", copy, "--out", out, "--undo", undo, "-l", changes])
 
 
-def measure(program, n, m, folder):
+def measure(program, n, m, rounds, folder):
     copy, changes = os.path.join(folder, "copy.ldif"), os.path.join(folder, "changes.ldif")
     out, undo = os.path.join(folder, "new.ldif"), os.path.join(folder, "undo.ldif")
     write_copy(copy, n)
     write_changes(changes, n, m)
     size = os.path.getsize(copy)
-    hashed = min(run(["sha256sum", copy])[0] for _ in range(3))
-    cpu, memory, report = min(modify(program, copy, out, undo, changes) for _ in range(3))
+    hashed, runs = [run(["sha256sum", copy])[0]], []
+    for _ in range(rounds):
+        runs.append(modify(program, copy, out, undo, changes))
+        hashed.append(run(["sha256sum", copy])[0])
+    cpu, memory, report = min(runs)
+    ratios = [run[0] * 2 / (before + behind) for run, before, behind in zip(runs, hashed, hashed[1:])]
     print(
         f"{n} entries, {size / 1e6:.1f} MB ({size // n} bytes an entry), {m} changes: "
-        f"{cpu:.2f} s CPU = {cpu / hashed:.1f} x sha256sum ({hashed:.2f} s), "
+        f"{cpu:.2f} s CPU ({min(hashed):.2f} s sha256sum), "
+        f"{statistics.median(ratios):.1f} x sha256sum ({min(ratios):.1f} to {max(ratios):.1f}), "
         f"{memory / 1e6:.0f} MB peak = {memory / size:.1f} x the copy; {report.strip()}",
         flush=True,
     )
@@ -119,11 +127,12 @@ def main():
     parser.add_argument("--program", default=os.path.join(ROOT, "crates/slapkit/out/slapkit"))
     parser.add_argument("--size", type=int, action="append")
     parser.add_argument("--changes", type=int)
+    parser.add_argument("--rounds", type=int, default=5)
     args = parser.parse_args()
     times = []
     with tempfile.TemporaryDirectory() as folder:
         for n in args.size or [10000, 100000]:
-            times.append(measure(args.program, n, args.changes if args.changes is not None else n // 10, folder))
+            times.append(measure(args.program, n, args.changes if args.changes is not None else n // 10, args.rounds, folder))
     if len(times) > 1:
         print(f"CPU of the last over the first: {times[-1] / times[0]:.1f}")
 

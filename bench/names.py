@@ -3,14 +3,16 @@
 
 For each kind of text it makes two texts of changes of the same size: records with a name or a value of a tenth of
 1,048,576 bytes, and a tenth as many records with one of 1,048,576 bytes. It runs `slapkit slapmodify -u -c` over
-both, and prints the CPU time of a record in each, and how many times the one takes of the other. Linear is 10.
+both in turn, and prints the least CPU time of a record in each, and how many times the one takes of the other: the
+median of the rounds, with the least and the greatest behind it. Linear is 10.
 
-    bench/names.py [--program PATH] [--records N]
+    bench/names.py [--program PATH] [--records N] [--rounds R]
 """
 
 import argparse
 import base64
 import os
+import statistics
 import sys
 import tempfile
 
@@ -52,28 +54,41 @@ KINDS = {
 }
 
 
-def seconds(program, folder, record, count, length):
-    copy, changes = os.path.join(folder, "copy.ldif"), os.path.join(folder, "changes.ldif")
-    with open(copy, "wb"):
-        pass
-    with open(changes, "wb") as f:
+def write_changes(path, record, count, length):
+    with open(path, "wb") as f:
         f.write(ROOT)
         for i in range(count):
             f.write(record(i, length))
+
+
+def seconds(program, copy, changes):
     command = [program, "slapmodify", "-b", "dc=com", "--data", copy, "-u", "-c", "-l", changes]
-    return min(bench.run(command, allowed=(0, 1))[0] for _ in range(3))
+    return bench.run(command, allowed=(0, 1))[0]
+
+
+def measure(program, kind, record, records, rounds, folder):
+    copy, few, many = (os.path.join(folder, name) for name in ("copy.ldif", "few.ldif", "many.ldif"))
+    open(copy, "wb").close()
+    write_changes(many, record, 10 * records, LENGTH // 10)
+    write_changes(few, record, records, LENGTH)
+    short, long = zip(*((seconds(program, copy, many) / (10 * records), seconds(program, copy, few) / records) for _ in range(rounds)))
+    times = [b / a for a, b in zip(short, long)]
+    print(
+        f"{kind}: {min(short) * 1000:.2f} ms for {LENGTH // 10} bytes, {min(long) * 1000:.2f} ms for {LENGTH}, "
+        f"{statistics.median(times):.1f} times ({min(times):.1f} to {max(times):.1f})",
+        flush=True,
+    )
 
 
 def main():
     parser = argparse.ArgumentParser(description=__doc__, formatter_class=argparse.RawDescriptionHelpFormatter)
     parser.add_argument("--program", default=os.path.join(bench.ROOT, "crates/slapkit/out/slapkit"))
     parser.add_argument("--records", type=int, default=40, help="records of 1,048,576 bytes")
+    parser.add_argument("--rounds", type=int, default=5)
     args = parser.parse_args()
     with tempfile.TemporaryDirectory() as folder:
         for kind, record in KINDS.items():
-            short = seconds(args.program, folder, record, 10 * args.records, LENGTH // 10) / (10 * args.records)
-            long = seconds(args.program, folder, record, args.records, LENGTH) / args.records
-            print(f"{kind}: {short * 1000:.2f} ms for {LENGTH // 10} bytes, {long * 1000:.2f} ms for {LENGTH}, {long / short:.1f} times", flush=True)
+            measure(args.program, kind, record, args.records, args.rounds, folder)
 
 
 if __name__ == "__main__":
