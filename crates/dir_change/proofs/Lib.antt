@@ -4,5 +4,6 @@ pub mod Kept
 pub mod LegalUndo
 pub mod ReadBack
 pub mod TakenBack
+pub mod Undoing
 pub mod Undone
 pub mod Within

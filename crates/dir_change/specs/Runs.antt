@@ -13,7 +13,7 @@ use Rattle.dir_tree.specs.WellFormed.{Each, IsWellFormed, IsWithinLimits}
 use Rattle.dir_change.specs.declared.result_code.ResultCode.{ResultCode}
 use Rattle.dir_change.specs.Operation.{step}
 use Rattle.dir_change.specs.Sound.{IsSoundChange}
-use Rattle.dir_change.specs.Undo.{all_steps, undo_of}
+use Rattle.dir_change.specs.Undo.{IsUndo, all_steps, undo_of}
 use Rattle.dir_change.specs.UndoText.{undo_text_of}
 
 abbrev pub group_at : Dir → Dir → Change → Option DnKeys → List Change
@@ -23,6 +23,10 @@ group_at before after change (Some k) = undo_of before after k change.kind
 -- the group of an accepted change
 abbrev pub group_of : List TypeRow → Dir → Dir → Change → List Change
 group_of rows before after change = group_at before after change (name_key rows change.dn)
+
+-- the group of a change on a well-formed directory is an undo of it
+abbrev pub GroupsUndo : Type 0
+GroupsUndo = (rows : List TypeRow) (before after : Dir) (change : Change) → IsWellFormed rows before → step rows before change ≡ Ok after → IsUndo rows before after change (group_of rows before after change)
 
 -- where a run ends, and the groups of the accepted changes in their order
 pub record Ending : Type 0 where

@@ -1,6 +1,13 @@
-ghost use Rattle.dir_change.specs.Runs.{RunsAreTakenBack, RunsStayInOrder, UndoTextsReadBack};
+ghost use Rattle.dir_change.specs.Runs.{GroupsUndo, RunsAreTakenBack, RunsStayInOrder, UndoTextsReadBack};
 
 use dir_ldif::written_records_read_back;
+
+/// A law: the group of a change that is accepted on a well-formed directory undoes it: its records are
+/// legal, are accepted behind the change and lead back. It is one record of the opposite kind, which
+/// names the entry as spelled.
+pub fn groups_undo_changes()
+    ensures { GroupsUndo }
+{}
 
 /// A law: for every list of sound changes on a well-formed directory, going on behind refused ones or
 /// not, the groups of the accepted changes, the last first, are all accepted from where the list ends,

@@ -10,7 +10,9 @@ mod result_code;
 mod undo;
 
 pub use history::History;
-pub use laws::{runs_are_taken_back, runs_stay_in_order, undo_texts_read_back};
+pub use laws::{
+    groups_undo_changes, runs_are_taken_back, runs_stay_in_order, undo_texts_read_back,
+};
 pub use operation::{Refusal, apply};
 pub use result_code::ResultCode;
 pub use undo::Undo;

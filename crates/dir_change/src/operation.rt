@@ -1,12 +1,11 @@
 ghost use Rattle.std.specs.Prelude.{◌≡◌, IfErr, IfOk, IsOk, IsTrue, Ok, OnErr, OnOk, Some};
-ghost use Rattle.dir_ldif.specs.Legal.{is_legal};
 ghost use Rattle.dir_change.specs.declared.operation.Refusal.TheVariants.{Memory};
 ghost use Rattle.dir_change.specs.Operation.{IsKeyless, IsRefused, refusal_of, step};
 ghost use Rattle.dir_names.specs.NameKeys.{name_key};
 ghost use Rattle.dir_tree.specs.WellFormed.{Each, IsWellFormed, IsWithinLimits};
 ghost use Rattle.dir_change.specs.Runs.{group_of};
 ghost use Rattle.dir_change.specs.Sound.{IsSoundChange};
-ghost use Rattle.dir_change.specs.Undo.{TakesBack};
+ghost use Rattle.dir_change.specs.Undo.{IsUndo};
 
 use crate::add::add;
 use crate::delete::delete;
@@ -46,10 +45,9 @@ pub fn apply<D: Directory>(
     ensures kept { IsOk result → IsWellFormed schema.now (D.state directory.old) → IsSoundChange schema.now change.now → IsWellFormed schema.now (D.state directory.new) }
     ensures limits { IsOk result → IsWithinLimits (D.state directory.old) → IsSoundChange schema.now change.now → IsWithinLimits (D.state directory.new) }
     ensures undo { IfOk result (λ undo. undo ≡ group_of schema.now (D.state directory.old) (D.state directory.new) change.now) }
-    ensures legal { IfOk result (λ undo. IsWellFormed schema.now (D.state directory.old) → Each (λ c. IsTrue (is_legal schema.now c)) undo) }
     ensures sound { IfOk result (λ undo. IsWellFormed schema.now (D.state directory.old) → IsWithinLimits (D.state directory.old) → IsSoundChange schema.now change.now →
         Each (IsSoundChange schema.now) undo) }
-    ensures back { IfOk result (λ undo. IsWellFormed schema.now (D.state directory.old) → TakesBack schema.now (D.state directory.old) (D.state directory.new) undo) }
+    ensures undoes { IfOk result (λ undo. IsWellFormed schema.now (D.state directory.old) → IsUndo schema.now (D.state directory.old) (D.state directory.new) change.now undo) }
 {
     let key = key_of(alloc, schema, &change.dn)?;
     match &change.kind {

@@ -27,11 +27,17 @@ impl Undo {
         self.records.as_slice()
     }
 
+    pub(crate) fn new(records: Vec<Change>) -> Undo
+        ensures { result ≡ records.items }
+    {
+        Undo { records }
+    }
+
     pub(crate) fn one(alloc: Global, change: Change) -> Result<Undo, Memory>
         ensures { IfOk result (λ u. u ≡ change ∷ []) }
     {
         let mut records = Vec::with_capacity(alloc, 1)?;
         records.push(change)?;
-        Ok(Undo { records })
+        Ok(Undo::new(records))
     }
 }

@@ -15,7 +15,7 @@ const COLUMNS: usize = 76;
 
 /// The text of a record: its `dn` line, its further lines and an empty line (RFC 2849).
 pub fn record_text(alloc: Global, record: &Record) -> Result<Vec<u8>, Memory>
-    ensures { IfOk result (λ text. text.items ≡ record_text_of record.now) }
+    ensures { IfOk result (λ text. text.items ≡ record_text_of «record».now) }
 {
     let mut out = Vec::new(alloc);
     push_record(&mut out, record)?;
@@ -24,7 +24,7 @@ pub fn record_text(alloc: Global, record: &Record) -> Result<Vec<u8>, Memory>
 
 /// Appends the text of a record.
 pub fn push_record(out: &mut Vec<u8>, record: &Record) -> Result<(), Memory>
-    ensures { OnOk result (out.new.items ≡ out.old.items ++ record_text_of record.now) }
+    ensures { OnOk result (out.new.items ≡ out.old.items ++ record_text_of «record».now) }
 {
     match record {
         Record::Content { dn, lines } => push_content(out, dn, lines),
