@@ -1,6 +1,6 @@
 use crate::{
-    History, Refusal, ResultCode, apply, runs_are_taken_back, runs_stay_in_order,
-    undo_texts_read_back,
+    History, Refusal, ResultCode, apply, groups_undo_changes, runs_are_taken_back,
+    runs_stay_in_order, undo_texts_read_back,
 };
 use dir_ldif::{Change, Record, read_all};
 use dir_names::{Dn, Schema};
@@ -92,6 +92,7 @@ fn adds_are_taken_back_by_deletes_the_last_first(rt: HostRuntime) -> Result<(), 
         assert_eq!(rt; outcome, None);
     }
     assert!(rt; directory.walk()?.is_empty());
+    groups_undo_changes();
     runs_are_taken_back();
     runs_stay_in_order();
     undo_texts_read_back();
