@@ -3,7 +3,7 @@
 PREFIX ?= /usr/local
 PROGRAM = crates/slapkit/out/slapkit
 
-.PHONY: demo test install
+.PHONY: demo test trial install
 
 # Builds the program and runs the example: the changes on the copy, and then the undo file on the new copy.
 demo: $(PROGRAM)
@@ -12,6 +12,11 @@ demo: $(PROGRAM)
 # Proves every crate and runs all tests.
 test:
 	rt ci
+
+# Runs the program on files, and with each of its calls for memory, openings, reads and writes refused in turn.
+trial: $(PROGRAM)
+	tests/program.py $(PROGRAM)
+	tests/refusals.py $(PROGRAM)
 
 install: $(PROGRAM)
 	install -D $(PROGRAM) $(DESTDIR)$(PREFIX)/bin/slapkit

@@ -1,9 +1,11 @@
 use dir_tools::ToolFault;
-use std::fmt;
+use std::{fmt, io};
 
 /// Why the program ends without an answer.
 #[derive(Debug, Drop)]
 pub enum Fault<'a> {
+    /// The words of the command line can't be read, as where one is not UTF-8.
+    NoWords(io::Error),
     /// Two of the paths are the same text.
     SamePath(&'a str),
     /// A file can't be opened or created.
@@ -17,6 +19,7 @@ pub enum Fault<'a> {
 impl fmt::Display for Fault<'_> {
     fn fmt<W: fmt::Write>(&self, f: &mut fmt::Formatter<W>) -> fmt::Result {
         match self {
+            Fault::NoWords(error) => write!(f, "cannot read the command line: {error}"),
             Fault::SamePath(path) => write!(f, "same path twice: {path}"),
             Fault::CannotOpen(path) => write!(f, "cannot open {path}"),
             Fault::Exists(path) => write!(f, "exists already: {path}"),

@@ -4,6 +4,7 @@ use crate::slapmodify::first_repeated;
 use dir_ldif::{RecordFault, StreamFault};
 use dir_names::NameFault;
 use dir_tools::{Cause, Input, Item, Output, ToolFault};
+use std::io;
 use std::test::Fail;
 
 #[test]
@@ -144,6 +145,10 @@ fn each_fault_has_its_text(rt: HostRuntime) -> Result<(), Fail> {
     let alloc = rt.alloc();
     let bad_name = Cause::Fault(RecordFault::Name(NameFault::BadDn));
     let rows = [
+        (
+            Fault::NoWords(io::Error::from(io::ErrorKind::InvalidData)),
+            "cannot read the command line: invalid data",
+        ),
         (Fault::SamePath("a"), "same path twice: a"),
         (Fault::CannotOpen("a"), "cannot open a"),
         (Fault::Exists("a"), "exists already: a"),
