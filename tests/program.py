@@ -113,7 +113,7 @@ def the_copy_is_opened_before_the_changes(trial):
     assert (trial.text("new"), trial.text("undo")) == (None, None)
 
 
-def a_folder_can_not_be_read(trial):
+def a_folder_cannot_be_read(trial):
     words = ["slapmodify", "-b", "dc=com", "--data", ".", "-u"]
     assert trial.run(words) == (1, "", "slapkit: cannot read copy\n")
     assert trial.modify("-l", ".", "-u") == (1, "", "slapkit: cannot read changes\n")
@@ -155,7 +155,7 @@ TRIALS = [
     an_undo_file_that_is_there_comes_first,
     paths_must_differ,
     the_copy_is_opened_before_the_changes,
-    a_folder_can_not_be_read,
+    a_folder_cannot_be_read,
     a_full_device_is_told,
     a_faulty_command_line_ends_with_status_1,
     words_that_are_not_utf_8_are_refused,
