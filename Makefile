@@ -3,7 +3,7 @@
 PREFIX ?= /usr/local
 PROGRAM = crates/slapkit/out/slapkit
 
-.PHONY: demo test trial install
+.PHONY: demo test trial bugs install
 
 # Builds the program and runs the example: the changes on the copy, and then the undo file on the new copy.
 demo: $(PROGRAM)
@@ -17,6 +17,10 @@ test:
 trial: $(PROGRAM)
 	tests/program.py $(PROGRAM)
 	tests/refusals.py $(PROGRAM)
+
+# Plants the bugs that the gate leaves out: the prover must refuse each.
+bugs:
+	tests/bugs.py
 
 install: $(PROGRAM)
 	install -D $(PROGRAM) $(DESTDIR)$(PREFIX)/bin/slapkit

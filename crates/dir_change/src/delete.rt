@@ -40,7 +40,7 @@ pub(crate) fn delete<D: Directory>(
 }
 
 /// All values of an entry, in the order of its canonical text.
-pub(crate) fn all_lines(alloc: Global, entry: &Entry) -> Result<Lines, Refusal>
+fn all_lines(alloc: Global, entry: &Entry) -> Result<Lines, Refusal>
     ensures ok { IfOk result (λ lines. lines ≡ all_lines entry.now.attributes) }
     ensures memory { IfErr result (λ e. e ≡ Refusal.Memory) }
 {
