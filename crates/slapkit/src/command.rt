@@ -1,3 +1,6 @@
+ghost use Rattle.std.specs.Prelude.{IfOk};
+ghost use Rattle.slapkit.specs.Words.{IsDryWithoutFiles, WritesNoFileDry};
+
 use clap::{Arg, ArgAction, ArgMatches, Command, Error};
 use dir_tools::ModifyOptions;
 use std::alloc::{AllocError, Global};
@@ -33,7 +36,9 @@ pub struct OutputPaths<'a> {
 /// # Errors
 ///
 /// What `clap` says of words that it refuses, and its help.
-pub fn read_words<'a, S: AsStr>(alloc: Global, words: &'a [S]) -> Result<Words<'a>, Error> {
+pub fn read_words<'a, S: AsStr>(alloc: Global, words: &'a [S]) -> Result<Words<'a>, Error>
+    ensures { IfOk result WritesNoFileDry }
+{
     let matches = program(alloc)?.try_get_matches_from(words)?;
     match matches.subcommand_matches("slapmodify") {
         Some(matches) => Ok(Words::Slapmodify(modify_words(matches))),
@@ -41,7 +46,9 @@ pub fn read_words<'a, S: AsStr>(alloc: Global, words: &'a [S]) -> Result<Words<'
     }
 }
 
-fn modify_words<'a>(matches: &ArgMatches<'a>) -> ModifyWords<'a> {
+fn modify_words<'a>(matches: &ArgMatches<'a>) -> ModifyWords<'a>
+    ensures { IsDryWithoutFiles result }
+{
     let dry = matches.get_flag("dry");
     let files = match (matches.get_str("out"), matches.get_str("undo")) {
         (Some(out), Some(undo)) if !dry => Some(OutputPaths { out, undo }),

@@ -1,3 +1,7 @@
+ghost use Rattle.std.specs.Prelude.{◌≡◌, IfErr};
+ghost use Rattle.std.specs.Option.{option_copied};
+ghost use Rattle.slapkit.specs.Paths.{NamesNoPathTwice, RefusesRepeated, first_repeated};
+
 use crate::command::ModifyWords;
 use crate::fault::Fault;
 use dir_ldif::{Reader, Sink, Source, Tape, Writer};
@@ -12,7 +16,9 @@ use std::io;
 ///
 /// In this order: two paths that are the same; a file that can't be opened, the copy before the
 /// changes; one that can't be created, the undo file before the new copy; the tool's own fault.
-pub fn run<'a>(rt: &HostRuntime, words: &ModifyWords<'a>) -> Result<Summary, Fault<'a>> {
+pub fn run<'a>(rt: &HostRuntime, words: &ModifyWords<'a>) -> Result<Summary, Fault<'a>>
+    ensures { RefusesRepeated (first_repeated words.now) result }
+{
     if let Some(path) = first_repeated(words) {
         return Err(Fault::SamePath(path));
     }
@@ -27,7 +33,9 @@ pub fn run<'a>(rt: &HostRuntime, words: &ModifyWords<'a>) -> Result<Summary, Fau
 }
 
 /// The first path that is the same text as one given before it.
-pub fn first_repeated<'a>(words: &ModifyWords<'a>) -> Option<&'a str> {
+pub fn first_repeated<'a>(words: &ModifyWords<'a>) -> Option<&'a str>
+    ensures { option_copied result ≡ first_repeated words.now }
+{
     let data = Some(words.data);
     let out = words.files.map(|files| files.out);
     let undo = words.files.map(|files| files.undo);
@@ -49,7 +57,9 @@ fn with_changes<'a, R: Source, R2: Source>(
     words: &ModifyWords<'a>,
     copy: &mut R,
     changes: &mut R2,
-) -> Result<Summary, Fault<'a>> {
+) -> Result<Summary, Fault<'a>>
+    ensures { IfErr result NamesNoPathTwice }
+{
     match words.files {
         Some(files) => {
             let mut undo = Writer::new(create(rt, files.undo)?);
@@ -73,7 +83,9 @@ fn with_files<'a, R: Source, R2: Source, W: Sink, W2: Sink>(
     changes: &mut R2,
     undo: &mut W,
     out: &mut W2,
-) -> Result<Summary, Fault<'a>> {
+) -> Result<Summary, Fault<'a>>
+    ensures { IfErr result NamesNoPathTwice }
+{
     let alloc = rt.alloc();
     let Ok(schema) = Schema::builtin(alloc) else {
         return Err(Fault::Tool(ToolFault::Memory));
@@ -96,14 +108,18 @@ fn with_files<'a, R: Source, R2: Source, W: Sink, W2: Sink>(
     }
 }
 
-fn open<'a>(rt: &HostRuntime, path: &'a str) -> Result<File, Fault<'a>> {
+fn open<'a>(rt: &HostRuntime, path: &'a str) -> Result<File, Fault<'a>>
+    ensures { IfErr result NamesNoPathTwice }
+{
     match File::open(rt, path) {
         Ok(file) => Ok(file),
         Err(_) => Err(Fault::CannotOpen(path)),
     }
 }
 
-fn create<'a>(rt: &HostRuntime, path: &'a str) -> Result<File, Fault<'a>> {
+fn create<'a>(rt: &HostRuntime, path: &'a str) -> Result<File, Fault<'a>>
+    ensures { IfErr result NamesNoPathTwice }
+{
     match OpenOptions::new()
         .write(true)
         .create_new(true)
