@@ -1,2 +1,3 @@
+pub mod FaultText
 pub mod Paths
 pub mod Words

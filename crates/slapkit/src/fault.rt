@@ -1,3 +1,5 @@
+ghost use Rattle.slapkit.specs.FaultText.{fault_text};
+
 use dir_tools::ToolFault;
 use std::{fmt, io};
 
@@ -17,6 +19,8 @@ pub enum Fault<'a> {
 }
 
 impl fmt::Display for Fault<'_> {
+    ghost output = { fault_text };
+
     fn fmt<W: fmt::Write>(&self, f: &mut fmt::Formatter<W>) -> fmt::Result {
         match self {
             Fault::NoWords(error) => write!(f, "cannot read the command line: {error}"),

@@ -1,6 +1,7 @@
-ghost use Rattle.std.specs.Prelude.{◌≡◌, IfErr};
+ghost use Rattle.std.specs.Prelude.{◌≡◌, ◌⊎◌, IfErr};
 ghost use Rattle.std.specs.Option.{option_copied};
-ghost use Rattle.slapkit.specs.Paths.{NamesNoPathTwice, RefusesRepeated, first_repeated};
+ghost use Rattle.slapkit.specs.Paths.{IsFaultOf, IsRunOf, first_repeated};
+ghost use Rattle.slapkit.specs.declared.fault.Fault.TheVariants.{CannotOpen, Exists};
 
 use crate::command::ModifyWords;
 use crate::fault::Fault;
@@ -17,7 +18,7 @@ use std::io;
 /// In this order: two paths that are the same; a file that can't be opened, the copy before the
 /// changes; one that can't be created, the undo file before the new copy; the tool's own fault.
 pub fn run<'a>(rt: &HostRuntime, words: &ModifyWords<'a>) -> Result<Summary, Fault<'a>>
-    ensures { RefusesRepeated (first_repeated words.now) result }
+    ensures { IsRunOf words.now (first_repeated words.now) result }
 {
     if let Some(path) = first_repeated(words) {
         return Err(Fault::SamePath(path));
@@ -58,7 +59,7 @@ fn with_changes<'a, R: Source, R2: Source>(
     copy: &mut R,
     changes: &mut R2,
 ) -> Result<Summary, Fault<'a>>
-    ensures { IfErr result NamesNoPathTwice }
+    ensures { IfErr result (IsFaultOf words.now) }
 {
     match words.files {
         Some(files) => {
@@ -84,7 +85,7 @@ fn with_files<'a, R: Source, R2: Source, W: Sink, W2: Sink>(
     undo: &mut W,
     out: &mut W2,
 ) -> Result<Summary, Fault<'a>>
-    ensures { IfErr result NamesNoPathTwice }
+    ensures { IfErr result (IsFaultOf words.now) }
 {
     let alloc = rt.alloc();
     let Ok(schema) = Schema::builtin(alloc) else {
@@ -109,7 +110,7 @@ fn with_files<'a, R: Source, R2: Source, W: Sink, W2: Sink>(
 }
 
 fn open<'a>(rt: &HostRuntime, path: &'a str) -> Result<File, Fault<'a>>
-    ensures { IfErr result NamesNoPathTwice }
+    ensures { IfErr result (λ e. e ≡ CannotOpen path.entry) }
 {
     match File::open(rt, path) {
         Ok(file) => Ok(file),
@@ -118,7 +119,7 @@ fn open<'a>(rt: &HostRuntime, path: &'a str) -> Result<File, Fault<'a>>
 }
 
 fn create<'a>(rt: &HostRuntime, path: &'a str) -> Result<File, Fault<'a>>
-    ensures { IfErr result NamesNoPathTwice }
+    ensures { IfErr result (λ e. (e ≡ Exists path.entry) ⊎ (e ≡ CannotOpen path.entry)) }
 {
     match OpenOptions::new()
         .write(true)
