@@ -32,7 +32,7 @@ abbrev pub IsAmong : List ℕ → List (List ℕ) → Type 0
 IsAmong path [] = ⊥
 IsAmong path (p ∷ ps) = (path ≡ p) ⊎ IsAmong path ps
 
--- the fault of a run whose paths differ: it names a path that can't be opened, or a file to be written that exists already, or is the tool's own
+-- the fault of a run whose paths differ: of what can't be opened it names a path that was given, of what exists already a file to be written; or it is the tool's own. Of the files themselves it says nothing
 abbrev pub IsFaultOf : ModifyWords → Fault → Type 0
 IsFaultOf words (CannotOpen path) = IsAmong path.now (paths_of words)
 IsFaultOf words (Exists path) = IsAmong path.now (outputs words.files)
