@@ -18,9 +18,9 @@ trial: $(PROGRAM)
 	tests/program.py $(PROGRAM)
 	tests/refusals.py $(PROGRAM)
 
-# Plants the bugs that the gate leaves out: the prover must refuse each.
+# Plants the bugs that the gate leaves out, of all crates or of one (make bugs CRATE=dir_ldif): the prover must refuse each.
 bugs:
-	tests/bugs.py
+	tests/bugs.py $(CRATE)
 
 install: $(PROGRAM)
 	install -D $(PROGRAM) $(DESTDIR)$(PREFIX)/bin/slapkit
