@@ -13,6 +13,7 @@ pub mod Orders
 pub mod Outcome
 pub mod Printing
 pub mod Reading
+pub mod Results
 pub mod Rows
 pub mod SortTexts
 pub mod Sorted
