@@ -16,10 +16,10 @@ use Rattle.dir_ldif.specs.Legal.{has_this_key, is_legal, is_legal_line, is_read_
 use Rattle.dir_tree.specs.Content.{Stored}
 use Rattle.dir_tree.specs.Dir.{Dir}
 use Rattle.dir_tree.specs.WellFormed.{Each, IsSoundAttribute, IsSoundValue, IsWellFormed, attribute_lines}
-use Rattle.dir_change.specs.Operation.{at_key, performed, step}
+use Rattle.dir_change.specs.Operation.{directory_after, step, step_at}
 use Rattle.dir_change.specs.Runs.{group_at, group_of}
-use Rattle.dir_change.specs.Undo.{lines_in, undo_of}
-use Rattle.dir_change.proofs.Undone.{added_key, deleted_is, spelled_key}
+use Rattle.dir_change.specs.Undo.{lines_of_entry, undo_of}
+use Rattle.dir_change.proofs.AfterOperations.{added_key, deleted_is, spelled_key}
 
 module _ (rows : List TypeRow) where
   all_append : {A : Type 0} (p : A → Bool) (xs ys : List A) → list_all p xs ≡ true → list_all p ys ≡ true → list_all p (xs ++ ys) ≡ true
@@ -48,16 +48,16 @@ module _ (rows : List TypeRow) where
   pub group_legal : (d : Dir) (change : Change) → IsWellFormed rows d → (new : Dir) → step rows d change ≡ Ok new → Each (λ c. is_legal rows c ≡ true) (group_of rows d new change)
   group_legal d change well new is = by (name_key rows change.dn) refl is
     where
-      done : (k : DnKeys) → name_key rows change.dn ≡ Some k → (c : ChangeKind) → performed rows d k change.dn c ≡ Ok new → Each (λ c. is_legal rows c ≡ true) (undo_of d new k c)
+      done : (k : DnKeys) → name_key rows change.dn ≡ Some k → (c : ChangeKind) → directory_after rows d k change.dn c ≡ Ok new → Each (λ c. is_legal rows c ≡ true) (undo_of d new k c)
       done k t (kind.Add lines) h = (ap (λ o. is_some o && true) (added_key rows d well.1 (λ q x there. (well.2 q x there).1) k change.dn lines t new h), tt)
       done k t kind.Delete h =
           let known = deleted_is d k new h in
           let key = spelled_key rows d well.1 (λ q x there. (well.2 q x there).1) k (ap is_some known.1) in
-          let lines = ap (list_all (is_legal_line rows)) (ap lines_in known.1) ∙ legal_attributes (fin.entries known.0.attributes) (well.2 k known.0 known.1).0.1 in
+          let lines = ap (list_all (is_legal_line rows)) (ap lines_of_entry known.1) ∙ legal_attributes (fin.entries known.0.attributes) (well.2 k known.0 known.1).0.1 in
           (λ i. is_some (key i) && lines i, tt)
       done k t (kind.Modify mods) h = absurd (cc)
       done k t (kind.Rename rdn delete_old superior) h = absurd (cc)
 
-      by : (o : Option DnKeys) → name_key rows change.dn ≡ o → at_key rows d change o ≡ Ok new → Each (λ c. is_legal rows c ≡ true) (group_at d new change o)
+      by : (o : Option DnKeys) → name_key rows change.dn ≡ o → step_at rows d change o ≡ Ok new → Each (λ c. is_legal rows c ≡ true) (group_at d new change o)
       by None t h = absurd (cc)
       by (Some k) t h = done k t change.kind h

@@ -1,9 +1,9 @@
+pub mod AfterOperations
 pub mod Conditions
 pub mod InOrder
-pub mod Kept
 pub mod LegalUndo
 pub mod ReadBack
+pub mod StaysWellFormed
+pub mod StaysWithinLimits
 pub mod TakenBack
 pub mod Undoing
-pub mod Undone
-pub mod Within

@@ -14,12 +14,12 @@ use Rattle.dir_tree.specs.Dir.{Dir}
 use Rattle.dir_tree.specs.WellFormed.{Each, IsWellFormed, IsWithinLimits}
 use Rattle.dir_change.specs.declared.result_code.ResultCode.{ResultCode}
 use Rattle.dir_change.specs.Operation.{step}
-use Rattle.dir_change.specs.Runs.{Ending, ReadsBack, UndoTextsReadBack, accepted_or, behind, goes_on, group_of, last_first, stops}
-use Rattle.dir_change.specs.Sound.{IsSoundChange}
+use Rattle.dir_change.specs.Runs.{Ending, ReadsBack, UndoTextsReadBack, accepted_or, group_of, run_to_end, run_to_refusal, undo_changes, with_group_first}
+use Rattle.dir_change.specs.SoundChange.{IsSoundChange}
 use Rattle.dir_change.specs.UndoText.{group_text}
-use Rattle.dir_change.proofs.Kept.{step_keeps}
+use Rattle.dir_change.proofs.StaysWellFormed.{step_keeps}
 use Rattle.dir_change.proofs.TakenBack.{last_behind}
-use Rattle.dir_change.proofs.Within.{group_sound, step_within}
+use Rattle.dir_change.proofs.StaysWithinLimits.{group_sound, step_within}
 
 each_append : {A : Type 0} (P : A → Type 0) (xs ys : List A) → Each P xs → Each P ys → Each P (xs ++ ys)
 each_append P [] ys x y = y
@@ -50,33 +50,33 @@ module _ (rows : List TypeRow) where
   answers [] = refl
   answers (c ∷ cs) = ap (λ z. fine (form.Change c) ∷ z) (answers cs)
 
-  read_back : (law : RecordsReadBack) (ending : Ending) → Each (IsSoundChange rows) (last_first ending) → ReadsBack rows ending
+  read_back : (law : RecordsReadBack) (ending : Ending) → Each (IsSoundChange rows) (undo_changes ending) → ReadsBack rows ending
   read_back law ending sound =
-      ap (λ text. map without_line (records_of rows (codes "version: 1\n\n" ++ text))) (grouped (reverse ending.groups) ∙ as_records (last_first ending))
-      ∙ (law rows (map (λ c. form.Change c) (last_first ending)) (all_sound (last_first ending) sound)).1
-      ∙ answers (last_first ending)
+      ap (λ text. map without_line (records_of rows (codes "version: 1\n\n" ++ text))) (grouped (reverse ending.groups) ∙ as_records (undo_changes ending))
+      ∙ (law rows (map (λ c. form.Change c) (undo_changes ending)) (all_sound (undo_changes ending) sound)).1
+      ∙ answers (undo_changes ending)
 
-  more_sound : (group : List Change) (ending : Ending) → Each (IsSoundChange rows) group → Each (IsSoundChange rows) (last_first ending) → Each (IsSoundChange rows) (last_first (behind group ending))
-  more_sound group ending one rest = subst (Each (IsSoundChange rows)) (sym (last_behind rows group ending)) (each_append (IsSoundChange rows) (last_first ending) group rest one)
+  more_sound : (group : List Change) (ending : Ending) → Each (IsSoundChange rows) group → Each (IsSoundChange rows) (undo_changes ending) → Each (IsSoundChange rows) (undo_changes (with_group_first group ending))
+  more_sound group ending one rest = subst (Each (IsSoundChange rows)) (sym (last_behind rows group ending)) (each_append (IsSoundChange rows) (undo_changes ending) group rest one)
 
-  on_sound : (d : Dir) (changes : List Change) → IsWellFormed rows d → IsWithinLimits d → Each (IsSoundChange rows) changes → Each (IsSoundChange rows) (last_first (goes_on rows d changes))
+  on_sound : (d : Dir) (changes : List Change) → IsWellFormed rows d → IsWithinLimits d → Each (IsSoundChange rows) changes → Each (IsSoundChange rows) (undo_changes (run_to_end rows d changes))
   on_sound d [] well within sound = tt
   on_sound d (c ∷ cs) well within sound = by (step rows d c) refl (λ e w l. on_sound e cs w l sound.1)
     where
-      by : (r : Result Dir ResultCode) → step rows d c ≡ r → ((e : Dir) → IsWellFormed rows e → IsWithinLimits e → Each (IsSoundChange rows) (last_first (goes_on rows e cs))) →
-          Each (IsSoundChange rows) (last_first (accepted_or r (λ e. behind (group_of rows d e c) (goes_on rows e cs)) (goes_on rows d cs)))
-      by (Ok e) t rest = more_sound (group_of rows d e c) (goes_on rows e cs) (group_sound rows d c well within sound.0 e t) (rest e (step_keeps rows d c well sound.0 e t) (step_within rows d c within sound.0 e t))
+      by : (r : Result Dir ResultCode) → step rows d c ≡ r → ((e : Dir) → IsWellFormed rows e → IsWithinLimits e → Each (IsSoundChange rows) (undo_changes (run_to_end rows e cs))) →
+          Each (IsSoundChange rows) (undo_changes (accepted_or r (λ e. with_group_first (group_of rows d e c) (run_to_end rows e cs)) (run_to_end rows d cs)))
+      by (Ok e) t rest = more_sound (group_of rows d e c) (run_to_end rows e cs) (group_sound rows d c well within sound.0 e t) (rest e (step_keeps rows d c well sound.0 e t) (step_within rows d c within sound.0 e t))
       by (Err code) t rest = rest d well within
 
-  stop_sound : (d : Dir) (changes : List Change) → IsWellFormed rows d → IsWithinLimits d → Each (IsSoundChange rows) changes → Each (IsSoundChange rows) (last_first (stops rows d changes))
+  stop_sound : (d : Dir) (changes : List Change) → IsWellFormed rows d → IsWithinLimits d → Each (IsSoundChange rows) changes → Each (IsSoundChange rows) (undo_changes (run_to_refusal rows d changes))
   stop_sound d [] well within sound = tt
   stop_sound d (c ∷ cs) well within sound = by (step rows d c) refl (λ e w l. stop_sound e cs w l sound.1)
     where
-      by : (r : Result Dir ResultCode) → step rows d c ≡ r → ((e : Dir) → IsWellFormed rows e → IsWithinLimits e → Each (IsSoundChange rows) (last_first (stops rows e cs))) →
-          Each (IsSoundChange rows) (last_first (accepted_or r (λ e. behind (group_of rows d e c) (stops rows e cs)) (record { end = d; groups = [] })))
-      by (Ok e) t rest = more_sound (group_of rows d e c) (stops rows e cs) (group_sound rows d c well within sound.0 e t) (rest e (step_keeps rows d c well sound.0 e t) (step_within rows d c within sound.0 e t))
+      by : (r : Result Dir ResultCode) → step rows d c ≡ r → ((e : Dir) → IsWellFormed rows e → IsWithinLimits e → Each (IsSoundChange rows) (undo_changes (run_to_refusal rows e cs))) →
+          Each (IsSoundChange rows) (undo_changes (accepted_or r (λ e. with_group_first (group_of rows d e c) (run_to_refusal rows e cs)) (record { end = d; groups = [] })))
+      by (Ok e) t rest = more_sound (group_of rows d e c) (run_to_refusal rows e cs) (group_sound rows d c well within sound.0 e t) (rest e (step_keeps rows d c well sound.0 e t) (step_within rows d c within sound.0 e t))
       by (Err code) t rest = tt
 
 pub texts_read_back : RecordsReadBack → UndoTextsReadBack
 texts_read_back law rows d changes well within sound =
-    (read_back rows law (goes_on rows d changes) (on_sound rows d changes well within sound), read_back rows law (stops rows d changes) (stop_sound rows d changes well within sound))
+    (read_back rows law (run_to_end rows d changes) (on_sound rows d changes well within sound), read_back rows law (run_to_refusal rows d changes) (stop_sound rows d changes well within sound))

@@ -11,71 +11,72 @@ use Rattle.dir_ldif.specs.declared.records.ChangeKind.TheVariants as kind
 use Rattle.dir_tree.specs.Dir.{Dir}
 use Rattle.dir_tree.specs.WellFormed.{Each, IsWellFormed}
 use Rattle.dir_change.specs.declared.result_code.ResultCode.{ResultCode}
-use Rattle.dir_change.specs.Operation.{at_key, performed, step}
-use Rattle.dir_change.specs.Runs.{Ending, LeadsBack, RunsAreTakenBack, accepted_or, behind, goes_on, group_at, group_of, last_first, stops}
-use Rattle.dir_change.specs.Sound.{IsSoundChange}
-use Rattle.dir_change.specs.Undo.{TakesBack, all_steps, and_then, undo_of}
-use Rattle.dir_change.proofs.Kept.{step_keeps}
-use Rattle.dir_change.proofs.Undone.{add_taken_back, delete_taken_back}
+use Rattle.dir_change.specs.Operation.{directory_after, step, step_at}
+use Rattle.dir_change.specs.Runs.{Ending, LeadsBack, RunsAreTakenBack, accepted_or, group_at, group_of, run_to_end, run_to_refusal, undo_changes, with_group_first}
+use Rattle.dir_change.specs.SoundChange.{IsSoundChange}
+use Rattle.dir_names.specs.Results.{and_then}
+use Rattle.dir_change.specs.Undo.{TakesBack, directory_after_all, undo_of}
+use Rattle.dir_change.proofs.StaysWellFormed.{step_keeps}
+use Rattle.dir_change.proofs.AfterOperations.{add_taken_back, delete_taken_back}
 
 module _ (rows : List TypeRow) where
-  steps_append : (d : Dir) (xs ys : List Change) → all_steps rows d (xs ++ ys) ≡ and_then (all_steps rows d xs) (λ e. all_steps rows e ys)
+  steps_append : (d : Dir) (xs ys : List Change) → directory_after_all rows d (xs ++ ys) ≡ and_then (directory_after_all rows d xs) (λ e. directory_after_all rows e ys)
   steps_append d [] ys = refl
   steps_append d (c ∷ xs) ys = by (step rows d c) (λ e. steps_append e xs ys)
     where
-      by : (r : Result Dir ResultCode) → ((e : Dir) → all_steps rows e (xs ++ ys) ≡ and_then (all_steps rows e xs) (λ f. all_steps rows f ys)) →
-          and_then r (λ e. all_steps rows e (xs ++ ys)) ≡ and_then (and_then r (λ e. all_steps rows e xs)) (λ e. all_steps rows e ys)
+      by : (r : Result Dir ResultCode) → ((e : Dir) → directory_after_all rows e (xs ++ ys) ≡ and_then (directory_after_all rows e xs) (λ f. directory_after_all rows f ys)) →
+          and_then r (λ e. directory_after_all rows e (xs ++ ys)) ≡ and_then (and_then r (λ e. directory_after_all rows e xs)) (λ e. directory_after_all rows e ys)
       by (Ok e) rest = rest e
       by (Err code) rest = refl
 
-  joined : {A : Type 0} (xs ys : List (List A)) → flat_map (λ g. g) (xs ++ ys) ≡ flat_map (λ g. g) xs ++ flat_map (λ g. g) ys
-  joined [] ys = refl
-  joined (x ∷ xs) ys = ap (λ z. x ++ z) (joined xs ys) ∙ sym (append_assoc x (flat_map (λ g. g) xs) (flat_map (λ g. g) ys))
+  joined_name : {A : Type 0} (xs ys : List (List A)) → flat_map (λ g. g) (xs ++ ys) ≡ flat_map (λ g. g) xs ++ flat_map (λ g. g) ys
+  joined_name [] ys = refl
+  joined_name (x ∷ xs) ys = ap (λ z. x ++ z) (joined_name xs ys) ∙ sym (append_assoc x (flat_map (λ g. g) xs) (flat_map (λ g. g) ys))
 
-  pub last_behind : (group : List Change) (ending : Ending) → last_first (behind group ending) ≡ last_first ending ++ group
+  pub last_behind : (group : List Change) (ending : Ending) → undo_changes (with_group_first group ending) ≡ undo_changes ending ++ group
   last_behind group ending =
       ap (flat_map (λ g. g)) (reverse-append (group ∷ []) ending.groups)
-      ∙ joined (reverse ending.groups) (group ∷ [])
-      ∙ ap (λ z. last_first ending ++ z) (append-nil group)
+      ∙ joined_name (reverse ending.groups) (group ∷ [])
+      ∙ ap (λ z. undo_changes ending ++ z) (append-nil group)
 
   -- the group of an accepted change
   pub group_back : (d : Dir) (change : Change) → IsWellFormed rows d → (new : Dir) → step rows d change ≡ Ok new → TakesBack rows d new (group_of rows d new change)
   group_back d change well new is = by (name_key rows change.dn) refl is
     where
-      done : (k : DnKeys) → name_key rows change.dn ≡ Some k → (c : ChangeKind) → performed rows d k change.dn c ≡ Ok new → TakesBack rows d new (undo_of d new k c)
+      done : (k : DnKeys) → name_key rows change.dn ≡ Some k → (c : ChangeKind) → directory_after rows d k change.dn c ≡ Ok new → TakesBack rows d new (undo_of d new k c)
       done k t (kind.Add lines) h = add_taken_back rows d well.1 (λ q x there. (well.2 q x there).1) k change.dn lines t new h
       done k t kind.Delete h = delete_taken_back rows d well k new h
       done k t (kind.Modify mods) h = absurd (cc)
       done k t (kind.Rename rdn delete_old superior) h = absurd (cc)
 
-      by : (o : Option DnKeys) → name_key rows change.dn ≡ o → at_key rows d change o ≡ Ok new → TakesBack rows d new (group_at d new change o)
+      by : (o : Option DnKeys) → name_key rows change.dn ≡ o → step_at rows d change o ≡ Ok new → TakesBack rows d new (group_at d new change o)
       by None t h = absurd (cc)
       by (Some k) t h = done k t change.kind h
 
-  -- behind an accepted change, what leads back to it leads back to before it
-  more_back : (d e : Dir) (group : List Change) (ending : Ending) → TakesBack rows d e group → LeadsBack rows e ending → LeadsBack rows d (behind group ending)
+  -- what leads back to the directory after an accepted change, and then takes that change back, leads back to the directory before it
+  more_back : (d e : Dir) (group : List Change) (ending : Ending) → TakesBack rows d e group → LeadsBack rows e ending → LeadsBack rows d (with_group_first group ending)
   more_back d e group ending one rest =
-      ap (all_steps rows ending.end) (last_behind group ending)
-      ∙ steps_append ending.end (last_first ending) group
-      ∙ ap (λ r. and_then r (λ f. all_steps rows f group)) rest
+      ap (directory_after_all rows ending.end) (last_behind group ending)
+      ∙ steps_append ending.end (undo_changes ending) group
+      ∙ ap (λ r. and_then r (λ f. directory_after_all rows f group)) rest
       ∙ one
 
-  on_back : (d : Dir) (changes : List Change) → IsWellFormed rows d → Each (IsSoundChange rows) changes → LeadsBack rows d (goes_on rows d changes)
+  on_back : (d : Dir) (changes : List Change) → IsWellFormed rows d → Each (IsSoundChange rows) changes → LeadsBack rows d (run_to_end rows d changes)
   on_back d [] well sound = refl
   on_back d (c ∷ cs) well sound = by (step rows d c) refl (λ e w. on_back e cs w sound.1)
     where
-      by : (r : Result Dir ResultCode) → step rows d c ≡ r → ((e : Dir) → IsWellFormed rows e → LeadsBack rows e (goes_on rows e cs)) →
-          LeadsBack rows d (accepted_or r (λ e. behind (group_of rows d e c) (goes_on rows e cs)) (goes_on rows d cs))
-      by (Ok e) t rest = more_back d e (group_of rows d e c) (goes_on rows e cs) (group_back d c well e t) (rest e (step_keeps rows d c well sound.0 e t))
+      by : (r : Result Dir ResultCode) → step rows d c ≡ r → ((e : Dir) → IsWellFormed rows e → LeadsBack rows e (run_to_end rows e cs)) →
+          LeadsBack rows d (accepted_or r (λ e. with_group_first (group_of rows d e c) (run_to_end rows e cs)) (run_to_end rows d cs))
+      by (Ok e) t rest = more_back d e (group_of rows d e c) (run_to_end rows e cs) (group_back d c well e t) (rest e (step_keeps rows d c well sound.0 e t))
       by (Err code) t rest = rest d well
 
-  stop_back : (d : Dir) (changes : List Change) → IsWellFormed rows d → Each (IsSoundChange rows) changes → LeadsBack rows d (stops rows d changes)
+  stop_back : (d : Dir) (changes : List Change) → IsWellFormed rows d → Each (IsSoundChange rows) changes → LeadsBack rows d (run_to_refusal rows d changes)
   stop_back d [] well sound = refl
   stop_back d (c ∷ cs) well sound = by (step rows d c) refl (λ e w. stop_back e cs w sound.1)
     where
-      by : (r : Result Dir ResultCode) → step rows d c ≡ r → ((e : Dir) → IsWellFormed rows e → LeadsBack rows e (stops rows e cs)) →
-          LeadsBack rows d (accepted_or r (λ e. behind (group_of rows d e c) (stops rows e cs)) (record { end = d; groups = [] }))
-      by (Ok e) t rest = more_back d e (group_of rows d e c) (stops rows e cs) (group_back d c well e t) (rest e (step_keeps rows d c well sound.0 e t))
+      by : (r : Result Dir ResultCode) → step rows d c ≡ r → ((e : Dir) → IsWellFormed rows e → LeadsBack rows e (run_to_refusal rows e cs)) →
+          LeadsBack rows d (accepted_or r (λ e. with_group_first (group_of rows d e c) (run_to_refusal rows e cs)) (record { end = d; groups = [] }))
+      by (Ok e) t rest = more_back d e (group_of rows d e c) (run_to_refusal rows e cs) (group_back d c well e t) (rest e (step_keeps rows d c well sound.0 e t))
       by (Err code) t rest = refl
 
 pub taken_back : RunsAreTakenBack

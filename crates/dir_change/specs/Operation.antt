@@ -1,4 +1,4 @@
--- The update operations on a directory (RFC 4511, sections 4.7 and 4.8): where a change leads, or the first refusal in its order.
+-- The update operations (RFC 4511, sections 4.7 and 4.8): the directory after a change, or the result code of the first test that refuses it.
 use Rattle.std.specs.Prelude.{◌≡◌, ℕ, Bool, false, cond, not, List, length, take, Option, None, Some, is_some, Result, Ok, Err, ⊤}
 use Rattle.std.specs.List.{list_any}
 use Rattle.std.specs.FinMap as fin
@@ -21,11 +21,11 @@ use Rattle.dir_change.specs.declared.operation.Refusal.TheVariants as refusal
 use Rattle.dir_change.specs.declared.result_code.ResultCode.{ResultCode}
 use Rattle.dir_change.specs.declared.result_code.ResultCode.TheVariants.{NoSuchObject, NotAllowedOnNonLeaf, EntryAlreadyExists, InvalidAttributeSyntax, AttributeOrValueExists, ConstraintViolation, NotAllowedOnRdn, UnwillingToPerform}
 
--- a test that refuses comes before what follows it
+-- the result code where the test refuses, else what follows
 abbrev pub unless : {A : Type 0} → Bool → ResultCode → Result A ResultCode → Result A ResultCode
 unless refused code answer = cond refused (Err code) answer
 
--- the key is the suffix's, or continues it
+-- the key begins with the other
 abbrev pub is_at_or_below : DnKeys → DnKeys → Bool
 is_at_or_below k above = dn_key_eq (take (length above) k) above
 
@@ -33,68 +33,68 @@ abbrev pub is_key : DnKeys → Option DnKeys → Bool
 is_key k None = false
 is_key k (Some p) = dn_key_eq p k
 
--- an entry stands directly below the key
+-- some entry is directly below the key
 abbrev pub has_child : Dir → DnKeys → Bool
 has_child d k = list_any (λ q. is_key k (parent_of q)) (fin.keys d.entries)
 
--- what an entry that can't be made is refused with; no definition answers want of memory
-abbrev pub refusal_of : EntryFault → Refusal
-refusal_of entry.BadValue = refusal.Code InvalidAttributeSyntax
-refusal_of entry.Twice = refusal.Code AttributeOrValueExists
-refusal_of entry.NotNamed = refusal.Code NotAllowedOnRdn
-refusal_of entry.Single = refusal.Code ConstraintViolation
-refusal_of entry.Memory = refusal.Memory
+-- the result code of an entry that can't be made. No definition answers out of memory
+abbrev pub entry_refusal : EntryFault → Refusal
+entry_refusal entry.BadValue = refusal.Code InvalidAttributeSyntax
+entry_refusal entry.Twice = refusal.Code AttributeOrValueExists
+entry_refusal entry.NotNamed = refusal.Code NotAllowedOnRdn
+entry_refusal entry.Single = refusal.Code ConstraintViolation
+entry_refusal entry.Memory = refusal.Memory
 
-abbrev pub code_in : Refusal → ResultCode
-code_in (refusal.Code code) = code
-code_in refusal.Memory = UnwillingToPerform
+abbrev pub code_of : Refusal → ResultCode
+code_of (refusal.Code code) = code
+code_of refusal.Memory = UnwillingToPerform
 
--- the directory with the entry that was made, at its key
-abbrev pub placed : Dir → DnKeys → Result Content EntryFault → Result Dir ResultCode
-placed d k (Ok e) = Ok (put_entry d k e)
-placed d k (Err fault) = Err (code_in (refusal_of fault))
+-- the directory with the new entry at the key, or its fault's result code
+abbrev pub with_new_entry : Dir → DnKeys → Result Content EntryFault → Result Dir ResultCode
+with_new_entry d k (Ok e) = Ok (put_entry d k e)
+with_new_entry d k (Err fault) = Err (code_of (entry_refusal fault))
 
--- the own name of an entry: all of the suffix, or else its leaf RDN
-abbrev pub own_of : DnKeys → DnKeys → SpelledName → SpelledName
-own_of suffix k name = cond (dn_key_eq k suffix) name (take 1 name)
+-- what an entry keeps of its name: all RDNs for the suffix's entry, else the leaf RDN
+abbrev pub own_rdns : DnKeys → DnKeys → SpelledName → SpelledName
+own_rdns suffix k name = cond (dn_key_eq k suffix) name (take 1 name)
 
--- an add (RFC 4511, section 4.7): below the suffix, at a free place, under an entry, of values that make an entry
-abbrev pub added : List TypeRow → Dir → DnKeys → SpelledName → List (Described × List ℕ) → Result Dir ResultCode
-added rows d k name lines =
+-- add (RFC 4511, section 4.7): the name is the suffix or below it; it is free; its parent is there; and the values make an entry
+abbrev pub directory_after_add : List TypeRow → Dir → DnKeys → SpelledName → List (Described × List ℕ) → Result Dir ResultCode
+directory_after_add rows d k name lines =
     unless (not (is_at_or_below k d.suffix)) NoSuchObject
     (unless (is_some (entry_at d k)) EntryAlreadyExists
     (unless (not (has_parent d k)) NoSuchObject
-    (placed d k (made rows (own_of d.suffix k name) lines))))
+    (with_new_entry d k (made rows (own_rdns d.suffix k name) lines))))
 
--- a delete (RFC 4511, section 4.8): of an entry that is there, and has no child
-abbrev pub deleted : Dir → DnKeys → Result Dir ResultCode
-deleted d k =
+-- delete (RFC 4511, section 4.8): the entry is there, and has no child
+abbrev pub directory_after_delete : Dir → DnKeys → Result Dir ResultCode
+directory_after_delete d k =
     unless (not (is_some (entry_at d k))) NoSuchObject
     (unless (has_child d k) NotAllowedOnNonLeaf
     (Ok (without d k)))
 
-abbrev pub performed : List TypeRow → Dir → DnKeys → SpelledName → ChangeKind → Result Dir ResultCode
-performed rows d k name (kind.Add lines) = added rows d k name lines
-performed rows d k name kind.Delete = deleted d k
-performed rows d k name (kind.Modify mods) = Err UnwillingToPerform
-performed rows d k name (kind.Rename rdn delete_old superior) = Err UnwillingToPerform
+abbrev pub directory_after : List TypeRow → Dir → DnKeys → SpelledName → ChangeKind → Result Dir ResultCode
+directory_after rows d k name (kind.Add lines) = directory_after_add rows d k name lines
+directory_after rows d k name kind.Delete = directory_after_delete d k
+directory_after rows d k name (kind.Modify mods) = Err UnwillingToPerform
+directory_after rows d k name (kind.Rename rdn delete_old superior) = Err UnwillingToPerform
 
--- at a name that has no key nothing stands
-abbrev pub at_key : List TypeRow → Dir → Change → Option DnKeys → Result Dir ResultCode
-at_key rows d change None = Err NoSuchObject
-at_key rows d change (Some k) = performed rows d k change.dn change.kind
+-- a name that has no key names no entry
+abbrev pub step_at : List TypeRow → Dir → Change → Option DnKeys → Result Dir ResultCode
+step_at rows d change None = Err NoSuchObject
+step_at rows d change (Some k) = directory_after rows d k change.dn change.kind
 
--- where one change leads; a modify and a rename are not there yet
+-- the directory after one change, or its result code. Modify and rename are refused for now
 abbrev pub step : List TypeRow → Dir → Change → Result Dir ResultCode
-step rows d change = at_key rows d change (name_key rows change.dn)
+step rows d change = step_at rows d change (name_key rows change.dn)
 
--- the refusal's code is the definition's, unless it is want of memory
+-- a refusal's code is the definition's; out of memory says nothing of it
 abbrev pub IsRefused : {A : Type 0} → Refusal → Result A ResultCode → Type 0
 IsRefused (refusal.Code code) wanted = wanted ≡ Err code
 IsRefused refusal.Memory wanted = ⊤
 
--- a name without a key is refused, and no other, but for want of memory
-abbrev pub IsKeyless : Refusal → Option DnKeys → Type 0
-IsKeyless (refusal.Code NoSuchObject) key = key ≡ None
-IsKeyless (refusal.Code code) key = ⊥
-IsKeyless refusal.Memory key = ⊤
+-- a name without a key is refused with 32, and no other name is refused, unless memory ran out
+abbrev pub IsRefusedWithoutKey : Refusal → Option DnKeys → Type 0
+IsRefusedWithoutKey (refusal.Code NoSuchObject) key = key ≡ None
+IsRefusedWithoutKey (refusal.Code code) key = ⊥
+IsRefusedWithoutKey refusal.Memory key = ⊤

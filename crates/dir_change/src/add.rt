@@ -1,7 +1,9 @@
+//! The add operation (RFC 4511, section 4.7) and the delete that takes it back.
+
 ghost use Rattle.std.specs.Prelude.{◌≡◌, ◌++◌, IfErr, IfOk, IfSome, Ok, OnErr, OnOk, is_some};
 ghost use Rattle.dir_ldif.specs.declared.records.ChangeKind.TheVariants as kind;
-ghost use Rattle.dir_change.specs.Undo.{name_above, undo_of};
-ghost use Rattle.dir_change.specs.Operation.{IsRefused, added};
+ghost use Rattle.dir_change.specs.Undo.{name_of_parent, undo_of};
+ghost use Rattle.dir_change.specs.Operation.{IsRefused, directory_after_add};
 ghost use Rattle.dir_tree.specs.Dir.{has_parent};
 
 use crate::{Refusal, ResultCode, Undo};
@@ -11,7 +13,7 @@ use dir_tree::{Directory, Entry, own_rdns};
 use std::alloc::Global;
 
 /// Adds an entry (RFC 4511, section 4.7): 32 outside the suffix; 68 where the name is taken; 32
-/// without a parent; then what the entry's values are refused with. A delete takes it back.
+/// without a parent; then the result code of the entry's values. A delete takes it back.
 pub(crate) fn add<D: Directory>(
     alloc: Global,
     schema: &Schema,
@@ -20,8 +22,8 @@ pub(crate) fn add<D: Directory>(
     key: &DnKey,
     lines: &Lines,
 ) -> Result<Undo, Refusal>
-    ensures ok { OnOk result (added schema.now (D.state directory.old) key.now name.now lines.now ≡ Ok (D.state directory.new)) }
-    ensures refused { IfErr result (λ e. IsRefused e (added schema.now (D.state directory.old) key.now name.now lines.now)) }
+    ensures ok { OnOk result (directory_after_add schema.now (D.state directory.old) key.now name.now lines.now ≡ Ok (D.state directory.new)) }
+    ensures refused { IfErr result (λ e. IsRefused e (directory_after_add schema.now (D.state directory.old) key.now name.now lines.now)) }
     ensures err { OnErr result (D.state directory.new ≡ D.state directory.old) }
     ensures undo { IfOk result (λ undo. undo ≡ undo_of (D.state directory.old) (D.state directory.new) key.now (kind.Add lines.now)) }
 {
@@ -31,12 +33,20 @@ pub(crate) fn add<D: Directory>(
     if directory.get(key).is_some() {
         return Err(Refusal::Code(ResultCode::EntryAlreadyExists));
     }
-    let Some(above) = name_above(alloc, directory, key)? else {
+    let Some(above) = name_of_parent(alloc, directory, key)? else {
         return Err(Refusal::Code(ResultCode::NoSuchObject));
     };
-    let own = own_rdns(name.try_clone(alloc)?, key == directory.suffix());
-    let spelled = joined(alloc, own.as_slice(), above)?;
-    let entry = Entry::make(alloc, schema, own, lines.try_clone(alloc)?)?;
+    let own = own_rdns(
+        name.try_clone(alloc).map_err(|_| Refusal::Memory)?,
+        key == directory.suffix(),
+    );
+    let spelled = joined_name(alloc, own.as_slice(), above)?;
+    let entry = Entry::make(
+        alloc,
+        schema,
+        own,
+        lines.try_clone(alloc).map_err(|_| Refusal::Memory)?,
+    )?;
     let undo = Undo::one(
         alloc,
         Change {
@@ -50,21 +60,21 @@ pub(crate) fn add<D: Directory>(
     }
 }
 
-/// What stands above a new entry in its name: its parent's name as spelled in the directory, or
-/// nothing for the suffix. None where the parent is missing.
-fn name_above<D: Directory>(
+/// The parent's part of a new entry's name, as spelled in the directory: nothing for the suffix's
+/// entry. None where the parent is missing.
+fn name_of_parent<D: Directory>(
     alloc: Global,
     directory: &D,
     key: &DnKey,
 ) -> Result<Option<Dn>, Refusal>
     ensures parent { IfOk result (λ above. is_some above ≡ has_parent (D.state directory.now) key.now) }
-    ensures name { IfOk result (λ above. IfSome above (λ name. name ≡ name_above (D.state directory.now) key.now)) }
+    ensures name { IfOk result (λ above. IfSome above (λ name. name ≡ name_of_parent (D.state directory.now) key.now)) }
     ensures memory { IfErr result (λ e. e ≡ Refusal.Memory) }
 {
     if key == directory.suffix() {
-        return Ok(Some(Dn::from_rdns(Vec::new(alloc))?));
+        return Ok(Some(Dn::from_rdns(Vec::new(alloc)).map_err(|_| Refusal::Memory)?));
     }
-    let Some(parent) = key.parent(alloc)? else {
+    let Some(parent) = key.parent(alloc).map_err(|_| Refusal::Memory)? else {
         return Ok(None);
     };
     if directory.get(&parent).is_none() {
@@ -73,17 +83,17 @@ fn name_above<D: Directory>(
     Ok(Some(directory.spelled(&parent)?))
 }
 
-/// The own name and then what stands above it.
-fn joined(alloc: Global, own: &[Rdn], above: Dn) -> Result<Dn, Refusal>
+/// The own RDNs, and then the parent's.
+fn joined_name(alloc: Global, own: &[Rdn], above: Dn) -> Result<Dn, Refusal>
     ensures ok { IfOk result (λ name. name ≡ own.now ++ above) }
     ensures memory { IfErr result (λ e. e ≡ Refusal.Memory) }
 {
     let mut rdns = Vec::with_capacity(alloc, own.len())?;
     for rdn in own {
-        rdns.push(rdn.try_clone(alloc)?)?;
+        rdns.push(rdn.try_clone(alloc).map_err(|_| Refusal::Memory)?)?;
     }
     for rdn in above.into_rdns() {
         rdns.push(rdn)?;
     }
-    Ok(Dn::from_rdns(rdns)?)
+    Dn::from_rdns(rdns).map_err(|_| Refusal::Memory)
 }

@@ -1,8 +1,10 @@
+//! The delete operation (RFC 4511, section 4.8) and the add that takes it back.
+
 ghost use Rattle.std.specs.Prelude.{◌≡◌, ◌++◌, IfErr, IfOk, Ok, OnErr, OnOk};
 ghost use Rattle.dir_ldif.specs.declared.records.ChangeKind.TheVariants as kind;
 ghost use Rattle.dir_tree.specs.WellFormed.{all_lines, attribute_lines};
 ghost use Rattle.dir_change.specs.Undo.{undo_of};
-ghost use Rattle.dir_change.specs.Operation.{IsRefused, deleted};
+ghost use Rattle.dir_change.specs.Operation.{IsRefused, directory_after_delete};
 
 use crate::{Refusal, ResultCode, Undo};
 use dir_ldif::{Change, ChangeKind};
@@ -17,8 +19,8 @@ pub(crate) fn delete<D: Directory>(
     directory: &mut D,
     key: &DnKey,
 ) -> Result<Undo, Refusal>
-    ensures ok { OnOk result (deleted (D.state directory.old) key.now ≡ Ok (D.state directory.new)) }
-    ensures refused { IfErr result (λ e. IsRefused e (deleted (D.state directory.old) key.now)) }
+    ensures ok { OnOk result (directory_after_delete (D.state directory.old) key.now ≡ Ok (D.state directory.new)) }
+    ensures refused { IfErr result (λ e. IsRefused e (directory_after_delete (D.state directory.old) key.now)) }
     ensures err { OnErr result (D.state directory.new ≡ D.state directory.old) }
     ensures undo { IfOk result (λ undo. undo ≡ undo_of (D.state directory.old) (D.state directory.new) key.now kind.Delete) }
 {
@@ -62,8 +64,11 @@ fn push_values(
 {
     for (_, bytes) in attribute.values() {
         lines.push((
-            attribute.description().try_clone(alloc)?,
-            bytes.try_clone(alloc)?,
+            attribute
+                .description()
+                .try_clone(alloc)
+                .map_err(|_| Refusal::Memory)?,
+            bytes.try_clone(alloc).map_err(|_| Refusal::Memory)?,
         ))?;
     }
     Ok(())

@@ -1,3 +1,5 @@
+//! The groups of changes that take a run back, and the undo text.
+
 ghost use Rattle.std.specs.Prelude.{◌≡◌, [], ◌∷◌, ◌++◌, IfErr, IfOk, OnErr, OnOk, reverse};
 ghost use Rattle.std.specs.List.{flat_map};
 ghost use Rattle.dir_change.specs.UndoText.{group_text, undo_text_of};
@@ -37,7 +39,7 @@ impl History {
     ///
     /// # Errors
     ///
-    /// For want of memory the group comes back, and the history is as it was.
+    /// Where memory runs out the group comes back, and the history is as it was.
     pub fn push(&mut self, group: Undo) -> Result<(), Undo>
         ensures ok { OnOk result (self.new ≡ self.old ++ group ∷ []) }
         ensures err { OnErr result (self.new ≡ self.old) }

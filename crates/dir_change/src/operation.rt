@@ -1,11 +1,13 @@
+//! One change on a directory: accepted with its undo, or refused with a result code.
+
 ghost use Rattle.std.specs.Prelude.{◌≡◌, IfErr, IfOk, IsOk, IsTrue, Ok, OnErr, OnOk, Some};
 ghost use Rattle.dir_change.specs.declared.operation.Refusal.TheVariants.{Memory};
-ghost use Rattle.dir_change.specs.Operation.{IsKeyless, IsRefused, refusal_of, step};
+ghost use Rattle.dir_change.specs.Operation.{IsRefused, IsRefusedWithoutKey, directory_after, entry_refusal, step};
 ghost use Rattle.dir_names.specs.NameKeys.{name_key};
 ghost use Rattle.dir_tree.specs.WellFormed.{Each, IsWellFormed, IsWithinLimits};
 ghost use Rattle.dir_change.specs.Runs.{group_of};
-ghost use Rattle.dir_change.specs.Sound.{IsSoundChange};
-ghost use Rattle.dir_change.specs.Undo.{IsUndo};
+ghost use Rattle.dir_change.specs.SoundChange.{IsSoundChange};
+ghost use Rattle.dir_change.specs.Undo.{IsUndo, undo_of};
 
 use crate::add::add;
 use crate::delete::delete;
@@ -20,19 +22,19 @@ use std::alloc::{AllocError, AllocFailed, Global};
 pub enum Refusal {
     /// The operation's result code.
     Code(ResultCode),
-    /// No memory is left.
+    /// Memory ran out.
     Memory,
 }
 
 /// Applies one change as the root identity (RFC 4511, sections 4.7 and 4.8): an add or a delete; a
-/// modify or a rename is refused with 53 for now. The answer is the changes that take it back.
+/// modify or a rename is refused with 53 for now. Answers the changes that take it back.
 ///
-/// A refused change leaves the directory as it was. The answer takes back a change on a well-formed
-/// directory; a legal change of a name within the limits leaves one well formed and within them.
+/// A refused change leaves the directory as it was. On a well-formed directory the answer takes the
+/// change back; a sound change leaves the directory well formed and within the limits.
 ///
 /// # Errors
 ///
-/// The first refusal in the operation's order, or want of memory.
+/// The first refusal in the operation's order, or out of memory.
 pub fn apply<D: Directory>(
     alloc: Global,
     schema: &Schema,
@@ -50,19 +52,35 @@ pub fn apply<D: Directory>(
     ensures undoes { IfOk result (λ undo. IsWellFormed schema.now (D.state directory.old) → IsUndo schema.now (D.state directory.old) (D.state directory.new) change.now undo) }
 {
     let key = key_of(alloc, schema, &change.dn)?;
+    perform(alloc, schema, directory, change, &key)
+}
+
+/// The operation of a change, at the key of its name.
+fn perform<D: Directory>(
+    alloc: Global,
+    schema: &Schema,
+    directory: &mut D,
+    change: &Change,
+    key: &DnKey,
+) -> Result<Undo, Refusal>
+    ensures ok { OnOk result (directory_after schema.now (D.state directory.old) key.now change.now.dn change.now.kind ≡ Ok (D.state directory.new)) }
+    ensures refused { IfErr result (λ e. IsRefused e (directory_after schema.now (D.state directory.old) key.now change.now.dn change.now.kind)) }
+    ensures err { OnErr result (D.state directory.new ≡ D.state directory.old) }
+    ensures undo { IfOk result (λ undo. undo ≡ undo_of (D.state directory.old) (D.state directory.new) key.now change.now.kind) }
+{
     match &change.kind {
-        ChangeKind::Add(lines) => add(alloc, schema, directory, &change.dn, &key, lines),
-        ChangeKind::Delete => delete(alloc, directory, &key),
+        ChangeKind::Add(lines) => add(alloc, schema, directory, &change.dn, key, lines),
+        ChangeKind::Delete => delete(alloc, directory, key),
         ChangeKind::Modify(_) | ChangeKind::Rename { .. } => Err(Refusal::Code(
             ResultCode::UnwillingToPerform,
         )),
     }
 }
 
-/// The key of a name; at a name without one nothing stands.
+/// The key of a name. A name without one names no entry.
 fn key_of(alloc: Global, schema: &Schema, name: &Dn) -> Result<DnKey, Refusal>
     ensures ok { IfOk result (λ key. name_key schema.now name.now ≡ Some key) }
-    ensures refused { IfErr result (λ e. IsKeyless e (name_key schema.now name.now)) }
+    ensures refused { IfErr result (λ e. IsRefusedWithoutKey e (name_key schema.now name.now)) }
 {
     match name.key(alloc, schema) {
         Ok(key) => Ok(key),
@@ -95,17 +113,8 @@ impl From<Memory> for Refusal {
     }
 }
 
-/// Want of memory: the one fault that a legal change's names and descriptions can meet.
-impl From<NameFault> for Refusal {
-    ghost from_gives = { λ _ e. e ≡ Memory };
-
-    fn from(_fault: NameFault) -> Refusal {
-        Refusal::Memory
-    }
-}
-
 impl From<EntryFault> for Refusal {
-    ghost from_gives = { λ fault refusal. refusal ≡ refusal_of fault };
+    ghost from_gives = { λ fault refusal. refusal ≡ entry_refusal fault };
 
     fn from(fault: EntryFault) -> Refusal {
         match fault {

@@ -1,5 +1,7 @@
+//! The result codes of LDAP that this kit answers.
+
 ghost use Rattle.std.specs.Prelude.{◌≡◌, Some};
-ghost use Rattle.dir_change.specs.CodeText.{result_code_text};
+ghost use Rattle.dir_change.specs.ResultCodeText.{result_code_text};
 
 use std::fmt;
 

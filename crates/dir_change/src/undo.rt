@@ -1,3 +1,5 @@
+//! The changes that take one change back.
+
 ghost use Rattle.std.specs.Prelude.{◌≡◌, [], ◌∷◌, IfOk};
 
 use dir_ldif::Change;

@@ -24,12 +24,13 @@ use Rattle.dir_tree.proofs.MadeAgain.{made_again}
 use Rattle.dir_tree.proofs.Relisted.{are_new, inserted, inserted_whole, new_whole}
 use Rattle.dir_tree.proofs.Walk.{Entries, Rising, find_here, find_later, rising}
 use Rattle.dir_change.specs.declared.result_code.ResultCode.TheVariants.{NoSuchObject, EntryAlreadyExists}
-use Rattle.dir_change.specs.Operation.{own_of}
+use Rattle.dir_change.specs.Operation.{own_rdns}
 use Rattle.dir_change.proofs.LegalUndo.{legal_attributes}
-use Rattle.dir_change.proofs.Undone.{own_spelled, spelled_key, stands_below}
-use Rattle.dir_change.proofs.Within.{bytes_all, name_sound}
+use Rattle.dir_change.proofs.AfterOperations.{own_spelled, spelled_key, stands_below}
+use Rattle.dir_change.proofs.StaysWithinLimits.{bytes_all, name_sound}
 use Rattle.dir_tools.specs.Canonical.{canonical_of, entry_text}
-use Rattle.dir_tools.specs.CopyOf.{Loaded, and_on, copy_of, denied, entered, first_of, if_whole, line_or_none, loaded, placed_at, taken_in, whole}
+use Rattle.dir_tools.specs.CopyOf.{LoadedCopy, copy_of, first_line, line_or_zero, refused_if, unless_orphan, whole_directory, with_content, with_entry, with_record, with_records}
+use Rattle.dir_names.specs.Results.{and_then}
 use Rattle.dir_tools.specs.Headline.{CanonicalTextsReadBack}
 use Rattle.dir_tools.proofs.Small.{heads, left, not_true, one_found, right}
 
@@ -82,25 +83,25 @@ module _ (rows : List TypeRow) (d : Dir) (well : IsWellFormed rows d) (within : 
   -- ---- one record
 
   module _ (m : fin.FinMap dn_key_cmp Content) (lines : fin.FinMap dn_key_cmp ℕ) where
-    abbrev so_far : Loaded
+    abbrev so_far : LoadedCopy
     so_far = record { entries = record { suffix = d.suffix; entries = m }; lines = lines }
 
-    abbrev with_one : DnKeys × Content → ℕ → Loaded
+    abbrev with_one : DnKeys × Content → ℕ → LoadedCopy
     with_one p line = record { entries = record { suffix = d.suffix; entries = fin.insert m p.0 p.1 }; lines = fin.insert lines p.0 line }
 
-    taken : (p : DnKeys × Content) (line : ℕ) → Stands p → fin.contains_key m p.0 ≡ false → taken_in rows so_far line (Ok (content_at p)) ≡ Ok (with_one p line)
+    taken : (p : DnKeys × Content) (line : ℕ) → Stands p → fin.contains_key m p.0 ≡ false → with_record rows so_far line (Ok (content_at p)) ≡ Ok (with_one p line)
     taken p line there free =
         let below = stands_below d well.1 p.0 (ap is_some there) in
-        ap (λ o. placed_at rows so_far line (spelled_name d p.0) (all_lines p.1.attributes) o) (key_at p there)
-        ∙ (λ i. denied (not (below i)) line NoSuchObject (denied (free i) line EntryAlreadyExists (entered so_far line p.0 (made rows (own_of d.suffix p.0 (spelled_name d p.0)) (all_lines p.1.attributes)))))
-        ∙ ap (λ own. entered so_far line p.0 (made rows own (all_lines p.1.attributes))) (own_spelled rows d well p.0 p.1 there)
-        ∙ ap (entered so_far line p.0) (made_again rows p.1 (well.2 p.0 p.1 there).0)
+        ap (λ o. with_content rows so_far line (spelled_name d p.0) (all_lines p.1.attributes) o) (key_at p there)
+        ∙ (λ i. refused_if (not (below i)) line NoSuchObject (refused_if (free i) line EntryAlreadyExists (with_entry so_far line p.0 (made rows (own_rdns d.suffix p.0 (spelled_name d p.0)) (all_lines p.1.attributes)))))
+        ∙ ap (λ own. with_entry so_far line p.0 (made rows own (all_lines p.1.attributes))) (own_spelled rows d well p.0 p.1 there)
+        ∙ ap (with_entry so_far line p.0) (made_again rows p.1 (well.2 p.0 p.1 there).0)
 
   -- ---- all of them
 
   load : (es : Entries) (m : fin.FinMap dn_key_cmp Content) (lines : fin.FinMap dn_key_cmp ℕ) (answers : List Answer)
       → Each Stands es → are_new dn_key_cmp_total dn_key_cmp_exact m es ≡ true → map without_line answers ≡ map (λ r. Ok (Ok r)) (map content_at es)
-      → (end : Loaded) × (loaded rows (so_far m lines) answers ≡ Ok end) × (end.entries ≡ record { suffix = d.suffix; entries = inserted dn_key_cmp_total dn_key_cmp_exact m es })
+      → (end : LoadedCopy) × (with_records rows (so_far m lines) answers ≡ Ok end) × (end.entries ≡ record { suffix = d.suffix; entries = inserted dn_key_cmp_total dn_key_cmp_exact m es })
   load [] m lines [] each new same = (so_far m lines, refl, refl)
   load [] m lines (a ∷ later) each new same = absurd (cc)
   load (p ∷ es) m lines [] each new same = absurd (cc)
@@ -109,14 +110,14 @@ module _ (rows : List TypeRow) (d : Dir) (well : IsWellFormed rows d) (within : 
       let parts = heads (Ok found) (content_at p) (map without_line later) (map (λ r. Ok (Ok r)) (map content_at es)) same in
       let is : found.1 ≡ Ok (content_at p) = one_found found (content_at p) parts.0 in
       let free : fin.contains_key m p.0 ≡ false = not_true (fin.contains_key m p.0) (left _ (are_new dn_key_cmp_total dn_key_cmp_exact (fin.insert m p.0 p.1) es) new) in
-      let took = ap (taken_in rows (so_far m lines) found.0) is ∙ taken m lines p found.0 each.0 free in
+      let took = ap (with_record rows (so_far m lines) found.0) is ∙ taken m lines p found.0 each.0 free in
       let rest = load es (fin.insert m p.0 p.1) (fin.insert lines p.0 found.0) later each.1 (right (not (fin.contains_key m p.0)) _ new) parts.1 in
-      (rest.0, ap (λ r. and_on r (λ l. loaded rows l later)) took ∙ rest.1, rest.2)
+      (rest.0, ap (λ r. and_then r (λ l. with_records rows l later)) took ∙ rest.1, rest.2)
 
-  no_orphan : (l : Loaded) → l.entries ≡ d → whole l ≡ Ok d
+  no_orphan : (l : LoadedCopy) → l.entries ≡ d → whole_directory l ≡ Ok d
   no_orphan l same =
-      ap (λ e. if_whole e (first_of (map (λ p. line_or_none (fin.get l.lines p.0)) (filter (λ p. not (has_parent e p.0)) (fin.entries e.entries))))) same
-      ∙ ap (λ ps. if_whole d (first_of (map (λ p. line_or_none (fin.get l.lines p.0)) ps)))
+      ap (λ e. unless_orphan e (first_line (map (λ p. line_or_zero (fin.get l.lines p.0)) (filter (λ p. not (has_parent e p.0)) (fin.entries e.entries))))) same
+      ∙ ap (λ ps. unless_orphan d (first_line (map (λ p. line_or_zero (fin.get l.lines p.0)) ps)))
       (all_filtered (λ p. not (has_parent d p.0)) Stands (λ p there. ap not (well.1 p.0 (ap is_some there))) (fin.entries d.entries) (entries_stand d))
 
   read_back : RecordsReadBack → copy_of rows d.suffix (canonical_of d) ≡ Ok d
@@ -125,7 +126,7 @@ module _ (rows : List TypeRow) (d : Dir) (well : IsWellFormed rows d) (within : 
       let known = ap (λ t. map without_line (records_of rows t)) (texts es) ∙ (law rows (map content_at es) (all_sound es (entries_stand d))).0 in
       let end = load es fin.empty fin.empty (records_of rows (canonical_of d)) (entries_stand d) (new_whole dn_key_cmp_total dn_key_cmp_exact d.entries) known in
       let same : end.0.entries ≡ d = end.2 ∙ ap (λ m. record { suffix = d.suffix; entries = m }) (inserted_whole dn_key_cmp_total dn_key_cmp_exact d.entries) in
-      ap (λ r. and_on r whole) end.1 ∙ no_orphan end.0 same
+      ap (λ r. and_then r whole_directory) end.1 ∙ no_orphan end.0 same
 
 pub texts_read_back : RecordsReadBack → CanonicalTextsReadBack
 texts_read_back law rows d well within = read_back rows d well within law

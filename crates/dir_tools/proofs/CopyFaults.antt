@@ -10,7 +10,7 @@ use Rattle.dir_ldif.specs.declared.faults.StreamFault.{StreamFault}
 use Rattle.dir_ldif.specs.declared.faults.StreamFault.TheVariants as stream
 use Rattle.dir_ldif.specs.declared.reader.RecordReader.{RecordReader}
 use Rattle.dir_ldif.specs.Next.{GivesFirst}
-use Rattle.dir_ldif.specs.Reader.{IsEnded, StopsFor, source_of, to_give}
+use Rattle.dir_ldif.specs.Reader.{IsEnded, StopsFor, source_of, to_give, SpendsTurns, turns_left}
 use Rattle.dir_ldif.specs.Records.{Answer, Found, records_of}
 use Rattle.dir_tree.specs.Content.{Content}
 use Rattle.dir_tree.specs.Dir.{Dir, entry_at}
@@ -20,52 +20,53 @@ use Rattle.dir_tree.specs.declared.fault.EntryFault.TheVariants as entry
 use Rattle.dir_change.specs.declared.operation.Refusal.TheVariants as refusal
 use Rattle.dir_change.specs.declared.result_code.ResultCode.{ResultCode}
 use Rattle.dir_change.specs.declared.result_code.ResultCode.TheVariants.{NoSuchObject, EntryAlreadyExists}
-use Rattle.dir_change.specs.Operation.{code_in, is_at_or_below, own_of, refusal_of}
-use Rattle.dir_tools.specs.declared.copy.Loading.{Loading}
-use Rattle.dir_tools.specs.declared.copy.Waiting.{Waiting}
+use Rattle.dir_change.specs.Operation.{code_of, entry_refusal, is_at_or_below, own_rdns}
+use Rattle.dir_tools.specs.declared.copy.loading.Loading.{Loading}
+use Rattle.dir_tools.specs.declared.copy.loading.Waiting.{Waiting}
 use Rattle.dir_tools.specs.declared.fault.Cause.{Cause}
 use Rattle.dir_tools.specs.declared.fault.Cause.TheVariants as cause
 use Rattle.dir_tools.specs.declared.fault.Input.TheVariants as input
 use Rattle.dir_tools.specs.declared.fault.ToolFault.{ToolFault}
 use Rattle.dir_tools.specs.declared.fault.ToolFault.TheVariants as tool
-use Rattle.dir_tools.specs.CopyOf.{Loaded, and_on, copy_of, denied, entered, loaded, nothing_under, placed_at, taken_in, whole}
-use Rattle.dir_tools.specs.Loading.{CopyBlamed, Holds, IsBare, IsFaultOf, IsMadeOf, IsOfRecord, LoadsOver, LoadsTo, StopsLoading, copy_fault, waiting_or}
-use Rattle.dir_tools.specs.Running.{Continues}
-use Rattle.dir_tools.specs.Turns.{GaveAtLeast, IsLong}
-use Rattle.dir_ldif.specs.Reader.{SpendsTurns, turns_left}
-use Rattle.dir_tools.proofs.Turns.{spends_all}
+use Rattle.dir_tools.specs.CopyOf.{LoadedCopy, copy_of, empty_copy, refused_if, whole_directory, with_content, with_entry, with_record, with_records}
+use Rattle.dir_names.specs.Results.{and_then}
+use Rattle.dir_tools.specs.Inside.Loading.{IsCopyFault, IsLoaded, IsMadeOf, IsRecordFault, LoadsOver, LoadsTo, StopsLoading, copy_fault, waiting_or}
+use Rattle.dir_tools.specs.CopyFaults.{HasNoEntries, IsCopyFaultCause}
+use Rattle.dir_tools.specs.Inside.Running.{Continues}
+use Rattle.dir_tools.specs.ReadCalls.{FillsReadCalls, GaveAtLeast}
+use Rattle.dir_tools.proofs.ReadCalls.{spends_all}
 use Rattle.dir_tools.proofs.CopyLemmas.{LoadsSoFar}
 
 -- ---- a record
 
-module _ (rows : List TypeRow) (m : Loaded) (line : ℕ) (name : SpelledName) (lines : List (Described × List ℕ)) where
-  pub outside : (key : Option DnKeys) (k : DnKeys) → key ≡ Some k → is_at_or_below k m.entries.suffix ≡ false → placed_at rows m line name lines key ≡ Err (line, cause.Code NoSuchObject)
+module _ (rows : List TypeRow) (m : LoadedCopy) (line : ℕ) (name : SpelledName) (lines : List (Described × List ℕ)) where
+  pub outside : (key : Option DnKeys) (k : DnKeys) → key ≡ Some k → is_at_or_below k m.entries.suffix ≡ false → with_content rows m line name lines key ≡ Err (line, cause.Code NoSuchObject)
   outside key k named out =
-      ap (placed_at rows m line name lines) named
-      ∙ ap (λ b. denied (not b) line NoSuchObject (denied (is_some (entry_at m.entries k)) line EntryAlreadyExists (entered m line k (made rows (own_of m.entries.suffix k name) lines)))) out
+      ap (with_content rows m line name lines) named
+      ∙ ap (λ b. refused_if (not b) line NoSuchObject (refused_if (is_some (entry_at m.entries k)) line EntryAlreadyExists (with_entry m line k (made rows (own_rdns m.entries.suffix k name) lines)))) out
 
   pub taken_place : (key : Option DnKeys) (k : DnKeys) → key ≡ Some k → is_at_or_below k m.entries.suffix ≡ true → is_some (entry_at m.entries k) ≡ true
-      → placed_at rows m line name lines key ≡ Err (line, cause.Code EntryAlreadyExists)
+      → with_content rows m line name lines key ≡ Err (line, cause.Code EntryAlreadyExists)
   taken_place key k named inside there =
-      ap (placed_at rows m line name lines) named
-      ∙ (λ i. denied (not (inside i)) line NoSuchObject (denied (there i) line EntryAlreadyExists (entered m line k (made rows (own_of m.entries.suffix k name) lines))))
+      ap (with_content rows m line name lines) named
+      ∙ (λ i. refused_if (not (inside i)) line NoSuchObject (refused_if (there i) line EntryAlreadyExists (with_entry m line k (made rows (own_rdns m.entries.suffix k name) lines))))
 
   pub unmade : (key : Option DnKeys) (k : DnKeys) (fault : EntryFault) (code : ResultCode) → key ≡ Some k → is_at_or_below k m.entries.suffix ≡ true → entry_at m.entries k ≡ None
-      → made rows (own_of m.entries.suffix k name) lines ≡ Err fault → refusal_of fault ≡ refusal.Code code → placed_at rows m line name lines key ≡ Err (line, cause.Code code)
+      → made rows (own_rdns m.entries.suffix k name) lines ≡ Err fault → entry_refusal fault ≡ refusal.Code code → with_content rows m line name lines key ≡ Err (line, cause.Code code)
   unmade key k fault code named inside free makes is =
-      ap (placed_at rows m line name lines) named
-      ∙ (λ i. denied (not (inside i)) line NoSuchObject (denied (is_some (free i)) line EntryAlreadyExists (entered m line k (makes i))))
-      ∙ ap (λ r. Err (line, cause.Code (code_in r))) is
+      ap (with_content rows m line name lines) named
+      ∙ (λ i. refused_if (not (inside i)) line NoSuchObject (refused_if (is_some (free i)) line EntryAlreadyExists (with_entry m line k (makes i))))
+      ∙ ap (λ r. Err (line, cause.Code (code_of r))) is
 
 some_or : (waiting : Option Waiting) (there : Option Content) → is_some there ≡ true → is_some (waiting_or waiting there) ≡ true
 some_or None there h = h
 some_or (Some w) there h = refl
 
 -- a place is taken where an entry stands, and where one waits
-pub some_there : (m : Loaded) (standing : Dir) (waiting : DnKeys → Option Waiting) (k : DnKeys) → IsMadeOf m.entries waiting standing → is_some (entry_at standing k) ≡ true → is_some (entry_at m.entries k) ≡ true
+pub some_there : (m : LoadedCopy) (standing : Dir) (waiting : DnKeys → Option Waiting) (k : DnKeys) → IsMadeOf m.entries waiting standing → is_some (entry_at standing k) ≡ true → is_some (entry_at m.entries k) ≡ true
 some_there m standing waiting k made there = ap is_some (made.2 k) ∙ some_or (waiting k) (entry_at standing k) there
 
-pub waits_there : (m : Loaded) (standing : Dir) (waiting : DnKeys → Option Waiting) (k : DnKeys) → IsMadeOf m.entries waiting standing → is_some (waiting k) ≡ true → is_some (entry_at m.entries k) ≡ true
+pub waits_there : (m : LoadedCopy) (standing : Dir) (waiting : DnKeys → Option Waiting) (k : DnKeys) → IsMadeOf m.entries waiting standing → is_some (waiting k) ≡ true → is_some (entry_at m.entries k) ≡ true
 waits_there m standing waiting k made there = ap is_some (made.2 k) ∙ by (waiting k) there
   where
     by : (o : Option Waiting) → is_some o ≡ true → is_some (waiting_or o (entry_at standing k)) ≡ true
@@ -77,7 +78,7 @@ some_copied None e = absurd (cc)
 some_copied (Some x) e = refl
 
 -- a fault of an entry but want of memory is the definition's
-pub makes_none : (fault : EntryFault) (code : ResultCode) (wanted : Result Content EntryFault) → refusal_of fault ≡ refusal.Code code → FailsToMake fault wanted → wanted ≡ Err fault
+pub makes_none : (fault : EntryFault) (code : ResultCode) (wanted : Result Content EntryFault) → entry_refusal fault ≡ refusal.Code code → FailsToMake fault wanted → wanted ≡ Err fault
 makes_none entry.BadValue code wanted is fails = fails
 makes_none entry.Twice code wanted is fails = fails
 makes_none entry.NotNamed code wanted is fails = fails
@@ -86,19 +87,19 @@ makes_none entry.Memory code wanted is fails = absurd (cc)
 
 -- ---- over the answers of a reader
 
-broken : (rows : List TypeRow) (start m : Loaded) (found : Found) (line : ℕ) (why : Cause) (first old new : Option (List Answer))
-    → taken_in rows m found.0 found.1 ≡ Err (line, why) → GivesFirst (Ok found) old new
-    → Continues first old (λ answers rest. loaded rows start answers ≡ loaded rows m rest)
-    → IfSome first (λ answers. loaded rows start answers ≡ Err (line, why))
+broken : (rows : List TypeRow) (start m : LoadedCopy) (found : Found) (line : ℕ) (why : Cause) (first old new : Option (List Answer))
+    → with_record rows m found.0 found.1 ≡ Err (line, why) → GivesFirst (Ok found) old new
+    → Continues first old (λ answers rest. with_records rows start answers ≡ with_records rows m rest)
+    → IfSome first (λ answers. with_records rows start answers ≡ Err (line, why))
 broken rows start m found line why None old new fails gives was = tt
 broken rows start m found line why (Some answers) None new fails gives was = absurd (was)
 broken rows start m found line why (Some answers) (Some now) None fails gives was = absurd (gives)
 broken rows start m found line why (Some answers) (Some now) (Some rest) fails gives was =
-    was ∙ ap (loaded rows m) gives ∙ ap (λ r. and_on r (λ n. loaded rows n rest)) fails
+    was ∙ ap (with_records rows m) gives ∙ ap (λ r. and_then r (λ n. with_records rows n rest)) fails
 
 -- the first record that can't be taken
 pub stops_at : {D : Type 0} (state : D → Dir) (rows : List TypeRow) (found : Found) (first old new : Option (List Answer)) (begun loading : Loading D) (failures failures' : ℕ) (fault : ToolFault)
-    → IsOfRecord fault → ((m : Loaded) → Holds state m loading → IsFaultOf (taken_in rows m found.0 found.1) fault) → GivesFirst (Ok found) old new
+    → IsRecordFault fault → ((m : LoadedCopy) → IsLoaded state m loading → IsCopyFault (with_record rows m found.0 found.1) fault) → GivesFirst (Ok found) old new
     → LoadsSoFar state rows first old begun loading → StopsLoading state rows first failures failures' begun fault
 stops_at state rows found first old new begun loading failures failures' (tool.BadCopy line (cause.Code code)) of why gives was = λ start at_start.
     let so_far = was start at_start in
@@ -113,13 +114,13 @@ stops_at state rows found first old new begun loading failures failures' (tool.W
 stops_at state rows found first old new begun loading failures failures' (tool.BadQuestion item) of why gives was = absurd (of)
 stops_at state rows found first old new begun loading failures failures' (tool.BadChanges fault) of why gives was = absurd (of)
 
-ended_so : (rows : List TypeRow) (start m : Loaded) (fault : StreamFault) (first old : Option (List Answer))
+ended_so : (rows : List TypeRow) (start m : LoadedCopy) (fault : StreamFault) (first old : Option (List Answer))
     → IfSome old (λ known. known ≡ Err fault ∷ [])
-    → Continues first old (λ answers rest. loaded rows start answers ≡ loaded rows m rest)
-    → IfSome first (λ answers. loaded rows start answers ≡ Err (0, cause.Ended fault))
+    → Continues first old (λ answers rest. with_records rows start answers ≡ with_records rows m rest)
+    → IfSome first (λ answers. with_records rows start answers ≡ Err (0, cause.Ended fault))
 ended_so rows start m fault None old ends was = tt
 ended_so rows start m fault (Some answers) None ends was = absurd (was)
-ended_so rows start m fault (Some answers) (Some rest) ends was = was ∙ ap (loaded rows m) ends
+ended_so rows start m fault (Some answers) (Some rest) ends was = was ∙ ap (with_records rows m) ends
 
 -- the fault of a reader
 module _ {D : Type 0} {S : Type 0} where
@@ -152,27 +153,27 @@ copy_long left failures fault a b c is first stops = spends_all left failures fa
 
 module _ {D : Type 0} (state : D → Dir) (rows : List TypeRow) (empty : D) (given : Option (List Answer)) where
   bad_text : (text : Option (List ℕ)) (line : ℕ) (why : Cause) → given ≡ option_map (records_of rows) text
-      → IfSome given (λ answers. loaded rows (nothing_under (state empty).suffix) answers ≡ Err (line, why))
+      → IfSome given (λ answers. with_records rows (empty_copy (state empty).suffix) answers ≡ Err (line, why))
       → IfSome text (λ t. copy_of rows (state empty).suffix t ≡ Err (line, why))
   bad_text None line why known h = tt
   bad_text (Some t) line why known h =
-      ap (λ r. and_on r whole) (subst (λ o. IfSome o (λ answers. loaded rows (nothing_under (state empty).suffix) answers ≡ Err (line, why))) known h)
+      ap (λ r. and_then r whole_directory) (subst (λ o. IfSome o (λ answers. with_records rows (empty_copy (state empty).suffix) answers ≡ Err (line, why))) known h)
 
   -- a record, or the text's end
   pub blamed_read : (text : Option (List ℕ)) (old : Loading D) (failures failures' : ℕ) (fault : ToolFault) → given ≡ option_map (records_of rows) text
-      → (IsBare (state empty) → Holds state (nothing_under (state empty).suffix) old)
-      → (fault ≡ tool.BadCopy 0 (cause.Ended stream.TooManyTurns) → IfSome text IsLong)
-      → StopsLoading state rows given failures failures' old fault → CopyBlamed rows (state empty) text failures failures' fault
-  blamed_read text old failures failures' (tool.BadCopy line (cause.Code code)) known start long h = λ bare. bad_text text line (cause.Code code) known (h (nothing_under (state empty).suffix) (start bare))
-  blamed_read text old failures failures' (tool.BadCopy line (cause.Fault fault)) known start long h = λ bare. bad_text text line (cause.Fault fault) known (h (nothing_under (state empty).suffix) (start bare))
-  blamed_read text old failures failures' (tool.BadCopy line (cause.Ended stream.LineTooLong)) known start long h = λ bare. bad_text text line (cause.Ended stream.LineTooLong) known (h (nothing_under (state empty).suffix) (start bare))
-  blamed_read text old failures failures' (tool.BadCopy line (cause.Ended stream.BadVersion)) known start long h = λ bare. bad_text text line (cause.Ended stream.BadVersion) known (h (nothing_under (state empty).suffix) (start bare))
-  blamed_read text old failures failures' (tool.BadCopy line (cause.Ended stream.Read)) known start long h = λ bare. bad_text text line (cause.Ended stream.Read) known (h (nothing_under (state empty).suffix) (start bare))
-  blamed_read text old failures failures' (tool.BadCopy line (cause.Ended stream.Memory)) known start long h = λ bare. bad_text text line (cause.Ended stream.Memory) known (h (nothing_under (state empty).suffix) (start bare))
-  blamed_read text old failures failures' (tool.BadCopy line (cause.Ended stream.Ended)) known start long h = λ bare. bad_text text line (cause.Ended stream.Ended) known (h (nothing_under (state empty).suffix) (start bare))
+      → (HasNoEntries (state empty) → IsLoaded state (empty_copy (state empty).suffix) old)
+      → (fault ≡ tool.BadCopy 0 (cause.Ended stream.TooManyTurns) → IfSome text FillsReadCalls)
+      → StopsLoading state rows given failures failures' old fault → IsCopyFaultCause rows (state empty) text failures failures' fault
+  blamed_read text old failures failures' (tool.BadCopy line (cause.Code code)) known start long h = λ bare. bad_text text line (cause.Code code) known (h (empty_copy (state empty).suffix) (start bare))
+  blamed_read text old failures failures' (tool.BadCopy line (cause.Fault fault)) known start long h = λ bare. bad_text text line (cause.Fault fault) known (h (empty_copy (state empty).suffix) (start bare))
+  blamed_read text old failures failures' (tool.BadCopy line (cause.Ended stream.LineTooLong)) known start long h = λ bare. bad_text text line (cause.Ended stream.LineTooLong) known (h (empty_copy (state empty).suffix) (start bare))
+  blamed_read text old failures failures' (tool.BadCopy line (cause.Ended stream.BadVersion)) known start long h = λ bare. bad_text text line (cause.Ended stream.BadVersion) known (h (empty_copy (state empty).suffix) (start bare))
+  blamed_read text old failures failures' (tool.BadCopy line (cause.Ended stream.Read)) known start long h = λ bare. bad_text text line (cause.Ended stream.Read) known (h (empty_copy (state empty).suffix) (start bare))
+  blamed_read text old failures failures' (tool.BadCopy line (cause.Ended stream.Memory)) known start long h = λ bare. bad_text text line (cause.Ended stream.Memory) known (h (empty_copy (state empty).suffix) (start bare))
+  blamed_read text old failures failures' (tool.BadCopy line (cause.Ended stream.Ended)) known start long h = λ bare. bad_text text line (cause.Ended stream.Ended) known (h (empty_copy (state empty).suffix) (start bare))
   blamed_read text old failures failures' (tool.BadCopy line (cause.Ended stream.TooManyTurns)) known start long h = λ bare. so text (long (ap (λ n. tool.BadCopy n (cause.Ended stream.TooManyTurns)) h))
     where
-      so : (o : Option (List ℕ)) → IfSome o IsLong → IfSome o (λ t. (line ≡ 0) × IsLong t)
+      so : (o : Option (List ℕ)) → IfSome o FillsReadCalls → IfSome o (λ t. (line ≡ 0) × FillsReadCalls t)
       so None l = tt
       so (Some t) l = (h, l)
   blamed_read text old failures failures' (tool.Read input.Copy) known start long h = h
@@ -184,17 +185,17 @@ module _ {D : Type 0} (state : D → Dir) (rows : List TypeRow) (empty : D) (giv
   blamed_read text old failures failures' (tool.BadChanges fault) known start long h = absurd (h)
 
   bad_whole : (text : Option (List ℕ)) (old new : Loading D) (line : ℕ) (why : Cause) → given ≡ option_map (records_of rows) text → LoadsOver state rows given old new
-      → Holds state (nothing_under (state empty).suffix) old → ((m : Loaded) → Holds state m new → whole m ≡ Err (line, why)) → IfSome text (λ t. copy_of rows (state empty).suffix t ≡ Err (line, why))
+      → IsLoaded state (empty_copy (state empty).suffix) old → ((m : LoadedCopy) → IsLoaded state m new → whole_directory m ≡ Err (line, why)) → IfSome text (λ t. copy_of rows (state empty).suffix t ≡ Err (line, why))
   bad_whole None old new line why known leads start is = tt
   bad_whole (Some t) old new line why known leads start is =
-      let led : LoadsTo state (loaded rows (nothing_under (state empty).suffix) (records_of rows t)) new =
-      subst (λ o. IfSome o (λ answers. LoadsTo state (loaded rows (nothing_under (state empty).suffix) answers) new)) known (leads (nothing_under (state empty).suffix) start) in
-      ap (λ r. and_on r whole) led.1 ∙ is led.0 led.2
+      let led : LoadsTo state (with_records rows (empty_copy (state empty).suffix) (records_of rows t)) new =
+      subst (λ o. IfSome o (λ answers. LoadsTo state (with_records rows (empty_copy (state empty).suffix) answers) new)) known (leads (empty_copy (state empty).suffix) start) in
+      ap (λ r. and_then r whole_directory) led.1 ∙ is led.0 led.2
 
   -- a parent that is missing
   blamed_whole : (text : Option (List ℕ)) (old new : Loading D) (failures failures' : ℕ) (fault : ToolFault) → given ≡ option_map (records_of rows) text
-      → LoadsOver state rows given old new → (IsBare (state empty) → Holds state (nothing_under (state empty).suffix) old)
-      → IsOfRecord fault → ((m : Loaded) → Holds state m new → IsFaultOf (whole m) fault) → CopyBlamed rows (state empty) text failures failures' fault
+      → LoadsOver state rows given old new → (HasNoEntries (state empty) → IsLoaded state (empty_copy (state empty).suffix) old)
+      → IsRecordFault fault → ((m : LoadedCopy) → IsLoaded state m new → IsCopyFault (whole_directory m) fault) → IsCopyFaultCause rows (state empty) text failures failures' fault
   blamed_whole text old new failures failures' (tool.BadCopy line (cause.Code code)) known leads start of why = λ bare. bad_whole text old new line (cause.Code code) known leads (start bare) why
   blamed_whole text old new failures failures' (tool.BadCopy line (cause.Fault fault)) known leads start of why = λ bare. bad_whole text old new line (cause.Fault fault) known leads (start bare) why
   blamed_whole text old new failures failures' (tool.BadCopy line (cause.Ended fault)) known leads start of why = absurd (of)
@@ -205,7 +206,7 @@ module _ {D : Type 0} (state : D → Dir) (rows : List TypeRow) (empty : D) (giv
   blamed_whole text old new failures failures' (tool.BadChanges fault) known leads start of why = absurd (of)
 
   pub finish_blamed : {A : Type 0} (r : Result A ToolFault) (text : Option (List ℕ)) (old new : Loading D) (failures failures' : ℕ) → given ≡ option_map (records_of rows) text
-      → LoadsOver state rows given old new → (IsBare (state empty) → Holds state (nothing_under (state empty).suffix) old)
-      → IfErr r IsOfRecord → IfErr r (λ fault. (m : Loaded) → Holds state m new → IsFaultOf (whole m) fault) → IfErr r (CopyBlamed rows (state empty) text failures failures')
+      → LoadsOver state rows given old new → (HasNoEntries (state empty) → IsLoaded state (empty_copy (state empty).suffix) old)
+      → IfErr r IsRecordFault → IfErr r (λ fault. (m : LoadedCopy) → IsLoaded state m new → IsCopyFault (whole_directory m) fault) → IfErr r (IsCopyFaultCause rows (state empty) text failures failures')
   finish_blamed (Ok x) text old new failures failures' known leads start of why = tt
   finish_blamed (Err fault) text old new failures failures' known leads start of why = blamed_whole text old new failures failures' fault known leads start of why

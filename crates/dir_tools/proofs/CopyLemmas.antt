@@ -19,15 +19,17 @@ use Rattle.dir_tree.specs.Dir.{Dir, IsClosed, entry_at, has_parent, put_entry}
 use Rattle.dir_tree.specs.Made.{made}
 use Rattle.dir_tree.proofs.DirLemmas.{closed_empty, closed_put, get_put, same_key}
 use Rattle.dir_change.specs.declared.result_code.ResultCode.TheVariants.{NoSuchObject, EntryAlreadyExists}
-use Rattle.dir_change.specs.Operation.{is_at_or_below, own_of}
-use Rattle.dir_tools.specs.declared.copy.Loading.{Loading}
-use Rattle.dir_tools.specs.declared.copy.Waiting.{Waiting}
-use Rattle.dir_tools.specs.CopyOf.{Loaded, and_on, copy_of, denied, entered, loaded, nothing_under, placed_at, taken_in, whole}
+use Rattle.dir_change.specs.Operation.{is_at_or_below, own_rdns}
+use Rattle.dir_tools.specs.declared.copy.loading.Loading.{Loading}
+use Rattle.dir_tools.specs.declared.copy.loading.Waiting.{Waiting}
+use Rattle.dir_tools.specs.CopyOf.{LoadedCopy, copy_of, empty_copy, refused_if, whole_directory, with_content, with_entry, with_record, with_records}
+use Rattle.dir_names.specs.Results.{and_then}
 use Rattle.dir_ldif.specs.SoundFound.{IsSoundFound}
 use Rattle.dir_tree.specs.WellFormed.{IsWellFormed, IsWithinLimits}
 use Rattle.dir_tools.proofs.CopySound.{order_taken, order_whole}
-use Rattle.dir_tools.specs.Loading.{AllWait, AreInOrder, IsNamed, KeepsOrder, Holds, IsBare, IsMadeOf, IsPut, LoadsOver, LoadsTo, waiting_or}
-use Rattle.dir_tools.specs.Running.{Continues}
+use Rattle.dir_tools.specs.Inside.Loading.{AllWait, AreSoundInPlace, IsLoaded, IsMadeOf, IsPut, KeepsSound, LoadsOver, LoadsTo, waiting_or}
+use Rattle.dir_tools.specs.CopyFaults.{HasNoEntries, HasRdn}
+use Rattle.dir_tools.specs.Inside.Running.{Continues}
 use Rattle.dir_tools.proofs.Orphans.{waits}
 use Rattle.dir_tools.proofs.Small.{known}
 
@@ -58,7 +60,7 @@ made_waiting d standing waiting waiting' k w updates was = (
     by q false = was.2 q
 
 -- what waited before goes on waiting
-pub all_standing : (m : Loaded) (standing next : Dir) (waiting : DnKeys → Option Waiting) (k : DnKeys) (e : Content) (line : ℕ) → waiting k ≡ None → next ≡ put_entry standing k e
+pub all_standing : (m : LoadedCopy) (standing next : Dir) (waiting : DnKeys → Option Waiting) (k : DnKeys) (e : Content) (line : ℕ) → waiting k ≡ None → next ≡ put_entry standing k e
     → AllWait m waiting standing → AllWait (record { entries = put_entry m.entries k e; lines = fin.insert m.lines k line }) waiting next
 all_standing m standing next waiting k e line free is was q w there = by (eq_by_cmp dn_key_cmp q k) refl
   where
@@ -72,7 +74,7 @@ all_standing m standing next waiting k e line free is was q w there = by (eq_by_
       get-insert dn_key_cmp_total m.lines k line q ∙ (λ i. cond (t i) (Some line) (fin.get m.lines q)) ∙ (was q w there).1,
     )
 
-pub all_waiting : (m : Loaded) (standing : Dir) (waiting waiting' : DnKeys → Option Waiting) (k : DnKeys) (w : Waiting) → ((q : DnKeys) → waiting' q ≡ cond (is_at (dn_key_cmp k) q) (Some w) (waiting q))
+pub all_waiting : (m : LoadedCopy) (standing : Dir) (waiting waiting' : DnKeys → Option Waiting) (k : DnKeys) (w : Waiting) → ((q : DnKeys) → waiting' q ≡ cond (is_at (dn_key_cmp k) q) (Some w) (waiting q))
     → entry_at standing k ≡ None → AllWait m waiting standing → AllWait (record { entries = put_entry m.entries k w.entry; lines = fin.insert m.lines k w.line }) waiting' standing
 all_waiting m standing waiting waiting' k w updates free was q x there = by (eq_by_cmp dn_key_cmp q k) refl (sym (updates q ∙ ap (λ b. cond b (Some w) (waiting q)) ((eq_by_cmp_equiv dn_key_cmp_total).symm k q)) ∙ there)
   where
@@ -86,37 +88,37 @@ all_waiting m standing waiting waiting' k w updates free was q x there = by (eq_
 
 -- ---- a record
 
-pub placed_ok : (rows : List TypeRow) (m : Loaded) (line : ℕ) (name : SpelledName) (lines : List (Described × List ℕ)) (key : Option DnKeys) (k : DnKeys) (e : Content)
-    → key ≡ Some k → is_at_or_below k m.entries.suffix ≡ true → entry_at m.entries k ≡ None → made rows (own_of m.entries.suffix k name) lines ≡ Ok e
-    → placed_at rows m line name lines key ≡ Ok (record { entries = put_entry m.entries k e; lines = fin.insert m.lines k line })
+pub placed_ok : (rows : List TypeRow) (m : LoadedCopy) (line : ℕ) (name : SpelledName) (lines : List (Described × List ℕ)) (key : Option DnKeys) (k : DnKeys) (e : Content)
+    → key ≡ Some k → is_at_or_below k m.entries.suffix ≡ true → entry_at m.entries k ≡ None → made rows (own_rdns m.entries.suffix k name) lines ≡ Ok e
+    → with_content rows m line name lines key ≡ Ok (record { entries = put_entry m.entries k e; lines = fin.insert m.lines k line })
 placed_ok rows m line name lines key k e named below free makes =
-    ap (placed_at rows m line name lines) named
-    ∙ (λ i. denied (not (below i)) line NoSuchObject (denied (is_some (free i)) line EntryAlreadyExists (entered m line k (makes i))))
+    ap (with_content rows m line name lines) named
+    ∙ (λ i. refused_if (not (below i)) line NoSuchObject (refused_if (is_some (free i)) line EntryAlreadyExists (with_entry m line k (makes i))))
 
 -- ---- over the answers of a reader
 
 -- the records that were read lead from one to the other
 abbrev pub LoadsSoFar : {D : Type 0} → (D → Dir) → List TypeRow → Option (List Answer) → Option (List Answer) → Loading D → Loading D → Type 0
 LoadsSoFar state rows first now old loading =
-    (start : Loaded) → Holds state start old
-    → (m : Loaded) × Holds state m loading × (AreInOrder rows start.entries → AreInOrder rows m.entries) × Continues first now (λ answers rest. loaded rows start answers ≡ loaded rows m rest)
+    (start : LoadedCopy) → IsLoaded state start old
+    → (m : LoadedCopy) × IsLoaded state m loading × (AreSoundInPlace rows start.entries → AreSoundInPlace rows m.entries) × Continues first now (λ answers rest. with_records rows start answers ≡ with_records rows m rest)
 
 pub loads_begun : {D : Type 0} (state : D → Dir) (rows : List TypeRow) (first : Option (List Answer)) (loading : Loading D) → LoadsSoFar state rows first first loading loading
 loads_begun state rows None loading start was = (start, was, (λ order. order), tt)
 loads_begun state rows (Some answers) loading start was = (start, was, (λ order. order), refl)
 
-goes_on : (rows : List TypeRow) (start m next : Loaded) (found : Found) (first old new : Option (List Answer))
-    → taken_in rows m found.0 found.1 ≡ Ok next → GivesFirst (Ok found) old new
-    → Continues first old (λ answers rest. loaded rows start answers ≡ loaded rows m rest)
-    → Continues first new (λ answers rest. loaded rows start answers ≡ loaded rows next rest)
+goes_on : (rows : List TypeRow) (start m next : LoadedCopy) (found : Found) (first old new : Option (List Answer))
+    → with_record rows m found.0 found.1 ≡ Ok next → GivesFirst (Ok found) old new
+    → Continues first old (λ answers rest. with_records rows start answers ≡ with_records rows m rest)
+    → Continues first new (λ answers rest. with_records rows start answers ≡ with_records rows next rest)
 goes_on rows start m next found None old new takes gives was = tt
 goes_on rows start m next found (Some answers) None new takes gives was = absurd (was)
 goes_on rows start m next found (Some answers) (Some now) None takes gives was = absurd (gives)
 goes_on rows start m next found (Some answers) (Some now) (Some rest) takes gives was =
-    was ∙ ap (loaded rows m) gives ∙ ap (λ r. and_on r (λ n. loaded rows n rest)) takes
+    was ∙ ap (with_records rows m) gives ∙ ap (λ r. and_then r (λ n. with_records rows n rest)) takes
 
 pub loads_further : {D : Type 0} (state : D → Dir) (rows : List TypeRow) (found : Found) (first old new : Option (List Answer)) (begun loading next : Loading D)
-    → IsSoundFound rows found → ((m : Loaded) → Holds state m loading → LoadsTo state (taken_in rows m found.0 found.1) next) → GivesFirst (Ok found) old new
+    → IsSoundFound rows found → ((m : LoadedCopy) → IsLoaded state m loading → LoadsTo state (with_record rows m found.0 found.1) next) → GivesFirst (Ok found) old new
     → LoadsSoFar state rows first old begun loading → LoadsSoFar state rows first new begun next
 loads_further state rows found first old new begun loading next sound takes gives was start at_start =
     let so_far = was start at_start in
@@ -127,11 +129,11 @@ loads_further state rows found first old new begun loading next sound takes give
       goes_on rows start so_far.0 taken.0 found first old new taken.1 gives so_far.3,
     )
 
-ends : (rows : List TypeRow) (start m : Loaded) (first old : Option (List Answer)) → GivesNone old
-    → Continues first old (λ answers rest. loaded rows start answers ≡ loaded rows m rest) → IfSome first (λ answers. loaded rows start answers ≡ Ok m)
+ends : (rows : List TypeRow) (start m : LoadedCopy) (first old : Option (List Answer)) → GivesNone old
+    → Continues first old (λ answers rest. with_records rows start answers ≡ with_records rows m rest) → IfSome first (λ answers. with_records rows start answers ≡ Ok m)
 ends rows start m None old none was = tt
 ends rows start m (Some answers) None none was = absurd (was)
-ends rows start m (Some answers) (Some rest) none was = was ∙ ap (loaded rows m) none
+ends rows start m (Some answers) (Some rest) none was = was ∙ ap (with_records rows m) none
 
 pub loads_out : {D : Type 0} (state : D → Dir) (rows : List TypeRow) (first old : Option (List Answer)) (begun loading : Loading D)
     → GivesNone old → LoadsSoFar state rows first old begun loading → LoadsOver state rows first begun loading
@@ -140,17 +142,17 @@ loads_out state rows first old begun loading none was start at_start =
     known first (λ answers is. (so_far.0, is, so_far.1)) (ends rows start so_far.0 first old none so_far.3)
 
 pub order_out : {D : Type 0} (state : D → Dir) (rows : List TypeRow) (first old : Option (List Answer)) (begun loading : Loading D)
-    → LoadsSoFar state rows first old begun loading → KeepsOrder state rows begun loading
+    → LoadsSoFar state rows first old begun loading → KeepsSound state rows begun loading
 order_out state rows first old begun loading was start at_start = let so_far = was start at_start in (so_far.0, so_far.1, so_far.2)
 
 -- ---- the whole copy
 
-pub holds_nothing : {D : Type 0} (state : D → Dir) (empty : D) (loading : Loading D) → loading.directory ≡ empty → loading.waiting.entries ≡ [] → IsBare (state empty)
-    → Holds state (nothing_under (state empty).suffix) loading
+pub holds_nothing : {D : Type 0} (state : D → Dir) (empty : D) (loading : Loading D) → loading.directory ≡ empty → loading.waiting.entries ≡ [] → HasNoEntries (state empty)
+    → IsLoaded state (empty_copy (state empty).suffix) loading
 holds_nothing state empty loading same none bare =
     let d = state empty in
     let is : d ≡ record { suffix = d.suffix; entries = fin.empty } = (λ i. record { suffix = d.suffix; entries = bare i }) in (
-      subst (λ x. IsMadeOf (nothing_under d.suffix).entries (get dn_key_cmp loading.waiting) (state x)) (sym same)
+      subst (λ x. IsMadeOf (empty_copy d.suffix).entries (get dn_key_cmp loading.waiting) (state x)) (sym same)
           (refl, subst IsClosed (sym is) (closed_empty d.suffix), λ q. (λ i. entry_at (sym is i) q) ∙ (λ i. waiting_or (waits (sym none i) q) (entry_at d q))),
       λ q w there. absurd (none_some w (sym (λ i. waits (none i) q) ∙ there)),
     )
@@ -203,23 +205,23 @@ if_both P Q (Ok x) p q = (p, q)
 if_both P Q (Err e) p q = tt
 
 read_text : {D : Type 0} (state : D → Dir) (rows : List TypeRow) (suffix : DnKeys) (text : List ℕ) (loading : Loading D) (d : Dir)
-    → LoadsTo state (loaded rows (nothing_under suffix) (records_of rows text)) loading → ((m : Loaded) → Holds state m loading → whole m ≡ Ok d) → copy_of rows suffix text ≡ Ok d
-read_text state rows suffix text loading d leads is = ap (λ r. and_on r whole) leads.1 ∙ is leads.0 leads.2
+    → LoadsTo state (with_records rows (empty_copy suffix) (records_of rows text)) loading → ((m : LoadedCopy) → IsLoaded state m loading → whole_directory m ≡ Ok d) → copy_of rows suffix text ≡ Ok d
+read_text state rows suffix text loading d leads is = ap (λ r. and_then r whole_directory) leads.1 ∙ is leads.0 leads.2
 
 pub read_whole : {D : Type 0} (state : D → Dir) (rows : List TypeRow) (suffix : DnKeys) (text : Option (List ℕ)) (given : Option (List Answer)) (old new : Loading D) (d : Dir)
-    → given ≡ option_map (records_of rows) text → LoadsOver state rows given old new → Holds state (nothing_under suffix) old → ((m : Loaded) → Holds state m new → whole m ≡ Ok d)
+    → given ≡ option_map (records_of rows) text → LoadsOver state rows given old new → IsLoaded state (empty_copy suffix) old → ((m : LoadedCopy) → IsLoaded state m new → whole_directory m ≡ Ok d)
     → IfSome text (λ t. copy_of rows suffix t ≡ Ok d)
 read_whole state rows suffix None given old new d known leads start is = tt
 read_whole state rows suffix (Some t) given old new d known leads start is =
-    read_text state rows suffix t new d (subst (λ o. IfSome o (λ answers. LoadsTo state (loaded rows (nothing_under suffix) answers) new)) known (leads (nothing_under suffix) start)) is
+    read_text state rows suffix t new d (subst (λ o. IfSome o (λ answers. LoadsTo state (with_records rows (empty_copy suffix) answers) new)) known (leads (empty_copy suffix) start)) is
 
-pub bare_order : (rows : List TypeRow) (suffix : DnKeys) → AreInOrder rows (nothing_under suffix).entries
+pub bare_order : (rows : List TypeRow) (suffix : DnKeys) → AreSoundInPlace rows (empty_copy suffix).entries
 bare_order rows suffix k e there = let none : None ≡ Some e = sym (get-empty dn_key_cmp k) ∙ there in absurd (cc)
 
 pub read_order : {D : Type 0} (state : D → Dir) (rows : List TypeRow) (suffix : DnKeys) (old new : Loading D) (d : Dir)
-    → KeepsOrder state rows old new → Holds state (nothing_under suffix) old → d.suffix ≡ suffix → IsNamed suffix
-    → ((m : Loaded) → Holds state m new → (whole m ≡ Ok d) × (m.entries ≡ d) × IsClosed d) → IsWellFormed rows d × IsWithinLimits d
+    → KeepsSound state rows old new → IsLoaded state (empty_copy suffix) old → d.suffix ≡ suffix → HasRdn suffix
+    → ((m : LoadedCopy) → IsLoaded state m new → (whole_directory m ≡ Ok d) × (m.entries ≡ d) × IsClosed d) → IsWellFormed rows d × IsWithinLimits d
 read_order state rows suffix old new d keeps start same named is =
-    let on = keeps (nothing_under suffix) start in
+    let on = keeps (empty_copy suffix) start in
     let ends_in = is on.0 on.1 in
     order_whole rows on.0.entries d ends_in.1 ends_in.2 (λ none. named (sym same ∙ none)) (on.2 (bare_order rows suffix))

@@ -25,14 +25,14 @@ use Rattle.dir_tree.specs.declared.fault.EntryFault.{EntryFault}
 use Rattle.dir_tree.proofs.DirLemmas.{get_put, same_key}
 use Rattle.dir_tree.proofs.SoundMade.{made_sound}
 use Rattle.dir_change.specs.declared.result_code.ResultCode.TheVariants.{NoSuchObject, EntryAlreadyExists}
-use Rattle.dir_change.specs.Operation.{is_at_or_below, own_of}
-use Rattle.dir_change.proofs.Kept.{legal_leaf, legal_lines}
-use Rattle.dir_change.proofs.Undone.{key_length, made_own, own_named}
-use Rattle.dir_tools.specs.CopyOf.{Loaded, denied, entered, placed_at, taken_in}
-use Rattle.dir_tools.specs.Loading.{AreInOrder, IsInOrder}
+use Rattle.dir_change.specs.Operation.{is_at_or_below, own_rdns}
+use Rattle.dir_change.proofs.StaysWellFormed.{legal_leaf, legal_lines}
+use Rattle.dir_change.proofs.AfterOperations.{key_length, made_own, own_named}
+use Rattle.dir_tools.specs.CopyOf.{LoadedCopy, refused_if, with_content, with_entry, with_record}
+use Rattle.dir_tools.specs.Inside.Loading.{AreSoundInPlace, IsSoundAt}
 use Rattle.dir_tools.proofs.Small.{left, right}
 
-all_own_of : (p : SpelledRdn → Bool) (suffix k : DnKeys) (name : SpelledName) → list_all p name ≡ true → list_all p (own_of suffix k name) ≡ true
+all_own_of : (p : SpelledRdn → Bool) (suffix k : DnKeys) (name : SpelledName) → list_all p name ≡ true → list_all p (own_rdns suffix k name) ≡ true
 all_own_of p suffix k name e = by (dn_key_eq k suffix)
   where
     first : (name : SpelledName) → list_all p name ≡ true → list_all p (take 1 name) ≡ true
@@ -44,49 +44,49 @@ all_own_of p suffix k name e = by (dn_key_eq k suffix)
     by false = first name e
 
 order_one : (rows : List TypeRow) (suffix k : DnKeys) (name : SpelledName) (lines : List (Described × List ℕ)) (e : Content)
-    → name_key rows name ≡ Some k → NameIsSound name → list_all (is_legal_line rows) lines ≡ true → ValuesAreBytes lines → made rows (own_of suffix k name) lines ≡ Ok e → IsInOrder rows suffix k e
+    → name_key rows name ≡ Some k → NameIsSound name → list_all (is_legal_line rows) lines ≡ true → ValuesAreBytes lines → made rows (own_rdns suffix k name) lines ≡ Ok e → IsSoundAt rows suffix k e
 order_one rows suffix k name lines e named sound legal bytes makes =
-    let own = made_own rows (own_of suffix k name) lines e makes in
+    let own = made_own rows (own_rdns suffix k name) lines e makes in
     let long : length name ≡ length k = key_length rows name k named in
     let bound : nat_le (length name) 64 ≡ true = left (nat_le (length name) 64) _ sound.1 in
     let low : length k ≤ 64 = grind (arith, nat_tests) in (
-      made_sound rows (own_of suffix k name) lines e (legal_leaf suffix k name sound.0 sound.1) (legal_lines rows lines legal bytes) makes,
+      made_sound rows (own_rdns suffix k name) lines e (legal_leaf suffix k name sound.0 sound.1) (legal_lines rows lines legal bytes) makes,
       ap (name_key rows) own ∙ own_named rows suffix k name named,
       low,
       ap (list_all is_rdn) own ∙ all_own_of is_rdn suffix k name sound.0,
       ap (list_all is_small) own ∙ all_own_of is_small suffix k name (right (nat_le (length name) 64) _ sound.1),
     )
 
-order_put : (rows : List TypeRow) (d : Dir) (k : DnKeys) (x : Content) → AreInOrder rows d → IsInOrder rows d.suffix k x → AreInOrder rows (put_entry d k x)
+order_put : (rows : List TypeRow) (d : Dir) (k : DnKeys) (x : Content) → AreSoundInPlace rows d → IsSoundAt rows d.suffix k x → AreSoundInPlace rows (put_entry d k x)
 order_put rows d k x order one q e there = by (eq_by_cmp dn_key_cmp q k) refl (sym (get_put d k x q) ∙ there)
   where
-    by : (b : Bool) → eq_by_cmp dn_key_cmp q k ≡ b → cond b (Some x) (entry_at d q) ≡ Some e → IsInOrder rows d.suffix q e
+    by : (b : Bool) → eq_by_cmp dn_key_cmp q k ≡ b → cond b (Some x) (entry_at d q) ≡ Some e → IsSoundAt rows d.suffix q e
     by false t h = order q e h
-    by true t h = let same : x ≡ e = cc in subst (λ z. IsInOrder rows d.suffix z e) (sym (same_key q k t)) (subst (IsInOrder rows d.suffix k) same one)
+    by true t h = let same : x ≡ e = cc in subst (λ z. IsSoundAt rows d.suffix z e) (sym (same_key q k t)) (subst (IsSoundAt rows d.suffix k) same one)
 
 -- a sound record that is taken leaves the entries in order
-pub order_taken : (rows : List TypeRow) (m n : Loaded) (line : ℕ) (found : Result Record RecordFault)
-    → IsSoundFound rows (line, found) → taken_in rows m line found ≡ Ok n → AreInOrder rows m.entries → AreInOrder rows n.entries
+pub order_taken : (rows : List TypeRow) (m n : LoadedCopy) (line : ℕ) (found : Result Record RecordFault)
+    → IsSoundFound rows (line, found) → with_record rows m line found ≡ Ok n → AreSoundInPlace rows m.entries → AreSoundInPlace rows n.entries
 order_taken rows m n line (Err fault) sound is order = absurd (cc)
 order_taken rows m n line (Ok (form.Change change)) sound is order = absurd (cc)
 order_taken rows m n line (Ok (form.Content name lines)) sound is order = by (name_key rows name) refl is
   where
-    tests : (k : DnKeys) → name_key rows name ≡ Some k → (a b : Bool) (r : Result Content EntryFault) → made rows (own_of m.entries.suffix k name) lines ≡ r
-        → denied a line NoSuchObject (denied b line EntryAlreadyExists (entered m line k r)) ≡ Ok n → AreInOrder rows n.entries
+    tests : (k : DnKeys) → name_key rows name ≡ Some k → (a b : Bool) (r : Result Content EntryFault) → made rows (own_rdns m.entries.suffix k name) lines ≡ r
+        → refused_if a line NoSuchObject (refused_if b line EntryAlreadyExists (with_entry m line k r)) ≡ Ok n → AreSoundInPlace rows n.entries
     tests k t true b r u h = absurd (cc)
     tests k t false true r u h = absurd (cc)
     tests k t false false (Err fault) u h = absurd (cc)
     tests k t false false (Ok e) u h =
-        let same : entered m line k (Ok e) ≡ Ok n = h in
+        let same : with_entry m line k (Ok e) ≡ Ok n = h in
         let entries : put_entry m.entries k e ≡ n.entries = cc in
-        subst (AreInOrder rows) entries (order_put rows m.entries k e order (order_one rows m.entries.suffix k name lines e t sound.1.0 (right (has_key rows name) _ sound.0) sound.1.1 u))
+        subst (AreSoundInPlace rows) entries (order_put rows m.entries k e order (order_one rows m.entries.suffix k name lines e t sound.1.0 (right (has_key rows name) _ sound.0) sound.1.1 u))
 
-    by : (o : Option DnKeys) → name_key rows name ≡ o → placed_at rows m line name lines o ≡ Ok n → AreInOrder rows n.entries
+    by : (o : Option DnKeys) → name_key rows name ≡ o → with_content rows m line name lines o ≡ Ok n → AreSoundInPlace rows n.entries
     by None t h = absurd (cc)
-    by (Some k) t h = tests k t (not (is_at_or_below k m.entries.suffix)) (is_some (entry_at m.entries k)) (made rows (own_of m.entries.suffix k name) lines) refl h
+    by (Some k) t h = tests k t (not (is_at_or_below k m.entries.suffix)) (is_some (entry_at m.entries k)) (made rows (own_rdns m.entries.suffix k name) lines) refl h
 
 -- a closed directory of such entries is in good order
-pub order_whole : (rows : List TypeRow) (d e : Dir) → d ≡ e → IsClosed e → (e.suffix ≡ [] → ⊥) → AreInOrder rows d → IsWellFormed rows e × IsWithinLimits e
+pub order_whole : (rows : List TypeRow) (d e : Dir) → d ≡ e → IsClosed e → (e.suffix ≡ [] → ⊥) → AreSoundInPlace rows d → IsWellFormed rows e × IsWithinLimits e
 order_whole rows d e same closed named order =
-    let all = subst (AreInOrder rows) same order in
+    let all = subst (AreSoundInPlace rows) same order in
     ((named, closed, λ k x there. let one = all k x there in (one.0, one.1)), λ k x there. let one = all k x there in (one.2, one.3, one.4))

@@ -1,11 +1,11 @@
+pub mod CompleteRecords
 pub mod CopyBack
 pub mod CopyFaults
 pub mod CopyLemmas
 pub mod CopySound
 pub mod Orphans
+pub mod ReadCalls
 pub mod RunBack
 pub mod RunLemmas
-pub mod Settled
 pub mod Small
 pub mod TextLemmas
-pub mod Turns

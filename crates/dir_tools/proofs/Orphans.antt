@@ -19,10 +19,10 @@ use Rattle.dir_tree.specs.WellFormed.{Each}
 use Rattle.dir_tree.proofs.DirLemmas.{closed_put, get_put, parent_child, same_key}
 use Rattle.dir_tree.proofs.NextKey.{before_below}
 use Rattle.dir_change.specs.declared.result_code.ResultCode.TheVariants.{NoSuchObject}
-use Rattle.dir_tools.specs.declared.copy.Waiting.{Waiting}
+use Rattle.dir_tools.specs.declared.copy.loading.Waiting.{Waiting}
 use Rattle.dir_tools.specs.declared.fault.Cause.TheVariants as cause
-use Rattle.dir_tools.specs.CopyOf.{Loaded, earlier, first_of, if_whole, line_or_none, whole}
-use Rattle.dir_tools.specs.Loading.{AllWait, IsMadeOf, is_among, waiting_or}
+use Rattle.dir_tools.specs.CopyOf.{LoadedCopy, earlier_line, first_line, line_or_zero, unless_orphan, whole_directory}
+use Rattle.dir_tools.specs.Inside.Loading.{AllWait, IsMadeOf, is_among, waiting_or}
 use Rattle.dir_tools.proofs.CopyBack.{all_filtered, entries_stand}
 
 -- ---- the entries that wait, in order of keys
@@ -70,18 +70,18 @@ others_later k q es x gone there = by (eq_by_cmp dn_key_cmp q k) refl
 
 -- ---- the entries so far
 
-abbrev pub line_at : Loaded → DnKeys → ℕ
-line_at m k = line_or_none (fin.get m.lines k)
+abbrev pub line_at : LoadedCopy → DnKeys → ℕ
+line_at m k = line_or_zero (fin.get m.lines k)
 
 -- the first line of those among these keys whose parent stands nowhere
-abbrev pub IsLeast : Loaded → BTreeSet DnKeys → Option ℕ → Type 0
+abbrev pub IsLeast : LoadedCopy → BTreeSet DnKeys → Option ℕ → Type 0
 IsLeast m keys None = (k : DnKeys) → contains dn_key_cmp keys k ≡ false
 IsLeast m keys (Some n) =
     ((k : DnKeys) × (contains dn_key_cmp keys k ≡ true) × (has_parent m.entries k ≡ false) × (line_at m k ≡ n))
     × ((k : DnKeys) → contains dn_key_cmp keys k ≡ true → has_parent m.entries k ≡ false → n ≤ line_at m k)
 
 -- the entries of a copy: those that stand, those that still wait, and the orphans with their first line
-pub record IsSplit (m : Loaded) (waiting : DnKeys → Option Waiting) (keys : BTreeSet DnKeys) (first : Option ℕ) (standing : Dir) : Type 0 where
+pub record IsSplit (m : LoadedCopy) (waiting : DnKeys → Option Waiting) (keys : BTreeSet DnKeys) (first : Option ℕ) (standing : Dir) : Type 0 where
   pub suffix : m.entries.suffix ≡ standing.suffix
   pub closed : IsClosed standing
   pub others : (k : DnKeys) → contains dn_key_cmp keys k ≡ false → entry_at m.entries k ≡ waiting_or (waiting k) (entry_at standing k)
@@ -90,7 +90,7 @@ pub record IsSplit (m : Loaded) (waiting : DnKeys → Option Waiting) (keys : BT
   pub apart : (k : DnKeys) (w : Waiting) → waiting k ≡ Some w → contains dn_key_cmp keys k ≡ false
   pub least : IsLeast m keys first
 
-pub split_begun : (m : Loaded) (waiting : DnKeys → Option Waiting) (keys : BTreeSet DnKeys) (standing : Dir) → keys.keys ≡ [] → IsMadeOf m.entries waiting standing → AllWait m waiting standing
+pub split_begun : (m : LoadedCopy) (waiting : DnKeys → Option Waiting) (keys : BTreeSet DnKeys) (standing : Dir) → keys.keys ≡ [] → IsMadeOf m.entries waiting standing → AllWait m waiting standing
     → IsSplit m waiting keys None standing
 split_begun m waiting keys standing bare made all = record {
   suffix = made.0;
@@ -107,7 +107,7 @@ split_begun m waiting keys standing bare made all = record {
 
 -- ---- an entry is put
 
-pub split_put : (m : Loaded) (keys : BTreeSet DnKeys) (first : Option ℕ) (standing next : Dir) (k : DnKeys) (w : Waiting) (es : List (DnKeys × Waiting))
+pub split_put : (m : LoadedCopy) (keys : BTreeSet DnKeys) (first : Option ℕ) (standing next : Dir) (k : DnKeys) (w : Waiting) (es : List (DnKeys × Waiting))
     → waits es k ≡ None → has_parent standing k ≡ true → next ≡ put_entry standing k w.entry
     → IsSplit m (waits ((k, w) ∷ es)) keys first standing → IsSplit m (waits es) keys first next
 split_put m keys first standing next k w es gone parent is was = subst (IsSplit m (waits es) keys first) (sym is) (record {
@@ -138,7 +138,7 @@ right_false true b h = absurd (true≢false h)
 right_false false b h = h
 
 -- its parent stands in the copy where it is an orphan itself
-parent_among : (m : Loaded) (keys : BTreeSet DnKeys) (first : Option ℕ) (standing : Dir) (k : DnKeys) (w : Waiting) (es : List (DnKeys × Waiting))
+parent_among : (m : LoadedCopy) (keys : BTreeSet DnKeys) (first : Option ℕ) (standing : Dir) (k : DnKeys) (w : Waiting) (es : List (DnKeys × Waiting))
     → IsStrictlySortedBy dn_key_cmp (keys_of ((k, w) ∷ es)) → has_parent standing k ≡ false
     → IsSplit m (waits ((k, w) ∷ es)) keys first standing → has_parent m.entries k ≡ is_among keys (parent_of k)
 parent_among m keys first standing k w es ordered alone was =
@@ -160,7 +160,7 @@ none_among : (keys : BTreeSet DnKeys) → ((k : DnKeys) → contains dn_key_cmp 
 none_among keys none None = refl
 none_among keys none (Some k) = none k
 
-module _ (m : Loaded) (keys keys' : BTreeSet DnKeys) (k : DnKeys) (updates : (q : DnKeys) → contains dn_key_cmp keys' q ≡ cond (is_at (dn_key_cmp k) q) true (contains dn_key_cmp keys q)) where
+module _ (m : LoadedCopy) (keys keys' : BTreeSet DnKeys) (k : DnKeys) (updates : (q : DnKeys) → contains dn_key_cmp keys' q ≡ cond (is_at (dn_key_cmp k) q) true (contains dn_key_cmp keys q)) where
   updated : (q : DnKeys) → contains dn_key_cmp keys' q ≡ cond (eq_by_cmp dn_key_cmp q k) true (contains dn_key_cmp keys q)
   updated q = updates q ∙ ap (λ b. cond b true (contains dn_key_cmp keys q)) ((eq_by_cmp_equiv dn_key_cmp_total).symm k q)
 
@@ -186,7 +186,7 @@ module _ (m : Loaded) (keys keys' : BTreeSet DnKeys) (k : DnKeys) (updates : (q 
   After n q = has_parent m.entries q ≡ false → n ≤ line_at m q
 
   least_more : (line : ℕ) (below : Bool) (first : Option ℕ) → line_at m k ≡ line → has_parent m.entries k ≡ below → is_among keys (parent_of k) ≡ below
-      → IsLeast m keys first → IsLeast m keys' (cond below first (earlier line first))
+      → IsLeast m keys first → IsLeast m keys' (cond below first (earlier_line line first))
   least_more line true None is parent among least = absurd (true≢false (sym among ∙ none_among keys least (parent_of k)))
   least_more line true (Some n) is parent among least =
       ((least.0.0, kept least.0.0 least.0.1, least.0.2, least.0.3), each (After n) (λ alone. absurd (true≢false (sym parent ∙ alone))) least.1)
@@ -202,10 +202,10 @@ module _ (m : Loaded) (keys keys' : BTreeSet DnKeys) (k : DnKeys) (updates : (q 
           let low : n ≤ line = grind (arith, nat_tests) in
           ((least.0.0, kept least.0.0 least.0.1, least.0.2, least.0.3), each (After n) (λ _. omega (arith, is, low)) least.1)
 
-pub split_orphan : (m : Loaded) (keys keys' : BTreeSet DnKeys) (first first' : Option ℕ) (standing : Dir) (k : DnKeys) (w : Waiting) (es : List (DnKeys × Waiting))
+pub split_orphan : (m : LoadedCopy) (keys keys' : BTreeSet DnKeys) (first first' : Option ℕ) (standing : Dir) (k : DnKeys) (w : Waiting) (es : List (DnKeys × Waiting))
     → IsStrictlySortedBy dn_key_cmp (keys_of ((k, w) ∷ es)) → has_parent standing k ≡ false
     → ((q : DnKeys) → contains dn_key_cmp keys' q ≡ cond (is_at (dn_key_cmp k) q) true (contains dn_key_cmp keys q))
-    → first' ≡ cond (is_among keys (parent_of k)) first (earlier w.line first)
+    → first' ≡ cond (is_among keys (parent_of k)) first (earlier_line w.line first)
     → IsSplit m (waits ((k, w) ∷ es)) keys first standing → IsSplit m (waits es) keys' first' standing
 split_orphan m keys keys' first first' standing k w es ordered alone updates is was = record {
   suffix = was.suffix;
@@ -224,7 +224,7 @@ split_orphan m keys keys' first first' standing k w es ordered alone updates is 
     gone = absent_later k w es ordered
 
     line : line_at m k ≡ w.line
-    line = ap line_or_none (was.wait k w (waits_first k w es)).1
+    line = ap line_or_zero (was.wait k w (waits_first k w es)).1
 
     here : is_some (entry_at m.entries k) ≡ true
     here = ap is_some (was.others k (was.apart k w (waits_first k w es)) ∙ ap (λ o. waiting_or o (entry_at standing k)) (waits_first k w es))
@@ -234,7 +234,7 @@ split_orphan m keys keys' first first' standing k w es ordered alone updates is 
     by q false t h = was.others q h ∙ ap (λ o. waiting_or o (entry_at standing q)) (waits_later k q w es t)
 
 -- nothing stands where the first of them is to be put
-pub place_free : (m : Loaded) (keys : BTreeSet DnKeys) (first : Option ℕ) (standing : Dir) (k : DnKeys) (w : Waiting) (es : List (DnKeys × Waiting))
+pub place_free : (m : LoadedCopy) (keys : BTreeSet DnKeys) (first : Option ℕ) (standing : Dir) (k : DnKeys) (w : Waiting) (es : List (DnKeys × Waiting))
     → IsSplit m (waits ((k, w) ∷ es)) keys first standing → entry_at standing k ≡ None
 place_free m keys first standing k w es was = (was.wait k w (waits_first k w es)).0
 
@@ -244,18 +244,18 @@ same_dir : (d e : Dir) → d.suffix ≡ e.suffix → ((q : DnKeys) → entry_at 
 same_dir d e suffix entries = let same = same_map dn_key_cmp_total dn_key_cmp_exact d.entries e.entries entries in (λ i. record { suffix = suffix i; entries = same i })
 
 -- a copy whose entries all stand in a closed directory is whole
-made_whole : (m : Loaded) (d : Dir) → m.entries ≡ d → IsClosed d → whole m ≡ Ok d
+made_whole : (m : LoadedCopy) (d : Dir) → m.entries ≡ d → IsClosed d → whole_directory m ≡ Ok d
 made_whole m d same closed =
-    ap (λ e. if_whole e (first_of (map (λ p. line_or_none (fin.get m.lines p.0)) (filter (λ p. not (has_parent e p.0)) (fin.entries e.entries))))) same
-    ∙ ap (λ ps. if_whole d (first_of (map (λ p. line_or_none (fin.get m.lines p.0)) ps)))
+    ap (λ e. unless_orphan e (first_line (map (λ p. line_or_zero (fin.get m.lines p.0)) (filter (λ p. not (has_parent e p.0)) (fin.entries e.entries))))) same
+    ∙ ap (λ ps. unless_orphan d (first_line (map (λ p. line_or_zero (fin.get m.lines p.0)) ps)))
     (all_filtered (λ p. not (has_parent d p.0)) (λ p. entry_at d p.0 ≡ Some p.1) (λ p there. ap not (closed p.0 (ap is_some there))) (fin.entries d.entries) (entries_stand d))
 
-pub split_whole : (m : Loaded) (keys : BTreeSet DnKeys) (d : Dir) → IsSplit m (waits []) keys None d → (whole m ≡ Ok d) × (m.entries ≡ d) × IsClosed d
+pub split_whole : (m : LoadedCopy) (keys : BTreeSet DnKeys) (d : Dir) → IsSplit m (waits []) keys None d → (whole_directory m ≡ Ok d) × (m.entries ≡ d) × IsClosed d
 split_whole m keys d was =
     let same : m.entries ≡ d = same_dir m.entries d was.suffix (λ q. was.others q (was.least q)) in
     (made_whole m d same was.closed, same, was.closed)
 
-module _ (m : Loaded) (n : ℕ) where
+module _ (m : LoadedCopy) (n : ℕ) where
   -- the lines of those without a parent
   abbrev lines_in : List (DnKeys × Content) → List ℕ
   lines_in es = map (λ p. line_at m p.0) (filter (λ p. not (has_parent m.entries p.0)) es)
@@ -263,20 +263,20 @@ module _ (m : Loaded) (n : ℕ) where
   abbrev IsLow : DnKeys × Content → Type 0
   IsLow p = has_parent m.entries p.0 ≡ false → n ≤ line_at m p.0
 
-  earlier_low : (line : ℕ) (o : Option ℕ) → n ≤ line → IfSome o (λ f. n ≤ f) → IfSome (earlier line o) (λ f. n ≤ f)
+  earlier_low : (line : ℕ) (o : Option ℕ) → n ≤ line → IfSome o (λ f. n ≤ f) → IfSome (earlier_line line o) (λ f. n ≤ f)
   earlier_low line None l h = l
   earlier_low line (Some f) l h = elim (nat_lt line f) as (λ b. IfSome (cond b (Some line) (Some f)) (λ x. n ≤ x)) [ true ↦ l | false ↦ h ]
 
-  none_lower : (es : List (DnKeys × Content)) → Each IsLow es → IfSome (first_of (lines_in es)) (λ f. n ≤ f)
+  none_lower : (es : List (DnKeys × Content)) → Each IsLow es → IfSome (first_line (lines_in es)) (λ f. n ≤ f)
   none_lower [] low = tt
   none_lower (p ∷ es) low = by (has_parent m.entries p.0) refl (none_lower es low.1)
     where
-      by : (b : Bool) → has_parent m.entries p.0 ≡ b → IfSome (first_of (lines_in es)) (λ f. n ≤ f)
-          → IfSome (first_of (map (λ p. line_at m p.0) (cond (not b) (p ∷ filter (λ p. not (has_parent m.entries p.0)) es) (filter (λ p. not (has_parent m.entries p.0)) es)))) (λ f. n ≤ f)
+      by : (b : Bool) → has_parent m.entries p.0 ≡ b → IfSome (first_line (lines_in es)) (λ f. n ≤ f)
+          → IfSome (first_line (map (λ p. line_at m p.0) (cond (not b) (p ∷ filter (λ p. not (has_parent m.entries p.0)) es) (filter (λ p. not (has_parent m.entries p.0)) es)))) (λ f. n ≤ f)
       by true t rest = rest
-      by false t rest = earlier_low (line_at m p.0) (first_of (lines_in es)) (low.0 t) rest
+      by false t rest = earlier_low (line_at m p.0) (first_line (lines_in es)) (low.0 t) rest
 
-  earlier_is : (line : ℕ) (o : Option ℕ) → line ≡ n → IfSome o (λ f. n ≤ f) → earlier line o ≡ Some n
+  earlier_is : (line : ℕ) (o : Option ℕ) → line ≡ n → IfSome o (λ f. n ≤ f) → earlier_line line o ≡ Some n
   earlier_is line None is h = ap Some is
   earlier_is line (Some f) is h = by (nat_lt line f) refl
     where
@@ -284,29 +284,29 @@ module _ (m : Loaded) (n : ℕ) where
       by true t = ap Some is
       by false t = let same : f ≡ n = grind (arith, nat_tests) in ap Some same
 
-  stays_first : (line : ℕ) → n ≤ line → earlier line (Some n) ≡ Some n
+  stays_first : (line : ℕ) → n ≤ line → earlier_line line (Some n) ≡ Some n
   stays_first line l = by (nat_lt line n) refl
     where
       by : (b : Bool) → nat_lt line n ≡ b → cond b (Some line) (Some n) ≡ Some n
       by true t = let same : line ≡ n = grind (arith, nat_tests) in ap Some same
       by false t = refl
 
-  first_found : (k : DnKeys) → has_parent m.entries k ≡ false → line_at m k ≡ n → (es : List (DnKeys × Content)) → Each IsLow es → is_some (find dn_key_cmp k es) ≡ true → first_of (lines_in es) ≡ Some n
+  first_found : (k : DnKeys) → has_parent m.entries k ≡ false → line_at m k ≡ n → (es : List (DnKeys × Content)) → Each IsLow es → is_some (find dn_key_cmp k es) ≡ true → first_line (lines_in es) ≡ Some n
   first_found k alone is [] low there = absurd (true≢false (sym there))
   first_found k alone is (p ∷ es) low there = by (eq_by_cmp dn_key_cmp k p.0) refl there (first_found k alone is es low.1)
     where
-      later : (b : Bool) → has_parent m.entries p.0 ≡ b → first_of (lines_in es) ≡ Some n
-          → first_of (map (λ p. line_at m p.0) (cond (not b) (p ∷ filter (λ p. not (has_parent m.entries p.0)) es) (filter (λ p. not (has_parent m.entries p.0)) es))) ≡ Some n
+      later : (b : Bool) → has_parent m.entries p.0 ≡ b → first_line (lines_in es) ≡ Some n
+          → first_line (map (λ p. line_at m p.0) (cond (not b) (p ∷ filter (λ p. not (has_parent m.entries p.0)) es) (filter (λ p. not (has_parent m.entries p.0)) es))) ≡ Some n
       later true t rest = rest
-      later false t rest = ap (earlier (line_at m p.0)) rest ∙ stays_first (line_at m p.0) (low.0 t)
+      later false t rest = ap (earlier_line (line_at m p.0)) rest ∙ stays_first (line_at m p.0) (low.0 t)
 
-      by : (b : Bool) → eq_by_cmp dn_key_cmp k p.0 ≡ b → is_some (cond b (Some p.1) (find dn_key_cmp k es)) ≡ true → (is_some (find dn_key_cmp k es) ≡ true → first_of (lines_in es) ≡ Some n) → first_of (lines_in (p ∷ es)) ≡ Some n
+      by : (b : Bool) → eq_by_cmp dn_key_cmp k p.0 ≡ b → is_some (cond b (Some p.1) (find dn_key_cmp k es)) ≡ true → (is_some (find dn_key_cmp k es) ≡ true → first_line (lines_in es) ≡ Some n) → first_line (lines_in (p ∷ es)) ≡ Some n
       by false t h rest = later (has_parent m.entries p.0) refl (rest h)
       by true t h rest =
           let same : p.0 ≡ k = sym (same_key k p.0 t) in
           let here : has_parent m.entries p.0 ≡ false = ap (has_parent m.entries) same ∙ alone in
-          ap (λ b. first_of (map (λ p. line_at m p.0) (cond (not b) (p ∷ filter (λ p. not (has_parent m.entries p.0)) es) (filter (λ p. not (has_parent m.entries p.0)) es)))) here
-          ∙ earlier_is (line_at m p.0) (first_of (lines_in es)) (ap (line_at m) same ∙ is) (none_lower es low.1)
+          ap (λ b. first_line (map (λ p. line_at m p.0) (cond (not b) (p ∷ filter (λ p. not (has_parent m.entries p.0)) es) (filter (λ p. not (has_parent m.entries p.0)) es)))) here
+          ∙ earlier_is (line_at m p.0) (first_line (lines_in es)) (ap (line_at m) same ∙ is) (none_lower es low.1)
 
 each_so : {A : Type 0} (P Q : A → Type 0) → ((x : A) → P x → Q x) → (xs : List A) → Each P xs → Each Q xs
 each_so P Q f [] ps = tt
@@ -317,10 +317,10 @@ or_more true b c f h = refl
 or_more false b c f h = f h
 
 -- the copy's first orphan is the fault
-pub split_broken : (m : Loaded) (keys : BTreeSet DnKeys) (n : ℕ) (d : Dir) → IsSplit m (waits []) keys (Some n) d → whole m ≡ Err (n, cause.Code NoSuchObject)
+pub split_broken : (m : LoadedCopy) (keys : BTreeSet DnKeys) (n : ℕ) (d : Dir) → IsSplit m (waits []) keys (Some n) d → whole_directory m ≡ Err (n, cause.Code NoSuchObject)
 split_broken m keys n d was =
     let first = was.least.0 in
-    ap (if_whole m.entries)
+    ap (unless_orphan m.entries)
     (first_found m n first.0 first.2 first.3 (fin.entries m.entries.entries) (each_so (λ p. entry_at m.entries p.0 ≡ Some p.1) (IsLow m n) low (fin.entries m.entries.entries) (entries_stand m.entries))
     (sym (ap is_some (get-entries m.entries.entries first.0)) ∙ was.orphans first.0 first.1))
   where

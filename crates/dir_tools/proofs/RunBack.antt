@@ -11,13 +11,14 @@ use Rattle.dir_ldif.specs.Records.{Answer, Found, records_of}
 use Rattle.dir_tree.specs.Dir.{Dir}
 use Rattle.dir_change.specs.declared.result_code.ResultCode.{ResultCode}
 use Rattle.dir_change.specs.Operation.{step}
-use Rattle.dir_change.specs.Runs.{Ending, LeadsBack, ReadsBack, RunsAreTakenBack, RunsStayInOrder, StaysInOrder, UndoTextsReadBack, group_of, last_first}
-use Rattle.dir_change.specs.Undo.{all_steps, and_then}
+use Rattle.dir_change.specs.Runs.{Ending, LeadsBack, ReadsBack, RunsAreTakenBack, RunsStayInOrder, StaysInOrder, UndoTextsReadBack, group_of, undo_changes}
+use Rattle.dir_change.specs.Undo.{directory_after_all}
+use Rattle.dir_names.specs.Results.{and_then}
 use Rattle.dir_change.specs.UndoText.{undo_text_of}
 use Rattle.dir_tools.specs.Canonical.{canonical_of}
 use Rattle.dir_tools.specs.CopyOf.{copy_of}
 use Rattle.dir_tools.specs.Headline.{CanonicalTextsReadBack, IsTakenBackBy, WrittenRunsAreTakenBack, texts_of_run}
-use Rattle.dir_tools.specs.Ran.{Ran, causes_in, groups_in, led, onto, run_of, stepped}
+use Rattle.dir_tools.specs.RunOf.{RunEnd, causes_in, change_step, groups_in, record_step, run_of, with_outcomes_before}
 use Rattle.dir_tools.proofs.RunLemmas.{goes}
 use Rattle.dir_tools.proofs.Small.{heads, one_found}
 
@@ -27,18 +28,18 @@ fine c = Ok (Ok (form.Change c))
 module _ (rows : List TypeRow) (go_on : Bool) where
   -- the run is accepted whole, and ends there
   abbrev AcceptsAll : Dir → List Answer → Dir → Type 0
-  AcceptsAll e answers d = (back : Ran) × (run_of rows go_on e answers ≡ Ok back) × (causes_in back.outcomes ≡ []) × (back.end ≡ d)
+  AcceptsAll e answers d = (back : RunEnd) × (run_of rows go_on e answers ≡ Ok back) × (causes_in back.outcomes ≡ []) × (back.end ≡ d)
 
   one_more : (e f d : Dir) (c : Change) (found : Found) (later : List Answer) → found.1 ≡ Ok (form.Change c) → step rows e c ≡ Ok f → AcceptsAll f later d → AcceptsAll e (Ok found ∷ later) d
   one_more e f d c found later is takes rest =
-      let here : led rows e found.1 ≡ Ok (f, group_of rows e f c) = ap (led rows e) is ∙ ap (stepped rows e c) takes in (
+      let here : record_step rows e found.1 ≡ Ok (f, group_of rows e f c) = ap (record_step rows e) is ∙ ap (change_step rows e c) takes in (
         record { end = rest.0.end; outcomes = (found.0, Ok (group_of rows e f c)) ∷ rest.0.outcomes },
-        goes rows go_on e found (Ok (f, group_of rows e f c)) later here ∙ ap (onto ((found.0, Ok (group_of rows e f c)) ∷ [])) rest.1,
+        goes rows go_on e found (Ok (f, group_of rows e f c)) later here ∙ ap (with_outcomes_before ((found.0, Ok (group_of rows e f c)) ∷ [])) rest.1,
         rest.2,
         rest.3,
       )
 
-  all_accepted : (cs : List Change) (e d : Dir) (answers : List Answer) → map without_line answers ≡ map fine cs → all_steps rows e cs ≡ Ok d → AcceptsAll e answers d
+  all_accepted : (cs : List Change) (e d : Dir) (answers : List Answer) → map without_line answers ≡ map fine cs → directory_after_all rows e cs ≡ Ok d → AcceptsAll e answers d
   all_accepted [] e d [] same steps = (record { end = e; outcomes = [] }, refl, refl, cc)
   all_accepted [] e d (a ∷ later) same steps = absurd (cc)
   all_accepted (c ∷ cs) e d [] same steps = absurd (cc)
@@ -48,7 +49,7 @@ module _ (rows : List TypeRow) (go_on : Bool) where
       parts : (without_line (Ok found) ≡ fine c) × (map without_line later ≡ map fine cs)
       parts = heads (Ok found) (form.Change c) (map without_line later) (map fine cs) same
 
-      by : (r : Result Dir ResultCode) → step rows e c ≡ r → and_then r (λ f. all_steps rows f cs) ≡ Ok d → ((f : Dir) → all_steps rows f cs ≡ Ok d → AcceptsAll f later d) → AcceptsAll e (Ok found ∷ later) d
+      by : (r : Result Dir ResultCode) → step rows e c ≡ r → and_then r (λ f. directory_after_all rows f cs) ≡ Ok d → ((f : Dir) → directory_after_all rows f cs ≡ Ok d → AcceptsAll f later d) → AcceptsAll e (Ok found ∷ later) d
       by (Ok f) takes t rest = one_more e f d c found later (one_found found (form.Change c) parts.0) takes (rest f t)
       by (Err code) takes t rest = absurd (cc)
 
@@ -58,7 +59,7 @@ runs_back canonical back order undo rows d ran verbose well within was =
     let leads : LeadsBack rows d ending = subst (LeadsBack rows d) was.2 (back rows d was.0 well was.1).0 in
     let reads : ReadsBack rows ending = subst (ReadsBack rows) was.2 (undo rows d was.0 well within was.1).0 in
     let stays : StaysInOrder rows d ending = subst (StaysInOrder rows d) was.2 (order rows d was.0 well within was.1).0 in
-    (reads, λ go_on. by go_on (all_accepted rows go_on (last_first ending) ran.end d (records_of rows (undo_text_of (groups_in ran.outcomes))) reads leads) stays)
+    (reads, λ go_on. by go_on (all_accepted rows go_on (undo_changes ending) ran.end d (records_of rows (undo_text_of (groups_in ran.outcomes))) reads leads) stays)
   where
     by : (go_on : Bool) → AcceptsAll rows go_on ran.end (records_of rows (undo_text_of (groups_in ran.outcomes))) d → StaysInOrder rows d (record { end = ran.end; groups = groups_in ran.outcomes })
         → IsTakenBackBy rows d.suffix d (texts_of_run verbose ran) go_on

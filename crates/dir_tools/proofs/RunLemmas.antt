@@ -11,24 +11,24 @@ use Rattle.dir_ldif.specs.Device.{HasFailed}
 use Rattle.dir_ldif.specs.declared.faults.StreamFault.TheVariants as stream
 use Rattle.dir_ldif.specs.declared.reader.RecordReader.{RecordReader}
 use Rattle.dir_ldif.specs.Reader.{IsEnded, SpendsTurns, StopsFor, source_of, to_give, turns_left}
-use Rattle.dir_tools.specs.Turns.{GaveAtLeast}
+use Rattle.dir_tools.specs.ReadCalls.{GaveAtLeast}
 use Rattle.dir_tools.specs.declared.fault.ToolFault.TheVariants as tool
-use Rattle.dir_tools.proofs.Turns.{spends_all}
+use Rattle.dir_tools.proofs.ReadCalls.{spends_all}
 use Rattle.dir_ldif.specs.Next.{GivesFirst, GivesNone}
 use Rattle.dir_ldif.specs.Records.{Answer, Found}
 use Rattle.dir_tree.specs.Dir.{Dir}
 use Rattle.dir_tools.specs.declared.fault.Cause.{Cause}
 use Rattle.dir_tools.specs.declared.run.Run.{Run}
-use Rattle.dir_tools.specs.Ran.{Led, Outcome, Ran, cause_in, ends_at, group_in, groups_in, led, led_on, onto, run_of, stepped}
+use Rattle.dir_tools.specs.RunOf.{Outcome, RecordStep, RunEnd, cause_in, change_step, ended_run, group_in, groups_in, record_step, run_after, run_of, with_outcomes_before, HasAccepted}
 use Rattle.dir_tools.specs.Report.{outcome_line}
 use Rattle.dir_ldif.specs.SoundFound.{IsSoundFound}
 use Rattle.dir_ldif.specs.declared.records.Record.TheVariants as form
 use Rattle.dir_tree.specs.WellFormed.{Each}
 use Rattle.dir_change.specs.declared.result_code.ResultCode.{ResultCode}
 use Rattle.dir_change.specs.Operation.{step}
-use Rattle.dir_change.specs.Runs.{Ending, accepted_or, behind, goes_on, group_of}
-use Rattle.dir_change.specs.Sound.{IsSoundChange}
-use Rattle.dir_tools.specs.Running.{HasAccepted, Adds, AddsAll, BreaksOff, ChangesBlamed, Continues, RunsOver, Takes, changes_fault}
+use Rattle.dir_change.specs.Runs.{Ending, accepted_or, group_of, run_to_end, with_group_first}
+use Rattle.dir_change.specs.SoundChange.{IsSoundChange}
+use Rattle.dir_tools.specs.Inside.Running.{Adds, AddsAll, BreaksOff, Continues, IsChangesFaultCause, RunsOver, Takes, changes_fault}
 
 flat_map_snoc : {A B : Type 0} (f : A → List B) (xs : List A) (x : A) → flat_map f (xs ++ x ∷ []) ≡ flat_map f xs ++ f x
 flat_map_snoc f [] x = append-nil (f x)
@@ -62,106 +62,106 @@ adds_one os o first between last a b =
 
 -- ---- where a run leads
 
-onto_onto : (os ps : List (ℕ × Outcome)) (r : Result Ran StreamFault) → onto os (onto ps r) ≡ onto (os ++ ps) r
+onto_onto : (os ps : List (ℕ × Outcome)) (r : Result RunEnd StreamFault) → with_outcomes_before os (with_outcomes_before ps r) ≡ with_outcomes_before (os ++ ps) r
 onto_onto os ps (Ok ran) = ap (λ t. Ok (record { end = ran.end; outcomes = t })) (sym (append_assoc os ps ran.outcomes))
 onto_onto os ps (Err fault) = refl
 
-pub onto_none : (r : Result Ran StreamFault) → r ≡ onto [] r
+pub onto_none : (r : Result RunEnd StreamFault) → r ≡ with_outcomes_before [] r
 onto_none (Ok ran) = refl
 onto_none (Err fault) = refl
 
 -- where a record leads the run
-pub goes : (rows : List TypeRow) (go_on : Bool) (d : Dir) (found : Found) (l : Led) (rest : List Answer)
-    → led rows d found.1 ≡ l
-    → run_of rows go_on d (Ok found ∷ rest) ≡ led_on l found.0 (λ x. run_of rows go_on x rest) (cond go_on (run_of rows go_on d rest) (ends_at d))
-goes rows go_on d found l rest is = ap (λ (l : Led). led_on l found.0 (λ x. run_of rows go_on x rest) (cond go_on (run_of rows go_on d rest) (ends_at d))) is
+pub goes : (rows : List TypeRow) (go_on : Bool) (d : Dir) (found : Found) (l : RecordStep) (rest : List Answer)
+    → record_step rows d found.1 ≡ l
+    → run_of rows go_on d (Ok found ∷ rest) ≡ run_after l found.0 (λ x. run_of rows go_on x rest) (cond go_on (run_of rows go_on d rest) (ended_run d))
+goes rows go_on d found l rest is = ap (λ (l : RecordStep). run_after l found.0 (λ x. run_of rows go_on x rest) (cond go_on (run_of rows go_on d rest) (ended_run d))) is
 
 -- ---- over the answers of a reader
 
 -- what an accepted record leads on to, and a refused one of a run that goes on
 pub on_accepted : (rows : List TypeRow) (go_on : Bool) (d0 d e : Dir) (os : List (ℕ × Outcome)) (found : Found) (group : List Change) (first old new : Option (List Answer))
-    → led rows d found.1 ≡ Ok (e, group) → GivesFirst (Ok found) old new
-    → Continues first old (λ answers rest. run_of rows go_on d0 answers ≡ onto os (run_of rows go_on d rest))
-    → Continues first new (λ answers rest. run_of rows go_on d0 answers ≡ onto (os ++ (found.0, Ok group) ∷ []) (run_of rows go_on e rest))
+    → record_step rows d found.1 ≡ Ok (e, group) → GivesFirst (Ok found) old new
+    → Continues first old (λ answers rest. run_of rows go_on d0 answers ≡ with_outcomes_before os (run_of rows go_on d rest))
+    → Continues first new (λ answers rest. run_of rows go_on d0 answers ≡ with_outcomes_before (os ++ (found.0, Ok group) ∷ []) (run_of rows go_on e rest))
 on_accepted rows go_on d0 d e os found group None old new is gives was = tt
 on_accepted rows go_on d0 d e os found group (Some answers) None new is gives was = absurd (was)
 on_accepted rows go_on d0 d e os found group (Some answers) (Some now) None is gives was = absurd (gives)
 on_accepted rows go_on d0 d e os found group (Some answers) (Some now) (Some rest) is gives was =
-    was ∙ ap (λ t. onto os (run_of rows go_on d t)) gives ∙ ap (onto os) (goes rows go_on d found (Ok (e, group)) rest is) ∙ onto_onto os ((found.0, Ok group) ∷ []) (run_of rows go_on e rest)
+    was ∙ ap (λ t. with_outcomes_before os (run_of rows go_on d t)) gives ∙ ap (with_outcomes_before os) (goes rows go_on d found (Ok (e, group)) rest is) ∙ onto_onto os ((found.0, Ok group) ∷ []) (run_of rows go_on e rest)
 
 pub on_refused : (rows : List TypeRow) (go_on : Bool) (d0 d e : Dir) (os : List (ℕ × Outcome)) (found : Found) (why : Cause) (first old new : Option (List Answer))
-    → go_on ≡ true → led rows d found.1 ≡ Err why → e ≡ d → GivesFirst (Ok found) old new
-    → Continues first old (λ answers rest. run_of rows go_on d0 answers ≡ onto os (run_of rows go_on d rest))
-    → Continues first new (λ answers rest. run_of rows go_on d0 answers ≡ onto (os ++ (found.0, Err why) ∷ []) (run_of rows go_on e rest))
+    → go_on ≡ true → record_step rows d found.1 ≡ Err why → e ≡ d → GivesFirst (Ok found) old new
+    → Continues first old (λ answers rest. run_of rows go_on d0 answers ≡ with_outcomes_before os (run_of rows go_on d rest))
+    → Continues first new (λ answers rest. run_of rows go_on d0 answers ≡ with_outcomes_before (os ++ (found.0, Err why) ∷ []) (run_of rows go_on e rest))
 on_refused rows go_on d0 d e os found why None old new on is same gives was = tt
 on_refused rows go_on d0 d e os found why (Some answers) None new on is same gives was = absurd (was)
 on_refused rows go_on d0 d e os found why (Some answers) (Some now) None on is same gives was = absurd (gives)
 on_refused rows go_on d0 d e os found why (Some answers) (Some now) (Some rest) on is same gives was =
-    was ∙ ap (λ t. onto os (run_of rows go_on d t)) gives ∙ ap (onto os) (goes rows go_on d found (Err why) rest is) ∙ onto_onto os ((found.0, Err why) ∷ []) _
-    ∙ ap (λ (b : Bool). onto (os ++ (found.0, Err why) ∷ []) (cond b (run_of rows go_on d rest) (ends_at d))) on
-    ∙ ap (λ x. onto (os ++ (found.0, Err why) ∷ []) (run_of rows go_on x rest)) (sym same)
+    was ∙ ap (λ t. with_outcomes_before os (run_of rows go_on d t)) gives ∙ ap (with_outcomes_before os) (goes rows go_on d found (Err why) rest is) ∙ onto_onto os ((found.0, Err why) ∷ []) _
+    ∙ ap (λ (b : Bool). with_outcomes_before (os ++ (found.0, Err why) ∷ []) (cond b (run_of rows go_on d rest) (ended_run d))) on
+    ∙ ap (λ x. with_outcomes_before (os ++ (found.0, Err why) ∷ []) (run_of rows go_on x rest)) (sym same)
 
 -- where a run ends
 pub on_stopped : (rows : List TypeRow) (go_on : Bool) (d0 d e : Dir) (os : List (ℕ × Outcome)) (found : Found) (why : Cause) (first old new : Option (List Answer))
-    → go_on ≡ false → led rows d found.1 ≡ Err why → e ≡ d → GivesFirst (Ok found) old new
-    → Continues first old (λ answers rest. run_of rows go_on d0 answers ≡ onto os (run_of rows go_on d rest))
+    → go_on ≡ false → record_step rows d found.1 ≡ Err why → e ≡ d → GivesFirst (Ok found) old new
+    → Continues first old (λ answers rest. run_of rows go_on d0 answers ≡ with_outcomes_before os (run_of rows go_on d rest))
     → IfSome first (λ answers. run_of rows go_on d0 answers ≡ Ok (record { end = e; outcomes = os ++ (found.0, Err why) ∷ [] }))
 on_stopped rows go_on d0 d e os found why None old new off is same gives was = tt
 on_stopped rows go_on d0 d e os found why (Some answers) None new off is same gives was = absurd (was)
 on_stopped rows go_on d0 d e os found why (Some answers) (Some now) None off is same gives was = absurd (gives)
 on_stopped rows go_on d0 d e os found why (Some answers) (Some now) (Some rest) off is same gives was =
-    was ∙ ap (λ t. onto os (run_of rows go_on d t)) gives ∙ ap (onto os) (goes rows go_on d found (Err why) rest is) ∙ onto_onto os ((found.0, Err why) ∷ []) _
-    ∙ ap (λ (b : Bool). onto (os ++ (found.0, Err why) ∷ []) (cond b (run_of rows go_on d rest) (ends_at d))) off
+    was ∙ ap (λ t. with_outcomes_before os (run_of rows go_on d t)) gives ∙ ap (with_outcomes_before os) (goes rows go_on d found (Err why) rest is) ∙ onto_onto os ((found.0, Err why) ∷ []) _
+    ∙ ap (λ (b : Bool). with_outcomes_before (os ++ (found.0, Err why) ∷ []) (cond b (run_of rows go_on d rest) (ended_run d))) off
     ∙ ap (λ t. Ok (record { end = d; outcomes = t })) (append-nil (os ++ (found.0, Err why) ∷ []))
     ∙ ap (λ x. Ok (record { end = x; outcomes = os ++ (found.0, Err why) ∷ [] })) (sym same)
 
 pub on_end : (rows : List TypeRow) (go_on : Bool) (d0 d : Dir) (os : List (ℕ × Outcome)) (first old : Option (List Answer))
     → GivesNone old
-    → Continues first old (λ answers rest. run_of rows go_on d0 answers ≡ onto os (run_of rows go_on d rest))
+    → Continues first old (λ answers rest. run_of rows go_on d0 answers ≡ with_outcomes_before os (run_of rows go_on d rest))
     → IfSome first (λ answers. run_of rows go_on d0 answers ≡ Ok (record { end = d; outcomes = os }))
 on_end rows go_on d0 d os None old none was = tt
 on_end rows go_on d0 d os (Some answers) None none was = absurd (was)
 on_end rows go_on d0 d os (Some answers) (Some rest) none was =
-    was ∙ ap (λ t. onto os (run_of rows go_on d t)) none ∙ ap (λ t. Ok (record { end = d; outcomes = t })) (append-nil os)
+    was ∙ ap (λ t. with_outcomes_before os (run_of rows go_on d t)) none ∙ ap (λ t. Ok (record { end = d; outcomes = t })) (append-nil os)
 
 pub on_fault : (rows : List TypeRow) (go_on : Bool) (d0 d : Dir) (os : List (ℕ × Outcome)) (fault : StreamFault) (first old : Option (List Answer))
     → IfSome old (λ known. known ≡ Err fault ∷ [])
-    → Continues first old (λ answers rest. run_of rows go_on d0 answers ≡ onto os (run_of rows go_on d rest))
+    → Continues first old (λ answers rest. run_of rows go_on d0 answers ≡ with_outcomes_before os (run_of rows go_on d rest))
     → IfSome first (λ answers. run_of rows go_on d0 answers ≡ Err fault)
 on_fault rows go_on d0 d os fault None old ends was = tt
 on_fault rows go_on d0 d os fault (Some answers) None ends was = absurd (was)
-on_fault rows go_on d0 d os fault (Some answers) (Some rest) ends was = was ∙ ap (λ t. onto os (run_of rows go_on d t)) ends
+on_fault rows go_on d0 d os fault (Some answers) (Some rest) ends was = was ∙ ap (λ t. with_outcomes_before os (run_of rows go_on d t)) ends
 
 -- ---- the accepted changes alone
 
 goes_on_step : (rows : List TypeRow) (d : Dir) (c : Change) (cs : List Change) (r : Result Dir ResultCode) → step rows d c ≡ r
-    → goes_on rows d (c ∷ cs) ≡ accepted_or r (λ e. behind (group_of rows d e c) (goes_on rows e cs)) (goes_on rows d cs)
-goes_on_step rows d c cs r is = ap (λ z. accepted_or z (λ e. behind (group_of rows d e c) (goes_on rows e cs)) (goes_on rows d cs)) is
+    → run_to_end rows d (c ∷ cs) ≡ accepted_or r (λ e. with_group_first (group_of rows d e c) (run_to_end rows e cs)) (run_to_end rows d cs)
+goes_on_step rows d c cs r is = ap (λ z. accepted_or z (λ e. with_group_first (group_of rows d e c) (run_to_end rows e cs)) (run_to_end rows d cs)) is
 
 one_further : (rows : List TypeRow) (d e : Dir) (c : Change) → step rows d c ≡ Ok e
-    → goes_on rows d (c ∷ []) ≡ record { end = e; groups = group_of rows d e c ∷ [] }
+    → run_to_end rows d (c ∷ []) ≡ record { end = e; groups = group_of rows d e c ∷ [] }
 one_further rows d e c is = goes_on_step rows d c [] (Ok e) is
 
 ending_end : (a b : Ending) → a ≡ b → a.end ≡ b.end
 ending_end a b e = ap (λ x. x.end) e
 
 further_on : (rows : List TypeRow) (d0 : Dir) (c : Change) (cs : List Change) (r : Result Dir ResultCode) (e : Dir) (x : Change) → step rows d0 c ≡ r
-    → ((d : Dir) → step rows (goes_on rows d cs).end x ≡ Ok e → goes_on rows d (cs ++ x ∷ []) ≡ record { end = e; groups = (goes_on rows d cs).groups ++ group_of rows (goes_on rows d cs).end e x ∷ [] })
-    → step rows (goes_on rows d0 (c ∷ cs)).end x ≡ Ok e
-    → goes_on rows d0 (c ∷ (cs ++ x ∷ [])) ≡ record { end = e; groups = (goes_on rows d0 (c ∷ cs)).groups ++ group_of rows (goes_on rows d0 (c ∷ cs)).end e x ∷ [] }
+    → ((d : Dir) → step rows (run_to_end rows d cs).end x ≡ Ok e → run_to_end rows d (cs ++ x ∷ []) ≡ record { end = e; groups = (run_to_end rows d cs).groups ++ group_of rows (run_to_end rows d cs).end e x ∷ [] })
+    → step rows (run_to_end rows d0 (c ∷ cs)).end x ≡ Ok e
+    → run_to_end rows d0 (c ∷ (cs ++ x ∷ [])) ≡ record { end = e; groups = (run_to_end rows d0 (c ∷ cs)).groups ++ group_of rows (run_to_end rows d0 (c ∷ cs)).end e x ∷ [] }
 further_on rows d0 c cs (Ok d1) e x is rest takes =
-    let here : goes_on rows d0 (c ∷ cs) ≡ behind (group_of rows d0 d1 c) (goes_on rows d1 cs) = goes_on_step rows d0 c cs (Ok d1) is in
-    let takes' : step rows (goes_on rows d1 cs).end x ≡ Ok e = subst (λ (n : Ending). step rows n.end x ≡ Ok e) here takes in
-    subst (λ (n : Ending). goes_on rows d0 (c ∷ (cs ++ x ∷ [])) ≡ record { end = e; groups = n.groups ++ group_of rows n.end e x ∷ [] }) (sym here)
-    (goes_on_step rows d0 c (cs ++ x ∷ []) (Ok d1) is ∙ ap (behind (group_of rows d0 d1 c)) (rest d1 takes'))
+    let here : run_to_end rows d0 (c ∷ cs) ≡ with_group_first (group_of rows d0 d1 c) (run_to_end rows d1 cs) = goes_on_step rows d0 c cs (Ok d1) is in
+    let takes' : step rows (run_to_end rows d1 cs).end x ≡ Ok e = subst (λ (n : Ending). step rows n.end x ≡ Ok e) here takes in
+    subst (λ (n : Ending). run_to_end rows d0 (c ∷ (cs ++ x ∷ [])) ≡ record { end = e; groups = n.groups ++ group_of rows n.end e x ∷ [] }) (sym here)
+    (goes_on_step rows d0 c (cs ++ x ∷ []) (Ok d1) is ∙ ap (with_group_first (group_of rows d0 d1 c)) (rest d1 takes'))
 further_on rows d0 c cs (Err code) e x is rest takes =
-    let here : goes_on rows d0 (c ∷ cs) ≡ goes_on rows d0 cs = goes_on_step rows d0 c cs (Err code) is in
-    let takes' : step rows (goes_on rows d0 cs).end x ≡ Ok e = subst (λ (n : Ending). step rows n.end x ≡ Ok e) here takes in
-    subst (λ (n : Ending). goes_on rows d0 (c ∷ (cs ++ x ∷ [])) ≡ record { end = e; groups = n.groups ++ group_of rows n.end e x ∷ [] }) (sym here)
+    let here : run_to_end rows d0 (c ∷ cs) ≡ run_to_end rows d0 cs = goes_on_step rows d0 c cs (Err code) is in
+    let takes' : step rows (run_to_end rows d0 cs).end x ≡ Ok e = subst (λ (n : Ending). step rows n.end x ≡ Ok e) here takes in
+    subst (λ (n : Ending). run_to_end rows d0 (c ∷ (cs ++ x ∷ [])) ≡ record { end = e; groups = n.groups ++ group_of rows n.end e x ∷ [] }) (sym here)
     (goes_on_step rows d0 c (cs ++ x ∷ []) (Err code) is ∙ rest d0 takes')
 
-further : (rows : List TypeRow) (d : Dir) (cs : List Change) (e : Dir) (x : Change) → step rows (goes_on rows d cs).end x ≡ Ok e
-    → goes_on rows d (cs ++ x ∷ []) ≡ record { end = e; groups = (goes_on rows d cs).groups ++ group_of rows (goes_on rows d cs).end e x ∷ [] }
+further : (rows : List TypeRow) (d : Dir) (cs : List Change) (e : Dir) (x : Change) → step rows (run_to_end rows d cs).end x ≡ Ok e
+    → run_to_end rows d (cs ++ x ∷ []) ≡ record { end = e; groups = (run_to_end rows d cs).groups ++ group_of rows (run_to_end rows d cs).end e x ∷ [] }
 further rows d [] e x takes = one_further rows d e x takes
 further rows d (c ∷ cs) e x takes = further_on rows d c cs (step rows d c) e x refl (λ f. further rows f cs e x) takes
 
@@ -172,7 +172,7 @@ each_snoc P (y ∷ xs) x ps p = (ps.0, each_snoc P xs x ps.1 p)
 pub accepted_none : (rows : List TypeRow) (d : Dir) → HasAccepted rows d [] d
 accepted_none rows d = ([], tt, refl)
 
-accepted_step : (rows : List TypeRow) (d e : Dir) (change : Change) (r : Result Dir ResultCode) (group : List Change) → stepped rows d change r ≡ Ok (e, group) → (r ≡ Ok e) × (group_of rows d e change ≡ group)
+accepted_step : (rows : List TypeRow) (d e : Dir) (change : Change) (r : Result Dir ResultCode) (group : List Change) → change_step rows d change r ≡ Ok (e, group) → (r ≡ Ok e) × (group_of rows d e change ≡ group)
 accepted_step rows d e change (Ok f) group is =
     let pair : (f, group_of rows d f change) ≡ (e, group) = cc in
     let there : f ≡ e = ap (λ (p : Dir × List Change). p.0) pair in
@@ -182,13 +182,13 @@ accepted_step rows d e change (Err code) group is = absurd (cc)
 
 -- an accepted record more
 pub accepted_more : (rows : List TypeRow) (d0 d e : Dir) (os : List (ℕ × Outcome)) (line : ℕ) (found : Result Record RecordFault) (group : List Change)
-    → led rows d found ≡ Ok (e, group) → IsSoundFound rows (line, found) → HasAccepted rows d0 os d → HasAccepted rows d0 (os ++ (line, Ok group) ∷ []) e
+    → record_step rows d found ≡ Ok (e, group) → IsSoundFound rows (line, found) → HasAccepted rows d0 os d → HasAccepted rows d0 (os ++ (line, Ok group) ∷ []) e
 accepted_more rows d0 d e os line (Ok (form.Change change)) group is sound was =
     let took = accepted_step rows d e change (step rows d change) group is in
-    let ends : (goes_on rows d0 was.0).end ≡ d = ap (λ (n : Ending). n.end) was.2 in
-    let takes : step rows (goes_on rows d0 was.0).end change ≡ Ok e = subst (λ z. step rows z change ≡ Ok e) (sym ends) took.0 in
-    let on : goes_on rows d0 (was.0 ++ change ∷ []) ≡ record { end = e; groups = groups_in os ++ group_of rows d e change ∷ [] } =
-    subst (λ (n : Ending). goes_on rows d0 (was.0 ++ change ∷ []) ≡ record { end = e; groups = n.groups ++ group_of rows n.end e change ∷ [] }) was.2 (further rows d0 was.0 e change takes) in (
+    let ends : (run_to_end rows d0 was.0).end ≡ d = ap (λ (n : Ending). n.end) was.2 in
+    let takes : step rows (run_to_end rows d0 was.0).end change ≡ Ok e = subst (λ z. step rows z change ≡ Ok e) (sym ends) took.0 in
+    let on : run_to_end rows d0 (was.0 ++ change ∷ []) ≡ record { end = e; groups = groups_in os ++ group_of rows d e change ∷ [] } =
+    subst (λ (n : Ending). run_to_end rows d0 (was.0 ++ change ∷ []) ≡ record { end = e; groups = n.groups ++ group_of rows n.end e change ∷ [] }) was.2 (further rows d0 was.0 e change takes) in (
       was.0 ++ change ∷ [],
       each_snoc (IsSoundChange rows) was.0 change was.1 sound,
       on ∙ ap (λ gs. record { end = e; groups = gs }) (ap (λ g. groups_in os ++ g ∷ []) took.1 ∙ sym (flat_map_snoc group_in os (line, Ok group))),
@@ -211,7 +211,7 @@ accepted_still rows d0 d e os line why same was = (
 abbrev pub RunsSoFar : {D : Type 0} → (D → Dir) → List TypeRow → Option (List Answer) → Option (List Answer) → Run D → Run D → Type 0
 RunsSoFar state rows first now old run =
     (outcomes : List (ℕ × Outcome)) × AddsAll outcomes old run × HasAccepted rows (state old.directory) outcomes (state run.directory)
-    × Continues first now (λ answers rest. run_of rows old.options.go_on (state old.directory) answers ≡ onto outcomes (run_of rows old.options.go_on (state run.directory) rest))
+    × Continues first now (λ answers rest. run_of rows old.options.go_on (state old.directory) answers ≡ with_outcomes_before outcomes (run_of rows old.options.go_on (state run.directory) rest))
 
 pub runs_begun : {D : Type 0} (state : D → Dir) (rows : List TypeRow) (first : Option (List Answer)) (run : Run D) → RunsSoFar state rows first first run run
 runs_begun state rows None run = ([], adds_none run, accepted_none rows (state run.directory), tt)
@@ -261,7 +261,7 @@ module _ {D : Type 0} {S : Type 0} where
   pub runs_blamed : (state : D → Dir) (rows : List TypeRow) (left : S → Option (List ℕ)) (failures : S → ℕ) (fault : StreamFault) (first : Option (List Answer)) (count : ℕ) (old new : RecordReader S) (begun run : Run D)
       → (IsEnded old → ⊥) → failures (source_of old) ≡ count → StopsFor left failures fault old new
       → RunsSoFar state rows first (to_give left old) begun run
-      → ChangesBlamed state rows first count (failures (source_of new)) begun (changes_fault fault)
+      → IsChangesFaultCause state rows first count (failures (source_of new)) begun (changes_fault fault)
   runs_blamed state rows left failures stream.LineTooLong first count old new begun run going same stops was = runs_faulty state rows stream.LineTooLong first (to_give left old) begun run stops was
   runs_blamed state rows left failures stream.BadVersion first count old new begun run going same stops was = runs_faulty state rows stream.BadVersion first (to_give left old) begun run stops was
   runs_blamed state rows left failures stream.Read first count old new begun run going same stops was = subst (λ n. HasFailed n (failures (source_of new))) same stops.0

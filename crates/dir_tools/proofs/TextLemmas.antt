@@ -13,28 +13,28 @@ use Rattle.dir_tools.specs.declared.fault.Input.TheVariants as input
 use Rattle.dir_tools.specs.declared.fault.Output.TheVariants as to
 use Rattle.dir_tools.specs.declared.fault.ToolFault.{ToolFault}
 use Rattle.dir_tools.specs.declared.fault.ToolFault.TheVariants as tool
-use Rattle.dir_tools.specs.declared.modify.Files.{Files}
-use Rattle.dir_tools.specs.declared.modify.ModifyOptions.{ModifyOptions}
-use Rattle.dir_tools.specs.declared.modify.RunTexts.{RunTexts}
-use Rattle.dir_tools.specs.declared.modify.Summary.{Summary}
+use Rattle.dir_tools.specs.declared.run.Files.{Files}
+use Rattle.dir_tools.specs.declared.run.ModifyOptions.{ModifyOptions}
+use Rattle.dir_tools.specs.declared.run.RunTexts.{RunTexts}
+use Rattle.dir_tools.specs.declared.run.Summary.{Summary}
 use Rattle.dir_tools.specs.declared.run.Run.{Run}
-use Rattle.dir_tools.specs.Headline.{Answers, Blames, ChangesAreBad, ComesFirst, Told, HasRun, IsBadText, WrittenRunsAreTakenBack, key_read, nonempty_key, suffix_of, texts_of_run}
-use Rattle.dir_tools.specs.CopyOf.{copy_of, nothing_under}
-use Rattle.dir_tools.specs.Settled.{AllAccepted, AllTaken, Gave, IsOfReading, answers_behind}
-use Rattle.dir_tools.specs.Loading.{CopyBlamed, IsBare, IsNamed}
+use Rattle.dir_tools.specs.Headline.{AnswersRun, ChangesAreBad, HeldBefore, IsBadText, IsCausedBy, IsStatedRun, KnownBytes, WrittenRunsAreTakenBack, nonempty_key, suffix_key, suffix_of, texts_of_run}
+use Rattle.dir_tools.specs.CopyOf.{copy_of, empty_copy}
+use Rattle.dir_tools.specs.CompleteRecords.{CompleteRecordsAreAccepted, CompleteRecordsLoad, GaveBytes, IsReaderFault, answers_after}
+use Rattle.dir_tools.specs.CopyFaults.{HasNoEntries, HasRdn, IsCopyFaultCause}
 use Rattle.dir_tree.specs.WellFormed.{IsWellFormed, IsWithinLimits}
 use Rattle.dir_names.specs.declared.fault.NameFault.{NameFault}
 use Rattle.dir_names.specs.Keys.{DnKeys}
 use Rattle.dir_names.specs.Names.{SpelledName}
 use Rattle.dir_names.specs.NameKeys.{name_key}
 use Rattle.dir_names.specs.Reading.{name_read}
-use Rattle.dir_tools.specs.Ran.{Ran, causes_in, groups_in, run_of}
+use Rattle.dir_tools.specs.RunOf.{RunEnd, causes_in, groups_in, run_of}
 use Rattle.dir_tools.specs.Report.{numbers_line, outcome_line}
-use Rattle.dir_tools.specs.RunTexts.{Holds, HoldsFiles, is_dry, texts_of}
-use Rattle.dir_tools.specs.Running.{AreItsFiles, AreItsTexts, BreaksOff, ChangesBlamed, IsBegun, RunsOver}
-use Rattle.dir_tools.specs.Turns.{IsLong}
+use Rattle.dir_tools.specs.Inside.RunTexts.{AreFiles, AreTexts, is_dry, texts_of}
+use Rattle.dir_tools.specs.Inside.Running.{AreFilesOfRun, AreTextsOfRun, BreaksOff, HasTakenNone, IsChangesFaultCause, RunsOver}
+use Rattle.dir_tools.specs.ReadCalls.{FillsReadCalls}
 use Rattle.dir_tools.proofs.Small.{known}
-use Rattle.dir_tools.specs.Written.{IsWriteFault, Tape, Texts, Written}
+use Rattle.dir_tools.specs.Writing.{IsWriteFault, TakenBytes, Texts, WroteInOrder}
 
 -- of the text, what is known of its records
 of_text : {A B : Type 0} (f : A → B) (P : B → Type 0) (left : Option A) → IfSome (option_map f left) P → IfSome left (λ t. P (f t))
@@ -53,16 +53,16 @@ has_part (Some []) k h none = absurd (cc)
 has_part (Some (part ∷ parts)) k h none = cc
 
 -- a suffix has an RDN
-pub named_suffix : (rows : List TypeRow) (text : List ℕ) (k : DnKeys) → suffix_of rows text ≡ Some k → IsNamed k
+pub named_suffix : (rows : List TypeRow) (text : List ℕ) (k : DnKeys) → suffix_of rows text ≡ Some k → HasRdn k
 named_suffix rows text k = by (name_read text)
   where
-    by : (r : Result SpelledName NameFault) → key_read rows r ≡ Some k → IsNamed k
+    by : (r : Result SpelledName NameFault) → suffix_key rows r ≡ Some k → HasRdn k
     by (Ok name) h = has_part (name_key rows name) k h
     by (Err fault) h = λ none. absurd (cc)
 
 -- a copy's fault, as it blames the text of the copy
 pub copy_blamed_so : (rows : List TypeRow) (suffix : List ℕ) (options : ModifyOptions) (copy left : Option (List ℕ)) (empty : Dir) (failures failures' : ℕ) (fault : ToolFault)
-    → suffix_of rows suffix ≡ Some empty.suffix → IsBare empty → CopyBlamed rows empty copy failures failures' fault → Blames rows suffix options copy left fault
+    → suffix_of rows suffix ≡ Some empty.suffix → HasNoEntries empty → IsCopyFaultCause rows empty copy failures failures' fault → IsCausedBy rows suffix options copy left fault
 copy_blamed_so rows suffix options copy left empty failures failures' (tool.BadCopy line why) key bare h = (empty.suffix, key, h bare)
 copy_blamed_so rows suffix options copy left empty failures failures' (tool.Read input.Copy) key bare h = tt
 copy_blamed_so rows suffix options copy left empty failures failures' (tool.Read input.Changes) key bare h = absurd (h)
@@ -73,10 +73,10 @@ copy_blamed_so rows suffix options copy left empty failures failures' (tool.BadQ
 copy_blamed_so rows suffix options copy left empty failures failures' (tool.BadChanges fault) key bare h = absurd (h)
 
 -- what stands before the fault of a copy's reader
-pub copy_first : (rows : List TypeRow) (suffix : List ℕ) (options : ModifyOptions) (copy copy' : Option (List ℕ)) (changes : Told) (empty : Dir) (failures failures' : ℕ) (fault : ToolFault)
-    → suffix_of rows suffix ≡ Some empty.suffix → CopyBlamed rows empty copy failures failures' fault
-    → (IsOfReading fault → Gave copy copy' (λ bytes. AllTaken rows (nothing_under empty.suffix) (answers_behind rows bytes)))
-    → ComesFirst rows suffix options (copy, copy') changes fault
+pub copy_first : (rows : List TypeRow) (suffix : List ℕ) (options : ModifyOptions) (copy copy' : Option (List ℕ)) (changes : KnownBytes) (empty : Dir) (failures failures' : ℕ) (fault : ToolFault)
+    → suffix_of rows suffix ≡ Some empty.suffix → IsCopyFaultCause rows empty copy failures failures' fault
+    → (IsReaderFault fault → GaveBytes copy copy' (λ bytes. CompleteRecordsLoad rows (empty_copy empty.suffix) (answers_after rows bytes)))
+    → HeldBefore rows suffix options (copy, copy') changes fault
 copy_first rows suffix options copy copy' changes empty failures failures' (tool.Read input.Copy) key h settled = (empty.suffix, key, settled tt)
 copy_first rows suffix options copy copy' changes empty failures failures' (tool.Read input.Changes) key h settled = absurd (h)
 copy_first rows suffix options copy copy' changes empty failures failures' (tool.Read input.Config) key h settled = absurd (h)
@@ -108,8 +108,8 @@ module _ {D : Type 0} (state : D → Dir) (rows : List TypeRow) (suffix : List �
 
   -- a run's fault, as it blames the text of changes
   pub blamed_so : (failures failures' : ℕ) (fault : ToolFault) → begun.options ≡ options → suffix_of rows suffix ≡ Some (state begun.directory).suffix
-      → (fault ≡ tool.BadChanges stream.TooManyTurns → IfSome left IsLong)
-      → ChangesBlamed state rows (option_map (records_of rows) left) failures failures' begun fault → Blames rows suffix options copy left fault
+      → (fault ≡ tool.BadChanges stream.TooManyTurns → IfSome left FillsReadCalls)
+      → IsChangesFaultCause state rows (option_map (records_of rows) left) failures failures' begun fault → IsCausedBy rows suffix options copy left fault
   blamed_so failures failures' (tool.BadChanges stream.LineTooLong) same key long h = bad stream.LineTooLong (λ text e. e) same key h
   blamed_so failures failures' (tool.BadChanges stream.BadVersion) same key long h = bad stream.BadVersion (λ text e. e) same key h
   blamed_so failures failures' (tool.BadChanges stream.TooManyTurns) same key long h = (state begun.directory, key, reads, long refl)
@@ -126,9 +126,9 @@ module _ {D : Type 0} (state : D → Dir) (rows : List TypeRow) (suffix : List �
 
   -- and before that of the changes' reader
   pub changes_first : (copy' left' : Option (List ℕ)) (failures failures' : ℕ) (fault : ToolFault) → suffix_of rows suffix ≡ Some (state begun.directory).suffix
-      → ChangesBlamed state rows (option_map (records_of rows) left) failures failures' begun fault
-      → (IsOfReading fault → options.go_on ≡ false → Gave left left' (λ bytes. AllAccepted rows (state begun.directory) (answers_behind rows bytes)))
-      → ComesFirst rows suffix options (copy, copy') (left, left') fault
+      → IsChangesFaultCause state rows (option_map (records_of rows) left) failures failures' begun fault
+      → (IsReaderFault fault → options.go_on ≡ false → GaveBytes left left' (λ bytes. CompleteRecordsAreAccepted rows (state begun.directory) (answers_after rows bytes)))
+      → HeldBefore rows suffix options (copy, copy') (left, left') fault
   changes_first copy' left' failures failures' (tool.Read input.Changes) key h settled = (state begun.directory, key, reads, settled tt)
   changes_first copy' left' failures failures' (tool.Read input.Copy) key h settled = absurd (h)
   changes_first copy' left' failures failures' (tool.Read input.Config) key h settled = absurd (h)
@@ -146,8 +146,8 @@ module _ {D : Type 0} (state : D → Dir) (rows : List TypeRow) (suffix : List �
   from_none : (a b n : ℕ) → a ≡ b + n → b ≡ 0 → a ≡ n
   from_none a b n e z = grind (arith)
 
-  module _ (directory : D) (ended : Run D) (starts : IsBegun directory options begun) (over : RunsOver state rows (option_map (records_of rows) left) begun ended) where
-    abbrev ran : Ran
+  module _ (directory : D) (ended : Run D) (starts : HasTakenNone directory options begun) (over : RunsOver state rows (option_map (records_of rows) left) begun ended) where
+    abbrev ran : RunEnd
     ran = record { end = state ended.directory; outcomes = over.0 }
 
     abbrev stated : Texts
@@ -168,14 +168,14 @@ module _ {D : Type 0} (state : D → Dir) (rows : List TypeRow) (suffix : List �
         (over.1.1 ∙ ap (λ z. z ++ flat_map (outcome_line begun.report.verbose) over.0) starts.2 ∙ ap (λ v. flat_map (outcome_line v) over.0) starts.3)
         ∙ (λ i. flat_map (outcome_line options.verbose) over.0 ++ numbers_line (accepted i) (refused i))
 
-    files : ended.options ≡ options → (made : Option Files) → AreItsFiles state ended made → HoldsFiles options.dry stated made
+    files : ended.options ≡ options → (made : Option Files) → AreFilesOfRun state ended made → AreFiles options.dry stated made
     files same None h = ap (λ (o : ModifyOptions). o.dry) (sym same) ∙ h
     files same (Some made) h = (ap (λ (o : ModifyOptions). o.dry) (sym same) ∙ h.0, h.1 ∙ ap undo_text_of history, h.2)
 
     -- the texts of a run that has ended
-    pub told : (texts : RunTexts) → WrittenRunsAreTakenBack → suffix_of rows suffix ≡ Some (state begun.directory).suffix → ended.options ≡ begun.options → AreItsTexts state ended texts
+    pub told : (texts : RunTexts) → WrittenRunsAreTakenBack → suffix_of rows suffix ≡ Some (state begun.directory).suffix → ended.options ≡ begun.options → AreTextsOfRun state ended texts
         → IsWellFormed rows (state begun.directory) → IsWithinLimits (state begun.directory)
-        → (s : Texts) × Holds options.dry s texts × HasRun rows suffix options copy left texts.summary s
+        → (s : Texts) × AreTexts options.dry s texts × IsStatedRun rows suffix options copy left texts.summary s
     told texts law key same made well within = (
       stated,
       (files (same ∙ starts.6) texts.files made.0, made.2 ∙ report),
@@ -195,7 +195,7 @@ module _ {D : Type 0} (state : D → Dir) (rows : List TypeRow) (suffix : List �
 
 -- ---- the writing
 
-same_texts : (s : Texts) (t : RunTexts) (there : Option Files) → HoldsFiles false s there → t.files ≡ there → t.report.items ≡ s.report → texts_of t ≡ s
+same_texts : (s : Texts) (t : RunTexts) (there : Option Files) → AreFiles false s there → t.files ≡ there → t.report.items ≡ s.report → texts_of t ≡ s
 same_texts s t None h is reported = absurd (cc)
 same_texts s t (Some made) h is reported =
     ap (λ (o : Option Files). texts_of (record t { files = o })) is ∙ (λ i. record { undo = h.1 i; out = h.2 i; report = reported i })
@@ -204,9 +204,9 @@ same_texts s t (Some made) h is reported =
 abbrev report_alone : Texts → RunTexts → Texts
 report_alone s t = record { undo = s.undo; out = s.out; report = t.report.items }
 
-module _ {A : Type 0} (s : Texts) (t : RunTexts) (undo out report : Tape) where
+module _ {A : Type 0} (s : Texts) (t : RunTexts) (undo out report : TakenBytes) where
   -- a dry run writes no file, whatever its text
-  dry_written : (r : Result A ToolFault) → Written true r (texts_of t) undo out report → Written true r (report_alone s t) undo out report
+  dry_written : (r : Result A ToolFault) → WroteInOrder true r (texts_of t) undo out report → WroteInOrder true r (report_alone s t) undo out report
   dry_written (Ok x) h = h
   dry_written (Err (tool.Write to.Undo)) h = absurd (cc)
   dry_written (Err (tool.Write to.Out)) h = absurd (cc)
@@ -218,21 +218,21 @@ module _ {A : Type 0} (s : Texts) (t : RunTexts) (undo out report : Tape) where
   dry_written (Err (tool.BadChanges fault)) h = h
 
   -- what was written of the texts as they were made, was written of the stated ones
-  pub written_so : (dry : Bool) (r : Result A ToolFault) → Holds dry s t → is_dry t ≡ dry → Written (is_dry t) r (texts_of t) undo out report → Written dry r s undo out report
+  pub written_so : (dry : Bool) (r : Result A ToolFault) → AreTexts dry s t → is_dry t ≡ dry → WroteInOrder (is_dry t) r (texts_of t) undo out report → WroteInOrder dry r s undo out report
   written_so true r h same w =
-      subst (λ text. Written true r (record { undo = s.undo; out = s.out; report = text }) undo out report) h.1 (dry_written r (subst (λ b. Written b r (texts_of t) undo out report) same w))
+      subst (λ text. WroteInOrder true r (record { undo = s.undo; out = s.out; report = text }) undo out report) h.1 (dry_written r (subst (λ b. WroteInOrder b r (texts_of t) undo out report) same w))
   written_so false r h same w =
-      subst (λ z. Written false r z undo out report) (same_texts s t t.files h.0 refl h.1) (subst (λ b. Written b r (texts_of t) undo out report) same w)
+      subst (λ z. WroteInOrder false r z undo out report) (same_texts s t t.files h.0 refl h.1) (subst (λ b. WroteInOrder b r (texts_of t) undo out report) same w)
 
-pub dry_of : (dry : Bool) (s : Texts) (t : RunTexts) → Holds dry s t → is_dry t ≡ dry
+pub dry_of : (dry : Bool) (s : Texts) (t : RunTexts) → AreTexts dry s t → is_dry t ≡ dry
 dry_of dry s t h = by t.files refl h.0
   where
-    by : (made : Option Files) → t.files ≡ made → HoldsFiles dry s made → is_dry t ≡ dry
+    by : (made : Option Files) → t.files ≡ made → AreFiles dry s made → is_dry t ≡ dry
     by None there h = ap (λ (o : Option Files). is_dry (record t { files = o })) there ∙ sym h
     by (Some made) there h = ap (λ (o : Option Files). is_dry (record t { files = o })) there ∙ sym h.0
 
 pub answers_write : (rows : List TypeRow) (suffix : List ℕ) (options : ModifyOptions) (copy left : Option (List ℕ)) (summary : Summary) (s : Texts) (fault : ToolFault)
-    → IsWriteFault fault → HasRun rows suffix options copy left summary s → Answers rows suffix options copy left (Err fault) s
+    → IsWriteFault fault → IsStatedRun rows suffix options copy left summary s → AnswersRun rows suffix options copy left (Err fault) s
 answers_write rows suffix options copy left summary s (tool.Write output) h run = (summary, run)
 answers_write rows suffix options copy left summary s (tool.BadCopy line why) h run = absurd (h)
 answers_write rows suffix options copy left summary s (tool.Read input) h run = absurd (h)
@@ -241,9 +241,9 @@ answers_write rows suffix options copy left summary s (tool.BadQuestion item) h 
 answers_write rows suffix options copy left summary s (tool.BadChanges fault) h run = absurd (h)
 
 -- a fault before the writing
-pub unwritten : (A : Type 0) (rows : List TypeRow) (suffix : List ℕ) (options : ModifyOptions) (copy left : Option (List ℕ)) (s : Texts) (fault : ToolFault) (u o w : Tape)
-    → Blames rows suffix options copy left fault → u.1 ≡ u.0 → o.1 ≡ o.0 → w.1 ≡ w.0
-    → Written {A = A} options.dry (Err fault) s u o w × Answers rows suffix options copy left (Err fault) s
+pub unwritten : (A : Type 0) (rows : List TypeRow) (suffix : List ℕ) (options : ModifyOptions) (copy left : Option (List ℕ)) (s : Texts) (fault : ToolFault) (u o w : TakenBytes)
+    → IsCausedBy rows suffix options copy left fault → u.1 ≡ u.0 → o.1 ≡ o.0 → w.1 ≡ w.0
+    → WroteInOrder {A = A} options.dry (Err fault) s u o w × AnswersRun rows suffix options copy left (Err fault) s
 unwritten A rows suffix options copy left s (tool.Write output) u o w h a b c = absurd (h)
 unwritten A rows suffix options copy left s (tool.BadCopy line why) u o w h a b c = ((a, b, c), h)
 unwritten A rows suffix options copy left s (tool.Read input.Copy) u o w h a b c = ((a, b, c), h)

@@ -15,24 +15,23 @@ use Rattle.dir_ldif.specs.Laws.{without_line}
 use Rattle.dir_ldif.specs.Records.{records_of}
 use Rattle.dir_tree.specs.Dir.{Dir}
 use Rattle.dir_tree.specs.WellFormed.{IsWellFormed, IsWithinLimits}
-use Rattle.dir_tools.specs.Running.{HasAccepted}
+use Rattle.dir_tools.specs.RunOf.{HasAccepted, RunEnd, causes_in, groups_in, run_of}
 use Rattle.dir_change.specs.UndoText.{undo_text_of}
 use Rattle.dir_tools.specs.Canonical.{canonical_of}
-use Rattle.dir_tools.specs.CopyOf.{copy_of, nothing_under}
-use Rattle.dir_tools.specs.Loading.{IsBadCopy}
-use Rattle.dir_tools.specs.Ran.{Ran, causes_in, groups_in, run_of}
+use Rattle.dir_tools.specs.CopyOf.{copy_of, empty_copy}
+use Rattle.dir_tools.specs.CopyFaults.{IsBadCopy}
 use Rattle.dir_tools.specs.Report.{modify_report_of}
-use Rattle.dir_tools.specs.Settled.{AllAccepted, AllTaken, Gave, answers_behind}
-use Rattle.dir_tools.specs.Turns.{IsLong}
-use Rattle.dir_tools.specs.Written.{Texts}
+use Rattle.dir_tools.specs.CompleteRecords.{CompleteRecordsAreAccepted, CompleteRecordsLoad, GaveBytes, answers_after}
+use Rattle.dir_tools.specs.ReadCalls.{FillsReadCalls}
+use Rattle.dir_tools.specs.Writing.{Texts}
 use Rattle.dir_tools.specs.declared.fault.Cause.{Cause}
 use Rattle.dir_tools.specs.declared.fault.Cause.TheVariants as cause
 use Rattle.dir_tools.specs.declared.fault.Input.TheVariants as input
 use Rattle.dir_tools.specs.declared.fault.Item.TheVariants as item
 use Rattle.dir_tools.specs.declared.fault.ToolFault.{ToolFault}
 use Rattle.dir_tools.specs.declared.fault.ToolFault.TheVariants as tool
-use Rattle.dir_tools.specs.declared.modify.ModifyOptions.{ModifyOptions}
-use Rattle.dir_tools.specs.declared.modify.Summary.{Summary}
+use Rattle.dir_tools.specs.declared.run.ModifyOptions.{ModifyOptions}
+use Rattle.dir_tools.specs.declared.run.Summary.{Summary}
 
 -- the key of a suffix of at least one RDN
 abbrev pub nonempty_key : Option DnKeys → Option DnKeys
@@ -40,18 +39,18 @@ nonempty_key None = None
 nonempty_key (Some []) = None
 nonempty_key (Some (part ∷ parts)) = Some (part ∷ parts)
 
-abbrev pub key_read : List TypeRow → Result SpelledName NameFault → Option DnKeys
-key_read rows (Ok name) = nonempty_key (name_key rows name)
-key_read rows (Err fault) = None
+abbrev pub suffix_key : List TypeRow → Result SpelledName NameFault → Option DnKeys
+suffix_key rows (Ok name) = nonempty_key (name_key rows name)
+suffix_key rows (Err fault) = None
 
 abbrev pub suffix_of : List TypeRow → List ℕ → Option DnKeys
-suffix_of rows text = key_read rows (name_read text)
+suffix_of rows text = suffix_key rows (name_read text)
 
 -- the texts and the numbers of a run that has ended
-abbrev pub texts_of_run : Bool → Ran → Texts
+abbrev pub texts_of_run : Bool → RunEnd → Texts
 texts_of_run verbose ran = record { undo = undo_text_of (groups_in ran.outcomes); out = canonical_of ran.end; report = modify_report_of verbose ran.outcomes }
 
-abbrev pub IsCounted : Summary → Ran → Type 0
+abbrev pub IsCounted : Summary → RunEnd → Type 0
 IsCounted summary ran = (summary.accepted ≡ length (groups_in ran.outcomes)) × (summary.refused ≡ length (causes_in ran.outcomes))
 
 -- the records of the undo text are the changes of the groups, those of the last accepted record first, and none is faulty
@@ -61,14 +60,14 @@ ReadsAsGroups rows undo groups = map without_line (records_of rows undo) ≡ map
 -- the undo text, run on the written copy, in both modes, is accepted whole, and leads to the first directory
 abbrev pub IsTakenBackBy : List TypeRow → DnKeys → Dir → Texts → Bool → Type 0
 IsTakenBackBy rows suffix first texts go_on =
-    (end : Dir) × (back : Ran) × (copy_of rows suffix texts.out ≡ Ok end) × (run_of rows go_on end (records_of rows texts.undo) ≡ Ok back)
+    (end : Dir) × (back : RunEnd) × (copy_of rows suffix texts.out ≡ Ok end) × (run_of rows go_on end (records_of rows texts.undo) ≡ Ok back)
     × (causes_in back.outcomes ≡ []) × (back.end ≡ first)
 
 -- a run over the records of the changes, from the first directory, which the copy reads as, to its end. Its texts are the
 -- stated ones, and they are taken back
-abbrev pub HasRun : List TypeRow → List ℕ → ModifyOptions → Option (List ℕ) → Option (List ℕ) → Summary → Texts → Type 0
-HasRun rows suffix options copy changes summary texts =
-    (first : Dir) × (ran : Ran)
+abbrev pub IsStatedRun : List TypeRow → List ℕ → ModifyOptions → Option (List ℕ) → Option (List ℕ) → Summary → Texts → Type 0
+IsStatedRun rows suffix options copy changes summary texts =
+    (first : Dir) × (ran : RunEnd)
     × (suffix_of rows suffix ≡ Some first.suffix)
     × IfSome copy (λ text. copy_of rows first.suffix text ≡ Ok first)
     × IfSome changes (λ text. run_of rows options.go_on first (records_of rows text) ≡ Ok ran)
@@ -79,7 +78,7 @@ HasRun rows suffix options copy changes summary texts =
 -- the run from a directory comes to this fault of the text of changes; or the text has a byte or more for each read call of
 -- a reader
 abbrev pub IsBadText : List TypeRow → Bool → Dir → List ℕ → StreamFault → Type 0
-IsBadText rows go_on first text stream.TooManyTurns = IsLong text
+IsBadText rows go_on first text stream.TooManyTurns = FillsReadCalls text
 IsBadText rows go_on first text fault = run_of rows go_on first (records_of rows text) ≡ Err fault
 
 -- the copy reads as a directory, and from there the text of changes is at fault
@@ -94,46 +93,46 @@ abbrev pub CopyIsBad : List TypeRow → List ℕ → Option (List ℕ) → ℕ �
 CopyIsBad rows suffix copy line why = (key : DnKeys) × (suffix_of rows suffix ≡ Some key) × IfSome copy (λ text. IsBadCopy rows key text line why)
 
 -- what a fault before the writing says of the texts that were read; want of memory says nothing of them, and of a read fault
--- `ComesFirst` tells
-abbrev pub Blames : List TypeRow → List ℕ → ModifyOptions → Option (List ℕ) → Option (List ℕ) → ToolFault → Type 0
-Blames rows suffix options copy changes (tool.BadQuestion item.Suffix) = suffix_of rows suffix ≡ None
-Blames rows suffix options copy changes (tool.BadCopy line why) = CopyIsBad rows suffix copy line why
-Blames rows suffix options copy changes (tool.BadChanges fault) = ChangesAreBad rows suffix options copy changes fault
-Blames rows suffix options copy changes (tool.Read input.Copy) = ⊤
-Blames rows suffix options copy changes (tool.Read input.Changes) = ⊤
-Blames rows suffix options copy changes tool.Memory = ⊤
-Blames rows suffix options copy changes fault = ⊥
+-- `HeldBefore` tells
+abbrev pub IsCausedBy : List TypeRow → List ℕ → ModifyOptions → Option (List ℕ) → Option (List ℕ) → ToolFault → Type 0
+IsCausedBy rows suffix options copy changes (tool.BadQuestion item.Suffix) = suffix_of rows suffix ≡ None
+IsCausedBy rows suffix options copy changes (tool.BadCopy line why) = CopyIsBad rows suffix copy line why
+IsCausedBy rows suffix options copy changes (tool.BadChanges fault) = ChangesAreBad rows suffix options copy changes fault
+IsCausedBy rows suffix options copy changes (tool.Read input.Copy) = ⊤
+IsCausedBy rows suffix options copy changes (tool.Read input.Changes) = ⊤
+IsCausedBy rows suffix options copy changes tool.Memory = ⊤
+IsCausedBy rows suffix options copy changes fault = ⊥
 
 -- what a source tells of its bytes, before a call and behind it
-abbrev pub Told : Type 0
-Told = Option (List ℕ) × Option (List ℕ)
+abbrev pub KnownBytes : Type 0
+KnownBytes = Option (List ℕ) × Option (List ℕ)
 
 -- the suffix is a name, and the records of the copy that its bytes settle are taken in
-abbrev pub CopyWasTaken : List TypeRow → List ℕ → Told → Type 0
-CopyWasTaken rows suffix copy =
-    (key : DnKeys) × (suffix_of rows suffix ≡ Some key) × Gave copy.0 copy.1 (λ bytes. AllTaken rows (nothing_under key) (answers_behind rows bytes))
+abbrev pub CopyWasRight : List TypeRow → List ℕ → KnownBytes → Type 0
+CopyWasRight rows suffix copy =
+    (key : DnKeys) × (suffix_of rows suffix ≡ Some key) × GaveBytes copy.0 copy.1 (λ bytes. CompleteRecordsLoad rows (empty_copy key) (answers_after rows bytes))
 
 -- the copy reads as a directory; and where a refused record ends the run, those that the bytes of the changes settle are
 -- accepted
-abbrev pub ChangesWereAccepted : List TypeRow → List ℕ → ModifyOptions → Told → Told → Type 0
+abbrev pub ChangesWereAccepted : List TypeRow → List ℕ → ModifyOptions → KnownBytes → KnownBytes → Type 0
 ChangesWereAccepted rows suffix options copy changes =
     (first : Dir) × (suffix_of rows suffix ≡ Some first.suffix)
     × IfSome copy.0 (λ text. copy_of rows first.suffix text ≡ Ok first)
-    × (options.go_on ≡ false → Gave changes.0 changes.1 (λ bytes. AllAccepted rows first (answers_behind rows bytes)))
+    × (options.go_on ≡ false → GaveBytes changes.0 changes.1 (λ bytes. CompleteRecordsAreAccepted rows first (answers_after rows bytes)))
 
 -- what stands before the fault of a reader that came to no end
-abbrev pub ComesFirst : List TypeRow → List ℕ → ModifyOptions → Told → Told → ToolFault → Type 0
-ComesFirst rows suffix options copy changes (tool.Read input.Copy) = CopyWasTaken rows suffix copy
-ComesFirst rows suffix options copy changes (tool.BadCopy line (cause.Ended stream.TooManyTurns)) = CopyWasTaken rows suffix copy
-ComesFirst rows suffix options copy changes (tool.Read input.Changes) = ChangesWereAccepted rows suffix options copy changes
-ComesFirst rows suffix options copy changes (tool.BadChanges stream.TooManyTurns) = ChangesWereAccepted rows suffix options copy changes
-ComesFirst rows suffix options copy changes fault = ⊤
+abbrev pub HeldBefore : List TypeRow → List ℕ → ModifyOptions → KnownBytes → KnownBytes → ToolFault → Type 0
+HeldBefore rows suffix options copy changes (tool.Read input.Copy) = CopyWasRight rows suffix copy
+HeldBefore rows suffix options copy changes (tool.BadCopy line (cause.Ended stream.TooManyTurns)) = CopyWasRight rows suffix copy
+HeldBefore rows suffix options copy changes (tool.Read input.Changes) = ChangesWereAccepted rows suffix options copy changes
+HeldBefore rows suffix options copy changes (tool.BadChanges stream.TooManyTurns) = ChangesWereAccepted rows suffix options copy changes
+HeldBefore rows suffix options copy changes fault = ⊤
 
 -- what the answer says of them
-abbrev pub Answers : List TypeRow → List ℕ → ModifyOptions → Option (List ℕ) → Option (List ℕ) → Result Summary ToolFault → Texts → Type 0
-Answers rows suffix options copy changes (Ok summary) texts = HasRun rows suffix options copy changes summary texts
-Answers rows suffix options copy changes (Err (tool.Write output)) texts = (summary : Summary) × HasRun rows suffix options copy changes summary texts
-Answers rows suffix options copy changes (Err fault) texts = Blames rows suffix options copy changes fault
+abbrev pub AnswersRun : List TypeRow → List ℕ → ModifyOptions → Option (List ℕ) → Option (List ℕ) → Result Summary ToolFault → Texts → Type 0
+AnswersRun rows suffix options copy changes (Ok summary) texts = IsStatedRun rows suffix options copy changes summary texts
+AnswersRun rows suffix options copy changes (Err (tool.Write output)) texts = (summary : Summary) × IsStatedRun rows suffix options copy changes summary texts
+AnswersRun rows suffix options copy changes (Err fault) texts = IsCausedBy rows suffix options copy changes fault
 
 -- the suffix alone
 abbrev pub IsNoSuffix : Option DnKeys → ToolFault → Type 0
@@ -150,5 +149,5 @@ CanonicalTextsReadBack = (rows : List TypeRow) (d : Dir) → IsWellFormed rows d
 -- the texts of a run lead back to the directory in which it began
 abbrev pub WrittenRunsAreTakenBack : Type 0
 WrittenRunsAreTakenBack =
-    (rows : List TypeRow) (d : Dir) (ran : Ran) (verbose : Bool) → IsWellFormed rows d → IsWithinLimits d → HasAccepted rows d ran.outcomes ran.end
+    (rows : List TypeRow) (d : Dir) (ran : RunEnd) (verbose : Bool) → IsWellFormed rows d → IsWithinLimits d → HasAccepted rows d ran.outcomes ran.end
     → ReadsAsGroups rows (texts_of_run verbose ran).undo (groups_in ran.outcomes) × ((go_on : Bool) → IsTakenBackBy rows d.suffix d (texts_of_run verbose ran) go_on)

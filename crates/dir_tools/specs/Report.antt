@@ -3,10 +3,10 @@ use Rattle.std.specs.Prelude.{ℕ, Bool, cond, List, [], ◌++◌, codes, length
 use Rattle.std.specs.Fmt.{decimal}
 use Rattle.std.specs.List.{flat_map}
 use Rattle.dir_ldif.specs.FaultText.{record_fault_text, stream_fault_text}
-use Rattle.dir_change.specs.CodeText.{result_code_text}
+use Rattle.dir_change.specs.ResultCodeText.{result_code_text}
 use Rattle.dir_tools.specs.declared.fault.Cause.{Cause}
 use Rattle.dir_tools.specs.declared.fault.Cause.TheVariants as cause
-use Rattle.dir_tools.specs.Ran.{Outcome, causes_in, groups_in}
+use Rattle.dir_tools.specs.RunOf.{Outcome, causes_in, groups_in}
 
 abbrev pub cause_text : Cause → List ℕ
 cause_text (cause.Code code) = result_code_text code

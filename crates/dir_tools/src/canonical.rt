@@ -1,3 +1,5 @@
+//! The canonical text of a directory.
+
 ghost use Rattle.std.specs.Prelude.{◌≡◌, ◌++◌, IfOk, OnOk};
 ghost use Rattle.std.specs.List.{flat_map};
 ghost use Rattle.dir_ldif.specs.RecordText.{value_text};

@@ -1,3 +1,5 @@
+//! Why a tool gives no answer, and the texts of these faults.
+
 ghost use Rattle.std.specs.Prelude.{◌≡◌, Some};
 ghost use Rattle.dir_tools.specs.Report.{cause_text};
 ghost use Rattle.dir_tools.specs.declared.fault.ToolFault.TheVariants.{Memory};

@@ -1,3 +1,5 @@
+//! Laws about canonical texts and runs: functions with no code, whose contracts are the laws.
+
 ghost use Rattle.dir_tools.specs.Headline.{CanonicalTextsReadBack, WrittenRunsAreTakenBack};
 
 use dir_change::{runs_are_taken_back, runs_stay_in_order, undo_texts_read_back};

@@ -14,7 +14,8 @@ mod write;
 pub use copy::{read_copy, write_copy};
 pub use fault::{Cause, Input, Item, Output, ToolFault};
 pub use laws::{canonical_texts_read_back, written_runs_are_taken_back};
-pub use modify::{ModifyOptions, Summary, run_modify};
+pub use modify::run_modify;
+pub use run::{ModifyOptions, Summary};
 
 #[cfg(test)]
 mod tests;

@@ -1,39 +1,23 @@
+//! `run_modify`: changes applied to a copy, and the undo text, the new copy and the report written.
+
 ghost use Rattle.std.specs.Prelude.{◌≡◌, ◌⊎◌, Err, IfErr, IfOk, OnOk, Some};
 ghost use Rattle.dir_ldif.specs.Device.{HasFailed};
-ghost use Rattle.dir_tools.specs.Headline.{Answers, Blames, ComesFirst, HasRun, IsNoSuffix, suffix_of};
-ghost use Rattle.dir_tools.specs.RunTexts.{Holds, is_dry, texts_of};
-ghost use Rattle.dir_tools.specs.Written.{Flushed, IsWriteFault, Texts, Written};
+ghost use Rattle.dir_tools.specs.Headline.{AnswersRun, HeldBefore, IsCausedBy, IsNoSuffix, IsStatedRun, suffix_of};
+ghost use Rattle.dir_tools.specs.Inside.RunTexts.{AreTexts, is_dry, texts_of};
+ghost use Rattle.dir_tools.specs.Writing.{FlushedInOrder, IsWriteFault, Texts, WroteInOrder};
 ghost use Rattle.dir_tools.specs.declared.fault.Input.TheVariants as Input;
 ghost use Rattle.dir_tools.specs.declared.fault.Output.TheVariants as Output;
 ghost use Rattle.dir_tools.specs.declared.fault.ToolFault.TheVariants as ToolFault;
 
 use crate::copy::read_copy;
 use crate::laws::written_runs_are_taken_back;
-use crate::run::Run;
+use crate::run::{ModifyOptions, Run, RunTexts, Summary};
 use crate::write::write_text;
 use crate::{Item, Output, ToolFault};
 use dir_ldif::{Sink, Source};
 use dir_names::{Dn, DnKey, NameFault, Schema};
 use dir_tree::FlatDirectory;
 use std::alloc::Global;
-
-/// How changes are run.
-#[derive(Clone, Copy, PartialEq, Eq, Debug)]
-pub struct ModifyOptions {
-    /// Go on after a refused record.
-    pub go_on: bool,
-    /// Write the report alone.
-    pub dry: bool,
-    /// Report accepted records too.
-    pub verbose: bool,
-}
-
-/// How many records a run accepted and how many it refused.
-#[derive(Clone, Copy, PartialEq, Eq, Debug)]
-pub struct Summary {
-    pub accepted: u64,
-    pub refused: u64,
-}
 
 /// Applies a text of changes to a copy of a directory. The undo text, the new copy and the report are
 /// built whole, and then written one after the other, each flushed before the next is begun.
@@ -59,14 +43,14 @@ pub fn run_modify<R: Source, R2: Source, W: Sink, W2: Sink, W3: Sink>(
     report: &mut W3,
 ) -> Result<Summary, ToolFault>
     ensures unfailed { OnOk result ((W.failures undo.new ≡ W.failures undo.old) × (W2.failures out.new ≡ W2.failures out.old) × (W3.failures report.new ≡ W3.failures report.old)) }
-    ensures texts { (s : Texts) × Written options.dry result s (W.taken undo.old, W.taken undo.new) (W2.taken out.old, W2.taken out.new) (W3.taken report.old, W3.taken report.new)
-        × Answers schema.now suffix.now options (R.left copy.old) (R2.left changes.old) result s }
-    ensures first { IfErr result (ComesFirst schema.now suffix.now options (R.left copy.old, R.left copy.new) (R2.left changes.old, R2.left changes.new)) }
+    ensures texts { (s : Texts) × WroteInOrder options.dry result s (W.taken undo.old, W.taken undo.new) (W2.taken out.old, W2.taken out.new) (W3.taken report.old, W3.taken report.new)
+        × AnswersRun schema.now suffix.now options (R.left copy.old) (R2.left changes.old) result s }
+    ensures first { IfErr result (HeldBefore schema.now suffix.now options (R.left copy.old, R.left copy.new) (R2.left changes.old, R2.left changes.new)) }
     ensures unfailed_copy { OnOk result (R.failures copy.new ≡ R.failures copy.old) }
     ensures unfailed_changes { OnOk result (R2.failures changes.new ≡ R2.failures changes.old) }
     ensures read_copy { result ≡ Err (ToolFault.Read Input.Copy) → HasFailed (R.failures copy.old) (R.failures copy.new) }
     ensures read_changes { result ≡ Err (ToolFault.Read Input.Changes) → HasFailed (R2.failures changes.old) (R2.failures changes.new) }
-    ensures flushed { Flushed options.dry result (W.is_flushed undo.new) (W2.is_flushed out.new) (W3.is_flushed report.new) }
+    ensures flushed { FlushedInOrder options.dry result (W.is_flushed undo.new) (W2.is_flushed out.new) (W3.is_flushed report.new) }
     ensures write_undo { result ≡ Err (ToolFault.Write Output.Undo) → HasFailed (W.failures undo.old) (W.failures undo.new) ⊎ W.may_stall undo.new }
     ensures write_out { result ≡ Err (ToolFault.Write Output.Out) → HasFailed (W2.failures out.old) (W2.failures out.new) ⊎ W2.may_stall out.new }
     ensures write_report { result ≡ Err (ToolFault.Write Output.Report) → HasFailed (W3.failures report.old) (W3.failures report.new) ⊎ W3.may_stall report.new }
@@ -89,9 +73,9 @@ fn write_texts<W: Sink, W2: Sink, W3: Sink>(
     report: &mut W3,
 ) -> Result<(), ToolFault>
     ensures unfailed { OnOk result ((W.failures undo.new ≡ W.failures undo.old) × (W2.failures out.new ≡ W2.failures out.old) × (W3.failures report.new ≡ W3.failures report.old)) }
-    ensures texts { Written (is_dry texts.now) result (texts_of texts.now) (W.taken undo.old, W.taken undo.new) (W2.taken out.old, W2.taken out.new) (W3.taken report.old, W3.taken report.new) }
+    ensures texts { WroteInOrder (is_dry texts.now) result (texts_of texts.now) (W.taken undo.old, W.taken undo.new) (W2.taken out.old, W2.taken out.new) (W3.taken report.old, W3.taken report.new) }
     ensures fault { IfErr result IsWriteFault }
-    ensures flushed { Flushed (is_dry texts.now) result (W.is_flushed undo.new) (W2.is_flushed out.new) (W3.is_flushed report.new) }
+    ensures flushed { FlushedInOrder (is_dry texts.now) result (W.is_flushed undo.new) (W2.is_flushed out.new) (W3.is_flushed report.new) }
     ensures write_undo { result ≡ Err (ToolFault.Write Output.Undo) → HasFailed (W.failures undo.old) (W.failures undo.new) ⊎ W.may_stall undo.new }
     ensures write_out { result ≡ Err (ToolFault.Write Output.Out) → HasFailed (W2.failures out.old) (W2.failures out.new) ⊎ W2.may_stall out.new }
     ensures write_report { result ≡ Err (ToolFault.Write Output.Report) → HasFailed (W3.failures report.old) (W3.failures report.new) ⊎ W3.may_stall report.new }
@@ -107,22 +91,6 @@ fn write_texts<W: Sink, W2: Sink, W3: Sink>(
     write_text(report, texts.report.as_slice(), Output::Report)
 }
 
-/// What a run writes.
-#[derive(Drop)]
-pub(crate) struct RunTexts {
-    /// None in a dry run.
-    pub(crate) files: Option<Files>,
-    pub(crate) report: Vec<u8>,
-    pub(crate) summary: Summary,
-}
-
-/// The undo text and the new copy.
-#[derive(Drop)]
-pub(crate) struct Files {
-    pub(crate) undo: Vec<u8>,
-    pub(crate) out: Vec<u8>,
-}
-
 fn make_texts<R: Source, R2: Source>(
     alloc: Global,
     schema: &Schema,
@@ -131,9 +99,9 @@ fn make_texts<R: Source, R2: Source>(
     copy: &mut R,
     changes: &mut R2,
 ) -> Result<RunTexts, ToolFault>
-    ensures ok { IfOk result (λ texts. (s : Texts) × Holds options.dry s texts × HasRun schema.now suffix.now options (R.left copy.old) (R2.left changes.old) texts.summary s) }
-    ensures blamed { IfErr result (Blames schema.now suffix.now options (R.left copy.old) (R2.left changes.old)) }
-    ensures first { IfErr result (ComesFirst schema.now suffix.now options (R.left copy.old, R.left copy.new) (R2.left changes.old, R2.left changes.new)) }
+    ensures ok { IfOk result (λ texts. (s : Texts) × AreTexts options.dry s texts × IsStatedRun schema.now suffix.now options (R.left copy.old) (R2.left changes.old) texts.summary s) }
+    ensures blamed { IfErr result (IsCausedBy schema.now suffix.now options (R.left copy.old) (R2.left changes.old)) }
+    ensures first { IfErr result (HeldBefore schema.now suffix.now options (R.left copy.old, R.left copy.new) (R2.left changes.old, R2.left changes.new)) }
     ensures unfailed_copy { OnOk result (R.failures copy.new ≡ R.failures copy.old) }
     ensures unfailed_changes { OnOk result (R2.failures changes.new ≡ R2.failures changes.old) }
     ensures read_copy { result ≡ Err (ToolFault.Read Input.Copy) → HasFailed (R.failures copy.old) (R.failures copy.new) }

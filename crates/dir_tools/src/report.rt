@@ -1,3 +1,5 @@
+//! The report of a run.
+
 ghost use Rattle.std.specs.Prelude.{◌≡◌, [], ◌++◌, IfOk, OnOk, cond};
 ghost use Rattle.dir_tools.specs.Report.{accepted_line, numbers_line, refused_line};
 

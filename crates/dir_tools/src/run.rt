@@ -1,15 +1,50 @@
+//! A run of changes on a directory: how it is run, what it counts, and its texts.
+
 ghost use Rattle.std.specs.Prelude.{◌≡◌};
-ghost use Rattle.dir_tools.specs.Running.{changes_fault};
+ghost use Rattle.dir_tools.specs.Inside.Running.{changes_fault};
 
 use crate::canonical::canonical_text;
-use crate::modify::{Files, RunTexts};
 use crate::report::Report;
-use crate::{Cause, Input, ModifyOptions, Summary, ToolFault};
+use crate::{Cause, Input, ToolFault};
 use dir_change::{History, Refusal, apply};
 use dir_ldif::{Change, Record, RecordFault, RecordReader, Source, StreamFault};
 use dir_names::Schema;
 use dir_tree::Directory;
 use std::alloc::Global;
+
+/// How changes are run.
+#[derive(Clone, Copy, PartialEq, Eq, Debug)]
+pub struct ModifyOptions {
+    /// Go on after a refused record.
+    pub go_on: bool,
+    /// Write the report alone.
+    pub dry: bool,
+    /// Report accepted records too.
+    pub verbose: bool,
+}
+
+/// How many records a run accepted and how many it refused.
+#[derive(Clone, Copy, PartialEq, Eq, Debug)]
+pub struct Summary {
+    pub accepted: u64,
+    pub refused: u64,
+}
+
+/// What a run writes.
+#[derive(Drop)]
+pub(crate) struct RunTexts {
+    /// None in a dry run.
+    pub(crate) files: Option<Files>,
+    pub(crate) report: Vec<u8>,
+    pub(crate) summary: Summary,
+}
+
+/// The undo text and the new copy.
+#[derive(Drop)]
+pub(crate) struct Files {
+    pub(crate) undo: Vec<u8>,
+    pub(crate) out: Vec<u8>,
+}
 
 /// A run as far as it has come.
 #[derive(Drop)]
@@ -24,17 +59,17 @@ pub(crate) struct Run<D: Directory + Drop> {
 impl<D: Directory + Drop> Run<D> {
     ghost use Rattle.std.specs.Prelude.{◌≡◌, ◌<◌, ◌+◌, ◌^◌, ◌-◌, Err, IfErr, IfOk, IfSome, OnOk, false};
     ghost use Rattle.dir_ldif.specs.declared.faults.StreamFault.TheVariants as StreamFault;
-    ghost use Rattle.dir_tools.specs.Settled.{AllAccepted, Gave, GaveTo, IsOfReading, answers_behind};
-    ghost use Rattle.dir_tools.specs.Turns.{GaveAtLeast, IsLong};
+    ghost use Rattle.dir_tools.specs.CompleteRecords.{CompleteRecordsAreAccepted, GaveBytes, GaveBytesTo, IsReaderFault, answers_after};
+    ghost use Rattle.dir_tools.specs.ReadCalls.{FillsReadCalls, GaveAtLeast};
     ghost use Rattle.dir_tools.specs.declared.fault.ToolFault.TheVariants as ToolFault;
     ghost use Rattle.std.specs.Option.{option_map};
     ghost use Rattle.dir_ldif.specs.Records.{records_of};
     ghost use Rattle.dir_ldif.specs.Reader.{IsReading, schema_of, source_of, to_give, turns_left};
-    ghost use Rattle.dir_tools.specs.Running.{AreItsTexts, ChangesBlamed, IsBegun, Keeps, Leads, LeadsChange, RunsOver, Takes, room};
+    ghost use Rattle.dir_tools.specs.Inside.Running.{AreTextsOfRun, HasChangeOutcome, HasOutcome, HasTakenNone, IsChangesFaultCause, KeepsReport, RunsOver, Takes, records_taken};
 
     /// A run that has taken no record.
     pub(crate) fn new(alloc: Global, directory: D, options: ModifyOptions) -> Run<D>
-        ensures { IsBegun directory options result }
+        ensures { HasTakenNone directory options result }
     {
         Run {
             directory,
@@ -55,13 +90,13 @@ impl<D: Directory + Drop> Run<D> {
         schema: &Schema,
         changes: &mut R,
     ) -> Result<(), ToolFault>
-        requires { room self.old ≡ 0 }
+        requires { records_taken self.old ≡ 0 }
         ensures ok { OnOk result (RunsOver D.state schema.now (option_map (records_of schema.now) (R.left changes.old)) self.old self.new) }
-        ensures blamed { IfErr result (ChangesBlamed D.state schema.now (option_map (records_of schema.now) (R.left changes.old)) (R.failures changes.old) (R.failures changes.new) self.old) }
+        ensures blamed { IfErr result (IsChangesFaultCause D.state schema.now (option_map (records_of schema.now) (R.left changes.old)) (R.failures changes.old) (R.failures changes.new) self.old) }
         ensures unfailed { OnOk result (R.failures changes.new ≡ R.failures changes.old) }
-        ensures settled { IfErr result (λ fault. IsOfReading fault → self.old.options.go_on ≡ false → Gave (R.left changes.old) (R.left changes.new)
-            (λ bytes. AllAccepted schema.now (D.state self.old.directory) (answers_behind schema.now bytes))) }
-        ensures long { result ≡ Err (ToolFault.BadChanges StreamFault.TooManyTurns) → IfSome (R.left changes.old) IsLong }
+        ensures settled { IfErr result (λ fault. IsReaderFault fault → self.old.options.go_on ≡ false → GaveBytes (R.left changes.old) (R.left changes.new)
+            (λ bytes. CompleteRecordsAreAccepted schema.now (D.state self.old.directory) (answers_after schema.now bytes))) }
+        ensures long { result ≡ Err (ToolFault.BadChanges StreamFault.TooManyTurns) → IfSome (R.left changes.old) FillsReadCalls }
         ensures options { self.new.options ≡ self.old.options }
     {
         let mut records = match RecordReader::new(alloc, schema, changes) {
@@ -79,12 +114,12 @@ impl<D: Directory + Drop> Run<D> {
         schema: &Schema,
         records: &mut RecordReader<'_, S>,
     ) -> Result<(), ToolFault>
-        requires room { room self.old ≡ 0 }
+        requires records_taken { records_taken self.old ≡ 0 }
         requires reading { IsReading records.old }
         requires schema { schema_of records.old ≡ schema.now }
         ensures ok { OnOk result (RunsOver D.state schema.now (to_give S.left records.old) self.old self.new) }
-        ensures blamed { IfErr result (ChangesBlamed D.state schema.now (to_give S.left records.old) (S.failures (source_of records.old)) (S.failures (source_of records.new)) self.old) }
-        ensures settled { IfErr result (λ fault. IsOfReading fault → self.old.options.go_on ≡ false → GaveTo S.left records.old records.new (AllAccepted schema.now (D.state self.old.directory))) }
+        ensures blamed { IfErr result (IsChangesFaultCause D.state schema.now (to_give S.left records.old) (S.failures (source_of records.old)) (S.failures (source_of records.new)) self.old) }
+        ensures settled { IfErr result (λ fault. IsReaderFault fault → self.old.options.go_on ≡ false → GaveBytesTo S.left records.old records.new (CompleteRecordsAreAccepted schema.now (D.state self.old.directory))) }
         ensures turns { result ≡ Err (ToolFault.BadChanges StreamFault.TooManyTurns) → GaveAtLeast (S.left (source_of records.old)) (S.left (source_of records.new)) (turns_left records.old) }
         ensures unfailed { OnOk result (S.failures (source_of records.new) ≡ S.failures (source_of records.old)) }
         ensures same { S.is_same (source_of records.old) (source_of records.new) }
@@ -115,9 +150,9 @@ impl<D: Directory + Drop> Run<D> {
         line: u64,
         found: Result<Record, RecordFault>,
     ) -> Result<bool, ToolFault>
-        requires { room self.old < 2 ^ 64 - 1 }
+        requires { records_taken self.old < 2 ^ 64 - 1 }
         ensures ok { IfOk result (λ is_accepted. Takes is_accepted D.state schema.now line found self.old self.new) }
-        ensures room { IfOk result (λ _. room self.new ≡ room self.old + 1) }
+        ensures records_taken { IfOk result (λ _. records_taken self.new ≡ records_taken self.old + 1) }
         ensures err { IfErr result (λ e. e ≡ ToolFault.Memory) }
         ensures options { self.new.options ≡ self.old.options }
     {
@@ -142,9 +177,9 @@ impl<D: Directory + Drop> Run<D> {
         schema: &Schema,
         found: Result<Record, RecordFault>,
     ) -> Result<Option<Cause>, ToolFault>
-        ensures ok { IfOk result (Leads D.state schema.now found self.old self.new) }
+        ensures ok { IfOk result (HasOutcome D.state schema.now found self.old self.new) }
         ensures err { IfErr result (λ e. e ≡ ToolFault.Memory) }
-        ensures kept { Keeps self.old self.new }
+        ensures kept { KeepsReport self.old self.new }
     {
         match found {
             Ok(Record::Change(change)) => self.change(alloc, schema, &change),
@@ -159,9 +194,9 @@ impl<D: Directory + Drop> Run<D> {
         schema: &Schema,
         change: &Change,
     ) -> Result<Option<Cause>, ToolFault>
-        ensures ok { IfOk result (LeadsChange D.state schema.now change.now self.old self.new) }
+        ensures ok { IfOk result (HasChangeOutcome D.state schema.now change.now self.old self.new) }
         ensures err { IfErr result (λ e. e ≡ ToolFault.Memory) }
-        ensures kept { Keeps self.old self.new }
+        ensures kept { KeepsReport self.old self.new }
     {
         match apply(alloc, schema, &mut self.directory, change) {
             Ok(undo) => match self.history.push(undo) {
@@ -176,7 +211,7 @@ impl<D: Directory + Drop> Run<D> {
     /// The texts of the run.
     pub(crate) fn finish(self, alloc: Global) -> Result<RunTexts, ToolFault>
         ensures err { IfErr result (λ e. e ≡ ToolFault.Memory) }
-        ensures texts { IfOk result (AreItsTexts D.state self) }
+        ensures texts { IfOk result (AreTextsOfRun D.state self) }
     {
         let Run {
             directory,

@@ -1,3 +1,5 @@
+//! Tests of the tools over devices in memory.
+
 mod devices;
 mod faults;
 mod runs;

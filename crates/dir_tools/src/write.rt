@@ -1,3 +1,5 @@
+//! A whole text written and flushed.
+
 ghost use Rattle.std.specs.Prelude.{◌≡◌, ◌⊎◌, ℕ, IfErr, OnErr, OnOk};
 ghost use Rattle.std.specs.Io.KnownBytes.{Appends};
 ghost use Rattle.dir_ldif.specs.Device.{AppendsFront, HasFailed};

@@ -1,3 +1,5 @@
+//! Readers and writers that fail, in turn.
+
 use super::{STOP, assert_text};
 use crate::{Input, Output, ToolFault, read_copy, run_modify, write_copy};
 use dir_ldif::{Script, Tape};

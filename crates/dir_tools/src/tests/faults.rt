@@ -1,3 +1,5 @@
+//! Faults of copies, changes and suffixes, and the order in which they come.
+
 use super::{GO_ON, Ran, STOP, assert_text, run_over, run_reading};
 use crate::{Cause, Input, Item, Output, Summary, ToolFault, run_modify};
 use dir_ldif::{RecordFault, Script, StreamFault, Tape};

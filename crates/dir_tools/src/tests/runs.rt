@@ -1,3 +1,5 @@
+//! Runs, their reports and their texts.
+
 use super::{DRY, GO_ON, STOP, VERBOSE, Want, assert_text, assert_wrote, run_over};
 use crate::{Item, Summary, ToolFault};
 use dir_ldif::StreamFault;

@@ -1,3 +1,5 @@
+//! Runs that are taken back.
+
 use super::{GO_ON, Ran, STOP, Want, assert_text, assert_wrote, run_over};
 use crate::{canonical_texts_read_back, written_runs_are_taken_back};
 use std::alloc::Global;

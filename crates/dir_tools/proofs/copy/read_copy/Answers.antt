@@ -1,12 +1,12 @@
 use Rattle.std.proofs.Common.{◌∙◌, ap, subst, rules, Err}
 use Rattle.dir_ldif.specs.Reader.{source_of, turns_left}
-use Rattle.dir_tools.specs.Turns.{GaveAtLeast}
+use Rattle.dir_tools.specs.ReadCalls.{GaveAtLeast}
 use Rattle.dir_tools.proofs.CopyFaults.{blamed_read, finish_blamed}
 use Rattle.dir_tools.proofs.CopyLemmas.{holds_nothing, if_both, if_ok, read_order, read_whole}
-use Rattle.dir_tools.specs.CopyOf.{nothing_under}
-use Rattle.dir_tools.specs.Settled.{AllTaken}
-use Rattle.dir_tools.proofs.Settled.{from_start, taken_so}
-use Rattle.dir_tools.proofs.Turns.{long_text}
+use Rattle.dir_tools.specs.CopyOf.{empty_copy}
+use Rattle.dir_tools.specs.CompleteRecords.{CompleteRecordsLoad}
+use Rattle.dir_tools.proofs.CompleteRecords.{from_start, taken_so}
+use Rattle.dir_tools.proofs.ReadCalls.{long_text}
 use Rattle.dir_tools.proofs.copy.read_copy.Goals as goal
 
 pub returns-in-Ok-answer-clause-reads : goal.returns-in-Ok-answer-clause-reads
@@ -47,7 +47,7 @@ returns-in-Err-answer-clause-blamed g c =
 
 pub returns-in-Err-answer-clause-settled : goal.returns-in-Err-answer-clause-settled
 returns-in-Err-answer-clause-settled g c is bare =
-    let start = nothing_under (g.D.Directory.state c.args.empty).suffix in
-    from_start c.args.schema.now (λ s. g.R.Source.left s.now) (AllTaken c.args.schema.now start) (taken_so c.args.schema.now start) c.in-Ok.records c.take_records-answer.new.records _ _
+    let start = empty_copy (g.D.Directory.state c.args.empty).suffix in
+    from_start c.args.schema.now (λ s. g.R.Source.left s.now) (CompleteRecordsLoad c.args.schema.now start) (taken_so c.args.schema.now start) c.in-Ok.records c.take_records-answer.new.records _ _
     c.in-Ok.ensures.ahead.0 c.in-Ok.ensures.ahead.1 (ap (λ s. g.R.Source.left s.now) c.in-Ok.ensures.source.0) (search rules)
     (c.in-Err-answer.ensures.settled is start (holds_nothing g.D.Directory.state c.args.empty c.new-loading.result c.new-loading.ensures.directory c.new-loading.ensures.waiting bare))

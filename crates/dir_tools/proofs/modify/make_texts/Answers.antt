@@ -2,18 +2,18 @@ use Rattle.std.proofs.Common.{◌≡◌, false, sym, ap, subst, ◌∙◌, Ok, E
 use Rattle.dir_tree.specs.Dir.{Dir}
 use Rattle.dir_tree.specs.WellFormed.{IsWellFormed, IsWithinLimits}
 use Rattle.dir_tools.specs.declared.fault.ToolFault.{ToolFault}
-use Rattle.dir_tools.specs.declared.modify.ModifyOptions.{ModifyOptions}
-use Rattle.dir_tools.specs.declared.modify.RunTexts.{RunTexts}
+use Rattle.dir_tools.specs.declared.run.ModifyOptions.{ModifyOptions}
+use Rattle.dir_tools.specs.declared.run.RunTexts.{RunTexts}
 use Rattle.dir_tools.specs.CopyOf.{copy_of}
 use Rattle.dir_tools.specs.Headline.{suffix_of}
-use Rattle.dir_tools.specs.Loading.{IsBare, IsNamed}
+use Rattle.dir_tools.specs.CopyFaults.{HasNoEntries, HasRdn}
 use Rattle.dir_tools.proofs.TextLemmas.{blamed_so, changes_first, copy_blamed_so, copy_first, named_suffix, read_so, told}
 use Rattle.dir_tools.proofs.modify.make_texts.Goals as goal
 
 pub returns-in-Err-read_copy-clause-blamed : goal.returns-in-Err-read_copy-clause-blamed
 returns-in-Err-read_copy-clause-blamed g c =
     let key : suffix_of c.args.schema.now c.args.suffix.now ≡ Some c.new.result.suffix = c.in-Ok.ensures.ok ∙ ap Some (sym (ap (λ (d : Dir). d.suffix) c.new.ensures)) in
-    let bare : IsBare c.new.result = ap (λ (d : Dir). d.entries) c.new.ensures in
+    let bare : HasNoEntries c.new.result = ap (λ (d : Dir). d.entries) c.new.ensures in
     copy_blamed_so c.args.schema.now c.args.suffix.now c.args.options (g.R.Source.left c.args.copy.now) (g.R2.Source.left c.args.changes.now) c.new.result _ _ c.in-Err-read_copy.fault key bare c.in-Err-read_copy.ensures.blamed
 
 pub returns-in-Err-take_all-clause-blamed : goal.returns-in-Err-take_all-clause-blamed
@@ -22,7 +22,7 @@ returns-in-Err-take_all-clause-blamed g c =
     let fresh : c.new.result.suffix ≡ c.in-Ok.key = ap (λ (d : Dir). d.suffix) c.new.ensures in
     let begun : c.new-run.result.directory ≡ c.in-Ok-read_copy.directory = c.new-run.ensures.0 in
     let key : suffix_of c.args.schema.now c.args.suffix.now ≡ Some c.new-run.result.directory.suffix = c.in-Ok.ensures.ok ∙ ap Some (sym (ap (λ (d : Dir). d.suffix) begun ∙ read ∙ fresh)) in
-    let bare : IsBare c.new.result = ap (λ (d : Dir). d.entries) c.new.ensures in
+    let bare : HasNoEntries c.new.result = ap (λ (d : Dir). d.entries) c.new.ensures in
     let copy = g.R.Source.left c.args.copy.now in
     let reads : IfSome copy (λ text. copy_of c.args.schema.now c.new-run.result.directory.suffix text ≡ Ok c.new-run.result.directory) = read_so c.args.schema.now copy c.new.result.suffix c.in-Ok-read_copy.directory c.new-run.result.directory read begun (c.in-Ok-read_copy.ensures.reads bare) in
     blamed_so (λ d. d) c.args.schema.now c.args.suffix.now c.args.options copy (g.R2.Source.left c.args.changes.now) c.new-run.result reads _ _ c.in-Err-take_all.fault c.new-run.ensures.6 key (λ is. c.take_all.ensures.long (c.in-Err-take_all.is ∙ ap Err is)) c.in-Err-take_all.ensures.blamed
@@ -30,7 +30,7 @@ returns-in-Err-take_all-clause-blamed g c =
 pub returns-in-Err-read_copy-clause-first : goal.returns-in-Err-read_copy-clause-first
 returns-in-Err-read_copy-clause-first g c =
     let key : suffix_of c.args.schema.now c.args.suffix.now ≡ Some c.new.result.suffix = c.in-Ok.ensures.ok ∙ ap Some (sym (ap (λ (d : Dir). d.suffix) c.new.ensures)) in
-    let bare : IsBare c.new.result = ap (λ (d : Dir). d.entries) c.new.ensures in
+    let bare : HasNoEntries c.new.result = ap (λ (d : Dir). d.entries) c.new.ensures in
     copy_first c.args.schema.now c.args.suffix.now c.args.options _ _ _ c.new.result _ _ c.in-Err-read_copy.fault key c.in-Err-read_copy.ensures.blamed (λ is. c.in-Err-read_copy.ensures.settled is bare)
 
 pub returns-in-Err-take_all-clause-first : goal.returns-in-Err-take_all-clause-first
@@ -39,7 +39,7 @@ returns-in-Err-take_all-clause-first g c =
     let fresh : c.new.result.suffix ≡ c.in-Ok.key = ap (λ (d : Dir). d.suffix) c.new.ensures in
     let begun : c.new-run.result.directory ≡ c.in-Ok-read_copy.directory = c.new-run.ensures.0 in
     let key : suffix_of c.args.schema.now c.args.suffix.now ≡ Some c.new-run.result.directory.suffix = c.in-Ok.ensures.ok ∙ ap Some (sym (ap (λ (d : Dir). d.suffix) begun ∙ read ∙ fresh)) in
-    let bare : IsBare c.new.result = ap (λ (d : Dir). d.entries) c.new.ensures in
+    let bare : HasNoEntries c.new.result = ap (λ (d : Dir). d.entries) c.new.ensures in
     let copy = g.R.Source.left c.args.copy.now in
     let reads : IfSome copy (λ text. copy_of c.args.schema.now c.new-run.result.directory.suffix text ≡ Ok c.new-run.result.directory) = read_so c.args.schema.now copy c.new.result.suffix c.in-Ok-read_copy.directory c.new-run.result.directory read begun (c.in-Ok-read_copy.ensures.reads bare) in
     let off : c.args.options.go_on ≡ false → c.new-run.result.options.go_on ≡ false = (λ is. ap (λ (o : ModifyOptions). o.go_on) c.new-run.ensures.6 ∙ is) in
@@ -52,10 +52,10 @@ returns-clause-ok g c =
     let fresh : c.new.result.suffix ≡ c.in-Ok.key = ap (λ (d : Dir). d.suffix) c.new.ensures in
     let begun : c.new-run.result.directory ≡ c.in-Ok-read_copy.directory = c.new-run.ensures.0 in
     let key : suffix_of c.args.schema.now c.args.suffix.now ≡ Some c.new-run.result.directory.suffix = c.in-Ok.ensures.ok ∙ ap Some (sym (ap (λ (d : Dir). d.suffix) begun ∙ read ∙ fresh)) in
-    let bare : IsBare c.new.result = ap (λ (d : Dir). d.entries) c.new.ensures in
+    let bare : HasNoEntries c.new.result = ap (λ (d : Dir). d.entries) c.new.ensures in
     let copy = g.R.Source.left c.args.copy.now in
     let reads : IfSome copy (λ text. copy_of c.args.schema.now c.new-run.result.directory.suffix text ≡ Ok c.new-run.result.directory) = read_so c.args.schema.now copy c.new.result.suffix c.in-Ok-read_copy.directory c.new-run.result.directory read begun (c.in-Ok-read_copy.ensures.reads bare) in
-    let named : IsNamed c.new.result.suffix = named_suffix c.args.schema.now c.args.suffix.now c.new.result.suffix (c.in-Ok.ensures.ok ∙ ap Some (sym fresh)) in
+    let named : HasRdn c.new.result.suffix = named_suffix c.args.schema.now c.args.suffix.now c.new.result.suffix (c.in-Ok.ensures.ok ∙ ap Some (sym fresh)) in
     let sound = c.in-Ok-read_copy.ensures.sound bare named in
     by c.finish.result c.finish.ensures.texts (λ texts made.
     told (λ d. d) c.args.schema.now c.args.suffix.now c.args.options copy (g.R2.Source.left c.args.changes.now) c.new-run.result reads c.in-Ok-read_copy.directory c.take_all.new.self c.new-run.ensures c.in_default.ensures.ok texts

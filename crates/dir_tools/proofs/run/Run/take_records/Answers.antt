@@ -2,12 +2,12 @@ use Rattle.std.proofs.Common.{◌≡◌, sym, subst, true, false, Ok, rules, ◌
 use Rattle.dir_ldif.specs.Next.{GivesFirst}
 use Rattle.dir_ldif.specs.Reader.{IsReading, UsesUp, schema_of, source_of, to_give}
 use Rattle.dir_ldif.specs.SoundFound.{IsSoundFound}
-use Rattle.dir_tools.specs.Running.{ChangesBlamed}
+use Rattle.dir_tools.specs.Inside.Running.{IsChangesFaultCause}
 use Rattle.dir_tools.proofs.RunLemmas.{changes_long, runs_begun, runs_blamed, runs_further, runs_stopped}
 use Rattle.dir_tools.proofs.run.Run.take_records.Goals.{else-not-is_accepted-via-then-not-is_accepted+else-not-self, else-not-is_accepted-via-else-not-is_accepted}
-use Rattle.dir_tools.specs.Settled.{IsOfReading}
-use Rattle.dir_tools.proofs.Settled.{accepted_begun, accepted_further, accepted_stopped}
-use Rattle.dir_tools.proofs.Turns.{err_same, fault_none, reads_on, some_none, spends_more, spends_none}
+use Rattle.dir_tools.specs.CompleteRecords.{IsReaderFault}
+use Rattle.dir_tools.proofs.CompleteRecords.{accepted_begun, accepted_further, accepted_stopped}
+use Rattle.dir_tools.proofs.ReadCalls.{err_same, fault_none, reads_on, some_none, spends_more, spends_none}
 use Rattle.dir_tools.proofs.run.Run.take_records.Goals as goal
 
 pub returns-then-not-self-clause-ok : goal.returns-then-not-self-clause-ok
@@ -21,7 +21,7 @@ returns-then-not-self-clause-ok g c =
 pub returns-in-Err-clause-blamed : goal.returns-in-Err-clause-blamed
 returns-in-Err-clause-blamed g c =
     let inv = c.loop-line.invariant in
-    subst (λ e. ChangesBlamed g.D.Directory.state c.args.schema.now (to_give g.S.Source.left c.args.records.now) (g.S.Source.failures (source_of c.args.records.now)) (g.S.Source.failures (source_of c.next.new.self)) c.args.self.now e)
+    subst (λ e. IsChangesFaultCause g.D.Directory.state c.args.schema.now (to_give g.S.Source.left c.args.records.now) (g.S.Source.failures (source_of c.args.records.now)) (g.S.Source.failures (source_of c.next.new.self)) c.args.self.now e)
     (sym c.ended.ensures)
     (runs_blamed g.D.Directory.state c.args.schema.now g.S.Source.left g.S.Source.failures c.in-Err.fault _ _ c.loop-line.records c.next.new.self c.args.self.now c.loop-line.self
     inv.1 inv.4 c.in-Err.ensures.err.0 inv.6)
@@ -73,4 +73,4 @@ returns-in-Err-clause-settled g c is off =
     let inv = c.loop-line.invariant in
     let was_reading : IsReading c.loop-line.records = reads_on c.loop-line.records inv.1 (λ at_end. fault_none c.next.result c.in-Err.fault c.in-Err.is (c.next.ensures.at_end at_end)) in
     accepted_stopped g.D.Directory.state c.args.schema.now g.S.Source.left g.S.Source.failures c.in-Err.fault c.args.records.now c.loop-line.records c.next.new.self c.args.self.now c.loop-line.self
-    (subst IsOfReading c.ended.ensures is) c.in-Err.ensures.err.0 (inv.8 was_reading) off
+    (subst IsReaderFault c.ended.ensures is) c.in-Err.ensures.err.0 (inv.8 was_reading) off

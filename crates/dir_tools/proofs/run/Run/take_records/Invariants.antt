@@ -1,8 +1,8 @@
 use Rattle.std.proofs.Common.{◌≡◌, ◌+◌, ◌≤◌}
 use Rattle.dir_ldif.specs.Reader.{IsEnded, IsReading, SpendsTurns, budget, schema_of, source_of, to_give}
-use Rattle.dir_tools.specs.Running.{room}
+use Rattle.dir_tools.specs.Inside.Running.{records_taken}
 use Rattle.dir_tools.proofs.RunLemmas.{RunsSoFar}
-use Rattle.dir_tools.proofs.Settled.{AcceptedSoFar}
+use Rattle.dir_tools.proofs.CompleteRecords.{AcceptedSoFar}
 use Rattle.dir_tools.proofs.run.Run.take_records.Given as goal
 
 abbrev pub invariant-loop-line : goal.invariant-loop-line
@@ -11,7 +11,7 @@ invariant-loop-line g l =
     (l.self.options ≡ first.options)
     × (IsEnded l.records → ⊥)
     × (schema_of l.records ≡ l.schema)
-    × (room l.self + budget l.records ≤ budget l.initial.records)
+    × (records_taken l.self + budget l.records ≤ budget l.initial.records)
     × (g.S.Source.failures (source_of l.records) ≡ g.S.Source.failures (source_of l.initial.records))
     × (g.S.Source.is_same (source_of l.initial.records) (source_of l.records))
     × RunsSoFar g.D.Directory.state l.schema (to_give g.S.Source.left l.initial.records) (to_give g.S.Source.left l.records) first l.self

@@ -26,13 +26,13 @@ use Rattle.dir_tree.specs.Spelled.{own_at, prefixes, spelled_name}
 use Rattle.dir_tree.specs.WellFormed.{Each, IsSoundAttribute, IsSoundValue, IsWellFormed, IsWithinLimits, are_bytes, attribute_lines}
 use Rattle.dir_ldif.specs.Legal.{is_legal}
 use Rattle.dir_tree.proofs.DirLemmas.{get_put, get_without, same_key}
-use Rattle.dir_change.specs.Operation.{at_key, own_of, performed, step}
+use Rattle.dir_change.specs.Operation.{directory_after, own_rdns, step, step_at}
 use Rattle.dir_change.specs.Runs.{group_at, group_of}
-use Rattle.dir_change.specs.Sound.{IsSoundChange}
-use Rattle.dir_change.specs.Undo.{lines_in, undo_of}
-use Rattle.dir_change.proofs.Kept.{step_keeps}
+use Rattle.dir_change.specs.SoundChange.{IsSoundChange}
+use Rattle.dir_change.specs.Undo.{lines_of_entry, undo_of}
+use Rattle.dir_change.proofs.StaysWellFormed.{step_keeps}
 use Rattle.dir_change.proofs.LegalUndo.{group_legal}
-use Rattle.dir_change.proofs.Undone.{added_is, deleted_is, itself, key_length, made_own, spelled_key}
+use Rattle.dir_change.proofs.AfterOperations.{added_is, deleted_is, itself, key_length, made_own, spelled_key}
 
 left : (a b : Bool) → (a && b) ≡ true → a ≡ true
 left true b h = refl
@@ -72,7 +72,7 @@ name_sound rows d well within k e there =
         let low = (within k e there).0 in
         grind (arith, nat_tests)
 
-all_own_of : (p : SpelledRdn → Bool) (suffix k : DnKeys) (name : SpelledName) → list_all p name ≡ true → list_all p (own_of suffix k name) ≡ true
+all_own_of : (p : SpelledRdn → Bool) (suffix k : DnKeys) (name : SpelledName) → list_all p name ≡ true → list_all p (own_rdns suffix k name) ≡ true
 all_own_of p suffix k name e = by (dn_key_eq k suffix)
   where
     first : (name : SpelledName) → list_all p name ≡ true → list_all p (take 1 name) ≡ true
@@ -89,11 +89,11 @@ step_within rows d change within sound new is = by (name_key rows change.dn) ref
     name : (is_name change.dn ≡ true) × (is_within_limits change.dn ≡ true)
     name = sound.1.0
 
-    done : (k : DnKeys) → name_key rows change.dn ≡ Some k → (c : ChangeKind) → performed rows d k change.dn c ≡ Ok new → IsWithinLimits new
+    done : (k : DnKeys) → name_key rows change.dn ≡ Some k → (c : ChangeKind) → directory_after rows d k change.dn c ≡ Ok new → IsWithinLimits new
     done k t (kind.Add lines) h =
         let known = added_is rows d k change.dn lines new h in
         let e = known.3 in
-        let own = made_own rows (own_of d.suffix k change.dn) lines e known.4 in
+        let own = made_own rows (own_rdns d.suffix k change.dn) lines e known.4 in
         let long : length change.dn ≡ length k = key_length rows change.dn k t in
         let bound : nat_le (length change.dn) 64 ≡ true = left (nat_le (length change.dn) 64) _ name.1 in
         let low : length k ≤ 64 = grind (arith, nat_tests) in
@@ -123,7 +123,7 @@ step_within rows d change within sound new is = by (name_key rows change.dn) ref
     done k t (kind.Modify mods) h = absurd (cc)
     done k t (kind.Rename rdn delete_old superior) h = absurd (cc)
 
-    by : (o : Option DnKeys) → name_key rows change.dn ≡ o → at_key rows d change o ≡ Ok new → IsWithinLimits new
+    by : (o : Option DnKeys) → name_key rows change.dn ≡ o → step_at rows d change o ≡ Ok new → IsWithinLimits new
     by None t h = absurd (cc)
     by (Some k) t h = done k t change.kind h
 
@@ -151,18 +151,18 @@ module _ (rows : List TypeRow) where
   pub group_sound : (d : Dir) (change : Change) → IsWellFormed rows d → IsWithinLimits d → IsSoundChange rows change → (new : Dir) → step rows d change ≡ Ok new → Each (IsSoundChange rows) (group_of rows d new change)
   group_sound d change well within sound new is = by (name_key rows change.dn) refl is (group_legal rows d change well new is)
     where
-      done : (k : DnKeys) → name_key rows change.dn ≡ Some k → (c : ChangeKind) → performed rows d k change.dn c ≡ Ok new → Each (λ x. is_legal rows x ≡ true) (undo_of d new k c) → Each (IsSoundChange rows) (undo_of d new k c)
+      done : (k : DnKeys) → name_key rows change.dn ≡ Some k → (c : ChangeKind) → directory_after rows d k change.dn c ≡ Ok new → Each (λ x. is_legal rows x ≡ true) (undo_of d new k c) → Each (IsSoundChange rows) (undo_of d new k c)
       done k t (kind.Add lines) h legal =
           let known = added_is rows d k change.dn lines new h in
           let there : entry_at new k ≡ Some known.3 = ap (λ z. entry_at z k) known.5 ∙ get_put d k known.3 k ∙ ap (λ b. cond b (Some known.3) (entry_at d k)) (itself k) in
           ((legal.0, (name_sound rows new (step_keeps rows d change well sound new is) (step_within rows d change within sound new is) k known.3 there, tt)), tt)
       done k t kind.Delete h legal =
           let known = deleted_is d k new h in
-          let values : ValuesAreBytes (lines_in (entry_at d k)) = subst (λ o. ValuesAreBytes (lines_in o)) (sym known.1) (bytes_all (fin.entries known.0.attributes) (well.2 k known.0 known.1).0.1) in
+          let values : ValuesAreBytes (lines_of_entry (entry_at d k)) = subst (λ o. ValuesAreBytes (lines_of_entry o)) (sym known.1) (bytes_all (fin.entries known.0.attributes) (well.2 k known.0 known.1).0.1) in
           ((legal.0, (name_sound rows d well within k known.0 known.1, values)), tt)
       done k t (kind.Modify mods) h legal = absurd (cc)
       done k t (kind.Rename rdn delete_old superior) h legal = absurd (cc)
 
-      by : (o : Option DnKeys) → name_key rows change.dn ≡ o → at_key rows d change o ≡ Ok new → Each (λ x. is_legal rows x ≡ true) (group_at d new change o) → Each (IsSoundChange rows) (group_at d new change o)
+      by : (o : Option DnKeys) → name_key rows change.dn ≡ o → step_at rows d change o ≡ Ok new → Each (λ x. is_legal rows x ≡ true) (group_at d new change o) → Each (IsSoundChange rows) (group_at d new change o)
       by None t h legal = absurd (cc)
       by (Some k) t h legal = done k t change.kind h legal

@@ -25,9 +25,9 @@ use Rattle.dir_ldif.specs.declared.records.ChangeKind.TheVariants as kind
 use Rattle.dir_tree.proofs.DirLemmas.{closed_put, get_put, get_without, parent_child, same_key}
 use Rattle.dir_tree.proofs.SpelledLemmas.{by_last, spelled_below, spelled_child, spelled_put_apart, spelled_suffix}
 use Rattle.dir_change.specs.declared.result_code.ResultCode.TheVariants.{NoSuchObject, NotAllowedOnNonLeaf, EntryAlreadyExists}
-use Rattle.dir_change.specs.Operation.{added, at_key, deleted, has_child, is_at_or_below, own_of, performed, placed, step, unless}
-use Rattle.dir_change.specs.Undo as undo
-use Rattle.dir_change.specs.Undo.{TakesBack, lines_in, name_above, spelled_if, undo_of}
+use Rattle.dir_change.specs.Operation.{directory_after, directory_after_add, directory_after_delete, has_child, is_at_or_below, own_rdns, step, step_at, unless, with_new_entry}
+use Rattle.dir_names.specs.Results.{and_then}
+use Rattle.dir_change.specs.Undo.{TakesBack, lines_of_entry, name_of_parent, spelled_name_or_empty, undo_of}
 use Rattle.dir_change.proofs.Conditions.{add_placed, below_is, below_true, child_false, delete_leaf, parent_snoc}
 
 same_dir : (d e : Dir) → d.suffix ≡ e.suffix → ((q : DnKeys) → entry_at d q ≡ entry_at e q) → d ≡ e
@@ -123,7 +123,7 @@ spelled_key rows d closed names = by_last (λ k. is_some (entry_at d k) ≡ true
             let one : name_key rows (own_at d (p ++ part ∷ [])) ≡ Some (part ∷ []) = own (p ++ part ∷ []) there ∙ ap (λ b. Some (cond b (p ++ part ∷ []) (take 1 (reverse (p ++ part ∷ []))))) t ∙ ap Some (last_of p part) in
             ap (name_key rows) (spelled_child d p part) ∙ joined_key rows (own_at d (p ++ part ∷ [])) (spelled_name d p) (part ∷ []) p one (rest above)
 
--- each entry stands at or below the suffix
+-- each entry is at or below the suffix
 pub stands_below : (d : Dir) → IsClosed d → (k : DnKeys) → is_some (entry_at d k) ≡ true → is_at_or_below k d.suffix ≡ true
 stands_below d closed k there = below_true k d.suffix (by_last (λ k. is_some (entry_at d k) ≡ true → IsAtOrBelow k d.suffix) root below k there)
   where
@@ -178,7 +178,7 @@ leaf_named rows (x ∷ xs) k e =
     let one = one_of (rdn_key rows) x split.1 split.2 in
     split.2 ∙ ap Some (one.1 ∙ sym (last_of split.0 one.0) ∙ ap (λ z. take 1 (reverse z)) (sym (split.3 ∙ ap (λ z. split.0 ++ z) one.1)))
 
-pub own_named : (rows : List TypeRow) (suffix k : DnKeys) (name : SpelledName) → name_key rows name ≡ Some k → name_key rows (own_of suffix k name) ≡ Some (own_part suffix k)
+pub own_named : (rows : List TypeRow) (suffix k : DnKeys) (name : SpelledName) → name_key rows name ≡ Some k → name_key rows (own_rdns suffix k name) ≡ Some (own_part suffix k)
 own_named rows suffix k name e = by (dn_key_eq k suffix)
   where
     by : (b : Bool) → name_key rows (cond b name (take 1 name)) ≡ Some (cond b k (take 1 (reverse k)))
@@ -194,15 +194,15 @@ front_own rows own above part e = by own (key_length rows own (part ∷ []) e)
     by (x ∷ []) l = refl
     by (x ∷ y ∷ ys) l = absurd (omega (arith, l))
 
--- ---- what stands above an entry in its name
+-- ---- the parent's part of an entry's name
 
-pub spelled_here : (d : Dir) → IsClosed d → (k : DnKeys) → is_some (entry_at d k) ≡ true → spelled_name d k ≡ own_at d k ++ name_above d k
+pub spelled_here : (d : Dir) → IsClosed d → (k : DnKeys) → is_some (entry_at d k) ≡ true → spelled_name d k ≡ own_at d k ++ name_of_parent d k
 spelled_here d closed k there = by (dn_key_eq k d.suffix) refl (parent_of k) refl (closed k there)
   where
-    by : (b : Bool) → dn_key_eq k d.suffix ≡ b → (o : Option DnKeys) → parent_of k ≡ o → (b || is_there d o) ≡ true → spelled_name d k ≡ own_at d k ++ cond b [] (spelled_if d (parent_of k))
+    by : (b : Bool) → dn_key_eq k d.suffix ≡ b → (o : Option DnKeys) → parent_of k ≡ o → (b || is_there d o) ≡ true → spelled_name d k ≡ own_at d k ++ cond b [] (spelled_name_or_empty d (parent_of k))
     by true t o p h = spelled_suffix d closed k ((dn_key_eq_decides k d.suffix).0 t) ∙ sym (append-nil (own_at d k))
     by false t None p h = absurd (true≢false (sym h))
-    by false t (Some above) p h = spelled_below d k above p ∙ ap (λ o. own_at d k ++ spelled_if d o) (sym p)
+    by false t (Some above) p h = spelled_below d k above p ∙ ap (λ o. own_at d k ++ spelled_name_or_empty d o) (sym p)
 
 parent_shorter : (k p : DnKeys) → parent_of k ≡ Some p → length k ≡ length p + 1
 parent_shorter k p e = let child = parent_child k p e in ap length child.1 ∙ length-append p (child.0 ∷ [])
@@ -213,12 +213,12 @@ not_below k p e below =
     let long : length p ≡ length k + length below.0 = ap length below.1 ∙ length-append k below.0 in
     omega (arith, short, long)
 
-pub above_put : (d : Dir) (k : DnKeys) (e : Content) → name_above (put_entry d k e) k ≡ name_above d k
+pub above_put : (d : Dir) (k : DnKeys) (e : Content) → name_of_parent (put_entry d k e) k ≡ name_of_parent d k
 above_put d k e = by (parent_of k) refl
   where
-    by : (o : Option DnKeys) → parent_of k ≡ o → name_above (put_entry d k e) k ≡ name_above d k
-    by None p = λ i. cond (dn_key_eq k d.suffix) [] ((ap (spelled_if (put_entry d k e)) p ∙ sym (ap (spelled_if d) p)) i)
-    by (Some above) p = ap (cond (dn_key_eq k d.suffix) []) (ap (spelled_if (put_entry d k e)) p ∙ spelled_put_apart d k e above (not_below k above p) ∙ sym (ap (spelled_if d) p))
+    by : (o : Option DnKeys) → parent_of k ≡ o → name_of_parent (put_entry d k e) k ≡ name_of_parent d k
+    by None p = λ i. cond (dn_key_eq k d.suffix) [] ((ap (spelled_name_or_empty (put_entry d k e)) p ∙ sym (ap (spelled_name_or_empty d) p)) i)
+    by (Some above) p = ap (cond (dn_key_eq k d.suffix) []) (ap (spelled_name_or_empty (put_entry d k e)) p ∙ spelled_put_apart d k e above (not_below k above p) ∙ sym (ap (spelled_name_or_empty d) p))
 
 -- ---- what is known where an operation is accepted
 
@@ -244,23 +244,23 @@ none_is d k e = by (entry_at d k) e
     by None h = refl
     by (Some x) h = absurd (true≢false h)
 
-pub added_is : (rows : List TypeRow) (d : Dir) (k : DnKeys) (name : SpelledName) (lines : List (Described × List ℕ)) (new : Dir) → added rows d k name lines ≡ Ok new →
-    (is_at_or_below k d.suffix ≡ true) × (entry_at d k ≡ None) × (has_parent d k ≡ true) × (e : Content) × (made rows (own_of d.suffix k name) lines ≡ Ok e) × (new ≡ put_entry d k e)
+pub added_is : (rows : List TypeRow) (d : Dir) (k : DnKeys) (name : SpelledName) (lines : List (Described × List ℕ)) (new : Dir) → directory_after_add rows d k name lines ≡ Ok new →
+    (is_at_or_below k d.suffix ≡ true) × (entry_at d k ≡ None) × (has_parent d k ≡ true) × (e : Content) × (made rows (own_rdns d.suffix k name) lines ≡ Ok e) × (new ≡ put_entry d k e)
 added_is rows d k name lines new is = by (is_at_or_below k d.suffix) refl (is_some (entry_at d k)) refl (has_parent d k) refl is
   where
-    put : (r : Result Content EntryFault) → made rows (own_of d.suffix k name) lines ≡ r → placed d k r ≡ Ok new → (e : Content) × (made rows (own_of d.suffix k name) lines ≡ Ok e) × (new ≡ put_entry d k e)
+    put : (r : Result Content EntryFault) → made rows (own_rdns d.suffix k name) lines ≡ r → with_new_entry d k r ≡ Ok new → (e : Content) × (made rows (own_rdns d.suffix k name) lines ≡ Ok e) × (new ≡ put_entry d k e)
     put (Ok e) t h = let same : put_entry d k e ≡ new = cc in (e, t, sym same)
     put (Err fault) t h = absurd (cc)
 
     by : (a : Bool) → is_at_or_below k d.suffix ≡ a → (b : Bool) → is_some (entry_at d k) ≡ b → (c : Bool) → has_parent d k ≡ c →
-        unless (not a) NoSuchObject (unless b EntryAlreadyExists (unless (not c) NoSuchObject (placed d k (made rows (own_of d.suffix k name) lines)))) ≡ Ok new →
-        (is_at_or_below k d.suffix ≡ true) × (entry_at d k ≡ None) × (has_parent d k ≡ true) × (e : Content) × (made rows (own_of d.suffix k name) lines ≡ Ok e) × (new ≡ put_entry d k e)
+        unless (not a) NoSuchObject (unless b EntryAlreadyExists (unless (not c) NoSuchObject (with_new_entry d k (made rows (own_rdns d.suffix k name) lines)))) ≡ Ok new →
+        (is_at_or_below k d.suffix ≡ true) × (entry_at d k ≡ None) × (has_parent d k ≡ true) × (e : Content) × (made rows (own_rdns d.suffix k name) lines ≡ Ok e) × (new ≡ put_entry d k e)
     by false s b t c u h = absurd (cc)
     by true s true t c u h = absurd (cc)
     by true s false t false u h = absurd (cc)
-    by true s false t true u h = let there = put (made rows (own_of d.suffix k name) lines) refl h in (s, none_is d k t, u, there.0, there.1, there.2)
+    by true s false t true u h = let there = put (made rows (own_rdns d.suffix k name) lines) refl h in (s, none_is d k t, u, there.0, there.1, there.2)
 
-pub deleted_is : (d : Dir) (k : DnKeys) (new : Dir) → deleted d k ≡ Ok new → (e : Content) × (entry_at d k ≡ Some e) × (has_child d k ≡ false) × (new ≡ without d k)
+pub deleted_is : (d : Dir) (k : DnKeys) (new : Dir) → directory_after_delete d k ≡ Ok new → (e : Content) × (entry_at d k ≡ Some e) × (has_child d k ≡ false) × (new ≡ without d k)
 deleted_is d k new is = by (entry_at d k) refl (has_child d k) refl is
   where
     by : (o : Option Content) → entry_at d k ≡ o → (b : Bool) → has_child d k ≡ b → unless (not (is_some o)) NoSuchObject (unless b NotAllowedOnNonLeaf (Ok (without d k))) ≡ Ok new → (e : Content) × (entry_at d k ≡ Some e) × (has_child d k ≡ false) × (new ≡ without d k)
@@ -279,7 +279,7 @@ names_put rows d k e names own q x there = by (eq_by_cmp dn_key_cmp q k) refl (s
         let same : e ≡ x = cc in
         ap (λ (c : Content). name_key rows c.own) (sym same) ∙ own ∙ ap (λ z. Some (own_part d.suffix z)) (sym (same_key q k t))
 
--- nothing stands below a key that was free
+-- nothing is below a key that was free
 leaf_put : (d : Dir) (k : DnKeys) (e : Content) → IsClosed d → entry_at d k ≡ None → is_at_or_below k d.suffix ≡ true → has_child (put_entry d k e) k ≡ false
 leaf_put d k e closed free below = child_false (put_entry d k e) k none
   where
@@ -305,22 +305,22 @@ leaf_put d k e closed free below = child_false (put_entry d k e) k none
             omega (arith, same, long, l)
         by false t h = true≢false (sym (ap is_some (sym free) ∙ sym (ap (is_there d) (parent_snoc k child.0)) ∙ h))
 
-step_at_key : (rows : List TypeRow) (d : Dir) (change : Change) (k : DnKeys) → name_key rows change.dn ≡ Some k → step rows d change ≡ performed rows d k change.dn change.kind
-step_at_key rows d change k e = ap (at_key rows d change) e
+step_at_key : (rows : List TypeRow) (d : Dir) (change : Change) (k : DnKeys) → name_key rows change.dn ≡ Some k → step rows d change ≡ directory_after rows d k change.dn change.kind
+step_at_key rows d change k e = ap (step_at rows d change) e
 
-pub add_taken_back : (rows : List TypeRow) (d : Dir) → IsClosed d → HasOwnNames rows d → (k : DnKeys) (name : SpelledName) (lines : List (Described × List ℕ)) → name_key rows name ≡ Some k → (new : Dir) → added rows d k name lines ≡ Ok new →
+pub add_taken_back : (rows : List TypeRow) (d : Dir) → IsClosed d → HasOwnNames rows d → (k : DnKeys) (name : SpelledName) (lines : List (Described × List ℕ)) → name_key rows name ≡ Some k → (new : Dir) → directory_after_add rows d k name lines ≡ Ok new →
     TakesBack rows d new (undo_of d new k (kind.Add lines))
 add_taken_back rows d closed names k name lines named new is =
-    ap (λ r. undo.and_then r (λ e. Ok e)) (step_at_key rows new (record { dn = spelled_name new k; kind = kind.Delete }) k key ∙ delete_leaf new k there leaf ∙ ap Ok back)
+    ap (λ r. and_then r (λ e. Ok e)) (step_at_key rows new (record { dn = spelled_name new k; kind = kind.Delete }) k key ∙ delete_leaf new k there leaf ∙ ap Ok back)
   where
-    known : (is_at_or_below k d.suffix ≡ true) × (entry_at d k ≡ None) × (has_parent d k ≡ true) × (e : Content) × (made rows (own_of d.suffix k name) lines ≡ Ok e) × (new ≡ put_entry d k e)
+    known : (is_at_or_below k d.suffix ≡ true) × (entry_at d k ≡ None) × (has_parent d k ≡ true) × (e : Content) × (made rows (own_rdns d.suffix k name) lines ≡ Ok e) × (new ≡ put_entry d k e)
     known = added_is rows d k name lines new is
 
     e : Content
     e = known.3
 
     own : name_key rows e.own ≡ Some (own_part d.suffix k)
-    own = ap (name_key rows) (made_own rows (own_of d.suffix k name) lines e known.4) ∙ own_named rows d.suffix k name named
+    own = ap (name_key rows) (made_own rows (own_rdns d.suffix k name) lines e known.4) ∙ own_named rows d.suffix k name named
 
     there_put : is_some (entry_at (put_entry d k e) k) ≡ true
     there_put = ap is_some (get_put d k e k) ∙ ap (λ b. is_some (cond b (Some e) (entry_at d k))) (itself k)
@@ -338,7 +338,7 @@ add_taken_back rows d closed names k name lines named new is =
     back = ap (λ z. without z k) known.5 ∙ put_out d k e known.1
 
 -- an add of the name as spelled has the own name of the entry
-pub own_spelled : (rows : List TypeRow) (d : Dir) → IsWellFormed rows d → (k : DnKeys) (e : Content) → entry_at d k ≡ Some e → own_of d.suffix k (spelled_name d k) ≡ e.own
+pub own_spelled : (rows : List TypeRow) (d : Dir) → IsWellFormed rows d → (k : DnKeys) (e : Content) → entry_at d k ≡ Some e → own_rdns d.suffix k (spelled_name d k) ≡ e.own
 own_spelled rows d well k e known = by (dn_key_eq k d.suffix) refl
   where
     here : own_at d k ≡ e.own
@@ -353,16 +353,16 @@ own_spelled rows d well k e known = by (dn_key_eq k d.suffix) refl
         by_parent (Some above) p =
             let child = parent_child k above p in
             let part : name_key rows e.own ≡ Some (child.0 ∷ []) = (well.2 k e known).1 ∙ ap (λ b. Some (cond b k (take 1 (reverse k)))) t ∙ ap (λ z. Some (take 1 (reverse z))) child.1 ∙ ap Some (last_of above child.0) in
-            ap (take 1) (spelled_here d well.1 k (ap is_some known) ∙ ap (λ z. z ++ name_above d k) here) ∙ front_own rows e.own (name_above d k) child.0 part
+            ap (take 1) (spelled_here d well.1 k (ap is_some known) ∙ ap (λ z. z ++ name_of_parent d k) here) ∙ front_own rows e.own (name_of_parent d k) child.0 part
 
-pub delete_taken_back : (rows : List TypeRow) (d : Dir) → IsWellFormed rows d → (k : DnKeys) (new : Dir) → deleted d k ≡ Ok new → TakesBack rows d new (undo_of d new k kind.Delete)
+pub delete_taken_back : (rows : List TypeRow) (d : Dir) → IsWellFormed rows d → (k : DnKeys) (new : Dir) → directory_after_delete d k ≡ Ok new → TakesBack rows d new (undo_of d new k kind.Delete)
 delete_taken_back rows d well k new is =
-    ap (λ r. undo.and_then r (λ e. Ok e))
+    ap (λ r. and_then r (λ e. Ok e))
     (step_at_key rows new again k key
-    ∙ ap (λ ls. added rows new k (spelled_name d k) ls) (ap lines_in known.1)
-    ∙ ap (λ z. added rows z k (spelled_name d k) (all_lines e.attributes)) known.3
+    ∙ ap (λ ls. directory_after_add rows new k (spelled_name d k) ls) (ap lines_of_entry known.1)
+    ∙ ap (λ z. directory_after_add rows z k (spelled_name d k) (all_lines e.attributes)) known.3
     ∙ add_placed (without d k) k rows (spelled_name d k) (all_lines e.attributes) below free parent
-    ∙ ap (placed (without d k) k) (ap (λ own. made rows own (all_lines e.attributes)) own ∙ made_again rows e (well.2 k e known.1).0)
+    ∙ ap (with_new_entry (without d k) k) (ap (λ own. made rows own (all_lines e.attributes)) own ∙ made_again rows e (well.2 k e known.1).0)
     ∙ ap Ok (out_put d k e known.1))
   where
     known : (e : Content) × (entry_at d k ≡ Some e) × (has_child d k ≡ false) × (new ≡ without d k)
@@ -372,7 +372,7 @@ delete_taken_back rows d well k new is =
     e = known.0
 
     again : Change
-    again = record { dn = spelled_name d k; kind = kind.Add (lines_in (entry_at d k)) }
+    again = record { dn = spelled_name d k; kind = kind.Add (lines_of_entry (entry_at d k)) }
 
     there : is_some (entry_at d k) ≡ true
     there = ap is_some known.1
@@ -399,20 +399,20 @@ delete_taken_back rows d well k new is =
             apart false t = refl
             apart true t = let short = parent_shorter k above p in let same = ap length (same_key above k t) in absurd (omega (arith, short, same))
 
-    own : own_of d.suffix k (spelled_name d k) ≡ e.own
+    own : own_rdns d.suffix k (spelled_name d k) ≡ e.own
     own = own_spelled rows d well k e known.1
 
 -- the key of an added entry's name as spelled
-pub added_key : (rows : List TypeRow) (d : Dir) → IsClosed d → HasOwnNames rows d → (k : DnKeys) (name : SpelledName) (lines : List (Described × List ℕ)) → name_key rows name ≡ Some k → (new : Dir) → added rows d k name lines ≡ Ok new → name_key rows (spelled_name new k) ≡ Some k
+pub added_key : (rows : List TypeRow) (d : Dir) → IsClosed d → HasOwnNames rows d → (k : DnKeys) (name : SpelledName) (lines : List (Described × List ℕ)) → name_key rows name ≡ Some k → (new : Dir) → directory_after_add rows d k name lines ≡ Ok new → name_key rows (spelled_name new k) ≡ Some k
 added_key rows d closed names k name lines named new is =
     let known = added_is rows d k name lines new is in
     let e = known.3 in
-    let own = ap (name_key rows) (made_own rows (own_of d.suffix k name) lines e known.4) ∙ own_named rows d.suffix k name named in
+    let own = ap (name_key rows) (made_own rows (own_rdns d.suffix k name) lines e known.4) ∙ own_named rows d.suffix k name named in
     let there : is_some (entry_at (put_entry d k e) k) ≡ true = ap is_some (get_put d k e k) ∙ ap (λ b. is_some (cond b (Some e) (entry_at d k))) (itself k) in
     ap (λ z. name_key rows (spelled_name z k)) known.5 ∙ spelled_key rows (put_entry d k e) (closed_put d k e closed known.2) (names_put rows d k e names own) k there
 
--- the name of an added entry: its own name, and what stands above
-pub add_spelled : (rows : List TypeRow) (d : Dir) → IsClosed d → (k : DnKeys) (own : SpelledName) (lines : List (Described × List ℕ)) (e : Content) → has_parent d k ≡ true → made rows own lines ≡ Ok e → spelled_name (put_entry d k e) k ≡ own ++ name_above d k
+-- the name of an added entry: its own RDNs, and its parent's name
+pub add_spelled : (rows : List TypeRow) (d : Dir) → IsClosed d → (k : DnKeys) (own : SpelledName) (lines : List (Described × List ℕ)) (e : Content) → has_parent d k ≡ true → made rows own lines ≡ Ok e → spelled_name (put_entry d k e) k ≡ own ++ name_of_parent d k
 add_spelled rows d closed k own lines e parent is =
     let there : is_some (entry_at (put_entry d k e) k) ≡ true = ap is_some (get_put d k e k) ∙ ap (λ b. is_some (cond b (Some e) (entry_at d k))) (itself k) in
     let stands : entry_at (put_entry d k e) k ≡ Some e = get_put d k e k ∙ ap (λ b. cond b (Some e) (entry_at d k)) (itself k) in

@@ -13,16 +13,17 @@ use Rattle.dir_ldif.specs.Next.{IsSettled, answers_ahead, answers_at}
 use Rattle.dir_ldif.specs.Reader.{StopsFor, UsesUp, in_hand, schema_of, source_of, to_give_on}
 use Rattle.dir_ldif.specs.Records.{Answer, Found, all_found, records_of}
 use Rattle.dir_tree.specs.Dir.{Dir}
-use Rattle.dir_tools.specs.declared.copy.Loading.{Loading}
+use Rattle.dir_tools.specs.declared.copy.loading.Loading.{Loading}
 use Rattle.dir_tools.specs.declared.fault.Cause.TheVariants as cause
 use Rattle.dir_tools.specs.declared.fault.ToolFault.{ToolFault}
 use Rattle.dir_tools.specs.declared.fault.ToolFault.TheVariants as tool
 use Rattle.dir_tools.specs.declared.run.Run.{Run}
-use Rattle.dir_tools.specs.CopyOf.{CopyFault, Loaded, and_on, loaded, taken_in}
-use Rattle.dir_tools.specs.Loading.{Holds, IsOfRecord, LoadsTo, copy_fault}
-use Rattle.dir_tools.specs.Ran.{led}
-use Rattle.dir_tools.specs.Running.{Takes, changes_fault}
-use Rattle.dir_tools.specs.Settled.{AcceptsTo, AllAccepted, AllTaken, Gave, GaveTo, IsOfReading, Settles, answers_behind}
+use Rattle.dir_tools.specs.CopyOf.{CopyFault, LoadedCopy, with_record, with_records}
+use Rattle.dir_names.specs.Results.{and_then}
+use Rattle.dir_tools.specs.Inside.Loading.{IsLoaded, IsRecordFault, LoadsTo, copy_fault}
+use Rattle.dir_tools.specs.RunOf.{record_step}
+use Rattle.dir_tools.specs.Inside.Running.{Takes, changes_fault}
+use Rattle.dir_tools.specs.CompleteRecords.{AcceptsTo, AreComplete, CompleteRecordsAreAccepted, CompleteRecordsLoad, GaveBytes, GaveBytesTo, IsReaderFault, answers_after}
 
 -- ---- lists of answers
 
@@ -79,10 +80,10 @@ module _ {S : Type 0} (left : S → Option (List ℕ)) where
 
   -- where a reader came to no end, the answers that its bytes settle were given
   abbrev GaveAll : List Found → (List ℕ → List Answer) → Type 0
-  GaveAll founds answers = (settled : List Found) → Settles answers settled → (more : List Found) × (founds ≡ settled ++ more)
+  GaveAll founds answers = (settled : List Found) → AreComplete answers settled → (more : List Found) × (founds ≡ settled ++ more)
 
   stopped : (first old new : RecordReader S) (founds : List Found) (bytes : List ℕ) → Consumes (left (source_of old)) (left (source_of new)) bytes
-      → (IsSettled (λ text. answers_at Reading (schema_of old) old.core (bytes ++ text)) → ⊥) → ComesFrom first old founds → GaveTo left first new (GaveAll founds)
+      → (IsSettled (λ text. answers_at Reading (schema_of old) old.core (bytes ++ text)) → ⊥) → ComesFrom first old founds → GaveBytesTo left first new (GaveAll founds)
   stopped first old new founds bytes gave unsettled was =
       let tail : List ℕ → List Answer = (λ text. to_give_on old (in_hand old ++ (bytes ++ text))) in
       let whole : (text : List ℕ) → to_give_on first (in_hand first ++ ((was.0 ++ bytes) ++ text)) ≡ all_found founds ++ tail text = (λ text.
@@ -94,7 +95,7 @@ module _ {S : Type 0} (left : S → Option (List ℕ)) where
         λ settled settles. are_given founds settled tail (λ text. ((settles text).0, sym (whole text) ∙ (settles text).1)) unsettled,
       )
 
-  gave_all : (failures : S → ℕ) (fault : StreamFault) (first old new : RecordReader S) (founds : List Found) → own fault → StopsFor left failures fault old new → ComesFrom first old founds → GaveTo left first new (GaveAll founds)
+  gave_all : (failures : S → ℕ) (fault : StreamFault) (first old new : RecordReader S) (founds : List Found) → own fault → StopsFor left failures fault old new → ComesFrom first old founds → GaveBytesTo left first new (GaveAll founds)
   gave_all failures stream.Read first old new founds is stops was = stopped first old new founds stops.1.0 stops.1.1 stops.1.2 was
   gave_all failures stream.TooManyTurns first old new founds is stops was = stopped first old new founds stops.0 stops.1 stops.3 was
   gave_all failures stream.LineTooLong first old new founds is stops was = absurd (is)
@@ -102,7 +103,7 @@ module _ {S : Type 0} (left : S → Option (List ℕ)) where
   gave_all failures stream.Ended first old new founds is stops was = absurd (is)
   gave_all failures stream.BadVersion first old new founds is stops was = absurd (is)
 
-of_copy : (fault : StreamFault) → IsOfReading (copy_fault fault) → own fault
+of_copy : (fault : StreamFault) → IsReaderFault (copy_fault fault) → own fault
 of_copy stream.Read is = tt
 of_copy stream.TooManyTurns is = tt
 of_copy stream.LineTooLong is = absurd (is)
@@ -110,7 +111,7 @@ of_copy stream.Memory is = absurd (is)
 of_copy stream.Ended is = absurd (is)
 of_copy stream.BadVersion is = absurd (is)
 
-of_changes : (fault : StreamFault) → IsOfReading (changes_fault fault) → own fault
+of_changes : (fault : StreamFault) → IsReaderFault (changes_fault fault) → own fault
 of_changes stream.Read is = tt
 of_changes stream.TooManyTurns is = tt
 of_changes stream.LineTooLong is = absurd (is)
@@ -119,7 +120,7 @@ of_changes stream.Ended is = absurd (is)
 of_changes stream.BadVersion is = absurd (is)
 
 -- a record's fault is not the reader's
-pub of_record : (fault : ToolFault) → IsOfRecord fault → IsOfReading fault → ⊥
+pub of_record : (fault : ToolFault) → IsRecordFault fault → IsReaderFault fault → ⊥
 of_record (tool.BadCopy line (cause.Code code)) of is = is
 of_record (tool.BadCopy line (cause.Fault fault)) of is = is
 of_record (tool.BadCopy line (cause.Ended fault)) of is = of
@@ -131,44 +132,44 @@ of_record (tool.BadChanges fault) of is = of
 
 -- ---- a copy
 
-loaded_behind : (rows : List TypeRow) (l : Loaded) (some more : List Answer) → loaded rows l (some ++ more) ≡ and_on (loaded rows l some) (λ m. loaded rows m more)
+loaded_behind : (rows : List TypeRow) (l : LoadedCopy) (some more : List Answer) → with_records rows l (some ++ more) ≡ and_then (with_records rows l some) (λ m. with_records rows m more)
 loaded_behind rows l [] more = refl
 loaded_behind rows l (Err fault ∷ some) more = refl
-loaded_behind rows l (Ok found ∷ some) more = by (taken_in rows l found.0 found.1) (λ m. loaded_behind rows m some more)
+loaded_behind rows l (Ok found ∷ some) more = by (with_record rows l found.0 found.1) (λ m. loaded_behind rows m some more)
   where
-    by : (r : Result Loaded CopyFault) → ((m : Loaded) → loaded rows m (some ++ more) ≡ and_on (loaded rows m some) (λ n. loaded rows n more))
-        → and_on r (λ m. loaded rows m (some ++ more)) ≡ and_on (and_on r (λ m. loaded rows m some)) (λ n. loaded rows n more)
+    by : (r : Result LoadedCopy CopyFault) → ((m : LoadedCopy) → with_records rows m (some ++ more) ≡ and_then (with_records rows m some) (λ n. with_records rows n more))
+        → and_then r (λ m. with_records rows m (some ++ more)) ≡ and_then (and_then r (λ m. with_records rows m some)) (λ n. with_records rows n more)
     by (Ok m) h = h m
     by (Err fault) h = refl
 
-front_ok : (r : Result Loaded CopyFault) (on : Loaded → Result Loaded CopyFault) (m : Loaded) → and_on r on ≡ Ok m → (l : Loaded) × (r ≡ Ok l)
+front_ok : (r : Result LoadedCopy CopyFault) (on : LoadedCopy → Result LoadedCopy CopyFault) (m : LoadedCopy) → and_then r on ≡ Ok m → (l : LoadedCopy) × (r ≡ Ok l)
 front_ok (Ok l) on m is = (l, refl)
 front_ok (Err fault) on m is = absurd (cc)
 
-front_taken : (rows : List TypeRow) (start m : Loaded) (founds settled more : List Found) → founds ≡ settled ++ more → loaded rows start (all_found founds) ≡ Ok m → (l : Loaded) × (loaded rows start (all_found settled) ≡ Ok l)
+front_taken : (rows : List TypeRow) (start m : LoadedCopy) (founds settled more : List Found) → founds ≡ settled ++ more → with_records rows start (all_found founds) ≡ Ok m → (l : LoadedCopy) × (with_records rows start (all_found settled) ≡ Ok l)
 front_taken rows start m founds settled more is takes =
-    front_ok (loaded rows start (all_found settled)) (λ l. loaded rows l (all_found more)) m
-    (sym (loaded_behind rows start (all_found settled) (all_found more)) ∙ ap (loaded rows start) (sym (map-append found_one settled more)) ∙ ap (λ fs. loaded rows start (all_found fs)) (sym is) ∙ takes)
+    front_ok (with_records rows start (all_found settled)) (λ l. with_records rows l (all_found more)) m
+    (sym (loaded_behind rows start (all_found settled) (all_found more)) ∙ ap (with_records rows start) (sym (map-append found_one settled more)) ∙ ap (λ fs. with_records rows start (all_found fs)) (sym is) ∙ takes)
 
-one_taken : (rows : List TypeRow) (start m next : Loaded) (founds : List Found) (found : Found) → loaded rows start (all_found founds) ≡ Ok m → taken_in rows m found.0 found.1 ≡ Ok next
-    → loaded rows start (all_found (founds ++ found ∷ [])) ≡ Ok next
+one_taken : (rows : List TypeRow) (start m next : LoadedCopy) (founds : List Found) (found : Found) → with_records rows start (all_found founds) ≡ Ok m → with_record rows m found.0 found.1 ≡ Ok next
+    → with_records rows start (all_found (founds ++ found ∷ [])) ≡ Ok next
 one_taken rows start m next founds found takes one =
-    ap (loaded rows start) (map-append found_one founds (found ∷ []))
+    ap (with_records rows start) (map-append found_one founds (found ∷ []))
     ∙ loaded_behind rows start (all_found founds) (Ok found ∷ [])
-    ∙ ap (λ r. and_on r (λ l. loaded rows l (Ok found ∷ []))) takes
-    ∙ ap (λ r. and_on r (λ l. loaded rows l [])) one
+    ∙ ap (λ r. and_then r (λ l. with_records rows l (Ok found ∷ []))) takes
+    ∙ ap (λ r. and_then r (λ l. with_records rows l [])) one
 
 module _ {D : Type 0} {S : Type 0} (state : D → Dir) (rows : List TypeRow) (left : S → Option (List ℕ)) where
   -- the records that were given were taken in
   abbrev pub TakenSoFar : RecordReader S → RecordReader S → Loading D → Loading D → Type 0
   TakenSoFar first now old loading =
-      (founds : List Found) × ComesFrom left first now founds × ((start : Loaded) → Holds state start old → (m : Loaded) × Holds state m loading × (loaded rows start (all_found founds) ≡ Ok m))
+      (founds : List Found) × ComesFrom left first now founds × ((start : LoadedCopy) → IsLoaded state start old → (m : LoadedCopy) × IsLoaded state m loading × (with_records rows start (all_found founds) ≡ Ok m))
 
   pub taken_begun : (r : RecordReader S) (loading : Loading D) → TakenSoFar r r loading loading
   taken_begun r loading = ([], comes_begun left r, λ start holds. (start, holds, refl))
 
   pub taken_further : (first old new : RecordReader S) (begun loading next : Loading D) (found : Found) → schema_of new ≡ schema_of old → UsesUp left found old new
-      → ((m : Loaded) → Holds state m loading → LoadsTo state (taken_in rows m found.0 found.1) next) → TakenSoFar first old begun loading → TakenSoFar first new begun next
+      → ((m : LoadedCopy) → IsLoaded state m loading → LoadsTo state (with_record rows m found.0 found.1) next) → TakenSoFar first old begun loading → TakenSoFar first new begun next
   taken_further first old new begun loading next found same uses leads was = (
     was.0 ++ found ∷ [],
     comes_further left first old new was.0 found same uses was.1,
@@ -178,8 +179,8 @@ module _ {D : Type 0} {S : Type 0} (state : D → Dir) (rows : List TypeRow) (le
         (on.0, on.2, one_taken rows start so_far.0 on.0 was.0 found so_far.2 on.1),
   )
 
-  pub taken_stopped : (failures : S → ℕ) (fault : StreamFault) (first old new : RecordReader S) (begun loading : Loading D) → IsOfReading (copy_fault fault) → StopsFor left failures fault old new
-      → TakenSoFar first old begun loading → (start : Loaded) → Holds state start begun → GaveTo left first new (AllTaken rows start)
+  pub taken_stopped : (failures : S → ℕ) (fault : StreamFault) (first old new : RecordReader S) (begun loading : Loading D) → IsReaderFault (copy_fault fault) → StopsFor left failures fault old new
+      → TakenSoFar first old begun loading → (start : LoadedCopy) → IsLoaded state start begun → GaveBytesTo left first new (CompleteRecordsLoad rows start)
   taken_stopped failures fault first old new begun loading is stops was start holds =
       let gave = gave_all left failures fault first old new was.0 (of_copy fault is) stops was.1 in
       let so_far = was.2 start holds in
@@ -193,8 +194,8 @@ front_accepted rows d end (found ∷ settled) more was =
     let later = front_accepted rows was.0 end settled more was.3 in
     (later.0, (was.0, was.1, was.2, later.1))
 
-one_accepted : (rows : List TypeRow) (d end next : Dir) (group : List Change) (founds : List Found) (found : Found) → led rows end found.1 ≡ Ok (next, group) → AcceptsTo rows d founds end → AcceptsTo rows d (founds ++ found ∷ []) next
-one_accepted rows d end next group [] found leads was = (next, group, ap (λ x. led rows x found.1) was ∙ leads, refl)
+one_accepted : (rows : List TypeRow) (d end next : Dir) (group : List Change) (founds : List Found) (found : Found) → record_step rows end found.1 ≡ Ok (next, group) → AcceptsTo rows d founds end → AcceptsTo rows d (founds ++ found ∷ []) next
+one_accepted rows d end next group [] found leads was = (next, group, ap (λ x. record_step rows x found.1) was ∙ leads, refl)
 one_accepted rows d end next group (f ∷ founds) found leads was = (was.0, was.1, was.2, one_accepted rows was.0 end next group founds found leads was.3)
 
 module _ {D : Type 0} {S : Type 0} (state : D → Dir) (rows : List TypeRow) (left : S → Option (List ℕ)) where
@@ -222,8 +223,8 @@ module _ {D : Type 0} {S : Type 0} (state : D → Dir) (rows : List TypeRow) (le
       both : begun.options.go_on ≡ true → begun.options.go_on ≡ false → ⊥
       both on_it off_it = cc
 
-  pub accepted_stopped : (failures : S → ℕ) (fault : StreamFault) (first old new : RecordReader S) (begun run : Run D) → IsOfReading (changes_fault fault) → StopsFor left failures fault old new
-      → AcceptedSoFar first old begun run → begun.options.go_on ≡ false → GaveTo left first new (AllAccepted rows (state begun.directory))
+  pub accepted_stopped : (failures : S → ℕ) (fault : StreamFault) (first old new : RecordReader S) (begun run : Run D) → IsReaderFault (changes_fault fault) → StopsFor left failures fault old new
+      → AcceptedSoFar first old begun run → begun.options.go_on ≡ false → GaveBytesTo left first new (CompleteRecordsAreAccepted rows (state begun.directory))
   accepted_stopped failures fault first old new begun run is stops was off =
       let gave = gave_all left failures fault first old new was.0 (of_changes fault is) stops was.1 in (
         gave.0,
@@ -235,23 +236,23 @@ module _ {D : Type 0} {S : Type 0} (state : D → Dir) (rows : List TypeRow) (le
 
 -- ---- a reader that has just begun
 
-settles_so : (a b : List ℕ → List Answer) → ((text : List ℕ) → b text ≡ a text) → (founds : List Found) → Settles b founds → Settles a founds
+settles_so : (a b : List ℕ → List Answer) → ((text : List ℕ) → b text ≡ a text) → (founds : List Found) → AreComplete b founds → AreComplete a founds
 settles_so a b same founds h = λ text. ((h text).0, sym (same text) ∙ (h text).1)
 
 module _ {S : Type 0} (rows : List TypeRow) (left : S → Option (List ℕ)) where
   -- what it gives is the records of the text
   pub from_start : (P : (List ℕ → List Answer) → Type 0) → ((a b : List ℕ → List Answer) → ((text : List ℕ) → b text ≡ a text) → P a → P b) → (first now : RecordReader S) (before behind : Option (List ℕ))
       → in_hand first ≡ [] → ((text : List ℕ) → to_give_on first text ≡ records_of rows text) → left (source_of first) ≡ before → left (source_of now) ≡ behind
-      → GaveTo left first now P → Gave before behind (λ bytes. P (answers_behind rows bytes))
+      → GaveBytesTo left first now P → GaveBytes before behind (λ bytes. P (answers_after rows bytes))
   from_start P moves first now before behind empty reads starts ends gave = (
     gave.0,
     subst (λ o. Consumes before o gave.0) ends (subst (λ o. Consumes o (left (source_of now)) gave.0) starts gave.1),
-    moves (λ text. to_give_on first (in_hand first ++ (gave.0 ++ text))) (answers_behind rows gave.0)
+    moves (λ text. to_give_on first (in_hand first ++ (gave.0 ++ text))) (answers_after rows gave.0)
         (λ text. sym (ap (λ t. to_give_on first (t ++ (gave.0 ++ text))) empty ∙ reads (gave.0 ++ text))) gave.2,
   )
 
-pub taken_so : (rows : List TypeRow) (start : Loaded) (a b : List ℕ → List Answer) → ((text : List ℕ) → b text ≡ a text) → AllTaken rows start a → AllTaken rows start b
+pub taken_so : (rows : List TypeRow) (start : LoadedCopy) (a b : List ℕ → List Answer) → ((text : List ℕ) → b text ≡ a text) → CompleteRecordsLoad rows start a → CompleteRecordsLoad rows start b
 taken_so rows start a b same h = λ founds settles. h founds (settles_so a b same founds settles)
 
-pub accepted_so : (rows : List TypeRow) (d : Dir) (a b : List ℕ → List Answer) → ((text : List ℕ) → b text ≡ a text) → AllAccepted rows d a → AllAccepted rows d b
+pub accepted_so : (rows : List TypeRow) (d : Dir) (a b : List ℕ → List Answer) → ((text : List ℕ) → b text ≡ a text) → CompleteRecordsAreAccepted rows d a → CompleteRecordsAreAccepted rows d b
 accepted_so rows d a b same h = λ founds settles. h founds (settles_so a b same founds settles)

@@ -1,5 +1,5 @@
 -- What a copy holds as far as it was read, and why it is not read.
-use Rattle.std.specs.Prelude.{◌≡◌, ℕ, ◌≤◌, ⊤, Bool, true, false, List, [], length, Option, None, Some, IsTrue, Result, Ok, Err, IfSome}
+use Rattle.std.specs.Prelude.{◌≡◌, ℕ, ◌≤◌, ⊤, Bool, true, false, List, length, Option, None, Some, IsTrue, Result, Ok, Err, IfSome}
 use Rattle.std.specs.List.{list_all}
 use Rattle.std.specs.BTreeMap.{get}
 use Rattle.std.specs.BTreeSet.{BTreeSet, contains}
@@ -17,19 +17,13 @@ use Rattle.dir_ldif.specs.Device.{HasFailed}
 use Rattle.dir_ldif.specs.declared.faults.StreamFault.{StreamFault}
 use Rattle.dir_ldif.specs.declared.faults.StreamFault.TheVariants as stream
 use Rattle.dir_tree.specs.WellFormed.{IsSoundEntry, own_part}
-use Rattle.dir_tools.specs.CopyOf.{CopyFault, Loaded, copy_of, loaded}
-use Rattle.dir_tools.specs.Turns.{IsLong}
-use Rattle.dir_tools.specs.declared.copy.Loading.{Loading}
-use Rattle.dir_tools.specs.declared.copy.Waiting.{Waiting}
-use Rattle.dir_tools.specs.declared.fault.Cause.{Cause}
+use Rattle.dir_tools.specs.CopyOf.{CopyFault, LoadedCopy, with_records}
+use Rattle.dir_tools.specs.declared.copy.loading.Loading.{Loading}
+use Rattle.dir_tools.specs.declared.copy.loading.Waiting.{Waiting}
 use Rattle.dir_tools.specs.declared.fault.Cause.TheVariants as cause
 use Rattle.dir_tools.specs.declared.fault.Input.TheVariants as input
 use Rattle.dir_tools.specs.declared.fault.ToolFault.{ToolFault}
 use Rattle.dir_tools.specs.declared.fault.ToolFault.TheVariants as tool
-
--- a directory without entries
-abbrev pub IsBare : Dir → Type 0
-IsBare d = d.entries ≡ fin.empty
 
 -- what a fault that ends the text of a copy means
 abbrev pub copy_fault : StreamFault → ToolFault
@@ -41,29 +35,17 @@ copy_fault stream.TooManyTurns = tool.BadCopy 0 (cause.Ended stream.TooManyTurns
 copy_fault stream.BadVersion = tool.BadCopy 0 (cause.Ended stream.BadVersion)
 
 -- a fault of a record, or want of memory
-abbrev pub IsOfRecord : ToolFault → Type 0
-IsOfRecord (tool.BadCopy line (cause.Code code)) = ⊤
-IsOfRecord (tool.BadCopy line (cause.Fault fault)) = ⊤
-IsOfRecord tool.Memory = ⊤
-IsOfRecord fault = ⊥
+abbrev pub IsRecordFault : ToolFault → Type 0
+IsRecordFault (tool.BadCopy line (cause.Code code)) = ⊤
+IsRecordFault (tool.BadCopy line (cause.Fault fault)) = ⊤
+IsRecordFault tool.Memory = ⊤
+IsRecordFault fault = ⊥
 
 -- the fault is the definition's, unless memory ran out
-abbrev pub IsFaultOf : {A : Type 0} → Result A CopyFault → ToolFault → Type 0
-IsFaultOf wanted (tool.BadCopy line why) = wanted ≡ Err (line, why)
-IsFaultOf wanted tool.Memory = ⊤
-IsFaultOf wanted fault = ⊥
-
--- this is the first fault of the text of a copy; or the text has a byte or more for each read call of a reader
-abbrev pub IsBadCopy : List TypeRow → DnKeys → List ℕ → ℕ → Cause → Type 0
-IsBadCopy rows suffix text line (cause.Ended stream.TooManyTurns) = (line ≡ 0) × IsLong text
-IsBadCopy rows suffix text line why = copy_of rows suffix text ≡ Err (line, why)
-
--- the copy is at fault, or its reader failed, or memory ran out
-abbrev pub CopyBlamed : List TypeRow → Dir → Option (List ℕ) → ℕ → ℕ → ToolFault → Type 0
-CopyBlamed rows empty copy failures failures' (tool.BadCopy line why) = IsBare empty → IfSome copy (λ text. IsBadCopy rows empty.suffix text line why)
-CopyBlamed rows empty copy failures failures' (tool.Read input.Copy) = HasFailed failures failures'
-CopyBlamed rows empty copy failures failures' tool.Memory = ⊤
-CopyBlamed rows empty copy failures failures' fault = ⊥
+abbrev pub IsCopyFault : {A : Type 0} → Result A CopyFault → ToolFault → Type 0
+IsCopyFault wanted (tool.BadCopy line why) = wanted ≡ Err (line, why)
+IsCopyFault wanted tool.Memory = ⊤
+IsCopyFault wanted fault = ⊥
 
 -- an entry that waits, or else the one that stands
 abbrev pub waiting_or : Option Waiting → Option Content → Option Content
@@ -76,7 +58,7 @@ IsMadeOf d waiting standing =
     (d.suffix ≡ standing.suffix) × IsClosed standing × ((k : DnKeys) → entry_at d k ≡ waiting_or (waiting k) (entry_at standing k))
 
 -- nothing stands where an entry waits, and it has the line of its record
-abbrev pub AllWait : Loaded → (DnKeys → Option Waiting) → Dir → Type 0
+abbrev pub AllWait : LoadedCopy → (DnKeys → Option Waiting) → Dir → Type 0
 AllWait m waiting standing = (k : DnKeys) (w : Waiting) → waiting k ≡ Some w → (entry_at standing k ≡ None) × (fin.get m.lines k ≡ Some w.line)
 
 -- whether there is a key, and it is among these
@@ -89,42 +71,39 @@ abbrev pub IsPut : DnKeys → Content → Dir → Dir → Option Content → Typ
 IsPut k e old new None = IsTrue (has_parent old k) × (new ≡ put_entry old k e)
 IsPut k e old new (Some back) = (back ≡ e) × (has_parent old k ≡ false) × (new ≡ old)
 
-abbrev pub IsNamed : DnKeys → Type 0
-IsNamed suffix = suffix ≡ [] → ⊥
-
 -- an entry is sound, and stands in its place and within the limits
-abbrev pub IsInOrder : List TypeRow → DnKeys → DnKeys → Content → Type 0
-IsInOrder rows suffix k e =
+abbrev pub IsSoundAt : List TypeRow → DnKeys → DnKeys → Content → Type 0
+IsSoundAt rows suffix k e =
     IsSoundEntry rows e × (name_key rows e.own ≡ Some (own_part suffix k)) × (length k ≤ 64) × (is_name e.own ≡ true) × (list_all is_small e.own ≡ true)
 
-abbrev pub AreInOrder : List TypeRow → Dir → Type 0
-AreInOrder rows d = (k : DnKeys) (e : Content) → entry_at d k ≡ Some e → IsInOrder rows d.suffix k e
+abbrev pub AreSoundInPlace : List TypeRow → Dir → Type 0
+AreSoundInPlace rows d = (k : DnKeys) (e : Content) → entry_at d k ≡ Some e → IsSoundAt rows d.suffix k e
 
 module _ {D : Type 0} where
   -- the entries of the records so far stand, or wait with the lines of their records
-  abbrev pub Holds : (D → Dir) → Loaded → Loading D → Type 0
-  Holds state m loading =
+  abbrev pub IsLoaded : (D → Dir) → LoadedCopy → Loading D → Type 0
+  IsLoaded state m loading =
       IsMadeOf m.entries (get dn_key_cmp loading.waiting) (state loading.directory) × AllWait m (get dn_key_cmp loading.waiting) (state loading.directory)
 
   -- the records lead to entries that stand or wait
-  abbrev pub LoadsTo : (D → Dir) → Result Loaded CopyFault → Loading D → Type 0
-  LoadsTo state taken loading = (m : Loaded) × (taken ≡ Ok m) × Holds state m loading
+  abbrev pub LoadsTo : (D → Dir) → Result LoadedCopy CopyFault → Loading D → Type 0
+  LoadsTo state taken loading = (m : LoadedCopy) × (taken ≡ Ok m) × IsLoaded state m loading
 
   -- whatever was read before, the answers that were given lead on
   abbrev pub LoadsOver : (D → Dir) → List TypeRow → Option (List Answer) → Loading D → Loading D → Type 0
   LoadsOver state rows given old new =
-      (m : Loaded) → Holds state m old → IfSome given (λ answers. LoadsTo state (loaded rows m answers) new)
+      (m : LoadedCopy) → IsLoaded state m old → IfSome given (λ answers. LoadsTo state (with_records rows m answers) new)
 
   -- whatever was read before, the answers that were given come to this fault first; or the reader failed, or memory ran out
   abbrev pub StopsLoading : (D → Dir) → List TypeRow → Option (List Answer) → ℕ → ℕ → Loading D → ToolFault → Type 0
   StopsLoading state rows given failures failures' old (tool.BadCopy line (cause.Ended stream.TooManyTurns)) = line ≡ 0
   StopsLoading state rows given failures failures' old (tool.BadCopy line why) =
-      (m : Loaded) → Holds state m old → IfSome given (λ answers. loaded rows m answers ≡ Err (line, why))
+      (m : LoadedCopy) → IsLoaded state m old → IfSome given (λ answers. with_records rows m answers ≡ Err (line, why))
   StopsLoading state rows given failures failures' old (tool.Read input.Copy) = HasFailed failures failures'
   StopsLoading state rows given failures failures' old tool.Memory = ⊤
   StopsLoading state rows given failures failures' old fault = ⊥
 
   -- whatever was read before, entries in order stay so
-  abbrev pub KeepsOrder : (D → Dir) → List TypeRow → Loading D → Loading D → Type 0
-  KeepsOrder state rows old new =
-      (m : Loaded) → Holds state m old → (n : Loaded) × Holds state n new × (AreInOrder rows m.entries → AreInOrder rows n.entries)
+  abbrev pub KeepsSound : (D → Dir) → List TypeRow → Loading D → Loading D → Type 0
+  KeepsSound state rows old new =
+      (m : LoadedCopy) → IsLoaded state m old → (n : LoadedCopy) × IsLoaded state n new × (AreSoundInPlace rows m.entries → AreSoundInPlace rows n.entries)

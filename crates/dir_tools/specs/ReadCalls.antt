@@ -8,5 +8,5 @@ abbrev pub GaveAtLeast : Option (List ℕ) → Option (List ℕ) → ℕ → Typ
 GaveAtLeast left left' n = (bytes : List ℕ) × Consumes left left' bytes × (n ≤ length bytes)
 
 -- a text of a byte or more for each read call of a reader
-abbrev pub IsLong : List ℕ → Type 0
-IsLong text = MAX_TURNS ≤ length text
+abbrev pub FillsReadCalls : List ℕ → Type 0
+FillsReadCalls text = MAX_TURNS ≤ length text

@@ -7,14 +7,14 @@ use Rattle.dir_names.specs.Orders.{dn_key_cmp, dn_key_eq}
 use Rattle.dir_tree.specs.Dir.{entry_at, put_entry}
 use Rattle.dir_tree.specs.Made.{Fails, made}
 use Rattle.dir_change.specs.declared.operation.Refusal.TheVariants as refusal
-use Rattle.dir_change.specs.Operation.{is_at_or_below, own_of, refusal_of}
+use Rattle.dir_change.specs.Operation.{entry_refusal, is_at_or_below, own_rdns}
 use Rattle.dir_change.proofs.Conditions.{below_false, below_true}
-use Rattle.dir_tools.specs.CopyOf.{placed_at}
-use Rattle.dir_tools.specs.Loading.{AllWait, IsFaultOf, IsMadeOf, waiting_or}
+use Rattle.dir_tools.specs.CopyOf.{with_content}
+use Rattle.dir_tools.specs.Inside.Loading.{AllWait, IsCopyFault, IsMadeOf, waiting_or}
 use Rattle.dir_tools.proofs.CopyFaults.{makes_none, outside, some_copied, some_there, taken_place, unmade, waits_there}
 use Rattle.dir_tools.proofs.CopyLemmas.{all_standing, all_waiting, key_named, made_standing, made_waiting, none_copied, nothing, placed_ok, put_back, put_there}
-use Rattle.dir_tools.proofs.copy.Loading.take_entry.Goals.{in-Code, in-Memory, then-is_some-via-then-is_some, then-is_some-via-else-is_some+then-contains_key}
-use Rattle.dir_tools.proofs.copy.Loading.take_entry.Goals as goal
+use Rattle.dir_tools.proofs.copy.loading.Loading.take_entry.Goals.{in-Code, in-Memory, then-is_some-via-then-is_some, then-is_some-via-else-is_some+then-contains_key}
+use Rattle.dir_tools.proofs.copy.loading.Loading.take_entry.Goals as goal
 
 pub returns-then-not-at_or_below-clause-cause : goal.returns-then-not-at_or_below-clause-cause
 returns-then-not-at_or_below-clause-cause g c m was =
@@ -23,7 +23,7 @@ returns-then-not-at_or_below-clause-cause g c m was =
     let rows = c.args.schema.now in
     let named : name_key rows c.args.name ≡ Some k = key_named (name_key rows c.args.name) k c.in-Ok.ensures in
     let out : is_at_or_below k m.entries.suffix ≡ false = ap (is_at_or_below k) was.0.0 ∙ below_false k d.suffix (λ h. true≢false (sym (c.if-not-at_or_below.ensures.1 (subst (λ z. IsAtOrBelow k z) (sym c.suffix.ensures.key) h)))) in
-    subst (IsFaultOf (placed_at rows m c.args.line c.args.name c.args.lines (name_key rows c.args.name))) (sym c.refused-then-not-at_or_below.ensures)
+    subst (IsCopyFault (with_content rows m c.args.line c.args.name c.args.lines (name_key rows c.args.name))) (sym c.refused-then-not-at_or_below.ensures)
     (outside rows m c.args.line c.args.name c.args.lines (name_key rows c.args.name) k named out)
 
 pub returns-then-is_some-clause-cause : goal.returns-then-is_some-clause-cause
@@ -38,7 +38,7 @@ returns-then-is_some-clause-cause g c m was =
       | then-is_some-via-then-is_some w ↦ some_there m d (get dn_key_cmp c.args.self.now.waiting) k was.0 (sym (ap is_some c.get.ensures) ∙ some_copied c.get.result (sym w.if-is_some.ensures))
       | then-is_some-via-else-is_some+then-contains_key w ↦ waits_there m d (get dn_key_cmp c.args.self.now.waiting) k was.0 (sym w.if-contains_key.ensures)
     ] in
-    subst (IsFaultOf (placed_at rows m c.args.line c.args.name c.args.lines (name_key rows c.args.name))) (sym c.refused-then-is_some.ensures)
+    subst (IsCopyFault (with_content rows m c.args.line c.args.name c.args.lines (name_key rows c.args.name))) (sym c.refused-then-is_some.ensures)
     (taken_place rows m c.args.line c.args.name c.args.lines (name_key rows c.args.name) k named inside there)
 
 pub returns-in-Err-make-clause-cause : goal.returns-in-Err-make-clause-cause
@@ -52,15 +52,15 @@ returns-in-Err-make-clause-cause g c m was =
     let no_entry : entry_at d k ≡ None = sym c.get.ensures ∙ none_copied c.get.result (sym c.if-is_some.ensures) in
     let none_waits : get dn_key_cmp c.args.self.now.waiting k ≡ None = nothing _ (sym c.if-contains_key.ensures) in
     let free : entry_at m.entries k ≡ None = was.0.2 k ∙ (λ i. waiting_or (none_waits i) (no_entry i)) in
-    let own : c.own_rdns.result.items ≡ own_of m.entries.suffix k c.args.name =
+    let own : c.own_rdns.result.items ≡ own_rdns m.entries.suffix k c.args.name =
     c.own_rdns.ensures ∙ ap (λ b. cond b c.args.name (take 1 c.args.name)) (c.eq-is_suffix.ensures ∙ ap (dn_key_eq k) (c.suffix-2.ensures.key ∙ sym was.0.0)) in
-    let fails : Fails c.in-Err-make.fault (made rows (own_of m.entries.suffix k c.args.name) c.args.lines) = subst (λ o. Fails c.in-Err-make.fault (made rows o c.args.lines)) own c.in-Err-make.ensures in
+    let fails : Fails c.in-Err-make.fault (made rows (own_rdns m.entries.suffix k c.args.name) c.args.lines) = subst (λ o. Fails c.in-Err-make.fault (made rows o c.args.lines)) own c.in-Err-make.ensures in
     elim c.match-from.branch [
       | in-Code w ↦
-          let code : refusal_of c.in-Err-make.fault ≡ refusal.Code w.in-Code.code = sym c.from.ensures ∙ w.in-Code.is in
-          subst (IsFaultOf (placed_at rows m c.args.line c.args.name c.args.lines key)) (sym w.refused-in-Code.ensures ∙ sym w.result-is)
+          let code : entry_refusal c.in-Err-make.fault ≡ refusal.Code w.in-Code.code = sym c.from.ensures ∙ w.in-Code.is in
+          subst (IsCopyFault (with_content rows m c.args.line c.args.name c.args.lines key)) (sym w.refused-in-Code.ensures ∙ sym w.result-is)
           (unmade rows m c.args.line c.args.name c.args.lines key k c.in-Err-make.fault w.in-Code.code named inside free (makes_none c.in-Err-make.fault w.in-Code.code _ code fails) code)
-      | in-Memory w ↦ subst (IsFaultOf (placed_at rows m c.args.line c.args.name c.args.lines key)) (sym w.result-is) tt
+      | in-Memory w ↦ subst (IsCopyFault (with_content rows m c.args.line c.args.name c.args.lines key)) (sym w.result-is) tt
     ]
 
 pub returns-in_ok-insert-clause-reads : goal.returns-in_ok-insert-clause-reads
@@ -73,9 +73,9 @@ returns-in_ok-insert-clause-reads g c m was =
     let no_entry : entry_at d k ≡ None = sym c.get.ensures ∙ none_copied c.get.result (sym c.if-is_some.ensures) in
     let none_waits : get dn_key_cmp c.args.self.now.waiting k ≡ None = nothing _ (sym c.if-contains_key.ensures) in
     let free : entry_at m.entries k ≡ None = was.0.2 k ∙ (λ i. waiting_or (none_waits i) (no_entry i)) in
-    let own : c.own_rdns.result.items ≡ own_of m.entries.suffix k c.args.name =
+    let own : c.own_rdns.result.items ≡ own_rdns m.entries.suffix k c.args.name =
     c.own_rdns.ensures ∙ ap (λ b. cond b c.args.name (take 1 c.args.name)) (c.eq-is_suffix.ensures ∙ ap (dn_key_eq k) (c.suffix-2.ensures.key ∙ sym was.0.0)) in
-    let makes : made rows (own_of m.entries.suffix k c.args.name) c.args.lines ≡ Ok c.in-Ok-make.entry = ap (λ o. made rows o c.args.lines) (sym own) ∙ c.in-Ok-make.ensures in
+    let makes : made rows (own_rdns m.entries.suffix k c.args.name) c.args.lines ≡ Ok c.in-Ok-make.entry = ap (λ o. made rows o c.args.lines) (sym own) ∙ c.in-Ok-make.ensures in
     let d' = g.D.Directory.state c.put.new.directory in
     let back = put_back k c.in-Ok-make.entry d d' c.in_ok-entry.field-0 c.in-Some.entry c.in_ok-entry.ensures.put c.in-Some.is in
     let waiting' = get dn_key_cmp c.insert.new.self in (
@@ -99,9 +99,9 @@ returns-in_default-clause-reads g c m was =
     let no_entry : entry_at d k ≡ None = sym c.get.ensures ∙ none_copied c.get.result (sym c.if-is_some.ensures) in
     let none_waits : get dn_key_cmp c.args.self.now.waiting k ≡ None = nothing _ (sym c.if-contains_key.ensures) in
     let free : entry_at m.entries k ≡ None = was.0.2 k ∙ (λ i. waiting_or (none_waits i) (no_entry i)) in
-    let own : c.own_rdns.result.items ≡ own_of m.entries.suffix k c.args.name =
+    let own : c.own_rdns.result.items ≡ own_rdns m.entries.suffix k c.args.name =
     c.own_rdns.ensures ∙ ap (λ b. cond b c.args.name (take 1 c.args.name)) (c.eq-is_suffix.ensures ∙ ap (dn_key_eq k) (c.suffix-2.ensures.key ∙ sym was.0.0)) in
-    let makes : made rows (own_of m.entries.suffix k c.args.name) c.args.lines ≡ Ok c.in-Ok-make.entry = ap (λ o. made rows o c.args.lines) (sym own) ∙ c.in-Ok-make.ensures in
+    let makes : made rows (own_rdns m.entries.suffix k c.args.name) c.args.lines ≡ Ok c.in-Ok-make.entry = ap (λ o. made rows o c.args.lines) (sym own) ∙ c.in-Ok-make.ensures in
     let d' = g.D.Directory.state c.put.new.directory in
     let none : is_some c.in_ok-entry.field-0 ≡ false = search rules in
     let put = put_there k c.in-Ok-make.entry d d' c.in_ok-entry.field-0 c.in_ok-entry.ensures.put none in (

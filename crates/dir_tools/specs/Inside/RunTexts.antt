@@ -1,8 +1,8 @@
 -- The texts of a run, as they are made.
 use Rattle.std.specs.Prelude.{◌≡◌, ℕ, Bool, true, false, List, [], Option, None, Some}
-use Rattle.dir_tools.specs.declared.modify.Files.{Files}
-use Rattle.dir_tools.specs.declared.modify.RunTexts as made
-use Rattle.dir_tools.specs.Written.{Texts}
+use Rattle.dir_tools.specs.declared.run.Files.{Files}
+use Rattle.dir_tools.specs.declared.run.RunTexts as made
+use Rattle.dir_tools.specs.Writing.{Texts}
 
 abbrev pub undo_in : Option Files → List ℕ
 undo_in None = []
@@ -23,9 +23,9 @@ abbrev pub is_dry : made.RunTexts → Bool
 is_dry t = has_no_files t.files
 
 -- these texts were made; a dry run leaves out the files
-abbrev pub HoldsFiles : Bool → Texts → Option Files → Type 0
-HoldsFiles dry s None = dry ≡ true
-HoldsFiles dry s (Some files) = (dry ≡ false) × (files.undo.items ≡ s.undo) × (files.out.items ≡ s.out)
+abbrev pub AreFiles : Bool → Texts → Option Files → Type 0
+AreFiles dry s None = dry ≡ true
+AreFiles dry s (Some files) = (dry ≡ false) × (files.undo.items ≡ s.undo) × (files.out.items ≡ s.out)
 
-abbrev pub Holds : Bool → Texts → made.RunTexts → Type 0
-Holds dry s t = HoldsFiles dry s t.files × (t.report.items ≡ s.report)
+abbrev pub AreTexts : Bool → Texts → made.RunTexts → Type 0
+AreTexts dry s t = AreFiles dry s t.files × (t.report.items ≡ s.report)

@@ -10,21 +10,18 @@ use Rattle.dir_ldif.specs.declared.records.Change.{Change}
 use Rattle.dir_ldif.specs.declared.records.Record.{Record}
 use Rattle.dir_ldif.specs.declared.records.Record.TheVariants as form
 use Rattle.dir_tree.specs.Dir.{Dir}
-use Rattle.dir_tree.specs.WellFormed.{Each}
-use Rattle.dir_change.specs.Runs.{goes_on}
-use Rattle.dir_change.specs.Sound.{IsSoundChange}
 use Rattle.dir_tools.specs.declared.fault.Cause.{Cause}
-use Rattle.dir_tools.specs.declared.modify.ModifyOptions.{ModifyOptions}
+use Rattle.dir_tools.specs.declared.run.ModifyOptions.{ModifyOptions}
 use Rattle.dir_change.specs.UndoText.{undo_text_of}
 use Rattle.dir_tools.specs.Canonical.{canonical_of}
-use Rattle.dir_tools.specs.declared.modify.Files.{Files}
-use Rattle.dir_tools.specs.declared.modify.RunTexts.{RunTexts}
+use Rattle.dir_tools.specs.declared.run.Files.{Files}
+use Rattle.dir_tools.specs.declared.run.RunTexts.{RunTexts}
 use Rattle.dir_tools.specs.declared.run.Run.{Run}
 use Rattle.dir_ldif.specs.Records.{Answer}
 use Rattle.dir_tools.specs.declared.fault.ToolFault.{ToolFault}
 use Rattle.dir_tools.specs.declared.fault.ToolFault.TheVariants as tool
 use Rattle.dir_tools.specs.declared.fault.Input.TheVariants as input
-use Rattle.dir_tools.specs.Ran.{Outcome, cause_in, causes_in, group_in, groups_in, led, run_of}
+use Rattle.dir_tools.specs.RunOf.{Outcome, cause_in, causes_in, group_in, groups_in, record_step, run_of, HasAccepted}
 use Rattle.dir_tools.specs.Report.{numbers_line, outcome_line}
 
 -- what is still to give after the first answers of a list that is known
@@ -42,35 +39,30 @@ changes_fault stream.Ended = tool.BadChanges stream.Ended
 changes_fault stream.TooManyTurns = tool.BadChanges stream.TooManyTurns
 changes_fault stream.BadVersion = tool.BadChanges stream.BadVersion
 
--- the outcomes of a run from one directory to another: the groups are those of sound changes, accepted one after the other
-abbrev pub HasAccepted : List TypeRow → Dir → List (ℕ × Outcome) → Dir → Type 0
-HasAccepted rows first outcomes last =
-    (changes : List Change) × Each (IsSoundChange rows) changes × (goes_on rows first changes ≡ record { end = last; groups = groups_in outcomes })
-
 module _ {D : Type 0} where
   -- it has taken no record
-  abbrev pub IsBegun : D → ModifyOptions → Run D → Type 0
-  IsBegun directory options run =
+  abbrev pub HasTakenNone : D → ModifyOptions → Run D → Type 0
+  HasTakenNone directory options run =
       (run.directory ≡ directory) × (run.history ≡ []) × (run.report.text.items ≡ []) × (run.report.verbose ≡ options.verbose)
       × (run.summary.accepted ≡ 0) × (run.summary.refused ≡ 0) × (run.options ≡ options)
 
   -- the records that it has taken
-  abbrev pub room : Run D → ℕ
-  room run = run.summary.accepted + run.summary.refused
+  abbrev pub records_taken : Run D → ℕ
+  records_taken run = run.summary.accepted + run.summary.refused
 
   -- the report and the numbers are as they were
-  abbrev pub Keeps : Run D → Run D → Type 0
-  Keeps old new = (new.report ≡ old.report) × (new.summary ≡ old.summary) × (new.options ≡ old.options)
+  abbrev pub KeepsReport : Run D → Run D → Type 0
+  KeepsReport old new = (new.report ≡ old.report) × (new.summary ≡ old.summary) × (new.options ≡ old.options)
 
   -- a record is accepted, and its group kept; or it is refused, and changes nothing
-  abbrev pub Leads : (D → Dir) → List TypeRow → Result Record RecordFault → Run D → Run D → Option Cause → Type 0
-  Leads state rows found old new None =
-      (group : List Change) × (led rows (state old.directory) found ≡ Ok (state new.directory, group)) × (new.history ≡ old.history ++ group ∷ [])
-  Leads state rows found old new (Some why) =
-      (led rows (state old.directory) found ≡ Err why) × (state new.directory ≡ state old.directory) × (new.history ≡ old.history)
+  abbrev pub HasOutcome : (D → Dir) → List TypeRow → Result Record RecordFault → Run D → Run D → Option Cause → Type 0
+  HasOutcome state rows found old new None =
+      (group : List Change) × (record_step rows (state old.directory) found ≡ Ok (state new.directory, group)) × (new.history ≡ old.history ++ group ∷ [])
+  HasOutcome state rows found old new (Some why) =
+      (record_step rows (state old.directory) found ≡ Err why) × (state new.directory ≡ state old.directory) × (new.history ≡ old.history)
 
-  abbrev pub LeadsChange : (D → Dir) → List TypeRow → Change → Run D → Run D → Option Cause → Type 0
-  LeadsChange state rows change old new why = Leads state rows (Ok (form.Change change)) old new why
+  abbrev pub HasChangeOutcome : (D → Dir) → List TypeRow → Change → Run D → Run D → Option Cause → Type 0
+  HasChangeOutcome state rows change old new why = HasOutcome state rows (Ok (form.Change change)) old new why
 
   -- one outcome more is told
   abbrev pub Adds : ℕ × Outcome → Run D → Run D → Type 0
@@ -83,9 +75,9 @@ module _ {D : Type 0} where
 
   abbrev pub Takes : Bool → (D → Dir) → List TypeRow → ℕ → Result Record RecordFault → Run D → Run D → Type 0
   Takes true state rows line found old new =
-      (group : List Change) × (led rows (state old.directory) found ≡ Ok (state new.directory, group)) × Adds (line, Ok group) old new
+      (group : List Change) × (record_step rows (state old.directory) found ≡ Ok (state new.directory, group)) × Adds (line, Ok group) old new
   Takes false state rows line found old new =
-      (why : Cause) × (led rows (state old.directory) found ≡ Err why) × (state new.directory ≡ state old.directory) × Adds (line, Err why) old new
+      (why : Cause) × (record_step rows (state old.directory) found ≡ Err why) × (state new.directory ≡ state old.directory) × Adds (line, Err why) old new
 
   -- outcomes are told, one after the other
   abbrev pub AddsAll : List (ℕ × Outcome) → Run D → Run D → Type 0
@@ -107,21 +99,21 @@ module _ {D : Type 0} where
   BreaksOff state rows given old fault = IfSome given (λ answers. run_of rows old.options.go_on (state old.directory) answers ≡ Err fault)
 
   -- why a run gives no texts: the text's fault, or the reader's; or want of memory
-  abbrev pub ChangesBlamed : (D → Dir) → List TypeRow → Option (List Answer) → ℕ → ℕ → Run D → ToolFault → Type 0
-  ChangesBlamed state rows given failures failures' old (tool.BadChanges stream.LineTooLong) = BreaksOff state rows given old stream.LineTooLong
-  ChangesBlamed state rows given failures failures' old (tool.BadChanges stream.BadVersion) = BreaksOff state rows given old stream.BadVersion
-  ChangesBlamed state rows given failures failures' old (tool.BadChanges stream.TooManyTurns) = ⊤
-  ChangesBlamed state rows given failures failures' old (tool.Read input.Changes) = HasFailed failures failures'
-  ChangesBlamed state rows given failures failures' old tool.Memory = ⊤
-  ChangesBlamed state rows given failures failures' old fault = ⊥
+  abbrev pub IsChangesFaultCause : (D → Dir) → List TypeRow → Option (List Answer) → ℕ → ℕ → Run D → ToolFault → Type 0
+  IsChangesFaultCause state rows given failures failures' old (tool.BadChanges stream.LineTooLong) = BreaksOff state rows given old stream.LineTooLong
+  IsChangesFaultCause state rows given failures failures' old (tool.BadChanges stream.BadVersion) = BreaksOff state rows given old stream.BadVersion
+  IsChangesFaultCause state rows given failures failures' old (tool.BadChanges stream.TooManyTurns) = ⊤
+  IsChangesFaultCause state rows given failures failures' old (tool.Read input.Changes) = HasFailed failures failures'
+  IsChangesFaultCause state rows given failures failures' old tool.Memory = ⊤
+  IsChangesFaultCause state rows given failures failures' old fault = ⊥
 
   -- the texts of a run, as they are made
-  abbrev pub AreItsFiles : (D → Dir) → Run D → Option Files → Type 0
-  AreItsFiles state run None = run.options.dry ≡ true
-  AreItsFiles state run (Some files) =
+  abbrev pub AreFilesOfRun : (D → Dir) → Run D → Option Files → Type 0
+  AreFilesOfRun state run None = run.options.dry ≡ true
+  AreFilesOfRun state run (Some files) =
       (run.options.dry ≡ false) × (files.undo.items ≡ undo_text_of run.history) × (files.out.items ≡ canonical_of (state run.directory))
 
-  abbrev pub AreItsTexts : (D → Dir) → Run D → RunTexts → Type 0
-  AreItsTexts state run texts =
-      AreItsFiles state run texts.files × (texts.summary ≡ run.summary)
+  abbrev pub AreTextsOfRun : (D → Dir) → Run D → RunTexts → Type 0
+  AreTextsOfRun state run texts =
+      AreFilesOfRun state run texts.files × (texts.summary ≡ run.summary)
       × (texts.report.items ≡ run.report.text.items ++ numbers_line run.summary.accepted run.summary.refused)

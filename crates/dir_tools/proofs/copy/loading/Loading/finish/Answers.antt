@@ -3,11 +3,11 @@ use Rattle.std.specs.List.Sorted.{IsStrictlySortedBy}
 use Rattle.std.specs.Map.{keys_of}
 use Rattle.dir_names.specs.Orders.{dn_key_cmp}
 use Rattle.dir_tree.specs.Dir.{entry_at}
-use Rattle.dir_tools.specs.CopyOf.{whole}
-use Rattle.dir_tools.specs.Loading.{IsFaultOf}
+use Rattle.dir_tools.specs.CopyOf.{whole_directory}
+use Rattle.dir_tools.specs.Inside.Loading.{IsCopyFault}
 use Rattle.dir_tools.proofs.CopyLemmas.{none_so, not_none, put_alone, put_there}
 use Rattle.dir_tools.proofs.Orphans.{IsSplit, absent_later, ordered_later, place_free, split_broken, split_orphan, split_put, split_whole, waits}
-use Rattle.dir_tools.proofs.copy.Loading.finish.Goals as goal
+use Rattle.dir_tools.proofs.copy.loading.Loading.finish.Goals as goal
 
 pub returns-then-is_some-clause-cause : goal.returns-then-is_some-clause-cause
 returns-then-is_some-clause-cause g c m was =
@@ -53,7 +53,7 @@ returns-in-Some-first-clause-cause g c m was =
     let ended : c.loop-key.key-iterator ≡ [] = search rules in
     let split = subst (λ o. IsSplit m (waits []) c.loop-key.orphans.keys o d) c.in-Some-first.is
     (subst (λ es. IsSplit m (waits es) c.loop-key.orphans.keys c.loop-key.orphans.first d) ended (c.loop-key.invariant.2 m was)) in
-    subst (IsFaultOf (whole m)) (sym c.refused-in-Some-first.ensures) (split_broken m c.loop-key.orphans.keys c.in-Some-first.line d split)
+    subst (IsCopyFault (whole_directory m)) (sym c.refused-in-Some-first.ensures) (split_broken m c.loop-key.orphans.keys c.in-Some-first.line d split)
 
 pub returns-in-None-first-clause-reads : goal.returns-in-None-first-clause-reads
 returns-in-None-first-clause-reads g c m was =

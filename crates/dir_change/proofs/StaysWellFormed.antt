@@ -29,10 +29,10 @@ use Rattle.dir_tree.specs.Made.{leaf_of}
 use Rattle.dir_tree.specs.WellFormed.{Each, are_bytes, IsLegalLine, IsLegalPair, IsSoundEntry, IsWellFormed, own_part}
 use Rattle.dir_tree.proofs.DirLemmas.{closed_put, closed_without, get_put, get_without, same_key}
 use Rattle.dir_tree.proofs.SoundMade.{made_sound}
-use Rattle.dir_change.specs.Operation.{at_key, has_child, own_of, performed, step}
-use Rattle.dir_change.specs.Sound.{IsSoundChange}
+use Rattle.dir_change.specs.Operation.{directory_after, has_child, own_rdns, step, step_at}
+use Rattle.dir_change.specs.SoundChange.{IsSoundChange}
 use Rattle.dir_change.proofs.Conditions.{child_true}
-use Rattle.dir_change.proofs.Undone.{added_is, deleted_is, made_own, own_named}
+use Rattle.dir_change.proofs.AfterOperations.{added_is, deleted_is, made_own, own_named}
 
 left : (a b : Bool) → (a && b) ≡ true → a ≡ true
 left true b h = refl
@@ -143,7 +143,7 @@ legal_rdn : (rdn : SpelledRdn) → is_rdn rdn ≡ true → is_small rdn ≡ true
 legal_rdn rdn sound small = legal_pairs rdn (right (not (length rdn == 0)) _ sound) (small_pairs 4096 rdn (grind (arith, nat_tests)))
 
 -- the own RDN of a name within the limits
-pub legal_leaf : (suffix k : DnKeys) (name : SpelledName) → is_name name ≡ true → is_within_limits name ≡ true → (leaf : SpelledRdn) → leaf_of (own_of suffix k name) ≡ Some leaf → Each IsLegalPair leaf
+pub legal_leaf : (suffix k : DnKeys) (name : SpelledName) → is_name name ≡ true → is_within_limits name ≡ true → (leaf : SpelledRdn) → leaf_of (own_rdns suffix k name) ≡ Some leaf → Each IsLegalPair leaf
 legal_leaf suffix k [] sound small leaf e = by (dn_key_eq k suffix) e
   where
     by : (b : Bool) → leaf_of (cond b [] []) ≡ Some leaf → Each IsLegalPair leaf
@@ -184,12 +184,12 @@ step_keeps rows d change well sound new is = by (name_key rows change.dn) refl i
     name_sound : (is_name change.dn ≡ true) × (is_within_limits change.dn ≡ true)
     name_sound = sound.1.0
 
-    done : (k : DnKeys) → name_key rows change.dn ≡ Some k → (c : ChangeKind) → is_legal_kind rows c ≡ true → KindIsSound c → performed rows d k change.dn c ≡ Ok new → IsWellFormed rows new
+    done : (k : DnKeys) → name_key rows change.dn ≡ Some k → (c : ChangeKind) → is_legal_kind rows c ≡ true → KindIsSound c → directory_after rows d k change.dn c ≡ Ok new → IsWellFormed rows new
     done k t (kind.Add lines) legal bytes h =
         let known = added_is rows d k change.dn lines new h in
         let entry = known.3 in
-        let made_so = made_sound rows (own_of d.suffix k change.dn) lines entry (legal_leaf d.suffix k change.dn name_sound.0 name_sound.1) (legal_lines rows lines legal bytes) known.4 in
-        let named = ap (name_key rows) (made_own rows (own_of d.suffix k change.dn) lines entry known.4) ∙ own_named rows d.suffix k change.dn t in
+        let made_so = made_sound rows (own_rdns d.suffix k change.dn) lines entry (legal_leaf d.suffix k change.dn name_sound.0 name_sound.1) (legal_lines rows lines legal bytes) known.4 in
+        let named = ap (name_key rows) (made_own rows (own_rdns d.suffix k change.dn) lines entry known.4) ∙ own_named rows d.suffix k change.dn t in
         subst (IsWellFormed rows) (sym known.5) (keeps_put rows d k entry well known.2 made_so named)
     done k t kind.Delete legal bytes h =
         let known = deleted_is d k new h in
@@ -197,6 +197,6 @@ step_keeps rows d change well sound new is = by (name_key rows change.dn) refl i
     done k t (kind.Modify mods) legal bytes h = absurd (cc)
     done k t (kind.Rename rdn delete_old superior) legal bytes h = absurd (cc)
 
-    by : (o : Option DnKeys) → name_key rows change.dn ≡ o → at_key rows d change o ≡ Ok new → IsWellFormed rows new
+    by : (o : Option DnKeys) → name_key rows change.dn ≡ o → step_at rows d change o ≡ Ok new → IsWellFormed rows new
     by None t h = absurd (cc)
     by (Some k) t h = done k t change.kind (right (is_some (name_key rows change.dn)) (is_legal_kind rows change.kind) sound.0) sound.1.1 h

@@ -2,13 +2,13 @@ use Rattle.std.proofs.Common.{◌∙◌, rules, refl, sym, subst, Ok}
 use Rattle.dir_ldif.specs.Next.{GivesFirst, GivesNone}
 use Rattle.dir_ldif.specs.Reader.{IsReading, UsesUp, schema_of, source_of, to_give}
 use Rattle.dir_ldif.specs.SoundFound.{IsSoundFound}
-use Rattle.dir_tools.specs.Loading.{StopsLoading}
+use Rattle.dir_tools.specs.Inside.Loading.{StopsLoading}
 use Rattle.dir_tools.proofs.CopyFaults.{copy_long, loads_blamed, stops_at}
 use Rattle.dir_tools.proofs.CopyLemmas.{loads_begun, loads_further, loads_out, order_out}
-use Rattle.dir_tools.specs.Settled.{IsOfReading}
-use Rattle.dir_tools.proofs.Settled.{of_record, taken_begun, taken_further, taken_stopped}
-use Rattle.dir_tools.proofs.Turns.{err_same, fault_none, reads_on, some_none, spends_more, spends_none}
-use Rattle.dir_tools.proofs.copy.Loading.take_records.Goals as goal
+use Rattle.dir_tools.specs.CompleteRecords.{IsReaderFault}
+use Rattle.dir_tools.proofs.CompleteRecords.{of_record, taken_begun, taken_further, taken_stopped}
+use Rattle.dir_tools.proofs.ReadCalls.{err_same, fault_none, reads_on, some_none, spends_more, spends_none}
+use Rattle.dir_tools.proofs.copy.loading.Loading.take_records.Goals as goal
 
 pub loop-line-init : goal.loop-line-init
 loop-line-init g c = (
@@ -76,7 +76,7 @@ returns-in-Err-clause-settled g c is start holds =
     let inv = c.loop-line.invariant in
     let was_reading : IsReading c.loop-line.records = reads_on c.loop-line.records inv.1 (λ at_end. fault_none c.next.result c.in-Err.fault c.in-Err.is (c.next.ensures.at_end at_end)) in
     taken_stopped g.D.Directory.state c.args.schema.now g.S.Source.left g.S.Source.failures c.in-Err.fault c.args.records.now c.loop-line.records c.next.new.self c.args.self.now c.loop-line.self
-    (subst IsOfReading c.ended.ensures is) c.in-Err.ensures.err.0 (inv.7 was_reading) start holds
+    (subst IsReaderFault c.ended.ensures is) c.in-Err.ensures.err.0 (inv.7 was_reading) start holds
 
 pub returns-in-Err-take-clause-settled : goal.returns-in-Err-take-clause-settled
 returns-in-Err-take-clause-settled g c is = absurd (of_record c.in-Err-take.fault c.in-Err-take.ensures.fault is)

@@ -1,4 +1,4 @@
--- Changes that leave a directory in good order.
+-- Changes as the LDIF reader gives them. They leave a well-formed directory well formed.
 use Rattle.std.specs.Prelude.{◌≡◌, true}
 use Rattle.dir_names.specs.declared.schema.TypeRow.{TypeRow}
 use Rattle.std.specs.Prelude.{List}
@@ -7,6 +7,6 @@ use Rattle.dir_ldif.specs.declared.records.Record.TheVariants as form
 use Rattle.dir_ldif.specs.Legal.{is_legal}
 use Rattle.dir_ldif.specs.Laws.{PartsAreSound}
 
--- a legal change, of a name within the limits
+-- the change is legal, its names are within the limits, and its values are bytes
 abbrev pub IsSoundChange : List TypeRow → Change → Type 0
 IsSoundChange rows change = (is_legal rows change ≡ true) × PartsAreSound (form.Change change)

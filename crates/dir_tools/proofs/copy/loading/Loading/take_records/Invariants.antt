@@ -1,8 +1,8 @@
 use Rattle.std.proofs.Common.{◌≡◌}
 use Rattle.dir_ldif.specs.Reader.{IsEnded, IsReading, SpendsTurns, budget, schema_of, source_of, to_give}
 use Rattle.dir_tools.proofs.CopyLemmas.{LoadsSoFar}
-use Rattle.dir_tools.proofs.Settled.{TakenSoFar}
-use Rattle.dir_tools.proofs.copy.Loading.take_records.Given as goal
+use Rattle.dir_tools.proofs.CompleteRecords.{TakenSoFar}
+use Rattle.dir_tools.proofs.copy.loading.Loading.take_records.Given as goal
 
 abbrev pub invariant-loop-line : goal.invariant-loop-line
 invariant-loop-line g l =

@@ -1,5 +1,5 @@
 use Rattle.std.proofs.Common.{◌≡◌, ◌++◌, take}
-use Rattle.dir_change.proofs.add.joined.Given as goal
+use Rattle.dir_change.proofs.add.joined_name.Given as goal
 
 abbrev pub invariant-loop-rdn : goal.invariant-loop-rdn
 invariant-loop-rdn l = l.rdns.items ≡ take l.rdn-index l.own

@@ -8,7 +8,7 @@ use Rattle.dir_ldif.specs.declared.reader.Place.TheVariants as place
 use Rattle.dir_ldif.specs.declared.reader.RecordReader.{RecordReader}
 use Rattle.dir_ldif.specs.declared.reader.TheConstants.{MAX_TURNS}
 use Rattle.dir_ldif.specs.Reader.{IsAtEnd, IsEnded, IsReading, SpendsTurns, StopsFor, source_of, turns_left}
-use Rattle.dir_tools.specs.Turns.{GaveAtLeast, IsLong}
+use Rattle.dir_tools.specs.ReadCalls.{FillsReadCalls, GaveAtLeast}
 
 module _ {S : Type 0} where
   pub reads_on : (r : RecordReader S) → (IsEnded r → ⊥) → (IsAtEnd r → ⊥) → IsReading r
@@ -49,7 +49,7 @@ fault_none r e fails none = cc
 pub err_same : {A E : Type 0} {x y : E} → ◌≡◌ {A = Result A E} (Err x) (Err y) → x ≡ y
 err_same h = cc
 
-pub long_text : (left left' : Option (List ℕ)) (turns : ℕ) → turns ≡ MAX_TURNS → GaveAtLeast left left' turns → IfSome left IsLong
+pub long_text : (left left' : Option (List ℕ)) (turns : ℕ) → turns ≡ MAX_TURNS → GaveAtLeast left left' turns → IfSome left FillsReadCalls
 long_text None left' turns all gave = tt
 long_text (Some text) None turns all gave = absurd (gave.1)
 long_text (Some text) (Some rest) turns all gave =

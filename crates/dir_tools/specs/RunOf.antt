@@ -1,0 +1,82 @@
+-- A run of changes on a directory (slapmodify(8)): an outcome for each record that it looks at.
+use Rattle.std.specs.Prelude.{ℕ, Bool, cond, List, [], ◌∷◌, ◌++◌, Result, Ok, Err, ◌≡◌, ◌+◌}
+use Rattle.std.specs.List.{flat_map}
+use Rattle.dir_names.specs.declared.schema.TypeRow.{TypeRow}
+use Rattle.dir_ldif.specs.declared.faults.RecordFault.{RecordFault}
+use Rattle.dir_ldif.specs.declared.faults.RecordFault.TheVariants.{BadChangetype}
+use Rattle.dir_ldif.specs.declared.faults.StreamFault.{StreamFault}
+use Rattle.dir_ldif.specs.declared.records.Change.{Change}
+use Rattle.dir_ldif.specs.declared.records.Record.{Record}
+use Rattle.dir_ldif.specs.declared.records.Record.TheVariants as form
+use Rattle.dir_ldif.specs.Records.{Answer}
+use Rattle.dir_tree.specs.Dir.{Dir}
+use Rattle.dir_change.specs.declared.result_code.ResultCode.{ResultCode}
+use Rattle.dir_change.specs.Operation.{step}
+use Rattle.dir_change.specs.Runs.{group_of, run_to_end}
+use Rattle.dir_tools.specs.declared.fault.Cause.{Cause}
+use Rattle.dir_tools.specs.declared.fault.Cause.TheVariants as cause
+use Rattle.dir_tree.specs.WellFormed.{Each}
+use Rattle.dir_change.specs.SoundChange.{IsSoundChange}
+
+-- the changes that take an accepted record back, or why a record is refused
+abbrev pub Outcome : Type 0
+Outcome = Result (List Change) Cause
+
+-- where a run ends, and the outcomes of the records that it looked at, each with its line
+pub record RunEnd : Type 0 where
+  pub end : Dir
+  pub outcomes : List (ℕ × Outcome)
+
+-- where an accepted record leads, and what takes it back
+abbrev pub RecordStep : Type 0
+RecordStep = Result (Dir × List Change) Cause
+
+abbrev pub change_step : List TypeRow → Dir → Change → Result Dir ResultCode → RecordStep
+change_step rows d change (Ok e) = Ok (e, group_of rows d e change)
+change_step rows d change (Err code) = Err (cause.Code code)
+
+-- a change takes its step; a record that is no change, and a faulty one, are refused
+abbrev pub record_step : List TypeRow → Dir → Result Record RecordFault → RecordStep
+record_step rows d (Ok (form.Change change)) = change_step rows d change (step rows d change)
+record_step rows d (Ok (form.Content name lines)) = Err (cause.Fault BadChangetype)
+record_step rows d (Err fault) = Err (cause.Fault fault)
+
+-- the outcomes of earlier records before those of a run
+abbrev pub with_outcomes_before : List (ℕ × Outcome) → Result RunEnd StreamFault → Result RunEnd StreamFault
+with_outcomes_before before (Ok ran) = Ok (record { end = ran.end; outcomes = before ++ ran.outcomes })
+with_outcomes_before before (Err fault) = Err fault
+
+abbrev pub ended_run : Dir → Result RunEnd StreamFault
+ended_run d = Ok (record { end = d; outcomes = [] })
+
+abbrev pub run_after : RecordStep → ℕ → (Dir → Result RunEnd StreamFault) → Result RunEnd StreamFault → Result RunEnd StreamFault
+run_after (Ok p) line on refused = with_outcomes_before ((line, Ok p.1) ∷ []) (on p.0)
+run_after (Err why) line on refused = with_outcomes_before ((line, Err why) ∷ []) refused
+
+-- an accepted record leads on; a refused one leaves the directory, and ends a run that doesn't go on. A fault of
+-- the text that the run comes to is its answer
+abbrev pub run_of : List TypeRow → Bool → Dir → List Answer → Result RunEnd StreamFault
+run_of rows go_on d [] = ended_run d
+run_of rows go_on d (Err fault ∷ rest) = Err fault
+run_of rows go_on d (Ok found ∷ rest) =
+    run_after (record_step rows d found.1) found.0 (λ e. run_of rows go_on e rest) (cond go_on (run_of rows go_on d rest) (ended_run d))
+
+abbrev pub group_in : ℕ × Outcome → List (List Change)
+group_in (line, Ok group) = group ∷ []
+group_in (line, Err why) = []
+
+abbrev pub cause_in : ℕ × Outcome → List Cause
+cause_in (line, Ok group) = []
+cause_in (line, Err why) = why ∷ []
+
+-- the groups of the accepted records, and why the others were refused
+abbrev pub groups_in : List (ℕ × Outcome) → List (List Change)
+groups_in outcomes = flat_map group_in outcomes
+
+abbrev pub causes_in : List (ℕ × Outcome) → List Cause
+causes_in outcomes = flat_map cause_in outcomes
+
+-- the outcomes of a run from one directory to another: the groups are those of sound changes, accepted one after the other
+abbrev pub HasAccepted : List TypeRow → Dir → List (ℕ × Outcome) → Dir → Type 0
+HasAccepted rows first outcomes last =
+    (changes : List Change) × Each (IsSoundChange rows) changes × (run_to_end rows first changes ≡ record { end = last; groups = groups_in outcomes })

@@ -1,0 +1,214 @@
+//! A copy as far as it was read.
+
+ghost use Rattle.std.specs.Prelude.{◌≡◌, Err, IfErr, IfOk, None, Ok, OnOk};
+ghost use Rattle.dir_tools.specs.Inside.Loading.{IsPut, copy_fault};
+ghost use Rattle.dir_tools.specs.CompleteRecords.{CompleteRecordsLoad, GaveBytesTo, IsReaderFault};
+ghost use Rattle.dir_tools.specs.ReadCalls.{GaveAtLeast};
+ghost use Rattle.dir_ldif.specs.declared.faults.StreamFault.TheVariants as StreamFault;
+ghost use Rattle.dir_tools.specs.declared.fault.Cause.TheVariants as Cause;
+ghost use Rattle.dir_tools.specs.declared.fault.ToolFault.TheVariants as ToolFault;
+ghost use Rattle.dir_tree.specs.Dir.{entry_at};
+
+use super::orphans::Orphans;
+use crate::{Cause, Input, ToolFault};
+use dir_change::{Refusal, ResultCode};
+use dir_ldif::{Record, RecordFault, RecordReader, Source, StreamFault};
+use dir_names::{Dn, DnKey, Lines, NameFault, Schema};
+use dir_tree::{Directory, Entry, may_stand, own_rdns};
+use std::alloc::Global;
+use std::collections::BTreeMap;
+
+/// A copy as far as it was read: the entries whose parents were there, and those that wait for theirs.
+#[derive(Drop)]
+pub(super) struct Loading<D: Directory + Drop> {
+    directory: D,
+    waiting: BTreeMap<DnKey, Waiting>,
+}
+
+/// An entry that came before its parent, and its line.
+#[derive(Drop)]
+struct Waiting {
+    line: u64,
+    entry: Entry,
+}
+
+impl<D: Directory + Drop> Loading<D> {
+    ghost use Rattle.std.specs.Prelude.{◌≡◌, IfErr, IfOk, Ok, OnOk};
+    ghost use Rattle.std.specs.BTreeMap.{IsEmpty};
+    ghost use Rattle.dir_ldif.specs.Reader.{IsReading, schema_of, source_of, to_give, turns_left};
+    ghost use Rattle.dir_names.specs.NameKeys.{name_key};
+    ghost use Rattle.dir_tree.specs.Dir.{IsClosed};
+    ghost use Rattle.dir_tools.specs.CopyOf.{LoadedCopy, whole_directory, with_content, with_record};
+    ghost use Rattle.dir_tools.specs.Inside.Loading.{IsCopyFault, IsLoaded, IsRecordFault, KeepsSound, LoadsOver, LoadsTo, StopsLoading};
+
+    pub(super) fn new(alloc: Global, directory: D) -> Loading<D>
+        ensures directory { result.directory ≡ directory }
+        ensures waiting { IsEmpty result.waiting }
+    {
+        Loading {
+            directory,
+            waiting: BTreeMap::new(alloc),
+        }
+    }
+
+    /// Takes the records of the copy to their end.
+    pub(super) fn take_records<S: Source + Drop>(
+        &mut self,
+        alloc: Global,
+        schema: &Schema,
+        records: &mut RecordReader<'_, S>,
+    ) -> Result<(), ToolFault>
+        requires reading { IsReading records.old }
+        requires schema { schema_of records.old ≡ schema.now }
+        ensures suffix { OnOk result ((D.state self.new.directory).suffix ≡ (D.state self.old.directory).suffix) }
+        ensures order { OnOk result (KeepsSound D.state schema.now self.old self.new) }
+        ensures reads { OnOk result (LoadsOver D.state schema.now (to_give S.left records.old) self.old self.new) }
+        ensures blamed { IfErr result (StopsLoading D.state schema.now (to_give S.left records.old) (S.failures (source_of records.old)) (S.failures (source_of records.new)) self.old) }
+        ensures settled { IfErr result (λ fault. IsReaderFault fault → (start : LoadedCopy) → IsLoaded D.state start self.old → GaveBytesTo S.left records.old records.new (CompleteRecordsLoad schema.now start)) }
+        ensures turns { result ≡ Err (ToolFault.BadCopy 0 (Cause.Ended StreamFault.TooManyTurns)) → GaveAtLeast (S.left (source_of records.old)) (S.left (source_of records.new)) (turns_left records.old) }
+        ensures unfailed { OnOk result (S.failures (source_of records.new) ≡ S.failures (source_of records.old)) }
+        ensures same { S.is_same (source_of records.old) (source_of records.new) }
+    {
+        loop {
+            match records.next() {
+                Ok(Some((line, found))) => {
+                    if let Err(fault) = self.take(alloc, schema, line, found) {
+                        return Err(fault);
+                    }
+                }
+                Ok(None) => return Ok(()),
+                Err(fault) => return Err(ended(fault)),
+            }
+        }
+    }
+
+    /// Takes the next record of the copy.
+    fn take(
+        &mut self,
+        alloc: Global,
+        schema: &Schema,
+        line: u64,
+        found: Result<Record, RecordFault>,
+    ) -> Result<(), ToolFault>
+        ensures suffix { OnOk result ((D.state self.new.directory).suffix ≡ (D.state self.old.directory).suffix) }
+        ensures reads { OnOk result ((m : LoadedCopy) → IsLoaded D.state m self.old → LoadsTo D.state (with_record schema.now m line found) self.new) }
+        ensures fault { IfErr result IsRecordFault }
+        ensures cause { IfErr result (λ fault. (m : LoadedCopy) → IsLoaded D.state m self.old → IsCopyFault (with_record schema.now m line found) fault) }
+    {
+        match found {
+            Ok(Record::Content { dn, lines }) => self.take_entry(alloc, schema, line, dn, lines),
+            Ok(Record::Change(_)) => Err(ToolFault::BadCopy(
+                line,
+                Cause::Fault(RecordFault::BadChangetype),
+            )),
+            Err(fault) => Err(ToolFault::BadCopy(line, Cause::Fault(fault))),
+        }
+    }
+
+    fn take_entry(
+        &mut self,
+        alloc: Global,
+        schema: &Schema,
+        line: u64,
+        name: Dn,
+        lines: Lines,
+    ) -> Result<(), ToolFault>
+        ensures suffix { OnOk result ((D.state self.new.directory).suffix ≡ (D.state self.old.directory).suffix) }
+        ensures reads { OnOk result ((m : LoadedCopy) → IsLoaded D.state m self.old → LoadsTo D.state (with_content schema.now m line name lines (name_key schema.now name)) self.new) }
+        ensures fault { IfErr result IsRecordFault }
+        ensures cause { IfErr result (λ fault. (m : LoadedCopy) → IsLoaded D.state m self.old → IsCopyFault (with_content schema.now m line name lines (name_key schema.now name)) fault) }
+    {
+        let key = match name.key(alloc, schema) {
+            Ok(key) => key,
+            Err(NameFault::Memory) => return Err(ToolFault::Memory),
+            Err(_) => return Err(refused(line, ResultCode::NoSuchObject)),
+        };
+        if !key.at_or_below(self.directory.suffix()) {
+            return Err(refused(line, ResultCode::NoSuchObject));
+        }
+        if self.directory.get(&key).is_some() || self.waiting.contains_key(&key) {
+            return Err(refused(line, ResultCode::EntryAlreadyExists));
+        }
+        let is_suffix = key == *self.directory.suffix();
+        let entry = match Entry::make(alloc, schema, own_rdns(name, is_suffix), lines) {
+            Ok(entry) => entry,
+            Err(fault) => {
+                return Err(match Refusal::from(fault) {
+                    Refusal::Code(code) => refused(line, code),
+                    Refusal::Memory => ToolFault::Memory,
+                });
+            }
+        };
+        if let Some(entry) = put(alloc, &mut self.directory, &key, entry)? {
+            self.waiting.insert(key, Waiting { line, entry })?;
+        }
+        Ok(())
+    }
+
+    /// The whole directory, once each entry that waited has found its parent. Parents come before what
+    /// is below them in the order of keys.
+    pub(super) fn finish(self, alloc: Global) -> Result<D, ToolFault>
+        ensures suffix { IfOk result (λ d. (D.state d).suffix ≡ (D.state self.directory).suffix) }
+        ensures reads { IfOk result (λ d. (m : LoadedCopy) → IsLoaded D.state m self → (whole_directory m ≡ Ok (D.state d)) × (m.entries ≡ D.state d) × IsClosed (D.state d)) }
+        ensures fault { IfErr result IsRecordFault }
+        ensures cause { IfErr result (λ fault. (m : LoadedCopy) → IsLoaded D.state m self → IsCopyFault (whole_directory m) fault) }
+    {
+        let Loading {
+            mut directory,
+            waiting,
+        } = self;
+        let mut orphans = Orphans::new(alloc);
+        for (key, waiting) in waiting {
+            let Waiting { line, entry } = waiting;
+            // Never so, since no entry waits where one stands.
+            if directory.get(&key).is_some() {
+                return Err(refused(line, ResultCode::EntryAlreadyExists));
+            }
+            if put(alloc, &mut directory, &key, entry)?.is_some() {
+                orphans.add(alloc, key, line)?;
+            }
+        }
+        match orphans.first {
+            Some(line) => Err(refused(line, ResultCode::NoSuchObject)),
+            None => Ok(directory),
+        }
+    }
+}
+
+/// Puts an entry at a free key. It comes back where its parent isn't there.
+fn put<D: Directory>(
+    alloc: Global,
+    directory: &mut D,
+    key: &DnKey,
+    entry: Entry,
+) -> Result<Option<Entry>, ToolFault>
+    requires { entry_at (D.state directory.old) key.now ≡ None }
+    ensures suffix { (D.state directory.new).suffix ≡ (D.state directory.old).suffix }
+    ensures put { IfOk result (IsPut key.now entry (D.state directory.old) (D.state directory.new)) }
+    ensures fault { IfErr result (λ fault. fault ≡ ToolFault.Memory) }
+{
+    if !may_stand(alloc, directory, key)? {
+        return Ok(Some(entry));
+    }
+    match directory.insert(key, entry) {
+        Ok(()) => Ok(None),
+        Err(_) => Err(ToolFault::Memory),
+    }
+}
+
+/// What a fault that ends a copy's text means.
+pub(super) fn ended(fault: StreamFault) -> ToolFault
+    ensures { result ≡ copy_fault fault }
+{
+    match fault {
+        StreamFault::Read => ToolFault::Read(Input::Copy),
+        StreamFault::Memory => ToolFault::Memory,
+        fault => ToolFault::BadCopy(0, Cause::Ended(fault)),
+    }
+}
+
+fn refused(line: u64, code: ResultCode) -> ToolFault
+    ensures { result ≡ ToolFault.BadCopy line (Cause.Code code) }
+{
+    ToolFault::BadCopy(line, Cause::Code(code))
+}
