@@ -1,4 +1,4 @@
--- The answers that the bytes of a reader settle, and what became of them.
+-- The complete records among a reader's bytes were given, and taken or accepted.
 use Rattle.std.proofs.Common.{◌≡◌, ℕ, Bool, false, true, List, [], ◌∷◌, ◌++◌, Option, Result, Ok, Err, refl, sym, ap, subst, ◌∙◌, append_assoc, append-nil}
 use Rattle.std.proofs.lemmas.List.{map-append}
 use Rattle.std.proofs.KnownBytes.{Consumes-nil, Consumes-trans}
@@ -33,7 +33,7 @@ found_one f = Ok f
 first_same : (f g : Found) (xs ys : List Answer) → Ok f ∷ xs ≡ Ok g ∷ ys → (f ≡ g) × (xs ≡ ys)
 first_same f g xs ys same = (cc, cc)
 
--- of the settled answers none is behind those that were given
+-- no complete record comes after those that were given
 pub are_given : (given settled : List Found) (tail : List ℕ → List Answer) → ((text : List ℕ) → (rest : List Answer) × (all_found given ++ tail text ≡ all_found settled ++ rest)) → (IsSettled tail → ⊥)
     → (more : List Found) × (given ≡ settled ++ more)
 are_given given [] tail same unsettled = (given, refl)
@@ -78,7 +78,7 @@ module _ {S : Type 0} (left : S → Option (List ℕ)) where
             ∙ ap (λ t. t ++ to_give_on new text) (sym (map-append found_one founds (found ∷ []))),
       )
 
-  -- where a reader came to no end, the answers that its bytes settle were given
+  -- where reading failed, every complete record had been given
   abbrev GaveAll : List Found → (List ℕ → List Answer) → Type 0
   GaveAll founds answers = (settled : List Found) → AreComplete answers settled → (more : List Found) × (founds ≡ settled ++ more)
 

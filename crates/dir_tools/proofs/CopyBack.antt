@@ -34,7 +34,7 @@ use Rattle.dir_names.specs.Results.{and_then}
 use Rattle.dir_tools.specs.Headline.{CanonicalTextsReadBack}
 use Rattle.dir_tools.proofs.Small.{heads, left, not_true, one_found, right}
 
--- ---- every entry that is listed stands at its key
+-- ---- every entry that is listed is at its key
 
 found_all : (d : Dir) (k : DnKeys) (es : Entries) → Rising k es → ((q : DnKeys) → dn_key_cmp k q ≡ Less → entry_at d q ≡ find dn_key_cmp q es) → Each (λ p. entry_at d p.0 ≡ Some p.1) es
 found_all d k [] r later = tt

@@ -62,7 +62,7 @@ some_or : (waiting : Option Waiting) (there : Option Content) → is_some there 
 some_or None there h = h
 some_or (Some w) there h = refl
 
--- a place is taken where an entry stands, and where one waits
+-- a place is taken where an entry is, and where one waits
 pub some_there : (m : LoadedCopy) (standing : Dir) (waiting : DnKeys → Option Waiting) (k : DnKeys) → IsMadeOf m.entries waiting standing → is_some (entry_at standing k) ≡ true → is_some (entry_at m.entries k) ≡ true
 some_there m standing waiting k made there = ap is_some (made.2 k) ∙ some_or (waiting k) (entry_at standing k) there
 
@@ -77,7 +77,7 @@ pub some_copied : {A : Type 0} (o : Option (Bor A)) → is_some o ≡ true → i
 some_copied None e = absurd (cc)
 some_copied (Some x) e = refl
 
--- a fault of an entry but want of memory is the definition's
+-- a fault of an entry, but out of memory, is the definition's
 pub makes_none : (fault : EntryFault) (code : ResultCode) (wanted : Result Content EntryFault) → entry_refusal fault ≡ refusal.Code code → FailsToMake fault wanted → wanted ≡ Err fault
 makes_none entry.BadValue code wanted is fails = fails
 makes_none entry.Twice code wanted is fails = fails

@@ -1,4 +1,4 @@
--- The entries of a copy of sound records are in good order.
+-- The entries of a copy of sound records are sound.
 use Rattle.std.proofs.Common.{◌≡◌, ℕ, ◌≤◌, Bool, true, false, cond, not, ◌&&◌, nat_le, List, [], ◌∷◌, length, take, Option, None, Some, is_some, Result, Ok, Err, refl, sym, ap, subst, ◌∙◌, arith}
 use Rattle.std.specs.List.{list_all}
 use Rattle.std.specs.Ordering.{eq_by_cmp}
@@ -64,7 +64,7 @@ order_put rows d k x order one q e there = by (eq_by_cmp dn_key_cmp q k) refl (s
     by false t h = order q e h
     by true t h = let same : x ≡ e = cc in subst (λ z. IsSoundAt rows d.suffix z e) (sym (same_key q k t)) (subst (IsSoundAt rows d.suffix k) same one)
 
--- a sound record that is taken leaves the entries in order
+-- a sound record that is taken leaves the entries sound
 pub order_taken : (rows : List TypeRow) (m n : LoadedCopy) (line : ℕ) (found : Result Record RecordFault)
     → IsSoundFound rows (line, found) → with_record rows m line found ≡ Ok n → AreSoundInPlace rows m.entries → AreSoundInPlace rows n.entries
 order_taken rows m n line (Err fault) sound is order = absurd (cc)
@@ -85,7 +85,7 @@ order_taken rows m n line (Ok (form.Content name lines)) sound is order = by (na
     by None t h = absurd (cc)
     by (Some k) t h = tests k t (not (is_at_or_below k m.entries.suffix)) (is_some (entry_at m.entries k)) (made rows (own_rdns m.entries.suffix k name) lines) refl h
 
--- a closed directory of such entries is in good order
+-- a closed directory of such entries is well formed
 pub order_whole : (rows : List TypeRow) (d e : Dir) → d ≡ e → IsClosed e → (e.suffix ≡ [] → ⊥) → AreSoundInPlace rows d → IsWellFormed rows e × IsWithinLimits e
 order_whole rows d e same closed named order =
     let all = subst (AreSoundInPlace rows) same order in

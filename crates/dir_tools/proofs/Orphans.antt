@@ -73,14 +73,14 @@ others_later k q es x gone there = by (eq_by_cmp dn_key_cmp q k) refl
 abbrev pub line_at : LoadedCopy → DnKeys → ℕ
 line_at m k = line_or_zero (fin.get m.lines k)
 
--- the first line of those among these keys whose parent stands nowhere
+-- the first line of those among these keys whose parent is missing
 abbrev pub IsLeast : LoadedCopy → BTreeSet DnKeys → Option ℕ → Type 0
 IsLeast m keys None = (k : DnKeys) → contains dn_key_cmp keys k ≡ false
 IsLeast m keys (Some n) =
     ((k : DnKeys) × (contains dn_key_cmp keys k ≡ true) × (has_parent m.entries k ≡ false) × (line_at m k ≡ n))
     × ((k : DnKeys) → contains dn_key_cmp keys k ≡ true → has_parent m.entries k ≡ false → n ≤ line_at m k)
 
--- the entries of a copy: those that stand, those that still wait, and the orphans with their first line
+-- the entries of a copy: those in the directory, those that still wait, and the orphans with their first line
 pub record IsSplit (m : LoadedCopy) (waiting : DnKeys → Option Waiting) (keys : BTreeSet DnKeys) (first : Option ℕ) (standing : Dir) : Type 0 where
   pub suffix : m.entries.suffix ≡ standing.suffix
   pub closed : IsClosed standing
@@ -137,7 +137,7 @@ right_false : (a b : Bool) → (a || b) ≡ false → b ≡ false
 right_false true b h = absurd (true≢false h)
 right_false false b h = h
 
--- its parent stands in the copy where it is an orphan itself
+-- its parent is in the copy where that is an orphan itself
 parent_among : (m : LoadedCopy) (keys : BTreeSet DnKeys) (first : Option ℕ) (standing : Dir) (k : DnKeys) (w : Waiting) (es : List (DnKeys × Waiting))
     → IsStrictlySortedBy dn_key_cmp (keys_of ((k, w) ∷ es)) → has_parent standing k ≡ false
     → IsSplit m (waits ((k, w) ∷ es)) keys first standing → has_parent m.entries k ≡ is_among keys (parent_of k)
@@ -233,7 +233,7 @@ split_orphan m keys keys' first first' standing k w es ordered alone updates is 
     by q true t h = absurd (true≢false h)
     by q false t h = was.others q h ∙ ap (λ o. waiting_or o (entry_at standing q)) (waits_later k q w es t)
 
--- nothing stands where the first of them is to be put
+-- the place of the first of them is free
 pub place_free : (m : LoadedCopy) (keys : BTreeSet DnKeys) (first : Option ℕ) (standing : Dir) (k : DnKeys) (w : Waiting) (es : List (DnKeys × Waiting))
     → IsSplit m (waits ((k, w) ∷ es)) keys first standing → entry_at standing k ≡ None
 place_free m keys first standing k w es was = (was.wait k w (waits_first k w es)).0
@@ -243,7 +243,7 @@ place_free m keys first standing k w es was = (was.wait k w (waits_first k w es)
 same_dir : (d e : Dir) → d.suffix ≡ e.suffix → ((q : DnKeys) → entry_at d q ≡ entry_at e q) → d ≡ e
 same_dir d e suffix entries = let same = same_map dn_key_cmp_total dn_key_cmp_exact d.entries e.entries entries in (λ i. record { suffix = suffix i; entries = same i })
 
--- a copy whose entries all stand in a closed directory is whole
+-- a copy whose entries are all in a closed directory is whole
 made_whole : (m : LoadedCopy) (d : Dir) → m.entries ≡ d → IsClosed d → whole_directory m ≡ Ok d
 made_whole m d same closed =
     ap (λ e. unless_orphan e (first_line (map (λ p. line_or_zero (fin.get m.lines p.0)) (filter (λ p. not (has_parent e p.0)) (fin.entries e.entries))))) same

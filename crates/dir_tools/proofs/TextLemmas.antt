@@ -60,7 +60,7 @@ named_suffix rows text k = by (name_read text)
     by (Ok name) h = has_part (name_key rows name) k h
     by (Err fault) h = λ none. absurd (cc)
 
--- a copy's fault, as it blames the text of the copy
+-- a copy's fault, as a fault of the copy's text
 pub copy_blamed_so : (rows : List TypeRow) (suffix : List ℕ) (options : ModifyOptions) (copy left : Option (List ℕ)) (empty : Dir) (failures failures' : ℕ) (fault : ToolFault)
     → suffix_of rows suffix ≡ Some empty.suffix → HasNoEntries empty → IsCopyFaultCause rows empty copy failures failures' fault → IsCausedBy rows suffix options copy left fault
 copy_blamed_so rows suffix options copy left empty failures failures' (tool.BadCopy line why) key bare h = (empty.suffix, key, h bare)
@@ -72,7 +72,7 @@ copy_blamed_so rows suffix options copy left empty failures failures' (tool.Writ
 copy_blamed_so rows suffix options copy left empty failures failures' (tool.BadQuestion item) key bare h = absurd (h)
 copy_blamed_so rows suffix options copy left empty failures failures' (tool.BadChanges fault) key bare h = absurd (h)
 
--- what stands before the fault of a copy's reader
+-- the complete records before the fault of a copy's reader
 pub copy_first : (rows : List TypeRow) (suffix : List ℕ) (options : ModifyOptions) (copy copy' : Option (List ℕ)) (changes : KnownBytes) (empty : Dir) (failures failures' : ℕ) (fault : ToolFault)
     → suffix_of rows suffix ≡ Some empty.suffix → IsCopyFaultCause rows empty copy failures failures' fault
     → (IsReaderFault fault → GaveBytes copy copy' (λ bytes. CompleteRecordsLoad rows (empty_copy empty.suffix) (answers_after rows bytes)))
@@ -106,7 +106,7 @@ module _ {D : Type 0} (state : D → Dir) (rows : List TypeRow) (suffix : List �
         (subst (λ (o : ModifyOptions). IfSome (option_map (records_of rows) left) (λ answers. run_of rows o.go_on (state begun.directory) answers ≡ Err fault)) same h)),
   )
 
-  -- a run's fault, as it blames the text of changes
+  -- a run's fault, as a fault of the text of changes
   pub blamed_so : (failures failures' : ℕ) (fault : ToolFault) → begun.options ≡ options → suffix_of rows suffix ≡ Some (state begun.directory).suffix
       → (fault ≡ tool.BadChanges stream.TooManyTurns → IfSome left FillsReadCalls)
       → IsChangesFaultCause state rows (option_map (records_of rows) left) failures failures' begun fault → IsCausedBy rows suffix options copy left fault

@@ -1,4 +1,4 @@
--- What stands before the fault of a reader that came to no end: the answers that its bytes settle.
+-- The complete records among the bytes that a reader gave before reading failed.
 use Rattle.std.specs.Prelude.{◌≡◌, ℕ, List, [], ◌∷◌, ◌++◌, Option, Ok, ⊤}
 use Rattle.std.specs.Io.KnownBytes.{Consumes}
 use Rattle.dir_names.specs.declared.schema.TypeRow.{TypeRow}
@@ -21,7 +21,7 @@ IsReaderFault (tool.BadCopy line (cause.Ended stream.TooManyTurns)) = ⊤
 IsReaderFault (tool.BadChanges stream.TooManyTurns) = ⊤
 IsReaderFault fault = ⊥
 
--- whatever text follows, the answers on these records come first
+-- these records are complete: whatever text follows, the answers begin with them
 abbrev pub AreComplete : (List ℕ → List Answer) → List Found → Type 0
 AreComplete answers founds = (text : List ℕ) → (rest : List Answer) × (answers text ≡ all_found founds ++ rest)
 
@@ -29,11 +29,11 @@ AreComplete answers founds = (text : List ℕ) → (rest : List Answer) × (answ
 abbrev pub GaveBytes : Option (List ℕ) → Option (List ℕ) → (List ℕ → Type 0) → Type 0
 GaveBytes left left' P = (bytes : List ℕ) × Consumes left left' bytes × P bytes
 
--- the answers on a text that begins with these bytes, whatever follows them
+-- the answers on these bytes and the text that follows them
 abbrev pub answers_after : List TypeRow → List ℕ → List ℕ → List Answer
 answers_after rows bytes text = records_of rows (bytes ++ text)
 
--- the records of a copy that are settled are taken in, one after the other
+-- the complete records of a copy are taken in, one after the other
 abbrev pub CompleteRecordsLoad : List TypeRow → LoadedCopy → (List ℕ → List Answer) → Type 0
 CompleteRecordsLoad rows start answers = (founds : List Found) → AreComplete answers founds → (l : LoadedCopy) × (with_records rows start (all_found founds) ≡ Ok l)
 
@@ -42,11 +42,11 @@ abbrev pub AcceptsTo : List TypeRow → Dir → List Found → Dir → Type 0
 AcceptsTo rows d [] end = d ≡ end
 AcceptsTo rows d (found ∷ founds) end = (next : Dir) × (group : List Change) × (record_step rows d found.1 ≡ Ok (next, group)) × AcceptsTo rows next founds end
 
--- the records of a text of changes that are settled are accepted, one after the other
+-- the complete records of a text of changes are accepted, one after the other
 abbrev pub CompleteRecordsAreAccepted : List TypeRow → Dir → (List ℕ → List Answer) → Type 0
 CompleteRecordsAreAccepted rows d answers = (founds : List Found) → AreComplete answers founds → (end : Dir) × AcceptsTo rows d founds end
 
 module _ {S : Type 0} where
-  -- of the answers on what a reader has in hand, the bytes that its source gave, and whatever follows them
+  -- the same of the bytes that a reader had in hand and those that its source gave it
   abbrev pub GaveBytesTo : (S → Option (List ℕ)) → RecordReader S → RecordReader S → ((List ℕ → List Answer) → Type 0) → Type 0
   GaveBytesTo left old new P = GaveBytes (left (source_of old)) (left (source_of new)) (λ bytes. P (λ text. to_give_on old (in_hand old ++ (bytes ++ text))))

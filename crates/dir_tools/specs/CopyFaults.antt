@@ -1,4 +1,4 @@
--- CopyFaults
+-- Why a copy is not read as a directory.
 use Rattle.std.specs.Prelude.{◌≡◌, ℕ, ⊤, List, [], Option, Err, IfSome}
 use Rattle.std.specs.FinMap as fin
 use Rattle.dir_names.specs.declared.schema.TypeRow.{TypeRow}
@@ -18,12 +18,12 @@ use Rattle.dir_tools.specs.declared.fault.ToolFault.TheVariants as tool
 abbrev pub HasNoEntries : Dir → Type 0
 HasNoEntries d = d.entries ≡ fin.empty
 
--- this is the first fault of the text of a copy; or the text has a byte or more for each read call of a reader
+-- this is the first fault of a copy's text; for too many read calls, the text has a byte or more for each of them
 abbrev pub IsBadCopy : List TypeRow → DnKeys → List ℕ → ℕ → Cause → Type 0
 IsBadCopy rows suffix text line (cause.Ended stream.TooManyTurns) = (line ≡ 0) × FillsReadCalls text
 IsBadCopy rows suffix text line why = copy_of rows suffix text ≡ Err (line, why)
 
--- the copy is at fault, or its reader failed, or memory ran out
+-- why there is no directory: the copy has this fault first, or its reader failed, or memory ran out
 abbrev pub IsCopyFaultCause : List TypeRow → Dir → Option (List ℕ) → ℕ → ℕ → ToolFault → Type 0
 IsCopyFaultCause rows empty copy failures failures' (tool.BadCopy line why) = HasNoEntries empty → IfSome copy (λ text. IsBadCopy rows empty.suffix text line why)
 IsCopyFaultCause rows empty copy failures failures' (tool.Read input.Copy) = HasFailed failures failures'

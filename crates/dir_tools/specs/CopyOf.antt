@@ -29,7 +29,7 @@ pub record LoadedCopy : Type 0 where
   pub entries : Dir
   pub lines : fin.FinMap dn_key_cmp ℕ
 
--- why a copy is no directory, with the line of the record that is at fault, or 0 where the text is
+-- why a copy is not a directory, with the line of the record that is at fault, or 0 where the text itself is
 abbrev pub CopyFault : Type 0
 CopyFault = ℕ × Cause
 
@@ -81,7 +81,7 @@ abbrev pub unless_orphan : Dir → Option ℕ → Result Dir CopyFault
 unless_orphan d None = Ok d
 unless_orphan d (Some line) = Err (line, cause.Code NoSuchObject)
 
--- all records stand, and no entry is without its parent
+-- the directory, where no entry is without its parent
 abbrev pub whole_directory : LoadedCopy → Result Dir CopyFault
 whole_directory l = unless_orphan l.entries (first_line (orphan_lines l))
 

@@ -92,8 +92,8 @@ ChangesAreBad rows suffix options copy changes fault =
 abbrev pub CopyIsBad : List TypeRow → List ℕ → Option (List ℕ) → ℕ → Cause → Type 0
 CopyIsBad rows suffix copy line why = (key : DnKeys) × (suffix_of rows suffix ≡ Some key) × IfSome copy (λ text. IsBadCopy rows key text line why)
 
--- what a fault before the writing says of the texts that were read; want of memory says nothing of them, and of a read fault
--- `HeldBefore` tells
+-- what a fault before the writing says of the texts that were read. Out of memory says nothing of them; for a read fault see
+-- `HeldBefore`
 abbrev pub IsCausedBy : List TypeRow → List ℕ → ModifyOptions → Option (List ℕ) → Option (List ℕ) → ToolFault → Type 0
 IsCausedBy rows suffix options copy changes (tool.BadQuestion item.Suffix) = suffix_of rows suffix ≡ None
 IsCausedBy rows suffix options copy changes (tool.BadCopy line why) = CopyIsBad rows suffix copy line why
@@ -103,24 +103,24 @@ IsCausedBy rows suffix options copy changes (tool.Read input.Changes) = ⊤
 IsCausedBy rows suffix options copy changes tool.Memory = ⊤
 IsCausedBy rows suffix options copy changes fault = ⊥
 
--- what a source tells of its bytes, before a call and behind it
+-- the bytes that a source has left, before a call and after it, where it tells them
 abbrev pub KnownBytes : Type 0
 KnownBytes = Option (List ℕ) × Option (List ℕ)
 
--- the suffix is a name, and the records of the copy that its bytes settle are taken in
+-- the suffix is a name, and every complete record among the bytes of the copy was right
 abbrev pub CopyWasRight : List TypeRow → List ℕ → KnownBytes → Type 0
 CopyWasRight rows suffix copy =
     (key : DnKeys) × (suffix_of rows suffix ≡ Some key) × GaveBytes copy.0 copy.1 (λ bytes. CompleteRecordsLoad rows (empty_copy key) (answers_after rows bytes))
 
--- the copy reads as a directory; and where a refused record ends the run, those that the bytes of the changes settle are
--- accepted
+-- the copy reads as a directory; and where a refused record ends the run, every complete record among the bytes of the changes
+-- was accepted
 abbrev pub ChangesWereAccepted : List TypeRow → List ℕ → ModifyOptions → KnownBytes → KnownBytes → Type 0
 ChangesWereAccepted rows suffix options copy changes =
     (first : Dir) × (suffix_of rows suffix ≡ Some first.suffix)
     × IfSome copy.0 (λ text. copy_of rows first.suffix text ≡ Ok first)
     × (options.go_on ≡ false → GaveBytes changes.0 changes.1 (λ bytes. CompleteRecordsAreAccepted rows first (answers_after rows bytes)))
 
--- what stands before the fault of a reader that came to no end
+-- if reading fails part-way, every complete record before the failure was right
 abbrev pub HeldBefore : List TypeRow → List ℕ → ModifyOptions → KnownBytes → KnownBytes → ToolFault → Type 0
 HeldBefore rows suffix options copy changes (tool.Read input.Copy) = CopyWasRight rows suffix copy
 HeldBefore rows suffix options copy changes (tool.BadCopy line (cause.Ended stream.TooManyTurns)) = CopyWasRight rows suffix copy
@@ -128,13 +128,13 @@ HeldBefore rows suffix options copy changes (tool.Read input.Changes) = ChangesW
 HeldBefore rows suffix options copy changes (tool.BadChanges stream.TooManyTurns) = ChangesWereAccepted rows suffix options copy changes
 HeldBefore rows suffix options copy changes fault = ⊤
 
--- what the answer says of them
+-- what the answer of a run says of the texts that were read and of its own texts
 abbrev pub AnswersRun : List TypeRow → List ℕ → ModifyOptions → Option (List ℕ) → Option (List ℕ) → Result Summary ToolFault → Texts → Type 0
 AnswersRun rows suffix options copy changes (Ok summary) texts = IsStatedRun rows suffix options copy changes summary texts
 AnswersRun rows suffix options copy changes (Err (tool.Write output)) texts = (summary : Summary) × IsStatedRun rows suffix options copy changes summary texts
 AnswersRun rows suffix options copy changes (Err fault) texts = IsCausedBy rows suffix options copy changes fault
 
--- the suffix alone
+-- the suffix is not a name of at least one RDN, or memory ran out
 abbrev pub IsNoSuffix : Option DnKeys → ToolFault → Type 0
 IsNoSuffix key (tool.BadQuestion item.Suffix) = key ≡ None
 IsNoSuffix key tool.Memory = ⊤

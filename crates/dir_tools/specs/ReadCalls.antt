@@ -1,4 +1,4 @@
--- What it says of a text that its reader had no read call left.
+-- What is known of a text whose reader had no read call left.
 use Rattle.std.specs.Prelude.{ℕ, ◌≤◌, List, length, Option}
 use Rattle.std.specs.Io.KnownBytes.{Consumes}
 use Rattle.dir_ldif.specs.declared.reader.TheConstants.{MAX_TURNS}

@@ -27,7 +27,7 @@ pub record RunEnd : Type 0 where
   pub end : Dir
   pub outcomes : List (ℕ × Outcome)
 
--- where an accepted record leads, and what takes it back
+-- the directory after an accepted record, with the changes that take it back; or why the record is refused
 abbrev pub RecordStep : Type 0
 RecordStep = Result (Dir × List Change) Cause
 
@@ -35,13 +35,13 @@ abbrev pub change_step : List TypeRow → Dir → Change → Result Dir ResultCo
 change_step rows d change (Ok e) = Ok (e, group_of rows d e change)
 change_step rows d change (Err code) = Err (cause.Code code)
 
--- a change takes its step; a record that is no change, and a faulty one, are refused
+-- a change takes its step; a content record and a faulty record are refused
 abbrev pub record_step : List TypeRow → Dir → Result Record RecordFault → RecordStep
 record_step rows d (Ok (form.Change change)) = change_step rows d change (step rows d change)
 record_step rows d (Ok (form.Content name lines)) = Err (cause.Fault BadChangetype)
 record_step rows d (Err fault) = Err (cause.Fault fault)
 
--- the outcomes of earlier records before those of a run
+-- a run with the outcomes of earlier records before its own
 abbrev pub with_outcomes_before : List (ℕ × Outcome) → Result RunEnd StreamFault → Result RunEnd StreamFault
 with_outcomes_before before (Ok ran) = Ok (record { end = ran.end; outcomes = before ++ ran.outcomes })
 with_outcomes_before before (Err fault) = Err fault
@@ -53,8 +53,8 @@ abbrev pub run_after : RecordStep → ℕ → (Dir → Result RunEnd StreamFault
 run_after (Ok p) line on refused = with_outcomes_before ((line, Ok p.1) ∷ []) (on p.0)
 run_after (Err why) line on refused = with_outcomes_before ((line, Err why) ∷ []) refused
 
--- an accepted record leads on; a refused one leaves the directory, and ends a run that doesn't go on. A fault of
--- the text that the run comes to is its answer
+-- the run continues from the directory after an accepted record. A refused record leaves the directory, and ends a run that
+-- doesn't go on. A fault of the text is the answer of a run that comes to it
 abbrev pub run_of : List TypeRow → Bool → Dir → List Answer → Result RunEnd StreamFault
 run_of rows go_on d [] = ended_run d
 run_of rows go_on d (Err fault ∷ rest) = Err fault
@@ -76,7 +76,7 @@ groups_in outcomes = flat_map group_in outcomes
 abbrev pub causes_in : List (ℕ × Outcome) → List Cause
 causes_in outcomes = flat_map cause_in outcomes
 
--- the outcomes of a run from one directory to another: the groups are those of sound changes, accepted one after the other
+-- the outcomes of a run from one directory to another: their groups are those of sound changes that were accepted one after the other
 abbrev pub HasAccepted : List TypeRow → Dir → List (ℕ × Outcome) → Dir → Type 0
 HasAccepted rows first outcomes last =
     (changes : List Change) × Each (IsSoundChange rows) changes × (run_to_end rows first changes ≡ record { end = last; groups = groups_in outcomes })

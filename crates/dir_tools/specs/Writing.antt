@@ -1,4 +1,4 @@
--- What the writers of a run hold.
+-- What the writers of a run took.
 use Rattle.std.specs.Prelude.{◌≡◌, ℕ, Bool, true, false, List, Option, Result, Ok, Err, ⊤}
 use Rattle.std.specs.Io.KnownBytes.{Appends}
 use Rattle.dir_ldif.specs.Device.{AppendsFront}
@@ -7,11 +7,11 @@ use Rattle.dir_tools.specs.declared.fault.ToolFault.TheVariants as fault
 use Rattle.dir_tools.specs.declared.fault.Output.{Output}
 use Rattle.dir_tools.specs.declared.fault.Output.TheVariants as to
 
--- the bytes that a writer had taken before and has taken behind, where it tells them
+-- the bytes that a writer had taken before a call and has taken after it, where it tells them
 abbrev pub TakenBytes : Type 0
 TakenBytes = Option (List ℕ) × Option (List ℕ)
 
--- it took the whole text, a front of it, nothing
+-- it took the whole text, a prefix of it, nothing
 abbrev pub TookWhole : TakenBytes → List ℕ → Type 0
 TookWhole tape text = Appends tape.0 tape.1 text
 
@@ -32,7 +32,7 @@ abbrev pub TookFile : Bool → TakenBytes → List ℕ → Type 0
 TookFile true tape text = TookNothing tape
 TookFile false tape text = TookWhole tape text
 
--- the writer that a fault names has a front of its text, those before it have theirs whole, those after it nothing
+-- the writer that a fault names took a prefix of its text, those before it took theirs whole, those after it nothing
 abbrev pub WroteUpTo : Bool → Output → Texts → TakenBytes → TakenBytes → TakenBytes → Type 0
 WroteUpTo dry to.Undo s undo out report = (dry ≡ false) × TookPrefix undo s.undo × TookNothing out × TookNothing report
 WroteUpTo dry to.Out s undo out report = (dry ≡ false) × TookWhole undo s.undo × TookPrefix out s.out × TookNothing report

@@ -29,10 +29,10 @@ use std::alloc::Global;
 /// # Errors
 ///
 /// The first of these, in the order of the text: a record's own fault; `BadChangetype` for a change
-/// record; 32 for a name without a key, or outside the suffix; 68 for a name that stood before; 21, 20
-/// and 19 for its values; the fault in which the text ends. Then 32 for the first record whose parent
-/// is missing. A read fault, and want of memory, where they are met, and `TooManyTurns` after as many
-/// bytes as a reader has read calls.
+/// record; 32 for a name without a key, or outside the suffix; 68 for the name of an earlier record; 21,
+/// 20 and 19 for its values; the fault in which the text ends. Then 32 for the first record whose parent
+/// is missing. A read fault and out of memory come where they are met, and `TooManyTurns` where the text
+/// has at least as many bytes as a reader has read calls.
 pub fn read_copy<R: Source, D: Directory>(
     alloc: Global,
     schema: &Schema,

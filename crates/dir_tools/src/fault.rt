@@ -6,7 +6,7 @@ ghost use Rattle.dir_tools.specs.declared.fault.ToolFault.TheVariants.{Memory};
 
 use dir_change::ResultCode;
 use dir_ldif::{RecordFault, StreamFault};
-use dir_names::{Memory, NameFault};
+use dir_names::Memory;
 use std::alloc::AllocFailed;
 use std::error::Error as StdError;
 use std::fmt;
@@ -15,7 +15,7 @@ use thiserror::Error;
 /// Why a tool gives no answer.
 #[derive(Clone, Copy, PartialEq, Eq, Debug, Error)]
 pub enum ToolFault {
-    /// The copy is no directory: the line of the record that is at fault, or 0 where the text itself
+    /// The copy is not a directory: the line of the record that is at fault, or 0 where the text itself
     /// is, and why.
     #[error("copy, line {0}: {1}")]
     BadCopy(u64, Cause),
@@ -25,10 +25,10 @@ pub enum ToolFault {
     /// A writer failed, or took no byte of a text.
     #[error("cannot write {0}")]
     Write(Output),
-    /// No memory is left.
+    /// Memory ran out.
     #[error("out of memory")]
     Memory,
-    /// A part of the question is no legal name or description.
+    /// A part of the question is not a legal name or description.
     #[error("bad question: {0}")]
     BadQuestion(Item),
     /// The text of changes is at fault as a whole.
@@ -41,7 +41,7 @@ pub enum ToolFault {
 pub enum Cause {
     /// The operation's result code.
     Code(ResultCode),
-    /// The record is no legal one.
+    /// The record's own fault.
     Fault(RecordFault),
     /// The text ended in a fault.
     Ended(StreamFault),
@@ -95,15 +95,6 @@ pub enum Item {
     /// A word, counted from 1.
     #[error("word {0}")]
     Word(u64),
-}
-
-/// Want of memory: the one fault that names which were read once can meet.
-impl From<NameFault> for ToolFault {
-    ghost from_gives = { λ _ e. e ≡ Memory };
-
-    fn from(_fault: NameFault) -> ToolFault {
-        ToolFault::Memory
-    }
 }
 
 impl From<Memory> for ToolFault {

@@ -12,8 +12,8 @@ pub fn canonical_texts_read_back()
     written_records_read_back();
 }
 
-/// A law: the undo text of a run, run on the copy that it wrote, going on after refused records or not, is
-/// accepted whole and leads to the directory in which the run began.
+/// A law: the undo text of a run, run on the copy that the run wrote, in both modes, is accepted whole and
+/// leads to the directory in which the run began.
 pub fn written_runs_are_taken_back()
     ensures { WrittenRunsAreTakenBack }
 {

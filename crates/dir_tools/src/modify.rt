@@ -22,15 +22,15 @@ use std::alloc::Global;
 /// Applies a text of changes to a copy of a directory. The undo text, the new copy and the report are
 /// built whole, and then written one after the other, each flushed before the next is begun.
 ///
-/// A record that is no legal change counts as refused. Unless the run goes on, it ends after the
-/// first refused record; what was accepted before is kept and written. A dry run writes the report
-/// alone.
+/// A record that is not a legal change counts as refused. Unless the run goes on, it ends after the
+/// first refused record; what was accepted before is kept and written. A dry run writes only the
+/// report.
 ///
 /// # Errors
 ///
-/// In this order: the suffix is no name of at least one RDN; the copy, as `read_copy` answers; the
-/// fault in which the text of changes ends, if the run comes to it; a writer's fault. Want of memory
-/// wherever it is met.
+/// In this order: the suffix is not a name of at least one RDN; the copy, as `read_copy` answers; the
+/// fault in which the text of changes ends, if the run comes to it; a writer's fault. Out of memory
+/// comes where it is met.
 pub fn run_modify<R: Source, R2: Source, W: Sink, W2: Sink, W3: Sink>(
     alloc: Global,
     schema: &Schema,

@@ -17,7 +17,7 @@ use std::alloc::Global;
 pub struct ModifyOptions {
     /// Go on after a refused record.
     pub go_on: bool,
-    /// Write the report alone.
+    /// Write only the report.
     pub dry: bool,
     /// Report accepted records too.
     pub verbose: bool,

@@ -1,3 +1,5 @@
+//! The command line, by `clap`.
+
 ghost use Rattle.std.specs.Prelude.{IfOk};
 ghost use Rattle.slapkit.specs.Words.{IsDryWithoutFiles, WritesNoFileDry};
 

@@ -1,3 +1,5 @@
+//! Why the program ends without an answer, and what it says then.
+
 ghost use Rattle.slapkit.specs.FaultText.{fault_text};
 
 use dir_tools::ToolFault;

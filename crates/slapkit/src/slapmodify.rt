@@ -1,11 +1,13 @@
+//! `slapkit slapmodify`: the files that a command line names, and the run over them.
+
 ghost use Rattle.std.specs.Prelude.{◌≡◌, ◌⊎◌, IfErr};
 ghost use Rattle.std.specs.Option.{option_copied};
-ghost use Rattle.slapkit.specs.Paths.{IsFaultOf, IsRunOf, first_repeated};
+ghost use Rattle.slapkit.specs.Paths.{NamesItsPath, RefusesSamePath, first_repeated};
 ghost use Rattle.slapkit.specs.declared.fault.Fault.TheVariants.{CannotOpen, Exists};
 
 use crate::command::ModifyWords;
 use crate::fault::Fault;
-use dir_ldif::{Reader, Sink, Source, Tape, Writer};
+use dir_ldif::{Reader, Sink, Source, Writer};
 use dir_names::Schema;
 use dir_tools::{Summary, ToolFault, run_modify};
 use std::fs::{File, OpenOptions};
@@ -18,7 +20,7 @@ use std::io;
 /// In this order: two paths that are the same; a file that can't be opened, the copy before the
 /// changes; one that can't be created, the undo file before the new copy; the tool's own fault.
 pub fn run<'a>(rt: &HostRuntime, words: &ModifyWords<'a>) -> Result<Summary, Fault<'a>>
-    ensures { IsRunOf words.now (first_repeated words.now) result }
+    ensures { RefusesSamePath words.now (first_repeated words.now) result }
 {
     if let Some(path) = first_repeated(words) {
         return Err(Fault::SamePath(path));
@@ -59,7 +61,7 @@ fn with_changes<'a, R: Source, R2: Source>(
     copy: &mut R,
     changes: &mut R2,
 ) -> Result<Summary, Fault<'a>>
-    ensures { IfErr result (IsFaultOf words.now) }
+    ensures { IfErr result (NamesItsPath words.now) }
 {
     match words.files {
         Some(files) => {
@@ -68,10 +70,8 @@ fn with_changes<'a, R: Source, R2: Source>(
             with_files(rt, words, copy, changes, &mut undo, &mut out)
         }
         None => {
-            let mut nothing = [];
-            let mut nowhere = [];
-            let mut undo = Tape::new(&mut nothing);
-            let mut out = Tape::new(&mut nowhere);
+            let mut undo = Writer::new(io::sink());
+            let mut out = Writer::new(io::sink());
             with_files(rt, words, copy, changes, &mut undo, &mut out)
         }
     }
@@ -85,7 +85,7 @@ fn with_files<'a, R: Source, R2: Source, W: Sink, W2: Sink>(
     undo: &mut W,
     out: &mut W2,
 ) -> Result<Summary, Fault<'a>>
-    ensures { IfErr result (IsFaultOf words.now) }
+    ensures { IfErr result (NamesItsPath words.now) }
 {
     let alloc = rt.alloc();
     let Ok(schema) = Schema::builtin(alloc) else {

@@ -1,3 +1,5 @@
+//! Tests of the command line, of paths that must differ, and of fault texts.
+
 use crate::command::{ModifyWords, OutputPaths, Words, read_words};
 use crate::fault::Fault;
 use crate::slapmodify::first_repeated;

@@ -1,4 +1,4 @@
--- What a copy holds as far as it was read, and why it is not read.
+-- The view of `Loading`: a copy as far as it was read. No public contract needs this file.
 use Rattle.std.specs.Prelude.{◌≡◌, ℕ, ◌≤◌, ⊤, Bool, true, false, List, length, Option, None, Some, IsTrue, Result, Ok, Err, IfSome}
 use Rattle.std.specs.List.{list_all}
 use Rattle.std.specs.BTreeMap.{get}
@@ -34,7 +34,7 @@ copy_fault stream.Ended = tool.BadCopy 0 (cause.Ended stream.Ended)
 copy_fault stream.TooManyTurns = tool.BadCopy 0 (cause.Ended stream.TooManyTurns)
 copy_fault stream.BadVersion = tool.BadCopy 0 (cause.Ended stream.BadVersion)
 
--- a fault of a record, or want of memory
+-- a fault of a record, or out of memory
 abbrev pub IsRecordFault : ToolFault → Type 0
 IsRecordFault (tool.BadCopy line (cause.Code code)) = ⊤
 IsRecordFault (tool.BadCopy line (cause.Fault fault)) = ⊤
@@ -47,7 +47,7 @@ IsCopyFault wanted (tool.BadCopy line why) = wanted ≡ Err (line, why)
 IsCopyFault wanted tool.Memory = ⊤
 IsCopyFault wanted fault = ⊥
 
--- an entry that waits, or else the one that stands
+-- the entry that waits, or else the one that is there
 abbrev pub waiting_or : Option Waiting → Option Content → Option Content
 waiting_or None there = there
 waiting_or (Some w) there = Some w.entry
@@ -57,21 +57,21 @@ abbrev pub IsMadeOf : Dir → (DnKeys → Option Waiting) → Dir → Type 0
 IsMadeOf d waiting standing =
     (d.suffix ≡ standing.suffix) × IsClosed standing × ((k : DnKeys) → entry_at d k ≡ waiting_or (waiting k) (entry_at standing k))
 
--- nothing stands where an entry waits, and it has the line of its record
+-- where an entry waits there is no other, and it has the line of its record
 abbrev pub AllWait : LoadedCopy → (DnKeys → Option Waiting) → Dir → Type 0
 AllWait m waiting standing = (k : DnKeys) (w : Waiting) → waiting k ≡ Some w → (entry_at standing k ≡ None) × (fin.get m.lines k ≡ Some w.line)
 
--- whether there is a key, and it is among these
+-- whether there is a key and the set has it
 abbrev pub is_among : BTreeSet DnKeys → Option DnKeys → Bool
 is_among keys None = false
 is_among keys (Some k) = contains dn_key_cmp keys k
 
--- an entry is put under its parent, or comes back
+-- an entry is put below its parent, or comes back
 abbrev pub IsPut : DnKeys → Content → Dir → Dir → Option Content → Type 0
 IsPut k e old new None = IsTrue (has_parent old k) × (new ≡ put_entry old k e)
 IsPut k e old new (Some back) = (back ≡ e) × (has_parent old k ≡ false) × (new ≡ old)
 
--- an entry is sound, and stands in its place and within the limits
+-- an entry is sound, at its place and within the limits
 abbrev pub IsSoundAt : List TypeRow → DnKeys → DnKeys → Content → Type 0
 IsSoundAt rows suffix k e =
     IsSoundEntry rows e × (name_key rows e.own ≡ Some (own_part suffix k)) × (length k ≤ 64) × (is_name e.own ≡ true) × (list_all is_small e.own ≡ true)
@@ -80,16 +80,16 @@ abbrev pub AreSoundInPlace : List TypeRow → Dir → Type 0
 AreSoundInPlace rows d = (k : DnKeys) (e : Content) → entry_at d k ≡ Some e → IsSoundAt rows d.suffix k e
 
 module _ {D : Type 0} where
-  -- the entries of the records so far stand, or wait with the lines of their records
+  -- the entries of the records so far are in the directory, or wait with the lines of their records
   abbrev pub IsLoaded : (D → Dir) → LoadedCopy → Loading D → Type 0
   IsLoaded state m loading =
       IsMadeOf m.entries (get dn_key_cmp loading.waiting) (state loading.directory) × AllWait m (get dn_key_cmp loading.waiting) (state loading.directory)
 
-  -- the records lead to entries that stand or wait
+  -- the records give the entries that are in the directory or wait
   abbrev pub LoadsTo : (D → Dir) → Result LoadedCopy CopyFault → Loading D → Type 0
   LoadsTo state taken loading = (m : LoadedCopy) × (taken ≡ Ok m) × IsLoaded state m loading
 
-  -- whatever was read before, the answers that were given lead on
+  -- whatever was read before, so do the answers that were given
   abbrev pub LoadsOver : (D → Dir) → List TypeRow → Option (List Answer) → Loading D → Loading D → Type 0
   LoadsOver state rows given old new =
       (m : LoadedCopy) → IsLoaded state m old → IfSome given (λ answers. LoadsTo state (with_records rows m answers) new)
@@ -103,7 +103,7 @@ module _ {D : Type 0} where
   StopsLoading state rows given failures failures' old tool.Memory = ⊤
   StopsLoading state rows given failures failures' old fault = ⊥
 
-  -- whatever was read before, entries in order stay so
+  -- whatever was read before, sound entries stay sound
   abbrev pub KeepsSound : (D → Dir) → List TypeRow → Loading D → Loading D → Type 0
   KeepsSound state rows old new =
       (m : LoadedCopy) → IsLoaded state m old → (n : LoadedCopy) × IsLoaded state n new × (AreSoundInPlace rows m.entries → AreSoundInPlace rows n.entries)

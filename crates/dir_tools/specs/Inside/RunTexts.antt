@@ -1,4 +1,4 @@
--- The texts of a run, as they are made.
+-- The view of `RunTexts`: the texts of a run before they are written. No public contract needs this file.
 use Rattle.std.specs.Prelude.{◌≡◌, ℕ, Bool, true, false, List, [], Option, None, Some}
 use Rattle.dir_tools.specs.declared.run.Files.{Files}
 use Rattle.dir_tools.specs.declared.run.RunTexts as made

@@ -1,4 +1,4 @@
--- A run as far as it has come, and how a record is taken.
+-- The view of `Run`: a run as far as it has come, and how it takes a record. No public contract needs this file.
 use Rattle.std.specs.Prelude.{◌≡◌, ⊤, IfSome, ℕ, ◌+◌, Bool, true, false, List, [], ◌∷◌, ◌++◌, length, Option, None, Some, Result, Ok, Err}
 use Rattle.std.specs.List.{flat_map}
 use Rattle.dir_names.specs.declared.schema.TypeRow.{TypeRow}
@@ -64,7 +64,7 @@ module _ {D : Type 0} where
   abbrev pub HasChangeOutcome : (D → Dir) → List TypeRow → Change → Run D → Run D → Option Cause → Type 0
   HasChangeOutcome state rows change old new why = HasOutcome state rows (Ok (form.Change change)) old new why
 
-  -- one outcome more is told
+  -- one more outcome is reported
   abbrev pub Adds : ℕ × Outcome → Run D → Run D → Type 0
   Adds outcome old new =
       (new.history ≡ old.history ++ group_in outcome)
@@ -79,7 +79,7 @@ module _ {D : Type 0} where
   Takes false state rows line found old new =
       (why : Cause) × (record_step rows (state old.directory) found ≡ Err why) × (state new.directory ≡ state old.directory) × Adds (line, Err why) old new
 
-  -- outcomes are told, one after the other
+  -- outcomes are reported, one after the other
   abbrev pub AddsAll : List (ℕ × Outcome) → Run D → Run D → Type 0
   AddsAll outcomes old new =
       (new.history ≡ old.history ++ groups_in outcomes)
@@ -88,7 +88,7 @@ module _ {D : Type 0} where
       × (new.summary.accepted ≡ old.summary.accepted + length (groups_in outcomes))
       × (new.summary.refused ≡ old.summary.refused + length (causes_in outcomes))
 
-  -- the answers that were given lead the run on to its end
+  -- the run over the answers that were given ends here
   abbrev pub RunsOver : (D → Dir) → List TypeRow → Option (List Answer) → Run D → Run D → Type 0
   RunsOver state rows given old new =
       (outcomes : List (ℕ × Outcome)) × AddsAll outcomes old new × HasAccepted rows (state old.directory) outcomes (state new.directory)
@@ -98,7 +98,7 @@ module _ {D : Type 0} where
   abbrev pub BreaksOff : (D → Dir) → List TypeRow → Option (List Answer) → Run D → StreamFault → Type 0
   BreaksOff state rows given old fault = IfSome given (λ answers. run_of rows old.options.go_on (state old.directory) answers ≡ Err fault)
 
-  -- why a run gives no texts: the text's fault, or the reader's; or want of memory
+  -- why a run gives no texts: the text is at fault, the reader failed, or memory ran out
   abbrev pub IsChangesFaultCause : (D → Dir) → List TypeRow → Option (List Answer) → ℕ → ℕ → Run D → ToolFault → Type 0
   IsChangesFaultCause state rows given failures failures' old (tool.BadChanges stream.LineTooLong) = BreaksOff state rows given old stream.LineTooLong
   IsChangesFaultCause state rows given failures failures' old (tool.BadChanges stream.BadVersion) = BreaksOff state rows given old stream.BadVersion

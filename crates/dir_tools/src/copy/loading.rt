@@ -145,8 +145,8 @@ impl<D: Directory + Drop> Loading<D> {
         Ok(())
     }
 
-    /// The whole directory, once each entry that waited has found its parent. Parents come before what
-    /// is below them in the order of keys.
+    /// The whole directory, once each entry that waited is put below its parent. In the order of keys
+    /// parents come before their children.
     pub(super) fn finish(self, alloc: Global) -> Result<D, ToolFault>
         ensures suffix { IfOk result (λ d. (D.state d).suffix ≡ (D.state self.directory).suffix) }
         ensures reads { IfOk result (λ d. (m : LoadedCopy) → IsLoaded D.state m self → (whole_directory m ≡ Ok (D.state d)) × (m.entries ≡ D.state d) × IsClosed (D.state d)) }
@@ -160,7 +160,7 @@ impl<D: Directory + Drop> Loading<D> {
         let mut orphans = Orphans::new(alloc);
         for (key, waiting) in waiting {
             let Waiting { line, entry } = waiting;
-            // Never so, since no entry waits where one stands.
+            // Never so: no entry waits for its parent at a place that is taken.
             if directory.get(&key).is_some() {
                 return Err(refused(line, ResultCode::EntryAlreadyExists));
             }
@@ -175,7 +175,7 @@ impl<D: Directory + Drop> Loading<D> {
     }
 }
 
-/// Puts an entry at a free key. It comes back where its parent isn't there.
+/// Puts an entry at a free key. It comes back where its parent is missing.
 fn put<D: Directory>(
     alloc: Global,
     directory: &mut D,
@@ -187,7 +187,7 @@ fn put<D: Directory>(
     ensures put { IfOk result (IsPut key.now entry (D.state directory.old) (D.state directory.new)) }
     ensures fault { IfErr result (λ fault. fault ≡ ToolFault.Memory) }
 {
-    if !may_stand(alloc, directory, key)? {
+    if !may_stand(alloc, directory, key).map_err(|_| ToolFault::Memory)? {
         return Ok(Some(entry));
     }
     match directory.insert(key, entry) {

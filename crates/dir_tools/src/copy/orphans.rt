@@ -16,7 +16,7 @@ use std::collections::BTreeSet;
 #[derive(Drop)]
 pub(super) struct Orphans {
     keys: BTreeSet<DnKey>,
-    /// The line of the first record in the text whose parent stands nowhere.
+    /// The line of the first record in the text whose parent is missing.
     pub(super) first: Option<u64>,
 }
 
@@ -34,8 +34,8 @@ impl Orphans {
         }
     }
 
-    /// Adds an entry that found no parent, in the order of keys. One that is below another of them isn't
-    /// the first, since its parent stands in the copy.
+    /// Adds an entry that was not put, in the order of keys. The parent of an entry below another orphan
+    /// is in the copy, so such an entry is no fault of its own.
     pub(super) fn add(&mut self, alloc: Global, key: DnKey, line: u64) -> Result<(), ToolFault>
         ensures first { OnOk result (self.new.first ≡ cond (is_among self.old.keys (parent_of key)) self.old.first (earlier_line line self.old.first)) }
         ensures keys { OnOk result (Updates dn_key_cmp self.old.keys self.new.keys key true) }
@@ -63,7 +63,7 @@ impl Orphans {
         ensures ok { IfOk result (λ is_below. is_below ≡ is_among self.now.keys (parent_of key.now)) }
         ensures fault { IfErr result (λ fault. fault ≡ ToolFault.Memory) }
     {
-        Ok(match key.parent(alloc)? {
+        Ok(match key.parent(alloc).map_err(|_| ToolFault::Memory)? {
             Some(parent) => self.keys.contains(&parent),
             None => false,
         })
