@@ -17,5 +17,3 @@ pub use operation::{Refusal, apply};
 pub use result_code::ResultCode;
 pub use undo::Undo;
 
-#[cfg(test)]
-mod tests;

@@ -17,5 +17,3 @@ pub use laws::{canonical_texts_read_back, written_runs_are_taken_back};
 pub use modify::run_modify;
 pub use run::{ModifyOptions, Summary};
 
-#[cfg(test)]
-mod tests;
