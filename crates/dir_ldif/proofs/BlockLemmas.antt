@@ -9,47 +9,48 @@ use Rattle.dir_ldif.specs.declared.faults.Refusal.TheVariants.{Fault, Memory}
 use Rattle.dir_names.specs.declared.schema.TypeRow.{TypeRow}
 use Rattle.dir_names.specs.Names.{SpelledName}
 use Rattle.dir_ldif.specs.declared.records.Record.TheVariants as form
-use Rattle.dir_ldif.specs.Block.{all_of, body_of, change_of, is_word}
-use Rattle.dir_ldif.specs.Lines.{Line, cut}
-use Rattle.dir_ldif.specs.Part.{part_of}
-use Rattle.dir_ldif.specs.Outcome.{then_of, Refuses}
+use Rattle.dir_ldif.specs.RecordGrammar.{body_of, change_of, is_word, try_map}
+use Rattle.dir_ldif.specs.LogicalLines.{Line, cut}
+use Rattle.dir_ldif.specs.AttrVal.{attrval_of}
+use Rattle.dir_names.specs.Results.{and_then}
+use Rattle.dir_ldif.specs.Inside.Refusals.{Refuses}
 use Rattle.dir_ldif.proofs.BytesLemmas.{true_or_false}
 
 -- what came first, and then the rest, if it comes
-abbrev pub behind_front : {B : Type 0} → List B → Result (List B) RecordFault → Result (List B) RecordFault
-behind_front front rest = then_of rest (λ ys. Ok (front ++ ys))
+abbrev pub after_prefix : {B : Type 0} → List B → Result (List B) RecordFault → Result (List B) RecordFault
+after_prefix front rest = and_then rest (λ ys. Ok (front ++ ys))
 
-pub behind_front-nil : {B : Type 0} (r : Result (List B) RecordFault) → behind_front [] r ≡ r
-behind_front-nil (Ok ys) = refl
-behind_front-nil (Err e) = refl
+pub after_prefix-nil : {B : Type 0} (r : Result (List B) RecordFault) → after_prefix [] r ≡ r
+after_prefix-nil (Ok ys) = refl
+after_prefix-nil (Err e) = refl
 
-pub behind_front-more : {B : Type 0} (front : List B) (y : B) (r : Result (List B) RecordFault) → behind_front front (then_of r (λ ys. Ok (y ∷ ys))) ≡ behind_front (front ++ y ∷ []) r
-behind_front-more front y (Ok ys) = ap Ok (sym (append_assoc front (y ∷ []) ys))
-behind_front-more front y (Err e) = refl
+pub after_prefix-more : {B : Type 0} (front : List B) (y : B) (r : Result (List B) RecordFault) → after_prefix front (and_then r (λ ys. Ok (y ∷ ys))) ≡ after_prefix (front ++ y ∷ []) r
+after_prefix-more front y (Ok ys) = ap Ok (sym (append_assoc front (y ∷ []) ys))
+after_prefix-more front y (Err e) = refl
 
 module _ {A B : Type 0} (f : A → Result B RecordFault) where
   -- one more came
-  pub all_of-next : (front : List B) (x : A) (xs : List A) (y : B) → f x ≡ Ok y → behind_front front (all_of f (x ∷ xs)) ≡ behind_front (front ++ y ∷ []) (all_of f xs)
-  all_of-next front x xs y e = rw e (behind_front-more front y (all_of f xs))
+  pub try_map-next : (front : List B) (x : A) (xs : List A) (y : B) → f x ≡ Ok y → after_prefix front (try_map f (x ∷ xs)) ≡ after_prefix (front ++ y ∷ []) (try_map f xs)
+  try_map-next front x xs y e = rw e (after_prefix-more front y (try_map f xs))
 
   -- one is refused
-  pub all_of-refuses : (refusal : Refusal) (front : List B) (x : A) (xs : List A) → Refuses refusal (f x) → Refuses refusal (behind_front front (all_of f (x ∷ xs)))
-  all_of-refuses (Fault fault) front x xs h = rw h refl
-  all_of-refuses Memory front x xs h = tt
+  pub try_map-refuses : (refusal : Refusal) (front : List B) (x : A) (xs : List A) → Refuses refusal (f x) → Refuses refusal (after_prefix front (try_map f (x ∷ xs)))
+  try_map-refuses (Fault fault) front x xs h = rw h refl
+  try_map-refuses Memory front x xs h = tt
 
   at_index : (xs : List A) (i : ℕ) (x : A) → i < length xs → x ≡ get_or xs i x → drop i xs ≡ x ∷ drop (i + 1) xs
   at_index xs i x lt e =
       let one : suc i ≡ i + 1 = omega arith in
       drop-cons xs i x lt ∙ ap (λ t. t ∷ drop (suc i) xs) (sym e) ∙ ap (λ n. x ∷ drop n xs) one
 
-  pub all_of-turn : (front : List B) (xs : List A) (i : ℕ) (x : A) (y : B) (wanted : Result (List B) RecordFault) → wanted ≡ behind_front front (all_of f (drop i xs)) → i < length xs → x ≡ get_or xs i x
-      → f x ≡ Ok y → wanted ≡ behind_front (front ++ y ∷ []) (all_of f (drop (i + 1) xs))
-  all_of-turn front xs i x y wanted inv lt here e = inv ∙ ap (λ t. behind_front front (all_of f t)) (at_index xs i x lt here) ∙ all_of-next front x (drop (i + 1) xs) y e
+  pub try_map-turn : (front : List B) (xs : List A) (i : ℕ) (x : A) (y : B) (wanted : Result (List B) RecordFault) → wanted ≡ after_prefix front (try_map f (drop i xs)) → i < length xs → x ≡ get_or xs i x
+      → f x ≡ Ok y → wanted ≡ after_prefix (front ++ y ∷ []) (try_map f (drop (i + 1) xs))
+  try_map-turn front xs i x y wanted inv lt here e = inv ∙ ap (λ t. after_prefix front (try_map f t)) (at_index xs i x lt here) ∙ try_map-next front x (drop (i + 1) xs) y e
 
-  pub all_of-stop : (refusal : Refusal) (front : List B) (xs : List A) (i : ℕ) (x : A) (wanted : Result (List B) RecordFault) → wanted ≡ behind_front front (all_of f (drop i xs)) → i < length xs
+  pub try_map-stop : (refusal : Refusal) (front : List B) (xs : List A) (i : ℕ) (x : A) (wanted : Result (List B) RecordFault) → wanted ≡ after_prefix front (try_map f (drop i xs)) → i < length xs
       → x ≡ get_or xs i x → Refuses refusal (f x) → Refuses refusal wanted
-  all_of-stop refusal front xs i x wanted inv lt here h =
-      subst (Refuses refusal) (sym (inv ∙ ap (λ t. behind_front front (all_of f t)) (at_index xs i x lt here))) (all_of-refuses refusal front x (drop (i + 1) xs) h)
+  try_map-stop refusal front xs i x wanted inv lt here h =
+      subst (Refuses refusal) (sym (inv ∙ ap (λ t. after_prefix front (try_map f t)) (at_index xs i x lt here))) (try_map-refuses refusal front x (drop (i + 1) xs) h)
 
 -- ---- pieces
 
@@ -77,9 +78,9 @@ module _ {A : Type 0} (test : A → Bool) where
 -- ---- bodies
 
 -- the second line is a changetype
-pub body_of-change : (rows : List TypeRow) (name : SpelledName) (lines : List Line) (second : Line) (further : List Line) (p : List ℕ × List ℕ) → lines ≡ second ∷ further → part_of second.1 ≡ Ok p
+pub body_of-change : (rows : List TypeRow) (name : SpelledName) (lines : List Line) (second : Line) (further : List Line) (p : List ℕ × List ℕ) → lines ≡ second ∷ further → attrval_of second.1 ≡ Ok p
     → is_word p.0 (codes "control") ≡ false → is_word p.0 (codes "changetype") ≡ true
-    → body_of rows name lines ≡ then_of (change_of rows p.1 further) (λ kind. Ok (form.Change (record { dn = name; kind = kind })))
+    → body_of rows name lines ≡ and_then (change_of rows p.1 further) (λ kind. Ok (form.Change (record { dn = name; kind = kind })))
 body_of-change rows name lines second further p is e control change = rw (is, e, control, change) refl
 
 -- ---- pieces by index

@@ -6,12 +6,13 @@ use Rattle.std.proofs.lemmas.List.Folds.{list_any-append}
 use Rattle.std.proofs.lemmas.Bool.Decides.{nat_tests}
 use Rattle.dir_ldif.specs.declared.faults.StreamFault.{StreamFault}
 use Rattle.dir_ldif.specs.declared.faults.StreamFault.TheVariants.{LineTooLong}
-use Rattle.dir_ldif.specs.declared.lines.Joiner.{Joiner}
+use Rattle.dir_ldif.specs.declared.reader.unfolder.Unfolder.{Unfolder}
 use Rattle.dir_ldif.specs.Bytes.{is_empty, begins_with, without_last}
-use Rattle.dir_ldif.specs.Lines.{Line, cut, is_lf, numbered, glue, joined, is_long}
-use Rattle.dir_ldif.specs.Parts.{Part, parts_from, Ends}
-use Rattle.dir_ldif.specs.Joining.{behind, Joins}
-use Rattle.dir_ldif.specs.Kept.{is_kept}
+use Rattle.dir_ldif.specs.LogicalLines.{Line, cut, is_lf, is_long, logical_lines, physical_lines, with_first_line}
+use Rattle.dir_ldif.specs.Blocks.{BlockResult, EndsAtOnce, blocks_from}
+use Rattle.dir_ldif.specs.Reader.Unfolding.{lines_after}
+use Rattle.dir_ldif.specs.Inside.Unfolder.{TakesLine}
+use Rattle.dir_ldif.specs.Inside.Bounds.{may_be_continued}
 use Rattle.dir_ldif.proofs.BytesLemmas.{true_or_false}
 
 -- the first piece ends at the first LF
@@ -45,19 +46,19 @@ cut-front x (y ∷ xs) ys e =
     (true_or_false (eqb x 10))
 
 -- a continuation of a line that is not empty
-pub glue-continued : (k a : ℕ) (tail : List ℕ) (n : ℕ) (cs : List ℕ) (rest : List Line) → glue (k, a ∷ tail) (glue (n, 32 ∷ cs) rest) ≡ glue (k, (a ∷ tail) ++ cs) rest
-glue-continued k a tail n cs [] = refl
-glue-continued k a tail n cs (r ∷ rs) =
+pub with_first_line-continued : (k a : ℕ) (tail : List ℕ) (n : ℕ) (cs : List ℕ) (rest : List Line) → with_first_line (k, a ∷ tail) (with_first_line (n, 32 ∷ cs) rest) ≡ with_first_line (k, (a ∷ tail) ++ cs) rest
+with_first_line-continued k a tail n cs [] = refl
+with_first_line-continued k a tail n cs (r ∷ rs) =
     ⊎_elim
     (λ (yes : begins_with 32 r.1 ≡ true). rw yes (ap (λ t. (k, a ∷ t) ∷ rs) (sym (append_assoc tail cs (drop 1 r.1)))))
     (λ (no : begins_with 32 r.1 ≡ false). rw no refl)
     (true_or_false (begins_with 32 r.1))
 
 -- a line stays the first one, and grows at its end alone
-pub glue-first : (n : ℕ) (text : List ℕ) (rest : List Line) → (more : List ℕ) × (others : List Line) × (glue (n, text) rest ≡ (n, text ++ more) ∷ others) × (is_empty text ≡ true → more ≡ [])
-glue-first n text [] = ([], [], ap (λ t. (n, t) ∷ []) (sym (append-nil text)), λ _. refl)
-glue-first n [] (r ∷ rs) = ([], r ∷ rs, refl, λ _. refl)
-glue-first n (c ∷ cs) (r ∷ rs) =
+pub with_first_line-first : (n : ℕ) (text : List ℕ) (rest : List Line) → (more : List ℕ) × (others : List Line) × (with_first_line (n, text) rest ≡ (n, text ++ more) ∷ others) × (is_empty text ≡ true → more ≡ [])
+with_first_line-first n text [] = ([], [], ap (λ t. (n, t) ∷ []) (sym (append-nil text)), λ _. refl)
+with_first_line-first n [] (r ∷ rs) = ([], r ∷ rs, refl, λ _. refl)
+with_first_line-first n (c ∷ cs) (r ∷ rs) =
     ⊎_elim
     (λ (yes : begins_with 32 r.1 ≡ true). (drop 1 r.1, rs, rw yes refl, λ (e : false ≡ true). cc))
     (λ (no : begins_with 32 r.1 ≡ false). ([], r ∷ rs, rw no (ap (λ t. (n, c ∷ t) ∷ r ∷ rs) (sym (append-nil cs))), λ _. refl))
@@ -71,51 +72,51 @@ never : (v : Bool) (line : Line) (xs ys : List Line) → (if not v && false then
 never true line xs ys = refl
 never false line xs ys = refl
 
-apart : (line : Line) (n : ℕ) (text : List ℕ) (rest : List Line) → begins_with 32 text ≡ false → glue line ((n, text) ∷ rest) ≡ line ∷ (n, text) ∷ rest
+apart : (line : Line) (n : ℕ) (text : List ℕ) (rest : List Line) → begins_with 32 text ≡ false → with_first_line line ((n, text) ∷ rest) ≡ line ∷ (n, text) ∷ rest
 apart line n text rest e = rw e (never (is_empty line.1) line ((line.0, line.1 ++ drop 1 text) ∷ rest) (line ∷ (n, text) ∷ rest))
 
 -- a line that does not begin with a space continues none
-pub glue-apart : (line : Line) (n : ℕ) (text : List ℕ) (rest : List Line) → begins_with 32 text ≡ false → glue line (glue (n, text) rest) ≡ line ∷ glue (n, text) rest
-glue-apart line n text rest e =
-    let f = glue-first n text rest in
+pub with_first_line-apart : (line : Line) (n : ℕ) (text : List ℕ) (rest : List Line) → begins_with 32 text ≡ false → with_first_line line (with_first_line (n, text) rest) ≡ line ∷ with_first_line (n, text) rest
+with_first_line-apart line n text rest e =
+    let f = with_first_line-first n text rest in
     rw f.2 (apart line n (text ++ f.0) f.1 (still n text f.0 e f.3))
 
 if_true : {A : Type 0} (v : Bool) (x y : A) → v ≡ true → (if v then x else y) ≡ x
 if_true v x y e = rw e refl
 
 -- a line that is too long ends the text, however it goes on
-pub parts_from-long : (begun : Bool) (block : List Line) (n : ℕ) (text : List ℕ) (rest : List Line) → is_long (n, text) ≡ true → parts_from begun block (glue (n, text) rest) ≡ Err LineTooLong ∷ []
-parts_from-long begun block n text rest e =
-    let f = glue-first n text rest in
+pub blocks_from-long : (begun : Bool) (block : List Line) (n : ℕ) (text : List ℕ) (rest : List Line) → is_long (n, text) ≡ true → blocks_from begun block (with_first_line (n, text) rest) ≡ Err LineTooLong ∷ []
+blocks_from-long begun block n text rest e =
+    let f = with_first_line-first n text rest in
     let longer : nat_lt 2097152 (length (text ++ f.0)) ≡ true = grind (arith, nat_tests, length-append) in
     rw f.2 (if_true _ _ _ longer)
 
 -- the same of two lines
-pub joined-apart : (last : Line) (n : ℕ) (text : List ℕ) (more : List Line) → begins_with 32 text ≡ false → joined (last ∷ (n, text) ∷ more) ≡ last ∷ joined ((n, text) ∷ more)
-joined-apart last n text more e = glue-apart last n text (joined more) e
+pub logical_lines-apart : (last : Line) (n : ℕ) (text : List ℕ) (more : List Line) → begins_with 32 text ≡ false → logical_lines (last ∷ (n, text) ∷ more) ≡ last ∷ logical_lines ((n, text) ∷ more)
+logical_lines-apart last n text more e = with_first_line-apart last n text (logical_lines more) e
 
 -- a fault of a line that is not continued ends the text whatever follows
-pub Ends-apart : (fault : StreamFault) (begun : Bool) (block : List Line) (o : Option Line) (last : Line) (n : ℕ) (text : List ℕ) (more : List Line) → o ≡ Some last → begins_with 32 text ≡ false
-    → ((after : List Line) → Ends fault (parts_from begun block (last ∷ after))) → Ends fault (parts_from begun block (behind o ((n, text) ∷ more)))
-Ends-apart fault begun block o last n text more is e h =
-    rw is (subst (λ t. Ends fault (parts_from begun block t)) (sym (joined-apart last n text more e)) (h (joined ((n, text) ∷ more))))
+pub EndsAtOnce-apart : (fault : StreamFault) (begun : Bool) (block : List Line) (o : Option Line) (last : Line) (n : ℕ) (text : List ℕ) (more : List Line) → o ≡ Some last → begins_with 32 text ≡ false
+    → ((after : List Line) → EndsAtOnce fault (blocks_from begun block (last ∷ after))) → EndsAtOnce fault (blocks_from begun block (lines_after o ((n, text) ∷ more)))
+EndsAtOnce-apart fault begun block o last n text more is e h =
+    rw is (subst (λ t. EndsAtOnce fault (blocks_from begun block t)) (sym (logical_lines-apart last n text more e)) (h (logical_lines ((n, text) ∷ more))))
 
 -- a continuation was taken
-pub Joins-continued : (begun : Bool) (block : List Line) (o : Option Line) (last : Line) (n : ℕ) (text given : List ℕ) (r : Result Bool StreamFault) (j : Joiner) → o ≡ Some last → given ≡ text
-    → Joins (λ more. parts_from begun block (joined (last ∷ (n, given) ∷ more))) r j → Joins (λ more. parts_from begun block (behind o ((n, text) ∷ more))) r j
-Joins-continued begun block o last n text given r j is same h = rw (is, sym same) h
+pub TakesLine-continued : (begun : Bool) (block : List Line) (o : Option Line) (last : Line) (n : ℕ) (text given : List ℕ) (r : Result Bool StreamFault) (j : Unfolder) → o ≡ Some last → given ≡ text
+    → TakesLine (λ more. blocks_from begun block (logical_lines (last ∷ (n, given) ∷ more))) r j → TakesLine (λ more. blocks_from begun block (lines_after o ((n, text) ∷ more))) r j
+TakesLine-continued begun block o last n text given r j is same h = rw (is, sym same) h
 
 -- a line and what continues it are one
-pub joined-continued : (last : Line) (n : ℕ) (text : List ℕ) (more : List Line) → is_empty last.1 ≡ false → begins_with 32 text ≡ true
-    → joined (last ∷ (n, text) ∷ more) ≡ joined ((last.0, last.1 ++ drop 1 text) ∷ more)
-joined-continued (k, []) n text more some space = cc
-joined-continued (k, a ∷ tail) n [] more some space = cc
-joined-continued (k, a ∷ tail) n (c ∷ cs) more some space = rw (eqb-true c 32 space) (glue-continued k a tail n cs (joined more))
+pub logical_lines-continued : (last : Line) (n : ℕ) (text : List ℕ) (more : List Line) → is_empty last.1 ≡ false → begins_with 32 text ≡ true
+    → logical_lines (last ∷ (n, text) ∷ more) ≡ logical_lines ((last.0, last.1 ++ drop 1 text) ∷ more)
+logical_lines-continued (k, []) n text more some space = cc
+logical_lines-continued (k, a ∷ tail) n [] more some space = cc
+logical_lines-continued (k, a ∷ tail) n (c ∷ cs) more some space = rw (eqb-true c 32 space) (with_first_line-continued k a tail n cs (logical_lines more))
 
 -- what was to come, said otherwise
-pub Joins-same : (before before' : List Line → List Part) (r : Result Bool StreamFault) (j : Joiner) → ((more : List Line) → before more ≡ before' more) → Joins before' r j → Joins before r j
-Joins-same before before' (Ok ends) j e h = λ more. e more ∙ h more
-Joins-same before before' (Err fault) j e h = λ more. subst (Ends fault) (sym (e more)) (h more)
+pub TakesLine-same : (before before' : List Line → List BlockResult) (r : Result Bool StreamFault) (j : Unfolder) → ((more : List Line) → before more ≡ before' more) → TakesLine before' r j → TakesLine before r j
+TakesLine-same before before' (Ok ends) j e h = λ more. e more ∙ h more
+TakesLine-same before before' (Err fault) j e h = λ more. subst (EndsAtOnce fault) (sym (e more)) (h more)
 
 some_of_long : (partial : List ℕ) → 2097152 < length (without_last 13 partial) → is_empty partial ≡ false
 some_of_long [] long = absurd (omega arith)
@@ -143,35 +144,35 @@ begins_with-without_last b (x ∷ z ∷ zs) ys e = refl
 
 -- the first line of what begins with a line that has not ended
 pub partial_first : (n : ℕ) (partial text : List ℕ) → list_any is_lf partial ≡ false → is_empty partial ≡ false
-    → (more : List ℕ) × (rest : List Line) × (numbered n (cut is_lf (partial ++ text)) ≡ (n, without_last 13 (partial ++ more)) ∷ rest)
+    → (more : List ℕ) × (rest : List Line) × (physical_lines n (cut is_lf (partial ++ text)) ≡ (n, without_last 13 (partial ++ more)) ∷ rest)
 partial_first n [] text lacks some = cc
-partial_first n (x ∷ xs) text lacks some = let f = cut-front x xs text lacks in (f.0, numbered (n + 1) f.1, rw f.2 refl)
+partial_first n (x ∷ xs) text lacks some = let f = cut-front x xs text lacks in (f.0, physical_lines (n + 1) f.1, rw f.2 refl)
 
 -- where a line that has not ended is too long, it ends the text
 pub long_alone : (begun : Bool) (block : List Line) (n : ℕ) (partial text : List ℕ) → list_any is_lf partial ≡ false → 2097152 < length (without_last 13 partial)
-    → parts_from begun block (joined (numbered n (cut is_lf (partial ++ text)))) ≡ Err LineTooLong ∷ []
+    → blocks_from begun block (logical_lines (physical_lines n (cut is_lf (partial ++ text)))) ≡ Err LineTooLong ∷ []
 long_alone begun block n partial text lacks long =
     let f = partial_first n partial text lacks (some_of_long partial long) in
-    rw f.2 (parts_from-long begun block n (without_last 13 (partial ++ f.0)) (joined f.1) (ltb-of_lt _ _ (omega (arith, length-without_last partial f.0))))
+    rw f.2 (blocks_from-long begun block n (without_last 13 (partial ++ f.0)) (logical_lines f.1) (ltb-of_lt _ _ (omega (arith, length-without_last partial f.0))))
 
 pub some_of_begins : (b : ℕ) (xs : List ℕ) → begins_with b xs ≡ true → is_empty xs ≡ false
 some_of_begins b [] e = cc
 some_of_begins b (x ∷ xs) e = refl
 
 pub glued_long : (begun : Bool) (block : List Line) (k n : ℕ) (text next : List ℕ) (rest : List Line) → is_empty text ≡ false → begins_with 32 next ≡ true → 2097153 < length text + length next
-    → parts_from begun block (glue (k, text) (glue (n, next) rest)) ≡ Err LineTooLong ∷ []
+    → blocks_from begun block (with_first_line (k, text) (with_first_line (n, next) rest)) ≡ Err LineTooLong ∷ []
 glued_long begun block k n [] next rest some space long = cc
 glued_long begun block k n (a ∷ tail) [] rest some space long = cc
 glued_long begun block k n (a ∷ tail) (c ∷ cs) rest some space long =
-    let whole : parts_from begun block (glue (k, (a ∷ tail) ++ cs) rest) ≡ Err LineTooLong ∷ [] =
-    parts_from-long begun block k ((a ∷ tail) ++ cs) rest (ltb-of_lt _ _ (omega (arith, length-append (a ∷ tail) cs))) in
-    rw (eqb-true c 32 space, glue-continued k a tail n cs rest) whole
+    let whole : blocks_from begun block (with_first_line (k, (a ∷ tail) ++ cs) rest) ≡ Err LineTooLong ∷ [] =
+    blocks_from-long begun block k ((a ∷ tail) ++ cs) rest (ltb-of_lt _ _ (omega (arith, length-append (a ∷ tail) cs))) in
+    rw (eqb-true c 32 space, with_first_line-continued k a tail n cs rest) whole
 
 pub not_first : (v w : Bool) → (not v && w) ≡ true → v ≡ false
 not_first true w e = cc
 not_first false w e = refl
 
-pub some_of_kept_line : (last : Line) → is_kept (Some last) ≡ true → is_empty last.1 ≡ false
+pub some_of_kept_line : (last : Line) → may_be_continued (Some last) ≡ true → is_empty last.1 ≡ false
 some_of_kept_line last e = not_first (is_empty last.1) (not (is_long last)) e
 
 pub not_second : (v w : Bool) → (v && not w) ≡ true → w ≡ false
@@ -186,7 +187,7 @@ lacks-append xs ys p q = list_any-append is_lf xs ys ∙ rw p q
 
 -- a line that ends is the first one
 pub line_first : (n : ℕ) (partial line rest : List ℕ) → list_any is_lf partial ≡ false → list_any is_lf line ≡ false
-    → numbered n (cut is_lf (partial ++ (line ++ 10 ∷ rest))) ≡ (n, without_last 13 (partial ++ line)) ∷ numbered (n + 1) (cut is_lf rest)
+    → physical_lines n (cut is_lf (partial ++ (line ++ 10 ∷ rest))) ≡ (n, without_last 13 (partial ++ line)) ∷ physical_lines (n + 1) (cut is_lf rest)
 line_first n partial line rest p q =
     rw (sym (append_assoc partial line (10 ∷ rest)), cut-line (partial ++ line) rest (lacks-append partial line p q)) refl
 
@@ -201,8 +202,8 @@ cut-whole x (y ∷ xs) e =
     (true_or_false (eqb x 10))
 
 pub line_alone : (n : ℕ) (partial : List ℕ) → list_any is_lf partial ≡ false → is_empty partial ≡ false
-    → numbered n (cut is_lf (partial ++ [])) ≡ (n, without_last 13 (partial ++ [])) ∷ []
+    → physical_lines n (cut is_lf (partial ++ [])) ≡ (n, without_last 13 (partial ++ [])) ∷ []
 line_alone n [] lacks some = cc
 line_alone n (x ∷ xs) lacks some =
     let same = append-nil (x ∷ xs) in
-    ap (λ t. numbered n (cut is_lf t)) same ∙ ap (numbered n) (cut-whole x xs lacks) ∙ ap (λ t. (n, without_last 13 t) ∷ []) (sym same)
+    ap (λ t. physical_lines n (cut is_lf t)) same ∙ ap (physical_lines n) (cut-whole x xs lacks) ∙ ap (λ t. (n, without_last 13 t) ∷ []) (sym same)

@@ -7,8 +7,9 @@ use Rattle.dir_ldif.specs.declared.faults.RecordFault.TheVariants.{BadLine}
 use Rattle.dir_ldif.specs.declared.faults.Refusal.{Refusal}
 use Rattle.dir_ldif.specs.declared.faults.Refusal.TheVariants.{Fault, Memory}
 use Rattle.dir_ldif.specs.Bytes.{cut_at}
-use Rattle.dir_ldif.specs.Outcome.{then_of, Refuses}
-use Rattle.dir_ldif.specs.Part.{value_of, limited, part_of_cut, part_of_parts, part_of}
+use Rattle.dir_names.specs.Results.{and_then}
+use Rattle.dir_ldif.specs.Inside.Refusals.{Refuses}
+use Rattle.dir_ldif.specs.AttrVal.{attrval_of, attrval_of_cut, attrval_from, value_of, within_limit}
 use Rattle.dir_ldif.proofs.BytesLemmas.{true_or_false, false_from_not}
 
 module _ (test : ℕ → Bool) where
@@ -30,23 +31,23 @@ module _ (test : ℕ → Bool) where
   is_some-first xs None h = sym (list_any-none xs (λ k lt. false_from_not _ (λ e. h k (omega arith) lt e)))
   is_some-first xs (Some k) h = sym (list_any-some xs k h.0.high h.1)
 
-pub part_of-none : (line : List ℕ) → None ≡ cut_at 58 line → part_of line ≡ Err BadLine
-unfolding part_of
-part_of-none line e = ap part_of_cut (sym e)
+pub attrval_of-none : (line : List ℕ) → None ≡ cut_at 58 line → attrval_of line ≡ Err BadLine
+unfolding attrval_of
+attrval_of-none line e = ap attrval_of_cut (sym e)
 
-pub part_of-cut : (line name rest : List ℕ) → Some (name, rest) ≡ cut_at 58 line → part_of line ≡ part_of_parts name rest
-unfolding part_of
-part_of-cut line name rest e = ap part_of_cut (sym e)
+pub attrval_of-cut : (line name rest : List ℕ) → Some (name, rest) ≡ cut_at 58 line → attrval_of line ≡ attrval_from name rest
+unfolding attrval_of
+attrval_of-cut line name rest e = ap attrval_of_cut (sym e)
 
-pub part_of_parts-nameless : (name rest : List ℕ) → eqb (length name) 0 ≡ true → part_of_parts name rest ≡ Err BadLine
-part_of_parts-nameless [] rest e = refl
-part_of_parts-nameless (b ∷ name) rest e = absurd (omega (arith, eqb-true _ _ e))
+pub attrval_from-nameless : (name rest : List ℕ) → eqb (length name) 0 ≡ true → attrval_from name rest ≡ Err BadLine
+attrval_from-nameless [] rest e = refl
+attrval_from-nameless (b ∷ name) rest e = absurd (omega (arith, eqb-true _ _ e))
 
-pub part_of_parts-value : (name rest value : List ℕ) → eqb (length name) 0 ≡ false → then_of (value_of rest) limited ≡ Ok value → part_of_parts name rest ≡ Ok (name, value)
-part_of_parts-value [] rest value e h = cc
-part_of_parts-value (b ∷ name) rest value e h = ap (λ r. then_of r (λ v. Ok (b ∷ name, v))) h
+pub attrval_from-value : (name rest value : List ℕ) → eqb (length name) 0 ≡ false → and_then (value_of rest) within_limit ≡ Ok value → attrval_from name rest ≡ Ok (name, value)
+attrval_from-value [] rest value e h = cc
+attrval_from-value (b ∷ name) rest value e h = ap (λ r. and_then r (λ v. Ok (b ∷ name, v))) h
 
-pub part_of_parts-refuses : (name rest : List ℕ) (refusal : Refusal) → eqb (length name) 0 ≡ false → Refuses refusal (then_of (value_of rest) limited) → Refuses refusal (part_of_parts name rest)
-part_of_parts-refuses [] rest refusal e h = cc
-part_of_parts-refuses (b ∷ name) rest (Fault fault) e h = ap (λ r. then_of r (λ v. Ok (b ∷ name, v))) h
-part_of_parts-refuses (b ∷ name) rest Memory e h = tt
+pub attrval_from-refuses : (name rest : List ℕ) (refusal : Refusal) → eqb (length name) 0 ≡ false → Refuses refusal (and_then (value_of rest) within_limit) → Refuses refusal (attrval_from name rest)
+attrval_from-refuses [] rest refusal e h = cc
+attrval_from-refuses (b ∷ name) rest (Fault fault) e h = ap (λ r. and_then r (λ v. Ok (b ∷ name, v))) h
+attrval_from-refuses (b ∷ name) rest Memory e h = tt

@@ -5,14 +5,14 @@ use Rattle.std.proofs.lemmas.Bool.{eqb-true}
 use Rattle.std.proofs.lemmas.Bool.Decides.{nat_tests}
 use Rattle.dir_ldif.specs.declared.faults.StreamFault.{StreamFault}
 use Rattle.dir_ldif.specs.declared.faults.StreamFault.TheVariants.{LineTooLong}
-use Rattle.dir_ldif.specs.declared.lines.Joiner.{Joiner}
+use Rattle.dir_ldif.specs.declared.reader.unfolder.Unfolder.{Unfolder}
 use Rattle.dir_ldif.specs.Bytes.{is_empty, begins_with, without_last}
-use Rattle.dir_ldif.specs.Lines.{Line, cut, is_lf, numbered, joined, is_long}
-use Rattle.dir_ldif.specs.Parts.{parts_from, Ends}
-use Rattle.dir_ldif.specs.Joining.{to_come}
-use Rattle.dir_ldif.specs.Kept.{is_kept}
+use Rattle.dir_ldif.specs.LogicalLines.{Line, cut, is_lf, is_long, logical_lines, physical_lines}
+use Rattle.dir_ldif.specs.Blocks.{EndsAtOnce, blocks_from}
+use Rattle.dir_ldif.specs.Reader.Unfolding.{blocks_to_come}
+use Rattle.dir_ldif.specs.Inside.Bounds.{may_be_continued}
 use Rattle.dir_ldif.proofs.BytesLemmas.{true_or_false, without_last-behind}
-use Rattle.dir_ldif.proofs.LinesLemmas.{joined-apart, joined-continued, partial_first, parts_from-long, some_of_kept_line}
+use Rattle.dir_ldif.proofs.LinesLemmas.{logical_lines-apart, logical_lines-continued, partial_first, blocks_from-long, some_of_kept_line}
 use Rattle.dir_ldif.proofs.ShortLemmas.{neither}
 
 -- ---- two parts without a final CR
@@ -99,26 +99,26 @@ some_front (x ∷ xs) ys e = refl
 
 module _ (begun : Bool) (block : List Line) (last : Line) (n : ℕ) where
   grows : (front held text : List ℕ) → is_empty last.1 ≡ false → list_any is_lf (32 ∷ front) ≡ false → (first_piece (cut is_lf (held ++ text)) ≡ [] → without_last 13 (32 ∷ front) ≡ 32 ∷ front)
-      → parts_from begun block (joined (last ∷ numbered n (cut is_lf (32 ∷ (front ++ (held ++ text)))))) ≡ parts_from begun block (joined ((last.0, last.1 ++ front) ∷ numbered n (cut is_lf (32 ∷ (held ++ text)))))
+      → blocks_from begun block (logical_lines (last ∷ physical_lines n (cut is_lf (32 ∷ (front ++ (held ++ text)))))) ≡ blocks_from begun block (logical_lines ((last.0, last.1 ++ front) ∷ physical_lines n (cut is_lf (32 ∷ (held ++ text)))))
   grows front held text some lacks h =
       let p = first_piece (cut is_lf (held ++ text)) in
-      let ps = numbered (n + 1) (more_pieces (cut is_lf (held ++ text))) in
+      let ps = physical_lines (n + 1) (more_pieces (cut is_lf (held ++ text))) in
       let long = without_last 13 (32 ∷ (front ++ p)) in
       let short = without_last 13 (32 ∷ p) in
-      let one : joined (last ∷ numbered n (cut is_lf (32 ∷ (front ++ (held ++ text))))) ≡ joined ((last.0, last.1 ++ drop 1 long) ∷ ps) =
-      ap (λ t. joined (last ∷ numbered n t)) (cut_over 32 front (held ++ text) lacks) ∙ joined-continued last n long ps some (first_stays 32 (front ++ p)) in
-      let two : joined ((last.0, last.1 ++ front) ∷ numbered n (cut is_lf (32 ∷ (held ++ text)))) ≡ joined ((last.0, (last.1 ++ front) ++ drop 1 short) ∷ ps) =
-      ap (λ t. joined ((last.0, last.1 ++ front) ∷ numbered n t)) (cut_over 32 [] (held ++ text) refl) ∙ joined-continued (last.0, last.1 ++ front) n short ps (some_front last.1 front some) (first_stays 32 p) in
+      let one : logical_lines (last ∷ physical_lines n (cut is_lf (32 ∷ (front ++ (held ++ text))))) ≡ logical_lines ((last.0, last.1 ++ drop 1 long) ∷ ps) =
+      ap (λ t. logical_lines (last ∷ physical_lines n t)) (cut_over 32 front (held ++ text) lacks) ∙ logical_lines-continued last n long ps some (first_stays 32 (front ++ p)) in
+      let two : logical_lines ((last.0, last.1 ++ front) ∷ physical_lines n (cut is_lf (32 ∷ (held ++ text)))) ≡ logical_lines ((last.0, (last.1 ++ front) ++ drop 1 short) ∷ ps) =
+      ap (λ t. logical_lines ((last.0, last.1 ++ front) ∷ physical_lines n t)) (cut_over 32 [] (held ++ text) refl) ∙ logical_lines-continued (last.0, last.1 ++ front) n short ps (some_front last.1 front some) (first_stays 32 p) in
       let same : last.1 ++ drop 1 long ≡ (last.1 ++ front) ++ drop 1 short = ap (λ t. last.1 ++ t) (rest_behind front p h) ∙ sym (append_assoc last.1 front (drop 1 short)) in
-      ap (parts_from begun block) (one ∙ ap (λ t. joined ((last.0, t) ∷ ps)) same ∙ sym two)
+      ap (blocks_from begun block) (one ∙ ap (λ t. logical_lines ((last.0, t) ∷ ps)) same ∙ sym two)
 
   -- the whole line is the front and what is held back
   grows_by : (line front held text : List ℕ) → is_empty last.1 ≡ false → list_any is_lf line ≡ false → line ≡ (32 ∷ front) ++ held → (first_piece (cut is_lf (held ++ text)) ≡ [] → without_last 13 (32 ∷ front) ≡ 32 ∷ front)
-      → parts_from begun block (joined (last ∷ numbered n (cut is_lf (line ++ text)))) ≡ parts_from begun block (joined ((last.0, last.1 ++ front) ∷ numbered n (cut is_lf (32 ∷ (held ++ text)))))
+      → blocks_from begun block (logical_lines (last ∷ physical_lines n (cut is_lf (line ++ text)))) ≡ blocks_from begun block (logical_lines ((last.0, last.1 ++ front) ∷ physical_lines n (cut is_lf (32 ∷ (held ++ text)))))
   grows_by line front held text some lacks e h =
       let lacks_all : list_any is_lf ((32 ∷ front) ++ held) ≡ false = ap (list_any is_lf) (sym e) ∙ lacks in
       let lacks_front : list_any is_lf (32 ∷ front) ≡ false = front_lacks (32 ∷ front) held lacks_all in
-      ap (λ t. parts_from begun block (joined (last ∷ numbered n (cut is_lf (t ++ text))))) e ∙ ap (λ t. parts_from begun block (joined (last ∷ numbered n (cut is_lf t)))) (append_assoc (32 ∷ front) held text) ∙ grows front held text some lacks_front h
+      ap (λ t. blocks_from begun block (logical_lines (last ∷ physical_lines n (cut is_lf (t ++ text))))) e ∙ ap (λ t. blocks_from begun block (logical_lines (last ∷ physical_lines n (cut is_lf t)))) (append_assoc (32 ∷ front) held text) ∙ grows front held text some lacks_front h
     where
       front_lacks : (xs ys : List ℕ) → list_any is_lf (xs ++ ys) ≡ false → list_any is_lf xs ≡ false
       front_lacks [] ys e = refl
@@ -126,8 +126,8 @@ module _ (begun : Bool) (block : List Line) (last : Line) (n : ℕ) where
 
   -- the same of a line without its final CR
   grown : (line front : List ℕ) (has_cr : Bool) (text : List ℕ) → is_empty last.1 ≡ false → list_any is_lf line ≡ false → 32 ∷ front ≡ without_last 13 line → has_cr ≡ nat_lt (length (32 ∷ front)) (length line)
-      → parts_from begun block (joined (last ∷ numbered n (cut is_lf (line ++ text))))
-      ≡ parts_from begun block (joined ((last.0, last.1 ++ front) ∷ numbered n (cut is_lf ((if has_cr then 32 ∷ 13 ∷ [] else 32 ∷ []) ++ text))))
+      → blocks_from begun block (logical_lines (last ∷ physical_lines n (cut is_lf (line ++ text))))
+      ≡ blocks_from begun block (logical_lines ((last.0, last.1 ++ front) ∷ physical_lines n (cut is_lf ((if has_cr then 32 ∷ 13 ∷ [] else 32 ∷ []) ++ text))))
   grown line front has_cr text some lacks e t =
       ⊎_elim
       (λ (whole : without_last 13 line ≡ line).
@@ -150,10 +150,10 @@ module _ (begun : Bool) (block : List Line) (last : Line) (n : ℕ) where
       held_some text e = let some : 13 ∷ first_piece (cut is_lf text) ≡ [] = ap first_piece (sym (onto_pieces 13 (cut is_lf text))) ∙ e in cc
 
 -- a line was taken over as far as it goes, and a space stays in hand, with the CR that may be the final one
-pub grown_to_come : (begun : Bool) (block : List Line) (last : Line) (n : ℕ) (line shown : List ℕ) (has_cr : Bool) (k : Joiner) → is_kept (Some last) ≡ true → list_any is_lf line ≡ false
+pub grown_to_come : (begun : Bool) (block : List Line) (last : Line) (n : ℕ) (line shown : List ℕ) (has_cr : Bool) (k : Unfolder) → may_be_continued (Some last) ≡ true → list_any is_lf line ≡ false
     → shown ≡ without_last 13 line → begins_with 32 shown ≡ true → has_cr ≡ nat_lt (length shown) (length line)
     → k.begun ≡ begun → k.block.items ≡ block → k.number ≡ n → k.last ≡ Some (last.0, last.1 ++ drop 1 shown) → k.partial.items ≡ (if has_cr then 32 ∷ 13 ∷ [] else 32 ∷ [])
-    → (text : List ℕ) → parts_from begun block (joined (last ∷ numbered n (cut is_lf (line ++ text)))) ≡ to_come k text
+    → (text : List ℕ) → blocks_from begun block (logical_lines (last ∷ physical_lines n (cut is_lf (line ++ text)))) ≡ blocks_to_come k text
 grown_to_come begun block last n line [] has_cr k kept lacks e space t b c m l p text = cc
 grown_to_come begun block last n line (x ∷ front) has_cr k kept lacks e space t b c m l p text =
     let same : x ≡ 32 = eqb-true x 32 space in
@@ -166,53 +166,53 @@ longer_stays : (m : ℕ) (xs ys : List ℕ) → is_long (m, xs) ≡ true → is_
 longer_stays m xs ys e = let whole : length (xs ++ ys) ≡ length xs + length ys = length-append xs ys in grind (arith, nat_tests)
 
 -- a line that is too long with what continues it ends the text
-pub grown_long : (begun : Bool) (block : List Line) (last : Line) (n : ℕ) (shown text : List ℕ) (more : List Line) → is_kept (Some last) ≡ true → begins_with 32 shown ≡ true → is_long (last.0, last.1 ++ drop 1 shown) ≡ true
-    → parts_from begun block (joined (last ∷ (n, shown ++ text) ∷ more)) ≡ Err LineTooLong ∷ []
+pub grown_long : (begun : Bool) (block : List Line) (last : Line) (n : ℕ) (shown text : List ℕ) (more : List Line) → may_be_continued (Some last) ≡ true → begins_with 32 shown ≡ true → is_long (last.0, last.1 ++ drop 1 shown) ≡ true
+    → blocks_from begun block (logical_lines (last ∷ (n, shown ++ text) ∷ more)) ≡ Err LineTooLong ∷ []
 grown_long begun block last n [] text more kept space long = cc
 grown_long begun block last n (x ∷ xs) text more kept space long =
     let longer : is_long (last.0, last.1 ++ (xs ++ text)) ≡ true = ap (λ t. is_long (last.0, t)) (sym (append_assoc last.1 xs text)) ∙ longer_stays last.0 (last.1 ++ xs) text long in
-    ap (parts_from begun block) (joined-continued last n ((x ∷ xs) ++ text) more (some_of_kept_line last kept) space) ∙ parts_from-long begun block last.0 (last.1 ++ (xs ++ text)) (joined more) longer
+    ap (blocks_from begun block) (logical_lines-continued last n ((x ∷ xs) ++ text) more (some_of_kept_line last kept) space) ∙ blocks_from-long begun block last.0 (last.1 ++ (xs ++ text)) (logical_lines more) longer
 
 -- a fault of a line with all that may continue it is one of the text
 pub grown_Ends : (fault : StreamFault) (begun : Bool) (block : List Line) (last : Line) (n : ℕ) (line shown : List ℕ) → list_any is_lf line ≡ false → is_empty line ≡ false → shown ≡ without_last 13 line
-    → ((text : List ℕ) → (n : ℕ) → (more : List Line) → Ends fault (parts_from begun block (joined (last ∷ (n, shown ++ text) ∷ more))))
-    → (text : List ℕ) → Ends fault (parts_from begun block (joined (last ∷ numbered n (cut is_lf (line ++ text)))))
+    → ((text : List ℕ) → (n : ℕ) → (more : List Line) → EndsAtOnce fault (blocks_from begun block (logical_lines (last ∷ (n, shown ++ text) ∷ more))))
+    → (text : List ℕ) → EndsAtOnce fault (blocks_from begun block (logical_lines (last ∷ physical_lines n (cut is_lf (line ++ text)))))
 grown_Ends fault begun block last n line shown lacks some e h text =
     let f = partial_first n line text lacks some in
     let stays = front_stays line f.0 in
     let whole : without_last 13 (line ++ f.0) ≡ shown ++ stays.0 = stays.1 ∙ ap (λ t. t ++ stays.0) (sym e) in
-    subst (λ t. Ends fault (parts_from begun block (joined (last ∷ t)))) (sym (f.2 ∙ ap (λ t. (n, t) ∷ f.1) whole)) (h stays.0 n f.1)
+    subst (λ t. EndsAtOnce fault (blocks_from begun block (logical_lines (last ∷ t)))) (sym (f.2 ∙ ap (λ t. (n, t) ∷ f.1) whole)) (h stays.0 n f.1)
 
 -- ---- a line that continues none
 
 apart_behind : (last : Line) (n : ℕ) (line text : List ℕ) → list_any is_lf line ≡ false → is_empty line ≡ false → begins_with 32 (without_last 13 line) ≡ false
-    → joined (last ∷ numbered n (cut is_lf (line ++ text))) ≡ last ∷ joined (numbered n (cut is_lf (line ++ text)))
+    → logical_lines (last ∷ physical_lines n (cut is_lf (line ++ text))) ≡ last ∷ logical_lines (physical_lines n (cut is_lf (line ++ text)))
 apart_behind last n [] text lacks some space = cc
 apart_behind last n (x ∷ xs) text lacks some space =
     let f = partial_first n (x ∷ xs) text lacks refl in
     let other : begins_with 32 (without_last 13 ((x ∷ xs) ++ f.0)) ≡ false = first_stays x (xs ++ f.0) ∙ sym (first_stays x xs) ∙ space in
-    rw f.2 (joined-apart last n (without_last 13 ((x ∷ xs) ++ f.0)) f.1 other)
+    rw f.2 (logical_lines-apart last n (without_last 13 ((x ∷ xs) ++ f.0)) f.1 other)
 
 -- the line before it is closed
 pub closed_before : (begun begun' : Bool) (block block' : List Line) (last : Line) (n m : ℕ) (line : List ℕ) → list_any is_lf line ≡ false → is_empty line ≡ false → begins_with 32 (without_last 13 line) ≡ false
-    → ((more : List Line) → parts_from begun block (last ∷ more) ≡ parts_from begun' block' more) → m ≡ n
-    → (text : List ℕ) → parts_from begun block (joined (last ∷ numbered n (cut is_lf (line ++ text)))) ≡ parts_from begun' block' (joined (numbered m (cut is_lf (line ++ text))))
+    → ((more : List Line) → blocks_from begun block (last ∷ more) ≡ blocks_from begun' block' more) → m ≡ n
+    → (text : List ℕ) → blocks_from begun block (logical_lines (last ∷ physical_lines n (cut is_lf (line ++ text)))) ≡ blocks_from begun' block' (logical_lines (physical_lines m (cut is_lf (line ++ text))))
 closed_before begun begun' block block' last n m line lacks some space closed same text =
-    let rest = joined (numbered n (cut is_lf (line ++ text))) in
-    ap (parts_from begun block) (apart_behind last n line text lacks some space) ∙ closed rest ∙ ap (λ k. parts_from begun' block' (joined (numbered k (cut is_lf (line ++ text))))) (sym same)
+    let rest = logical_lines (physical_lines n (cut is_lf (line ++ text))) in
+    ap (blocks_from begun block) (apart_behind last n line text lacks some space) ∙ closed rest ∙ ap (λ k. blocks_from begun' block' (logical_lines (physical_lines k (cut is_lf (line ++ text))))) (sym same)
 
 pub apart_Ends : (fault : StreamFault) (begun : Bool) (block : List Line) (last : Line) (n : ℕ) (line : List ℕ) → list_any is_lf line ≡ false → is_empty line ≡ false → begins_with 32 (without_last 13 line) ≡ false
-    → ((more : List Line) → Ends fault (parts_from begun block (last ∷ more)))
-    → (text : List ℕ) → Ends fault (parts_from begun block (joined (last ∷ numbered n (cut is_lf (line ++ text)))))
+    → ((more : List Line) → EndsAtOnce fault (blocks_from begun block (last ∷ more)))
+    → (text : List ℕ) → EndsAtOnce fault (blocks_from begun block (logical_lines (last ∷ physical_lines n (cut is_lf (line ++ text)))))
 apart_Ends fault begun block last n line lacks some space h text =
-    subst (λ t. Ends fault (parts_from begun block t)) (sym (apart_behind last n line text lacks some space)) (h (joined (numbered n (cut is_lf (line ++ text)))))
+    subst (λ t. EndsAtOnce fault (blocks_from begun block t)) (sym (apart_behind last n line text lacks some space)) (h (logical_lines (physical_lines n (cut is_lf (line ++ text)))))
 
 -- ---- a piece behind what is in hand
 
-pub rest_some : (j : Joiner) (last : Line) (front piece : List ℕ) → j.last ≡ Some last → front ≡ j.partial.items
-    → (text : List ℕ) → to_come j (piece ++ text) ≡ parts_from j.begun j.block.items (joined (last ∷ numbered j.number (cut is_lf ((front ++ piece) ++ text))))
-rest_some j last front piece is e text = rw (is, e) (ap (λ t. parts_from j.begun j.block.items (joined (last ∷ numbered j.number (cut is_lf t)))) (sym (append_assoc j.partial.items piece text)))
+pub rest_some : (j : Unfolder) (last : Line) (front piece : List ℕ) → j.last ≡ Some last → front ≡ j.partial.items
+    → (text : List ℕ) → blocks_to_come j (piece ++ text) ≡ blocks_from j.begun j.block.items (logical_lines (last ∷ physical_lines j.number (cut is_lf ((front ++ piece) ++ text))))
+rest_some j last front piece is e text = rw (is, e) (ap (λ t. blocks_from j.begun j.block.items (logical_lines (last ∷ physical_lines j.number (cut is_lf t)))) (sym (append_assoc j.partial.items piece text)))
 
-pub rest_none : (j : Joiner) (front piece : List ℕ) → j.last ≡ None → front ≡ j.partial.items
-    → (text : List ℕ) → to_come j (piece ++ text) ≡ parts_from j.begun j.block.items (joined (numbered j.number (cut is_lf ((front ++ piece) ++ text))))
-rest_none j front piece is e text = rw (is, e) (ap (λ t. parts_from j.begun j.block.items (joined (numbered j.number (cut is_lf t)))) (sym (append_assoc j.partial.items piece text)))
+pub rest_none : (j : Unfolder) (front piece : List ℕ) → j.last ≡ None → front ≡ j.partial.items
+    → (text : List ℕ) → blocks_to_come j (piece ++ text) ≡ blocks_from j.begun j.block.items (logical_lines (physical_lines j.number (cut is_lf ((front ++ piece) ++ text))))
+rest_none j front piece is e text = rw (is, e) (ap (λ t. blocks_from j.begun j.block.items (logical_lines (physical_lines j.number (cut is_lf t)))) (sym (append_assoc j.partial.items piece text)))

@@ -23,20 +23,21 @@ use Rattle.dir_ldif.specs.declared.records.Mod.{Mod}
 use Rattle.dir_ldif.specs.declared.records.ModOp.{ModOp}
 use Rattle.dir_ldif.specs.declared.records.ModOp.TheVariants as op
 use Rattle.dir_ldif.specs.Bytes.{is_empty}
-use Rattle.dir_ldif.specs.Lines.{Line, cut}
-use Rattle.dir_ldif.specs.Outcome.{then_of}
-use Rattle.dir_ldif.specs.Part.{part_of}
-use Rattle.dir_ldif.specs.Block.{named, all_of, is_word, legal_dn, legal_rdn, dn_line, value_line, value_lines, is_dash, op_of, mod_head, mod_value, mod_of, mods_of, flag_of, superior_of, rename_of, change_of, content_of, body_of, record_of}
-use Rattle.dir_ldif.specs.Legal.{has_key, rdn_has_key, has_this_key, is_read_under, is_short, is_legal_line, is_legal_mod, superior_has_key, is_legal_kind, is_legal_record}
-use Rattle.dir_ldif.specs.Laws.{is_refused_in_name, NameIsSound, RdnIsSound, ValuesAreBytes, AllBytes, ModsAreBytes, SuperiorIsSound, KindIsSound, PartsAreSound}
+use Rattle.dir_ldif.specs.LogicalLines.{Line, cut}
+use Rattle.dir_names.specs.Results.{and_then}
+use Rattle.dir_ldif.specs.AttrVal.{attrval_of}
+use Rattle.dir_ldif.specs.RecordGrammar.{as_record_fault, body_of, change_of, content_of, dn_line, flag_of, is_dash, is_word, legal_dn, legal_rdn, mod_head, mod_of, mod_value, mods_of, op_of, record_of, rename_of, superior_of, try_map, value_line, value_lines}
+use Rattle.dir_ldif.specs.LegalRecords.{has_key, rdn_has_key, has_this_key, is_read_under, is_short, is_legal_line, is_legal_mod, superior_has_key, is_legal_kind, is_legal_record}
+use Rattle.dir_ldif.specs.RoundTrip.{ends_name}
+use Rattle.dir_ldif.specs.SoundRecords.{AreBytes, IsSoundKind, IsSoundName, IsSoundRdn, IsSoundRecord, IsSoundSuperior, ModsAreBytes, ValuesAreBytes}
 use Rattle.dir_ldif.specs.RecordText.{op_word, change_word, flag_text}
-use Rattle.dir_ldif.specs.Text.{line_of, written}
+use Rattle.dir_ldif.specs.LineText.{line_of, value_spec}
 use Rattle.dir_ldif.proofs.BlockLemmas.{cut-piece}
 use Rattle.dir_ldif.proofs.BlocksRead.{texts}
 use Rattle.dir_ldif.proofs.LegalRecords.{known, description_of-spelling}
 use Rattle.dir_ldif.proofs.SoundNames.{name_short, name_bytes, name_back, rdn_short, rdn_bytes, rdn_back}
 use Rattle.dir_ldif.proofs.SpelledLemmas.{IsSpelling, is_spelled, spelled-allowed, spelling_of}
-use Rattle.dir_ldif.proofs.WrittenLemmas.{and_first, and_second, both, part_of-line, name-colon, written-tail}
+use Rattle.dir_ldif.proofs.WrittenLemmas.{and_first, and_second, both, attrval_of-line, name-colon, value_spec-tail}
 
 -- ---- descriptions
 
@@ -53,24 +54,24 @@ described_back rows d h =
 
 -- ---- parts of lines
 
-pub refused-none : (xs : List ℕ) → list_all is_spelled xs ≡ true → list_any is_refused_in_name xs ≡ false
+pub refused-none : (xs : List ℕ) → list_all is_spelled xs ≡ true → list_any ends_name xs ≡ false
 refused-none [] e = refl
 refused-none (x ∷ xs) e =
-    let here : is_refused_in_name x ≡ false = (spelled-allowed x (and_first (is_spelled x) (list_all is_spelled xs) e)).0 in
+    let here : ends_name x ≡ false = (spelled-allowed x (and_first (is_spelled x) (list_all is_spelled xs) e)).0 in
     rw (here, refused-none xs (and_second (is_spelled x) (list_all is_spelled xs) e)) refl
 
 pub within : (value : List ℕ) → is_short value ≡ true → length value ≤ 1048576
 within value e = grind (arith, nat_tests)
 
-pub part_of-spelled : (text value : List ℕ) → IsSpelling text → IsBytes value → length value ≤ 1048576 → part_of (line_of text value) ≡ Ok (text, value)
-part_of-spelled [] value s bytes short = cc
-part_of-spelled (b ∷ name) value s bytes short = part_of-line b name value (name-colon (b ∷ name) (refused-none (b ∷ name) s.0)) bytes short
+pub attrval_of-spelled : (text value : List ℕ) → IsSpelling text → IsBytes value → length value ≤ 1048576 → attrval_of (line_of text value) ≡ Ok (text, value)
+attrval_of-spelled [] value s bytes short = cc
+attrval_of-spelled (b ∷ name) value s bytes short = attrval_of-line b name value (name-colon (b ∷ name) (refused-none (b ∷ name) s.0)) bytes short
 
 value_line-back : (rows : List TypeRow) (l : Described × List ℕ) (line : Line) → line.1 ≡ line_of l.0.spelling l.1 → is_legal_line rows l ≡ true → IsBytes l.1 → value_line rows line ≡ Ok l
 value_line-back rows l line e legal bytes =
     let d = described_back rows l.0 (and_second (is_short l.1) (is_read_under rows l.0) legal) in
-    let part : part_of line.1 ≡ Ok (l.0.spelling, l.1) =
-    ap part_of e ∙ part_of-spelled l.0.spelling l.1 (spelling_of rows l.0.spelling l.0 d) bytes (within l.1 (and_first (is_short l.1) (is_read_under rows l.0) legal)) in
+    let part : attrval_of line.1 ≡ Ok (l.0.spelling, l.1) =
+    ap attrval_of e ∙ attrval_of-spelled l.0.spelling l.1 (spelling_of rows l.0.spelling l.0 d) bytes (within l.1 (and_first (is_short l.1) (is_read_under rows l.0) legal)) in
     rw (part, d) refl
 
 abbrev pub value_line_of : Described × List ℕ → List ℕ
@@ -90,19 +91,19 @@ value_lines-back rows (l ∷ ls) (x ∷ xs) e legal bytes =
 
 -- ---- names
 
-key-known : {A : Type 0} (o : Option A) → is_some o ≡ true → (k : A) × (named (or_bad_dn o) ≡ Ok k)
+key-known : {A : Type 0} (o : Option A) → is_some o ≡ true → (k : A) × (as_record_fault (or_bad_dn o) ≡ Ok k)
 key-known None e = cc
 key-known (Some k) e = (k, refl)
 
-legal_dn-back : (rows : List TypeRow) (name : SpelledName) → NameIsSound name → has_key rows name ≡ true → legal_dn rows (name_printed name) ≡ Ok name
+legal_dn-back : (rows : List TypeRow) (name : SpelledName) → IsSoundName name → has_key rows name ≡ true → legal_dn rows (name_printed name) ≡ Ok name
 legal_dn-back rows name back key = let k = key-known (name_key rows name) key in let read = name_back name back in rw (read, k.1) refl
 
-legal_rdn-back : (rows : List TypeRow) (rdn : SpelledRdn) → RdnIsSound rdn → rdn_has_key rows rdn ≡ true → legal_rdn rows (rdn_printed rdn) ≡ Ok rdn
+legal_rdn-back : (rows : List TypeRow) (rdn : SpelledRdn) → IsSoundRdn rdn → rdn_has_key rows rdn ≡ true → legal_rdn rows (rdn_printed rdn) ≡ Ok rdn
 legal_rdn-back rows rdn back key = let k = key-known (rdn_key rows rdn) key in let read = rdn_back rdn back in rw (read, k.1) refl
 
-dn_line-back : (rows : List TypeRow) (name : SpelledName) (line : Line) → line.1 ≡ line_of (codes "dn") (name_printed name) → NameIsSound name → has_key rows name ≡ true → dn_line rows line ≡ Ok name
+dn_line-back : (rows : List TypeRow) (name : SpelledName) (line : Line) → line.1 ≡ line_of (codes "dn") (name_printed name) → IsSoundName name → has_key rows name ≡ true → dn_line rows line ≡ Ok name
 dn_line-back rows name line e back key =
-    let part : part_of line.1 ≡ Ok (codes "dn", name_printed name) = ap part_of e ∙ part_of-line 100 (110 ∷ []) (name_printed name) refl (name_bytes name back) (name_short name back) in
+    let part : attrval_of line.1 ≡ Ok (codes "dn", name_printed name) = ap attrval_of e ∙ attrval_of-line 100 (110 ∷ []) (name_printed name) refl (name_bytes name back) (name_short name back) in
     rw (part, legal_dn-back rows name back key) refl
 
 -- ---- modifications
@@ -126,7 +127,7 @@ mod_value-back rows d value line e read short bytes =
     rw (l, same) refl
 
 mod_values-back : (rows : List TypeRow) (d : Described) (values : List (List ℕ)) (block : List Line) → texts block ≡ mod_value_lines d values → is_read_under rows d ≡ true → list_all is_short values ≡ true
-    → AllBytes values → all_of (mod_value rows d) block ≡ Ok values
+    → AreBytes values → try_map (mod_value rows d) block ≡ Ok values
 mod_values-back rows d [] [] e read short bytes = refl
 mod_values-back rows d [] (x ∷ xs) e read short bytes = cc
 mod_values-back rows d (v ∷ vs) [] e read short bytes = cc
@@ -137,10 +138,10 @@ mod_values-back rows d (v ∷ vs) (x ∷ xs) e read short bytes =
     let later = mod_values-back rows d vs xs rest read (and_second (is_short v) (list_all is_short vs) short) bytes.1 in
     rw (first, later) refl
 
-part_of-op : (o : ModOp) (value : List ℕ) → IsBytes value → length value ≤ 1048576 → part_of (line_of (op_word o) value) ≡ Ok (op_word o, value)
-part_of-op op.Add value bytes short = part_of-line 97 (100 ∷ 100 ∷ []) value refl bytes short
-part_of-op op.Delete value bytes short = part_of-line 100 (101 ∷ 108 ∷ 101 ∷ 116 ∷ 101 ∷ []) value refl bytes short
-part_of-op op.Replace value bytes short = part_of-line 114 (101 ∷ 112 ∷ 108 ∷ 97 ∷ 99 ∷ 101 ∷ []) value refl bytes short
+attrval_of-op : (o : ModOp) (value : List ℕ) → IsBytes value → length value ≤ 1048576 → attrval_of (line_of (op_word o) value) ≡ Ok (op_word o, value)
+attrval_of-op op.Add value bytes short = attrval_of-line 97 (100 ∷ 100 ∷ []) value refl bytes short
+attrval_of-op op.Delete value bytes short = attrval_of-line 100 (101 ∷ 108 ∷ 101 ∷ 116 ∷ 101 ∷ []) value refl bytes short
+attrval_of-op op.Replace value bytes short = attrval_of-line 114 (101 ∷ 112 ∷ 108 ∷ 97 ∷ 99 ∷ 101 ∷ []) value refl bytes short
 
 op_of-word : (o : ModOp) → op_of (op_word o) ≡ Some o
 op_of-word op.Add = refl
@@ -152,13 +153,13 @@ mod_head-back rows o d line e read =
     let known_d = described_back rows d read in
     let s = spelling_of rows d.spelling d known_d in
     let short : length d.spelling ≤ 1048576 = omega (arith, s.2) in
-    let part : part_of line.1 ≡ Ok (op_word o, d.spelling) = ap part_of e ∙ part_of-op o d.spelling (all_bytes d.spelling s.0) short in
+    let part : attrval_of line.1 ≡ Ok (op_word o, d.spelling) = ap attrval_of e ∙ attrval_of-op o d.spelling (all_bytes d.spelling s.0) short in
     rw (part, op_of-word o, known_d) refl
 
 abbrev pub mod_front : Mod → List (List ℕ)
 mod_front m = line_of (op_word m.op) m.description.spelling ∷ mod_value_lines m.description m.values
 
-mod_of-back : (rows : List TypeRow) (m : Mod) (block : List Line) → texts block ≡ mod_front m → is_legal_mod rows m ≡ true → AllBytes m.values → mod_of rows block ≡ Ok m
+mod_of-back : (rows : List TypeRow) (m : Mod) (block : List Line) → texts block ≡ mod_front m → is_legal_mod rows m ≡ true → AreBytes m.values → mod_of rows block ≡ Ok m
 mod_of-back rows m [] e legal bytes = cc
 mod_of-back rows m (x ∷ xs) e legal bytes =
     let here : x.1 ≡ line_of (op_word m.op) m.description.spelling = cc in
@@ -178,8 +179,8 @@ split_texts (l ∷ block) (t ∷ a) b e =
     let r = split_texts block a b rest in
     (l ∷ r.0, r.1, ap (λ q. l ∷ q) r.2, ap (λ q. q ∷ texts r.0) here ∙ ap (λ q. t ∷ q) r.3, r.4)
 
-dash_tail : (name value : List ℕ) → bytes_eq (name ++ written value) [] ≡ false
-dash_tail [] value = ap (λ t. bytes_eq t []) (written-tail value)
+dash_tail : (name value : List ℕ) → bytes_eq (name ++ value_spec value) [] ≡ false
+dash_tail [] value = ap (λ t. bytes_eq t []) (value_spec-tail value)
 dash_tail (n ∷ name) value = refl
 
 not_both : (v w : Bool) → w ≡ false → (v && w) ≡ false
@@ -216,11 +217,11 @@ mod_lines m = mod_front m ++ codes "-" ∷ []
 
 -- the lines of one modification, its `-`, and the others
 mods_more : (rows : List TypeRow) (m : Mod) (mods : List Mod) (block x : List Line) (dash : Line) (y : List Line) → block ≡ x ++ dash ∷ y → texts x ≡ mod_front m → dash.1 ≡ codes "-"
-    → is_empty m.description.spelling ≡ false → is_legal_mod rows m ≡ true → AllBytes m.values → all_of (mod_of rows) (cut is_dash y) ≡ Ok mods → mods_of rows block ≡ Ok (m ∷ mods)
+    → is_empty m.description.spelling ≡ false → is_legal_mod rows m ≡ true → AreBytes m.values → try_map (mod_of rows) (cut is_dash y) ≡ Ok mods → mods_of rows block ≡ Ok (m ∷ mods)
 mods_more rows m mods block x dash y whole front back some legal bytes later =
     let piece : cut is_dash block ≡ x ∷ cut is_dash y = ap (cut is_dash) whole ∙ cut-piece is_dash x dash y (front_no_dash m x some front) (ap (λ t. bytes_eq t (codes "-")) back) in
     let first = mod_of-back rows m x front legal bytes in
-    ap (all_of (mod_of rows)) piece ∙ rw (first, later) refl
+    ap (try_map (mod_of rows)) piece ∙ rw (first, later) refl
 
 -- a first line, if there is one
 first_of_texts : (y : List Line) (t : List ℕ) (ts : List (List ℕ)) → texts y ≡ t ∷ ts → (l : Line) × (ls : List Line) × (y ≡ l ∷ ls) × (l.1 ≡ t) × (texts ls ≡ ts)
@@ -247,7 +248,7 @@ abbrev pub superior_lines : Option SpelledName → List (List ℕ)
 superior_lines None = []
 superior_lines (Some name) = line_of (codes "newsuperior") (name_printed name) ∷ []
 
-superior-back : (rows : List TypeRow) (superior : Option SpelledName) (block : List Line) → texts block ≡ superior_lines superior → superior_has_key rows superior ≡ true → SuperiorIsSound superior
+superior-back : (rows : List TypeRow) (superior : Option SpelledName) (block : List Line) → texts block ≡ superior_lines superior → superior_has_key rows superior ≡ true → IsSoundSuperior superior
     → superior_of rows block ≡ Ok superior
 superior-back rows None [] e key back = refl
 superior-back rows None (x ∷ xs) e key back = cc
@@ -255,8 +256,8 @@ superior-back rows (Some name) [] e key back = cc
 superior-back rows (Some name) (x ∷ y ∷ ys) e key back = cc
 superior-back rows (Some name) (x ∷ []) e key back =
     let here : x.1 ≡ line_of (codes "newsuperior") (name_printed name) = cc in
-    let part : part_of x.1 ≡ Ok (codes "newsuperior", name_printed name) =
-    ap part_of here ∙ part_of-line 110 (101 ∷ 119 ∷ 115 ∷ 117 ∷ 112 ∷ 101 ∷ 114 ∷ 105 ∷ 111 ∷ 114 ∷ []) (name_printed name) refl (name_bytes name back) (name_short name back) in
+    let part : attrval_of x.1 ≡ Ok (codes "newsuperior", name_printed name) =
+    ap attrval_of here ∙ attrval_of-line 110 (101 ∷ 119 ∷ 115 ∷ 117 ∷ 112 ∷ 101 ∷ 114 ∷ 105 ∷ 111 ∷ 114 ∷ []) (name_printed name) refl (name_bytes name back) (name_short name back) in
     rw (part, legal_dn-back rows name back key) refl
 
 few_bytes : (xs : List ℕ) → list_all (λ b. nat_lt b 256) xs ≡ true → IsBytes xs
@@ -269,14 +270,14 @@ flag-bytes true = (few_bytes (codes "1") refl, omega arith, refl)
 flag-bytes false = (few_bytes (codes "0") refl, omega arith, refl)
 
 rename-back : (rows : List TypeRow) (rdn : SpelledRdn) (flag : Bool) (superior : Option SpelledName) (x y : Line) (ys : List Line) → x.1 ≡ line_of (codes "newrdn") (rdn_printed rdn)
-    → y.1 ≡ line_of (codes "deleteoldrdn") (flag_text flag) → texts ys ≡ superior_lines superior → rdn_has_key rows rdn ≡ true → superior_has_key rows superior ≡ true → RdnIsSound rdn
-    → SuperiorIsSound superior → rename_of rows (x ∷ y ∷ ys) ≡ Ok (kind.Rename rdn flag superior)
+    → y.1 ≡ line_of (codes "deleteoldrdn") (flag_text flag) → texts ys ≡ superior_lines superior → rdn_has_key rows rdn ≡ true → superior_has_key rows superior ≡ true → IsSoundRdn rdn
+    → IsSoundSuperior superior → rename_of rows (x ∷ y ∷ ys) ≡ Ok (kind.Rename rdn flag superior)
 rename-back rows rdn flag superior x y ys ex ey es key key' back back' =
     let f = flag-bytes flag in
-    let first : part_of x.1 ≡ Ok (codes "newrdn", rdn_printed rdn) =
-    ap part_of ex ∙ part_of-line 110 (101 ∷ 119 ∷ 114 ∷ 100 ∷ 110 ∷ []) (rdn_printed rdn) refl (rdn_bytes rdn back) (rdn_short rdn back) in
-    let second : part_of y.1 ≡ Ok (codes "deleteoldrdn", flag_text flag) =
-    ap part_of ey ∙ part_of-line 100 (101 ∷ 108 ∷ 101 ∷ 116 ∷ 101 ∷ 111 ∷ 108 ∷ 100 ∷ 114 ∷ 100 ∷ 110 ∷ []) (flag_text flag) refl f.0 f.1 in
+    let first : attrval_of x.1 ≡ Ok (codes "newrdn", rdn_printed rdn) =
+    ap attrval_of ex ∙ attrval_of-line 110 (101 ∷ 119 ∷ 114 ∷ 100 ∷ 110 ∷ []) (rdn_printed rdn) refl (rdn_bytes rdn back) (rdn_short rdn back) in
+    let second : attrval_of y.1 ≡ Ok (codes "deleteoldrdn", flag_text flag) =
+    ap attrval_of ey ∙ attrval_of-line 100 (101 ∷ 108 ∷ 101 ∷ 116 ∷ 101 ∷ 111 ∷ 108 ∷ 100 ∷ 114 ∷ 100 ∷ 110 ∷ []) (flag_text flag) refl f.0 f.1 in
     rw (first, legal_rdn-back rows rdn back key, second, f.2, superior-back rows superior ys es key' back') refl
 
 -- ---- changes
@@ -294,7 +295,7 @@ two_lines [] a b ts e = cc
 two_lines (x ∷ []) a b ts e = cc
 two_lines (x ∷ y ∷ ys) a b ts e = (x, y, ys, refl, cc, cc, cc)
 
-pub change_of-back : (rows : List TypeRow) (k : ChangeKind) (block : List Line) → texts block ≡ kind_lines k → is_legal_kind rows k ≡ true → KindIsSound k → change_of rows (change_word k) block ≡ Ok k
+pub change_of-back : (rows : List TypeRow) (k : ChangeKind) (block : List Line) → texts block ≡ kind_lines k → is_legal_kind rows k ≡ true → IsSoundKind k → change_of rows (change_word k) block ≡ Ok k
 change_of-back rows (kind.Add lines) block e legal back = let ls = value_lines-back rows lines block e legal back in rw ls refl
 change_of-back rows kind.Delete [] e legal back = refl
 change_of-back rows kind.Delete (x ∷ xs) e legal back = cc
@@ -318,11 +319,11 @@ word-bytes kind.Delete = (few_bytes (change_word kind.Delete) refl, omega arith)
 word-bytes (kind.Modify mods) = (few_bytes (change_word (kind.Modify mods)) refl, omega arith)
 word-bytes (kind.Rename rdn flag superior) = (few_bytes (change_word (kind.Rename rdn flag superior)) refl, omega arith)
 
-content_behind : (rows : List TypeRow) (name : SpelledName) (lines : List (Described × List ℕ)) (x : Line) (xs : List Line) (p : List ℕ × List ℕ) → part_of x.1 ≡ Ok p
+content_behind : (rows : List TypeRow) (name : SpelledName) (lines : List (Described × List ℕ)) (x : Line) (xs : List Line) (p : List ℕ × List ℕ) → attrval_of x.1 ≡ Ok p
     → is_word p.0 (codes "control") ≡ false → is_word p.0 (codes "changetype") ≡ false → value_lines rows (x ∷ xs) ≡ Ok lines → body_of rows name (x ∷ xs) ≡ Ok (form.Content name lines)
 content_behind rows name lines x xs p part control change e =
-    ap (λ r. then_of r (λ q. if is_word q.0 (codes "control") then Err Control else (if is_word q.0 (codes "changetype") then then_of (change_of rows q.1 xs) (λ k. Ok (form.Change (record { dn = name; kind = k }))) else content_of rows name (x ∷ xs)))) part
-    ∙ (rw (control, change) (ap (λ r. then_of r (λ ls. Ok (form.Content name ls))) e))
+    ap (λ r. and_then r (λ q. if is_word q.0 (codes "control") then Err Control else (if is_word q.0 (codes "changetype") then and_then (change_of rows q.1 xs) (λ k. Ok (form.Change (record { dn = name; kind = k }))) else content_of rows name (x ∷ xs)))) part
+    ∙ (rw (control, change) (ap (λ r. and_then r (λ ls. Ok (form.Content name ls))) e))
 
 -- the second line of a content record is no keyword's
 content-back : (rows : List TypeRow) (name : SpelledName) (lines : List (Described × List ℕ)) (block : List Line) → texts block ≡ map value_line_of lines → list_all (is_legal_line rows) lines ≡ true
@@ -335,23 +336,23 @@ content-back rows name (l ∷ ls) (x ∷ xs) e legal bytes =
     let legal_here = and_first (is_legal_line rows l) (list_all (is_legal_line rows) ls) legal in
     let d = described_back rows l.0 (and_second (is_short l.1) (is_read_under rows l.0) legal_here) in
     let s = spelling_of rows l.0.spelling l.0 d in
-    let part : part_of x.1 ≡ Ok (l.0.spelling, l.1) = ap part_of here ∙ part_of-spelled l.0.spelling l.1 s bytes.0 (within l.1 (and_first (is_short l.1) (is_read_under rows l.0) legal_here)) in
+    let part : attrval_of x.1 ≡ Ok (l.0.spelling, l.1) = ap attrval_of here ∙ attrval_of-spelled l.0.spelling l.1 s bytes.0 (within l.1 (and_first (is_short l.1) (is_read_under rows l.0) legal_here)) in
     let whole = value_lines-back rows (l ∷ ls) (x ∷ xs) e legal bytes in
     content_behind rows name (l ∷ ls) x xs (l.0.spelling, l.1) part s.3 s.4 whole
 
 change-back : (rows : List TypeRow) (name : SpelledName) (k : ChangeKind) (block : List Line) → texts block ≡ line_of (codes "changetype") (change_word k) ∷ kind_lines k → is_legal_kind rows k ≡ true
-    → KindIsSound k → body_of rows name block ≡ Ok (form.Change (record { dn = name; kind = k }))
+    → IsSoundKind k → body_of rows name block ≡ Ok (form.Change (record { dn = name; kind = k }))
 change-back rows name k [] e legal back = cc
 change-back rows name k (x ∷ xs) e legal back =
     let here : x.1 ≡ line_of (codes "changetype") (change_word k) = cc in
     let rest : texts xs ≡ kind_lines k = cc in
     let w = word-bytes k in
-    let part : part_of x.1 ≡ Ok (codes "changetype", change_word k) =
-    ap part_of here ∙ part_of-line 99 (104 ∷ 97 ∷ 110 ∷ 103 ∷ 101 ∷ 116 ∷ 121 ∷ 112 ∷ 101 ∷ []) (change_word k) refl w.0 w.1 in
+    let part : attrval_of x.1 ≡ Ok (codes "changetype", change_word k) =
+    ap attrval_of here ∙ attrval_of-line 99 (104 ∷ 97 ∷ 110 ∷ 103 ∷ 101 ∷ 116 ∷ 121 ∷ 112 ∷ 101 ∷ []) (change_word k) refl w.0 w.1 in
     let change = change_of-back rows k xs rest legal back in
     rw (part, change) refl
 
-pub record_of-back : (rows : List TypeRow) (r : Record) (block : List Line) → texts block ≡ record_lines r → is_legal_record rows r ≡ true → PartsAreSound r → record_of rows block ≡ Ok r
+pub record_of-back : (rows : List TypeRow) (r : Record) (block : List Line) → texts block ≡ record_lines r → is_legal_record rows r ≡ true → IsSoundRecord r → record_of rows block ≡ Ok r
 unfolding record_of
 record_of-back rows (form.Content name lines) [] e legal back = cc
 record_of-back rows (form.Content name lines) (x ∷ xs) e legal back =
@@ -359,11 +360,11 @@ record_of-back rows (form.Content name lines) (x ∷ xs) e legal back =
     let rest : texts xs ≡ map value_line_of lines = cc in
     let dn = dn_line-back rows name x here back.0 (and_first (has_key rows name) (list_all (is_legal_line rows) lines) legal) in
     let body = content-back rows name lines xs rest (and_second (has_key rows name) (list_all (is_legal_line rows) lines) legal) back.1 in
-    ap (λ r. then_of r (λ n. body_of rows n xs)) dn ∙ body
+    ap (λ r. and_then r (λ n. body_of rows n xs)) dn ∙ body
 record_of-back rows (form.Change change) [] e legal back = cc
 record_of-back rows (form.Change change) (x ∷ xs) e legal back =
     let here : x.1 ≡ line_of (codes "dn") (name_printed change.dn) = cc in
     let rest : texts xs ≡ line_of (codes "changetype") (change_word change.kind) ∷ kind_lines change.kind = cc in
     let dn = dn_line-back rows change.dn x here back.0 (and_first (has_key rows change.dn) (is_legal_kind rows change.kind) legal) in
     let body = change-back rows change.dn change.kind xs rest (and_second (has_key rows change.dn) (is_legal_kind rows change.kind) legal) back.1 in
-    ap (λ r. then_of r (λ n. body_of rows n xs)) dn ∙ body
+    ap (λ r. and_then r (λ n. body_of rows n xs)) dn ∙ body

@@ -5,9 +5,9 @@ use Rattle.dir_names.specs.declared.schema.TypeRow.{TypeRow}
 use Rattle.dir_ldif.specs.declared.faults.StreamFault.TheVariants.{LineTooLong}
 use Rattle.dir_ldif.specs.declared.reader.Core.{Core}
 use Rattle.dir_ldif.specs.declared.reader.Place.TheVariants.{Reading}
-use Rattle.dir_ldif.specs.Next.{answers_ahead, answers_at, EndsSoon}
-use Rattle.dir_ldif.specs.Reading.{hand}
-use Rattle.dir_ldif.specs.Runs.{GivesNoEnd, ReadCallsAreUsed, ReadingEndsSoon, ReadingStopsThere, SettlesNone}
+use Rattle.dir_ldif.specs.Reader.Answers.{answers_ahead, answers_at, EndsSoon}
+use Rattle.dir_ldif.specs.Reader.Answers.{hand}
+use Rattle.dir_ldif.specs.ManyCalls.{GivesNoEnd, ReadCallsAreUsed, ReadingEndsSoon, ReadingStopsThere, CompletesNone}
 
 -- the call that met the line
 at_once : (rows : List TypeRow) (old new : Core) (left left' left'' : Option (List ℕ)) → old ≡ new → left ≡ left' → EndsSoon LineTooLong rows new left' left'' → EndsSoon LineTooLong rows old left left''
@@ -39,9 +39,9 @@ run-soon (found ∷ more) rows old new left left' left'' run h =
 
 -- ---- the source failed, or gave no end
 
-settles_at_once : (rows : List TypeRow) (old new : Core) (left left' left'' : Option (List ℕ)) → old ≡ new → left ≡ left' → SettlesNone rows new left' left'' → SettlesNone rows old left left''
+settles_at_once : (rows : List TypeRow) (old new : Core) (left left' left'' : Option (List ℕ)) → old ≡ new → left ≡ left' → CompletesNone rows new left' left'' → CompletesNone rows old left left''
 settles_at_once rows old new left left' left'' same known h =
-    subst (λ c. SettlesNone rows c left left'') (sym same) (subst (λ l. SettlesNone rows new l left'') (sym known) h)
+    subst (λ c. CompletesNone rows c left left'') (sym same) (subst (λ l. CompletesNone rows new l left'') (sym known) h)
 
 seam_behind : (hand bytes used hand' bytes' text : List ℕ) → hand ++ bytes ≡ used ++ hand' → hand ++ ((bytes ++ bytes') ++ text) ≡ used ++ (hand' ++ (bytes' ++ text))
 seam_behind hand bytes used hand' bytes' text p =

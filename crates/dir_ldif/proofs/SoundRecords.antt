@@ -8,7 +8,7 @@ use Rattle.dir_names.specs.Reading.{all_of, is_small, is_within_limits, limited,
 use Rattle.dir_names.specs.Sound.{is_rdn}
 use Rattle.dir_names.proofs.SoundLemmas.{bytes_from_fits, sound_name}
 use Rattle.dir_ldif.specs.declared.records.Mod.{Mod}
-use Rattle.dir_ldif.specs.Laws.{AllBytes, ModsAreBytes, NameIsSound, RdnIsSound, ValuesAreBytes}
+use Rattle.dir_ldif.specs.SoundRecords.{AreBytes, IsSoundName, IsSoundRdn, ModsAreBytes, ValuesAreBytes}
 use Rattle.dir_ldif.proofs.WrittenLemmas.{and_first}
 
 -- ---- names
@@ -21,7 +21,7 @@ within {A} test (Some y) x e = by (test y) refl e
     by true f g = let same : y ≡ x = cc in (ap Some same, ap test (sym same) ∙ f)
     by false f g = absurd (cc)
 
-pub read_name_sound : (text : List ℕ) (name : SpelledName) → ((i : ℕ) → get_or text i 0 < 256) → name_read text ≡ Ok name → NameIsSound name
+pub read_name_sound : (text : List ℕ) (name : SpelledName) → ((i : ℕ) → get_or text i 0 < 256) → name_read text ≡ Ok name → IsSoundName name
 read_name_sound text name small e =
     let read = within is_within_limits (name_of text) name e in
     (sound_name text name (bytes_from_fits text small) read.0, read.1)
@@ -36,7 +36,7 @@ one_rdn : (text : List ℕ) (rdn : SpelledRdn) → only_rdn_of text ≡ Some rdn
 one_rdn [] rdn e = absurd (cc)
 one_rdn (b ∷ bs) rdn e = only_name (pieces 44 false (b ∷ bs)) rdn e
 
-pub read_rdn_sound : (text : List ℕ) (rdn : SpelledRdn) → ((i : ℕ) → get_or text i 0 < 256) → rdn_read text ≡ Ok rdn → RdnIsSound rdn
+pub read_rdn_sound : (text : List ℕ) (rdn : SpelledRdn) → ((i : ℕ) → get_or text i 0 < 256) → rdn_read text ≡ Ok rdn → IsSoundRdn rdn
 read_rdn_sound text rdn small e =
     let read = within is_small (only_rdn_of text) rdn e in
     (and_first (is_rdn rdn) true (sound_name text (rdn ∷ []) (bytes_from_fits text small) (one_rdn text rdn read.0)), read.1)
@@ -47,10 +47,10 @@ pub lines_more : (lines : List (Described × List ℕ)) (line : Described × Lis
 lines_more [] line h b = (b, tt)
 lines_more (l ∷ ls) line h b = (h.0, lines_more ls line h.1 b)
 
-pub values_more : (values : List (List ℕ)) (value : List ℕ) → AllBytes values → IsBytes value → AllBytes (values ++ value ∷ [])
+pub values_more : (values : List (List ℕ)) (value : List ℕ) → AreBytes values → IsBytes value → AreBytes (values ++ value ∷ [])
 values_more [] value h b = (b, tt)
 values_more (v ∷ vs) value h b = (h.0, values_more vs value h.1 b)
 
-pub mods_more : (mods : List Mod) (m : Mod) → ModsAreBytes mods → AllBytes m.values → ModsAreBytes (mods ++ m ∷ [])
+pub mods_more : (mods : List Mod) (m : Mod) → ModsAreBytes mods → AreBytes m.values → ModsAreBytes (mods ++ m ∷ [])
 mods_more [] m h b = (b, tt)
 mods_more (n ∷ ns) m h b = (h.0, mods_more ns m h.1 b)

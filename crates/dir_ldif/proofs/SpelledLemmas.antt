@@ -7,7 +7,7 @@ use Rattle.dir_names.specs.declared.schema.TypeRow.{TypeRow}
 use Rattle.dir_names.specs.Cut.{parts_at}
 use Rattle.dir_names.specs.Described.{Described}
 use Rattle.dir_names.specs.Descriptions.{is_letter, is_digit, is_keychar, is_name, is_decimal, is_number, is_type, is_option, is_reserved, description_from, description_of}
-use Rattle.dir_ldif.specs.Laws.{is_refused_in_name}
+use Rattle.dir_ldif.specs.RoundTrip.{ends_name}
 use Rattle.dir_ldif.proofs.BytesLemmas.{true_or_false}
 use Rattle.dir_ldif.proofs.WrittenLemmas.{and_first, and_second, both}
 use Rattle.dir_ldif.proofs.FoldedLemmas.{or_first, or_second}
@@ -90,7 +90,7 @@ options_all (option ∷ options) e =
 abbrev pub is_spelled : ℕ → Bool
 is_spelled b = eqb b 59 || (eqb b 46 || is_keychar b)
 
-pub spelled-allowed : (b : ℕ) → is_spelled b ≡ true → (is_refused_in_name b ≡ false) × (eqb b 32 ≡ false) × (eqb b 35 ≡ false)
+pub spelled-allowed : (b : ℕ) → is_spelled b ≡ true → (ends_name b ≡ false) × (eqb b 32 ≡ false) × (eqb b 35 ≡ false)
 spelled-allowed b e = (grind (arith, nat_tests), grind (arith, nat_tests), grind (arith, nat_tests))
 
 -- ---- no keyword is a spelling

@@ -1,6 +1,6 @@
 -- Lemmas on written lines.
 use Rattle.std.proofs.Common.{◌≡◌, ℕ, zero, suc, ◌-◌, ◌<◌, ◌≤◌, List, [], ◌∷◌, ◌++◌, length, refl, sym, ap, ◌∙◌, append_assoc, append-nil, length-append, arith}
-use Rattle.dir_ldif.specs.Text.{fold_from}
+use Rattle.dir_ldif.specs.LineText.{fold_from}
 
 -- a front that there is room for stays as it is
 pub fold_from-fits : (front rest : List ℕ) (room : ℕ) → length front ≤ room → fold_from room (front ++ rest) ≡ front ++ fold_from (room - length front) rest

@@ -4,9 +4,9 @@ use Rattle.std.specs.Io.KnownBytes.{Appends, Keeps}
 use Rattle.std.proofs.KnownBytes.{Appends-trans, Appends-kept}
 use Rattle.std.proofs.Math.Seq.{take-append_seam}
 use Rattle.std.proofs.lemmas.List.{take-append-drop}
-use Rattle.dir_ldif.specs.Device.{AppendsFront}
+use Rattle.dir_ldif.specs.Device.{AppendsPrefix}
 
-pub front_of : (old new : Option (List ℕ)) (text front rest : List ℕ) → Appends old new front → text ≡ front ++ rest → (n : ℕ) × AppendsFront old new text n
+pub front_of : (old new : Option (List ℕ)) (text front rest : List ℕ) → Appends old new front → text ≡ front ++ rest → (n : ℕ) × AppendsPrefix old new text n
 front_of old new text front rest took whole = (
   length front,
   (
@@ -15,7 +15,7 @@ front_of old new text front rest took whole = (
   ),
 )
 
-pub front_kept : (old mid new : Option (List ℕ)) (text front rest : List ℕ) → Appends old mid front → text ≡ front ++ rest → Keeps mid new → (n : ℕ) × AppendsFront old new text n
+pub front_kept : (old mid new : Option (List ℕ)) (text front rest : List ℕ) → Appends old mid front → text ≡ front ++ rest → Keeps mid new → (n : ℕ) × AppendsPrefix old new text n
 front_kept old mid new text front rest took whole keeps = front_of old new text front rest (Appends-kept old mid new front took keeps) whole
 
 pub front_grown : (old mid new : Option (List ℕ)) (text front rest : List ℕ) (n : ℕ) → Appends old mid front → text ≡ front ++ rest → Appends mid new (take n rest)

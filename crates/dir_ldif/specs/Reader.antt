@@ -5,20 +5,20 @@ use Rattle.dir_names.specs.declared.schema.TypeRow.{TypeRow}
 use Rattle.dir_ldif.specs.declared.faults.StreamFault.{StreamFault}
 use Rattle.dir_ldif.specs.declared.reader.RecordReader.{RecordReader}
 use Rattle.dir_ldif.specs.declared.reader.Place.TheVariants.{Reading, AtEnd, Ended}
-use Rattle.dir_ldif.specs.Next.{answers_ahead, answers_left, EndsSoon, Faults, GoesOn}
-use Rattle.dir_ldif.specs.Reading.{hand, bytes_ahead, IsInPieces}
+use Rattle.dir_ldif.specs.Reader.Answers.{answers_ahead, answers_left, bytes_ahead, EndsSoon, ExplainsFault, GoesOn, hand, IsInPieces}
 use Rattle.dir_ldif.specs.Records.{Found, Answer}
-use Rattle.dir_ldif.specs.LegalFound.{IsLegalFound}
-use Rattle.dir_ldif.specs.SoundFound.{IsSoundFound}
+use Rattle.dir_ldif.specs.SoundRecords.{IsLegalFound, IsSoundFound}
+pub mod Answers
+pub mod Unfolding
 
 module _ {R : Type 0} where
   -- the answers that are left, where the source tells its bytes
-  abbrev pub to_give : (R → Option (List ℕ)) → RecordReader R → Option (List Answer)
-  to_give left r = answers_left r.schema.now r.core (left r.source)
+  abbrev pub answers_to_come : (R → Option (List ℕ)) → RecordReader R → Option (List Answer)
+  answers_to_come left r = answers_left r.schema.now r.core (left r.source)
 
   -- the answers to come where this text stands behind what was used up
-  abbrev pub to_give_on : RecordReader R → List ℕ → List Answer
-  to_give_on r text = answers_ahead r.schema.now r.core text
+  abbrev pub answers_to_come_with : RecordReader R → List ℕ → List Answer
+  answers_to_come_with r text = answers_ahead r.schema.now r.core text
 
   -- the bytes that were read and not used up
   abbrev pub in_hand : RecordReader R → List ℕ
@@ -68,7 +68,7 @@ module _ {R : Type 0} where
 
   -- why no further answer is given
   abbrev pub StopsFor : (R → Option (List ℕ)) → (R → ℕ) → StreamFault → RecordReader R → RecordReader R → Type 0
-  StopsFor left failures fault old new = Faults fault old.schema.now old.core (left old.source) (left new.source) (failures old.source) (failures new.source)
+  StopsFor left failures fault old new = ExplainsFault fault old.schema.now old.core (left old.source) (left new.source) (failures old.source) (failures new.source)
 
   -- each read call gave at most 8,192 bytes
   abbrev pub ReadsPieces : (R → Option (List ℕ)) → RecordReader R → RecordReader R → Type 0

@@ -12,7 +12,7 @@ use Rattle.dir_ldif.specs.declared.records.ChangeKind.TheVariants as kind
 use Rattle.dir_ldif.specs.declared.records.Mod.{Mod}
 use Rattle.dir_ldif.specs.declared.records.ModOp.{ModOp}
 use Rattle.dir_ldif.specs.declared.records.ModOp.TheVariants as op
-use Rattle.dir_ldif.specs.Text.{written_line}
+use Rattle.dir_ldif.specs.LineText.{written_line}
 
 -- a line of a word and a name
 abbrev pub name_line : List ℕ → SpelledName → List ℕ

@@ -3,7 +3,17 @@ ghost use Rattle.std.proofs.Common.{◌∙◌};
 ghost use Rattle.std.specs.Io.KnownBytes.{Keeps, ReadConsumes, WriteAppends};
 ghost use Rattle.dir_ldif.specs.Device.{Counts};
 
+mod calls;
+mod script;
+mod standard;
+mod tape;
+mod whole;
+
+pub use script::Script;
+pub use standard::{Reader, Writer};
+pub use tape::Tape;
 use thiserror::Error;
+pub use whole::write_whole;
 
 /// A device failed. It has taken and given no byte in that call.
 #[derive(Clone, Copy, PartialEq, Eq, Debug, Error)]

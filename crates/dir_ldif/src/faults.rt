@@ -128,7 +128,7 @@ impl From<RecordFault> for Refusal {
 
 impl From<NameFault> for Refusal {
     ghost use Rattle.std.specs.Prelude.{◌≡◌};
-    ghost use Rattle.dir_ldif.specs.Refused.{refusal_of};
+    ghost use Rattle.dir_ldif.specs.Inside.Refusals.{refusal_of};
 
     ghost from_gives = { λ f r. r ≡ refusal_of f };
 

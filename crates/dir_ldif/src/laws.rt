@@ -1,6 +1,6 @@
-ghost use Rattle.dir_ldif.specs.Blocks.{LongLinesStay, TextsAreBlocks};
-ghost use Rattle.dir_ldif.specs.Laws.{WrittenLineReadsBack, RecordsReadBack};
-ghost use Rattle.dir_ldif.specs.Runs.{ReadCallsAreUsed, ReadingEndsSoon, ReadingStopsThere};
+ghost use Rattle.dir_ldif.specs.BlocksAtOnce.{LongLinesStay, TextsAreBlocks};
+ghost use Rattle.dir_ldif.specs.RoundTrip.{WrittenLineReadsBack, RecordsReadBack};
+ghost use Rattle.dir_ldif.specs.ManyCalls.{ReadCallsAreUsed, ReadingEndsSoon, ReadingStopsThere};
 
 /// A law: the blocks of a text are the pieces between its empty lines that have a line, among the lines that are
 /// no comments and stand before the first that is too long, without the version line.

@@ -1,5 +1,7 @@
 ghost use Rattle.std.specs.Prelude.{◌≡◌};
 
+mod checking;
+
 use dir_names::{Description, Dn, Lines, Rdn, Texts};
 use std::marker::Model;
 

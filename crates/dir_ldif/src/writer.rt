@@ -3,7 +3,7 @@ ghost use Rattle.std.specs.List.{flat_map, list_all};
 ghost use Rattle.dir_names.specs.Printing.{rdn_printed};
 ghost use Rattle.dir_ldif.specs.Bytes.{ends_in};
 ghost use Rattle.dir_ldif.specs.RecordText.{change_text, change_word, flag_text, kind_text, mod_text, name_line, op_word, record_text_of, superior_text, value_text};
-ghost use Rattle.dir_ldif.specs.Text.{base64_of, fold_from, is_plain, is_safe, is_safe_first, written, written_line};
+ghost use Rattle.dir_ldif.specs.LineText.{base64_of, fold_from, is_plain, is_safe, is_safe_first, value_spec, written_line};
 
 use crate::records::{Change, ChangeKind, Mod, ModOp, Record};
 use base64::engine::general_purpose::STANDARD;
@@ -64,7 +64,7 @@ pub fn push_line(out: &mut Vec<u8>, name: &[u8], value: &[u8]) -> Result<(), Mem
 fn push_value(out: &mut Vec<u8>, room: usize, value: &[u8]) -> Result<usize, Memory>
     requires { room ≤ COLUMNS }
     ensures { IfOk result (λ left. (rest : List ℕ)
-        → out.new.items ++ fold_from left rest ≡ out.old.items ++ fold_from room (written value.now ++ rest)) }
+        → out.new.items ++ fold_from left rest ≡ out.old.items ++ fold_from room (value_spec value.now ++ rest)) }
 {
     if value.is_empty() {
         push_folded(out, room, b":")

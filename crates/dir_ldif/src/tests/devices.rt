@@ -137,7 +137,7 @@ struct Counted<'a> {
 
 impl Source for Counted<'_> {
     ghost use Rattle.std.specs.Prelude.{⊤};
-    ghost use Rattle.dir_ldif.specs.Trial.{failures_of, left_of};
+    ghost use Rattle.dir_ldif.specs.TestDevices.{failures_of, left_of};
 
     ghost left = { λ c. left_of c.script };
 

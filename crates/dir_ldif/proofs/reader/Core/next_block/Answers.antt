@@ -1,7 +1,7 @@
 use Rattle.std.proofs.Common.{◌≡◌, ℕ, ◌<◌, Ok, List, ◌++◌, length, sym, ap, subst, ◌∙◌, length-append, arith}
-use Rattle.dir_ldif.specs.Joining.{to_come}
-use Rattle.dir_ldif.specs.Reading.{coming, hand}
-use Rattle.dir_ldif.specs.Device.{FailsToRead}
+use Rattle.dir_ldif.specs.Reader.Unfolding.{blocks_to_come}
+use Rattle.dir_ldif.specs.Reader.Answers.{blocks_left, hand}
+use Rattle.dir_ldif.specs.Inside.Reader.{FailsToRead}
 use Rattle.dir_ldif.proofs.ReadingLemmas.{more_read}
 use Rattle.dir_ldif.proofs.StopsLemmas.{Consumes-none, hand_stops, read_stops}
 use Rattle.dir_ldif.proofs.SoonLemmas.{length_hand, takes_piece, hand_soon, end_soon, any_err, block_used}
@@ -17,12 +17,12 @@ returns-in-Err-read_more-clause-err g c =
     let so_far = c.loop-block.invariant.3 in
     let old = c.args.self.now in
     let new = c.read_more.new.self in
-    let taken : (text : List ℕ) → coming c.loop-block.self text ≡ to_come c.take_hand.new.self.joiner text = rw c.in-Ok-None.field-0-is at c.in-Ok-None.ensures.ok in
-    let same : (text : List ℕ) → coming old (so_far.0 ++ text) ≡ to_come new.joiner text = λ text. so_far.2 text ∙ taken text ∙ ap (λ j. to_come j text) (sym c.read_more.ensures.joiner) in
+    let taken : (text : List ℕ) → blocks_left c.loop-block.self text ≡ blocks_to_come c.use_buffer.new.self.unfolder text = rw c.in-Ok-None.field-0-is at c.in-Ok-None.ensures.ok in
+    let same : (text : List ℕ) → blocks_left old (so_far.0 ++ text) ≡ blocks_to_come new.unfolder text = λ text. so_far.2 text ∙ taken text ∙ ap (λ j. blocks_to_come j text) (sym c.read_more.ensures.unfolder) in
     let failed = c.in-Err-read_more.ensures.err in (
       so_far.0,
       Consumes-none _ _ _ so_far.0 (hand new) so_far.1 c.read_more.ensures.bytes failed.0,
-      read_stops c.in-Err-read_more.fault old new so_far.0 _ c.take_hand.new.self.turns _ _ same failed.0 (omega (arith, so_far.3, c.take_hand.ensures.turns)) (subst (λ f. FailsToRead c.in-Err-read_more.fault c.take_hand.new.self.turns f (g.S.Source.failures c.read_more.new.source)) c.loop-block.invariant.2 failed.1),
+      read_stops c.in-Err-read_more.fault old new so_far.0 _ c.use_buffer.new.self.turns _ _ same failed.0 (omega (arith, so_far.3, c.use_buffer.ensures.turns)) (subst (λ f. FailsToRead c.in-Err-read_more.fault c.use_buffer.new.self.turns f (g.S.Source.failures c.read_more.new.source)) c.loop-block.invariant.2 failed.1),
     )
 
 pub loop-block-preserved : goal.loop-block-preserved
@@ -30,22 +30,22 @@ loop-block-preserved g c =
     let so_far = c.loop-block.invariant.3 in
     let old = c.args.self.now in
     let new = c.read_more.new.self in
-    let taken : (text : List ℕ) → coming c.loop-block.self text ≡ to_come c.take_hand.new.self.joiner text = rw c.in-Ok-None.field-0-is at c.in-Ok-None.ensures.ok in
-    let same : (text : List ℕ) → coming c.loop-block.self (hand new ++ text) ≡ coming new text = λ text. taken (hand new ++ text) ∙ ap (λ j. to_come j (hand new ++ text)) (sym c.read_more.ensures.joiner) in
-    let more = more_read (coming old) (coming c.loop-block.self) (coming new) _ _ _ so_far.0 (hand new) so_far.1 so_far.2 c.read_more.ensures.bytes same in
+    let taken : (text : List ℕ) → blocks_left c.loop-block.self text ≡ blocks_to_come c.use_buffer.new.self.unfolder text = rw c.in-Ok-None.field-0-is at c.in-Ok-None.ensures.ok in
+    let same : (text : List ℕ) → blocks_left c.loop-block.self (hand new ++ text) ≡ blocks_left new text = λ text. taken (hand new ++ text) ∙ ap (λ j. blocks_to_come j (hand new ++ text)) (sym c.read_more.ensures.unfolder) in
+    let more = more_read (blocks_left old) (blocks_left c.loop-block.self) (blocks_left new) _ _ _ so_far.0 (hand new) so_far.1 so_far.2 c.read_more.ensures.bytes same in
     let some : 0 < length (hand new) = c.in-Ok-true.ensures.some (ap Ok c.in-Ok-true.field-0-test) in (
-      c.read_more.ensures.place ∙ c.take_hand.ensures.place ∙ c.loop-block.invariant.0,
+      c.read_more.ensures.place ∙ c.use_buffer.ensures.place ∙ c.loop-block.invariant.0,
       g.met.S.Source.same_trans _ _ _ c.loop-block.invariant.1 c.read_more.ensures.same,
       c.in-Ok-true.ensures.counts ∙ c.loop-block.invariant.2,
       (
         so_far.0 ++ hand new,
         more.0,
         more.1,
-        omega (arith, so_far.3, c.take_hand.ensures.turns, c.in-Ok-true.ensures.turns, some, length-append so_far.0 (hand new)),
-        omega (arith, so_far.4, c.take_hand.ensures.turns, c.in-Ok-true.ensures.turns, length_hand new, length-append so_far.0 (hand new)),
-        takes_piece old c.loop-block.self new c.take_hand.new.self.joiner so_far.0 so_far.2 taken c.read_more.ensures.joiner,
+        omega (arith, so_far.3, c.use_buffer.ensures.turns, c.in-Ok-true.ensures.turns, some, length-append so_far.0 (hand new)),
+        omega (arith, so_far.4, c.use_buffer.ensures.turns, c.in-Ok-true.ensures.turns, length_hand new, length-append so_far.0 (hand new)),
+        takes_piece old c.loop-block.self new c.use_buffer.new.self.unfolder so_far.0 so_far.2 taken c.read_more.ensures.unfolder,
       ),
-      omega (arith, c.loop-block.invariant.4, c.take_hand.ensures.turns, c.in-Ok-true.ensures.turns, length_hand new),
+      omega (arith, c.loop-block.invariant.4, c.use_buffer.ensures.turns, c.in-Ok-true.ensures.turns, length_hand new),
     )
 
 pub returns-in-Err-clause-soon : goal.returns-in-Err-clause-soon
@@ -56,8 +56,8 @@ returns-in-Err-clause-soon g c =
 pub returns-in-Ok-false-clause-soon : goal.returns-in-Ok-false-clause-soon
 returns-in-Ok-false-clause-soon g c =
     let so_far = c.loop-block.invariant.3 in
-    let mid = c.take_hand.new.self.joiner in
-    let taken : (text : List ℕ) → coming c.loop-block.self text ≡ to_come mid text = rw c.in-Ok-None.field-0-is at c.in-Ok-None.ensures.ok in
+    let mid = c.use_buffer.new.self.unfolder in
+    let taken : (text : List ℕ) → blocks_left c.loop-block.self text ≡ blocks_to_come mid text = rw c.in-Ok-None.field-0-is at c.in-Ok-None.ensures.ok in
     let empty = c.in-Ok-false.ensures.none (ap Ok c.in-Ok-false.field-0-test) in
     let took = Consumes-none _ _ _ so_far.0 (hand c.read_more.new.self) so_far.1 c.read_more.ensures.bytes empty.0 in
     any_err c.finish.result _ (λ fault. end_soon fault c.args.self.now c.loop-block.self mid _ _ so_far.0 took so_far.2 taken)
@@ -65,4 +65,4 @@ returns-in-Ok-false-clause-soon g c =
 pub returns-in-Ok-Some-clause-used : goal.returns-in-Ok-Some-clause-used
 returns-in-Ok-Some-clause-used g c =
     let so_far = c.loop-block.invariant.3 in
-    λ _. block_used c.args.self.now c.loop-block.self c.take_hand.new.self c.in-Ok-Some.block.items _ _ so_far.0 so_far.1 so_far.5 (rw c.in-Ok-Some.field-0-is at c.in-Ok-Some.ensures.used)
+    λ _. block_used c.args.self.now c.loop-block.self c.use_buffer.new.self c.in-Ok-Some.block.items _ _ so_far.0 so_far.1 so_far.5 (rw c.in-Ok-Some.field-0-is at c.in-Ok-Some.ensures.used)
