@@ -8,8 +8,9 @@ use Rattle.dir_ldif.specs.declared.faults.RecordFault.{RecordFault}
 use Rattle.dir_ldif.specs.declared.faults.RecordFault.TheVariants.{BadLine, BadBase64, UrlValue, ValueTooLong}
 use Rattle.dir_ldif.specs.Bytes.{cut_at, without_leading}
 use Rattle.dir_names.specs.Results.{and_then}
+use Rattle.dir_ldif.specs.Ascii.{carriage_return, colon, less_than, nul, space}
 
--- any other text is no base64
+-- any fault of decoding is `BadBase64`
 abbrev pub or_bad_base64 : {E : Type 0} → Result (List ℕ) E → Result (List ℕ) RecordFault
 or_bad_base64 (Ok bytes) = Ok bytes
 or_bad_base64 (Err e) = Err BadBase64
@@ -24,19 +25,19 @@ is_base64 text = is_ok (base64_value text)
 
 -- NUL and CR
 abbrev pub is_nul_or_cr : ℕ → Bool
-is_nul_or_cr b = b == 0 || b == 13
+is_nul_or_cr b = b == nul || b == carriage_return
 
--- a value that stands plainly
+-- a value that is written plainly
 abbrev pub plain_value : List ℕ → Result (List ℕ) RecordFault
 plain_value text = if list_any is_nul_or_cr text then Err BadLine else Ok text
 
--- the value of what stands behind a name and its colon: behind `:` base64, behind `<` a URL, else plain;
--- the spaces before it don't count
+-- the value in what follows a name and its colon: after `:` base64, after `<` a URL, else plain. The spaces before it are
+-- dropped
 abbrev pub value_of : List ℕ → Result (List ℕ) RecordFault
 value_of [] = Ok []
 value_of (b ∷ bs) =
-    if b == 58 then base64_value (without_leading 32 bs)
-    else (if b == 60 then Err UrlValue else plain_value (without_leading 32 (b ∷ bs)))
+    if b == colon then base64_value (without_leading space bs)
+    else (if b == less_than then Err UrlValue else plain_value (without_leading space (b ∷ bs)))
 
 -- a value of at most 1,048,576 bytes
 abbrev pub within_limit : List ℕ → Result (List ℕ) RecordFault
@@ -51,6 +52,6 @@ abbrev pub attrval_of_cut : Option (List ℕ × List ℕ) → Result (List ℕ �
 attrval_of_cut None = Err BadLine
 attrval_of_cut (Some p) = attrval_from p.0 p.1
 
--- a line cut at its first colon
+-- the name and the value of a line, which is cut at its first colon
 unfoldable pub attrval_of : List ℕ → Result (List ℕ × List ℕ) RecordFault
-attrval_of line = attrval_of_cut (cut_at 58 line)
+attrval_of line = attrval_of_cut (cut_at colon line)

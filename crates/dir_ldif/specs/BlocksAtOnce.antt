@@ -1,5 +1,5 @@
--- The parts of a text (RFC 2849, "Formal Syntax Definition of LDIF", and notes 1 to 3), said of all its lines at once: a
--- law beside the definition in Parts, which goes from line to line.
+-- The blocks of a text (RFC 2849, "Formal Syntax Definition of LDIF", and notes 1 to 3), said of all its lines at once, beside
+-- the definition in Blocks, which goes from line to line; and the law that both say the same.
 use Rattle.std.specs.Prelude.{◌≡◌, ℕ, Bool, true, false, not, if◌then◌else◌, List, [], ◌∷◌, ◌++◌, map, Ok, Err}
 use Rattle.std.specs.List.{filter, list_any}
 use Rattle.dir_ldif.specs.declared.faults.StreamFault.TheVariants.{LineTooLong, BadVersion}
@@ -23,22 +23,22 @@ abbrev pub without_leading_blanks : List Line → List Line
 without_leading_blanks [] = []
 without_leading_blanks (line ∷ lines) = if is_blank line then without_leading_blanks lines else (line ∷ lines)
 
--- an element goes onto the first piece, if there is one
+-- the pieces with this element before the first one, if there is one
 abbrev pub onto_first_piece : {A : Type 0} → A → List (List A) → List (List A)
 onto_first_piece x [] = []
 onto_first_piece x (piece ∷ pieces) = (x ∷ piece) ∷ pieces
 
--- the pieces of a list that an element which passes a test ends: those of `cut`, without a rest behind the last such
+-- the pieces of a list, each ended by an element that passes a test: those of `cut`, without what follows the last such
 -- element
 abbrev pub ended_pieces : {A : Type 0} → (A → Bool) → List A → List (List A)
 ended_pieces test [] = []
 ended_pieces test (x ∷ xs) = if test x then [] ∷ ended_pieces test xs else onto_first_piece x (ended_pieces test xs)
 
--- the pieces that have a line are blocks
+-- the pieces that have a line
 abbrev pub nonempty_blocks : List (List Line) → List BlockResult
 nonempty_blocks pieces = map (λ (block : List Line). Ok block) (filter (λ (piece : List Line). not (is_empty piece)) pieces)
 
--- empty lines end blocks. Where a line that is too long follows, a block that none ended is lost
+-- empty lines end blocks. Where a line that is too long follows, a block that no empty line ended is lost
 abbrev pub body_blocks : Bool → List Line → List BlockResult
 body_blocks false lines = nonempty_blocks (cut is_blank lines)
 body_blocks true lines = nonempty_blocks (ended_pieces is_blank lines) ++ Err LineTooLong ∷ []
@@ -49,8 +49,8 @@ blocks_after_version long [] = body_blocks long []
 blocks_after_version long (first ∷ rest) =
     by_version (version_of first.1) (body_blocks long (first ∷ rest)) (body_blocks long rest) (Err BadVersion ∷ [])
 
--- the parts of the lines of a text: what counts are the lines before the first that is too long, without comments, from
--- the first that is not empty
+-- the blocks of the lines of a text: those of the lines before the first that is too long, without comments, from the first
+-- that is not empty
 abbrev pub blocks_at_once : List Line → List BlockResult
 blocks_at_once lines = blocks_after_version (list_any is_long lines) (without_leading_blanks (without_comments (lines_before_long lines)))
 
@@ -58,6 +58,6 @@ blocks_at_once lines = blocks_after_version (list_any is_long lines) (without_le
 abbrev pub TextsAreBlocks : Type 0
 TextsAreBlocks = (text : List ℕ) → blocks_of text ≡ blocks_at_once (lines_of text)
 
--- a text that begins with a text in which a line is too long has such a line too
+-- a text in which a line is too long has such a line whatever text follows
 abbrev pub LongLinesStay : Type 0
 LongLinesStay = (text more : List ℕ) → list_any is_long (lines_of text) ≡ true → list_any is_long (lines_of (text ++ more)) ≡ true

@@ -1,5 +1,5 @@
--- Legal records: their names have keys, their descriptions were read under the schema, and their values keep
--- the limit of 1,048,576 bytes.
+-- Legal records: their names have keys, their descriptions were read under the schema, and their values are at most
+-- 1,048,576 bytes long.
 use Rattle.std.specs.Prelude.{◌≡◌, ℕ, Bool, true, false, ◌&&◌, nat_le, List, length, Option, None, Some, is_some, Result, Ok, Err}
 use Rattle.std.specs.List.{list_all}
 use Rattle.dir_names.specs.declared.fault.NameFault.{NameFault}
@@ -70,8 +70,8 @@ NameRefutes BadDn test = test ≡ false
 NameRefutes NameLimit test = test ≡ false
 NameRefutes Memory test = Unit {0}
 
--- a test that answers a fault was false, unless memory ran out; a value that is too long and a name are the
--- only faults
+-- a test that answers this fault was false, unless memory ran out. The only faults are a value that is too long and those of
+-- a name
 abbrev pub Refutes : RecordFault → Bool → Type 0
 Refutes fault.BadLine test = ⊥
 Refutes fault.BadBase64 test = ⊥

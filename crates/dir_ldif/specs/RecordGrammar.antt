@@ -1,5 +1,5 @@
--- The record that a block of lines is (RFC 2849, ldif-attrval-record and ldif-change-record). In each place the
--- first line that has a fault decides; what is missing is found at the block's end.
+-- The record that a block of lines is (RFC 2849, ldif-attrval-record and ldif-change-record). The first line that has a
+-- fault decides; a line that is missing is noticed at the end of the block.
 use Rattle.std.specs.Prelude.{ℕ, Bool, true, false, if◌then◌else◌, List, [], ◌∷◌, codes, Option, None, Some, Result, Ok, Err}
 use Rattle.std.specs.Str.{str_eq_ignore_ascii_case, bytes_eq}
 use Rattle.dir_names.specs.declared.fault.NameFault.{NameFault}
@@ -27,12 +27,12 @@ use Rattle.dir_ldif.specs.AttrVal.{attrval_of}
 abbrev pub is_word : List ℕ → List ℕ → Bool
 is_word text word = str_eq_ignore_ascii_case text word
 
--- a fault of a name is one of the record
+-- `r.map_err(Name)`: a fault of a name as a fault of the record
 abbrev pub as_record_fault : {A : Type 0} → Result A NameFault → Result A RecordFault
 as_record_fault (Ok x) = Ok x
 as_record_fault (Err fault) = Err (Name fault)
 
--- each answer, or the first fault
+-- the values of a call on each element, or the first fault
 abbrev pub try_map : {A B : Type 0} → (A → Result B RecordFault) → List A → Result (List B) RecordFault
 try_map f [] = Ok []
 try_map f (x ∷ xs) = and_then (f x) (λ y. and_then (try_map f xs) (λ ys. Ok (y ∷ ys)))
@@ -47,7 +47,7 @@ legal_dn rows text = and_then (as_record_fault (name_read text)) (λ name. and_t
 abbrev pub legal_rdn : List TypeRow → List ℕ → Result SpelledRdn RecordFault
 legal_rdn rows text = and_then (as_record_fault (rdn_read text)) (λ rdn. and_then (as_record_fault (or_bad_dn (rdn_key rows rdn))) (λ _. Ok rdn))
 
--- `dn` and a name
+-- the name of the line that begins a record: `dn` and a name
 abbrev pub dn_line : List TypeRow → Line → Result SpelledName RecordFault
 dn_line rows line = and_then (attrval_of line.1) (λ p. if is_word p.0 (codes "dn") then legal_dn rows p.1 else Err BadLine)
 
@@ -84,19 +84,19 @@ mod_head rows line = and_then (attrval_of line.1) (λ p. head_of rows (op_of p.0
 abbrev pub mod_value : List TypeRow → Described → Line → Result (List ℕ) RecordFault
 mod_value rows head line = and_then (value_line rows line) (λ p. if attr_eq p.0.key head.key then Ok p.1 else Err BadModify)
 
--- a head and its values
+-- one modification: its head and its values
 abbrev pub mod_of : List TypeRow → List Line → Result Mod RecordFault
 mod_of rows [] = Err BadLine
 mod_of rows (head ∷ lines) =
     and_then (mod_head rows head) (λ h. and_then (try_map (mod_value rows h.1) lines) (λ values. Ok (record { op = h.0; description = h.1; values = values })))
 
--- each ends in a line `-`, the last one perhaps with the block
+-- each modification ends in a line `-`, the last one perhaps at the end of the block
 abbrev pub mods_of : List TypeRow → List Line → Result (List Mod) RecordFault
 mods_of rows lines = try_map (mod_of rows) (cut is_dash lines)
 
 -- ---- renames
 
--- a line of a keyword: any other is misplaced
+-- the value of a line that must have this keyword
 abbrev pub rename_line : List ℕ → Line → Result (List ℕ) RecordFault
 rename_line word line = and_then (attrval_of line.1) (λ p. if is_word p.0 word then Ok p.1 else Err BadRename)
 
@@ -104,12 +104,12 @@ abbrev pub flag_of : List ℕ → Result Bool RecordFault
 flag_of value =
     if bytes_eq value (codes "0") then Ok false else (if bytes_eq value (codes "1") then Ok true else Err BadRename)
 
--- a further line is one too many, but its own fault comes first
+-- a rename has no line after its new superior; a line that is there has its own fault first
 abbrev pub no_further : SpelledName → List Line → Result (Option SpelledName) RecordFault
 no_further name [] = Ok (Some name)
 no_further name (line ∷ lines) = and_then (attrval_of line.1) (λ _. Err BadRename)
 
--- no line, or the new superior alone
+-- no line, or that of the new superior alone
 abbrev pub superior_of : List TypeRow → List Line → Result (Option SpelledName) RecordFault
 superior_of rows [] = Ok None
 superior_of rows (line ∷ further) =
@@ -128,12 +128,12 @@ rename_of rows (line ∷ lines) =
 
 -- ---- records
 
--- a deletion has no further line
+-- a deletion has no further line; a line that is there has its own fault first
 abbrev pub deletion_of : List Line → Result ChangeKind RecordFault
 deletion_of [] = Ok kind.Delete
 deletion_of (line ∷ lines) = and_then (attrval_of line.1) (λ _. Err BadLine)
 
--- the change of a changetype and the lines behind it
+-- the change of a changetype and the lines after it
 abbrev pub change_of : List TypeRow → List ℕ → List Line → Result ChangeKind RecordFault
 change_of rows word lines =
     if is_word word (codes "add") then and_then (value_lines rows lines) (λ ls. Ok (kind.Add ls))
@@ -146,7 +146,7 @@ change_of rows word lines =
 abbrev pub content_of : List TypeRow → SpelledName → List Line → Result Record RecordFault
 content_of rows name lines = and_then (value_lines rows lines) (λ ls. Ok (form.Content name ls))
 
--- what stands behind the name: a change where the second line is a changetype, else content
+-- the record of a name and the lines after it: a change if the first of these is a changetype, else content
 abbrev pub body_of : List TypeRow → SpelledName → List Line → Result Record RecordFault
 body_of rows name [] = content_of rows name []
 body_of rows name (second ∷ further) =
@@ -155,7 +155,7 @@ body_of rows name (second ∷ further) =
     else (if is_word p.0 (codes "changetype") then and_then (change_of rows p.1 further) (λ kind. Ok (form.Change (record { dn = name; kind = kind })))
     else content_of rows name (second ∷ further)))
 
--- the record of a block, or its first fault
+-- the record of a block, or the fault of its first faulty line
 unfoldable pub record_of : List TypeRow → List Line → Result Record RecordFault
 record_of rows [] = Err BadLine
 record_of rows (first ∷ rest) = and_then (dn_line rows first) (λ name. body_of rows name rest)

@@ -14,7 +14,7 @@ use Rattle.dir_ldif.specs.Blocks.{BlockResult, blocks_of}
 abbrev pub Found : Type 0
 Found = ℕ × Result Record RecordFault
 
--- one answer of a reader; a stream fault is the last
+-- one answer of a reader. A stream fault is the last one
 abbrev pub Answer : Type 0
 Answer = Result Found StreamFault
 
@@ -30,19 +30,20 @@ abbrev pub answer_of : List TypeRow → BlockResult → Answer
 answer_of rows (Ok block) = Ok (found_of rows block)
 answer_of rows (Err fault) = Err fault
 
--- the answers on the parts of a text
+-- the answers on the blocks of a text
 abbrev pub answers_on : List TypeRow → List BlockResult → List Answer
-answers_on rows parts = map (answer_of rows) parts
+answers_on rows blocks = map (answer_of rows) blocks
 
--- the records of a text, and the fault in which it ends
+-- the records of a text, and the fault in which it may end
 abbrev pub records_of : List TypeRow → List ℕ → List Answer
 records_of rows text = answers_on rows (blocks_of text)
 
--- records without a fault at the end
+-- the answers of a text that ends in no fault
 abbrev pub all_found : List Found → List Answer
 all_found found = map (λ (f : Found). Ok f) found
 
--- the fault in which a text ends, behind its records; a text that is too long, and want of memory
+-- why a text is not read whole: it ends in a fault after its records; it has too many bytes to be read at once; or memory ran
+-- out, which says nothing of the text
 abbrev pub EndsIn : StreamFault → List TypeRow → List ℕ → Type 0
 EndsIn LineTooLong rows text = (found : List Found) × (records_of rows text ≡ all_found found ++ Err LineTooLong ∷ [])
 EndsIn BadVersion rows text = (found : List Found) × (records_of rows text ≡ all_found found ++ Err BadVersion ∷ [])

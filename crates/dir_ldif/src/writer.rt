@@ -4,6 +4,7 @@ ghost use Rattle.dir_names.specs.Printing.{rdn_printed};
 ghost use Rattle.dir_ldif.specs.Bytes.{ends_in};
 ghost use Rattle.dir_ldif.specs.RecordText.{change_text, change_word, flag_text, kind_text, mod_text, name_line, op_word, record_text_of, superior_text, value_text};
 ghost use Rattle.dir_ldif.specs.LineText.{base64_of, fold_from, is_plain, is_safe, is_safe_first, value_spec, written_line};
+ghost use Rattle.dir_ldif.specs.Ascii.{line_feed, space};
 
 use crate::records::{Change, ChangeKind, Mod, ModOp, Record};
 use base64::engine::general_purpose::STANDARD;
@@ -87,7 +88,7 @@ fn encoded(alloc: Global, value: &[u8]) -> Result<Vec<u8>, Memory>
 
 /// Appends the LF that ends a line, or the empty line that ends a record.
 pub fn push_end(out: &mut Vec<u8>) -> Result<(), Memory>
-    ensures { OnOk result (out.new.items ≡ out.old.items ++ 10 ∷ []) }
+    ensures { OnOk result (out.new.items ≡ out.old.items ++ line_feed ∷ []) }
 {
     out.push(b'\n')?;
     Ok(())
@@ -145,7 +146,7 @@ fn is_safe_first(b: u8) -> bool
 }
 
 fn ends_in_space(text: &[u8]) -> bool
-    ensures { result ≡ ends_in 32 text.now }
+    ensures { result ≡ ends_in space text.now }
 {
     match text.split_last() {
         Some((last, _)) => *last == b' ',

@@ -1,6 +1,7 @@
 ghost use Rattle.std.specs.Prelude.{◌≡◌, ◌++◌};
 ghost use Rattle.std.specs.Option.{option_map};
 ghost use Rattle.dir_ldif.specs.Bytes.{begins_with, cut_at, without_leading, without_last};
+ghost use Rattle.dir_ldif.specs.Ascii.{carriage_return, space};
 
 use memchr::memchr;
 
@@ -16,7 +17,7 @@ pub(crate) fn cut_at(byte: u8, text: &[u8]) -> Option<(&[u8], &[u8])>
 
 /// The text behind the spaces that it begins with.
 pub(crate) fn without_spaces(text: &[u8]) -> &[u8]
-    ensures { result.now ≡ without_leading 32 text.now }
+    ensures { result.now ≡ without_leading space text.now }
 {
     let mut rest = text;
     while let [b' ', after @ ..] = rest {
@@ -26,14 +27,14 @@ pub(crate) fn without_spaces(text: &[u8]) -> &[u8]
 }
 
 pub(crate) fn begins_with_space(text: &[u8]) -> bool
-    ensures { result ≡ begins_with 32 text.now }
+    ensures { result ≡ begins_with space text.now }
 {
     text.first() == Some(&b' ')
 }
 
 /// The text without one final CR.
 pub(crate) fn without_cr(text: &[u8]) -> &[u8]
-    ensures { result.now ≡ without_last 13 text.now }
+    ensures { result.now ≡ without_last carriage_return text.now }
 {
     let Some((last, before)) = text.split_last() else {
         return text;
@@ -43,8 +44,8 @@ pub(crate) fn without_cr(text: &[u8]) -> &[u8]
 
 /// A text in two parts, without one final CR. Its first byte, if it has one, stands in the first part.
 pub(crate) fn parts_without_cr<'a>(front: &'a [u8], back: &'a [u8]) -> (&'a [u8], &'a [u8])
-    ensures text { result.0.now ++ result.1.now ≡ without_last 13 (front.now ++ back.now) }
-    ensures first { begins_with 32 result.0.now ≡ begins_with 32 (without_last 13 (front.now ++ back.now)) }
+    ensures text { result.0.now ++ result.1.now ≡ without_last carriage_return (front.now ++ back.now) }
+    ensures first { begins_with space result.0.now ≡ begins_with space (without_last carriage_return (front.now ++ back.now)) }
 {
     if front.is_empty() {
         (without_cr(back), &[])

@@ -3,6 +3,7 @@ ghost use Rattle.std.specs.List.{list_any};
 ghost use Rattle.dir_ldif.specs.Bytes.{begins_with, without_last};
 ghost use Rattle.dir_ldif.specs.Inside.Bounds.{has_room, may_be_continued};
 ghost use Rattle.dir_ldif.specs.LogicalLines.{is_comment, is_lf, is_long};
+ghost use Rattle.dir_ldif.specs.Ascii.{carriage_return, line_feed, space};
 
 use crate::faults::StreamFault;
 use crate::reader::bytes::{begins_with_space, cut_at, parts_without_cr, without_cr};
@@ -54,7 +55,7 @@ impl Line {
 
     /// The line with more text, which comes in two parts and begins with a space.
     fn with_continuation(mut self, front: &[u8], back: &[u8]) -> Result<Line, StreamFault>
-        requires { begins_with 32 front.now ≡ true }
+        requires { begins_with space front.now ≡ true }
         ensures ok { IfOk result (λ line. line ≡ (self.0, self.1 ++ drop 1 (front.now ++ back.now))) }
         ensures err { IfErr result (λ fault. fault ≡ StreamFault.Memory) }
     {
@@ -161,10 +162,10 @@ impl Unfolder {
         requires line { list_any is_lf text.now ≡ false }
         ensures number { self.new.number ≡ self.old.number + 1 }
         ensures ok { IfOk result (λ o. MatchOption o
-            ((rest : List ℕ) → blocks_to_come self.old (text.now ++ 10 ∷ rest) ≡ blocks_to_come self.new rest)
-            (λ block. (rest : List ℕ) → blocks_to_come self.old (text.now ++ 10 ∷ rest) ≡ block_then block.items (blocks_to_come self.new rest))) }
+            ((rest : List ℕ) → blocks_to_come self.old (text.now ++ line_feed ∷ rest) ≡ blocks_to_come self.new rest)
+            (λ block. (rest : List ℕ) → blocks_to_come self.old (text.now ++ line_feed ∷ rest) ≡ block_then block.items (blocks_to_come self.new rest))) }
         ensures some { IfOk result (λ o. IfSome o (λ block. is_empty block.items ≡ false)) }
-        ensures err { IfErr result (λ fault. (rest : List ℕ) → EndsAtOnce fault (blocks_to_come self.old (text.now ++ 10 ∷ rest))) }
+        ensures err { IfErr result (λ fault. (rest : List ℕ) → EndsAtOnce fault (blocks_to_come self.old (text.now ++ line_feed ∷ rest))) }
     {
         match self.finish_physical_line(spare, text) {
             Ok(true) => Ok(self.finish_block()),
@@ -262,11 +263,11 @@ impl Unfolder {
     ) -> Result<(), StreamFault>
         requires none { (self.old.partial.items ≡ []) × (self.old.last ≡ None) }
         requires kept { may_be_continued (Some last) ≡ true }
-        requires space { begins_with 32 front.now ≡ true }
+        requires space { begins_with space front.now ≡ true }
         ensures number { self.new.number ≡ self.old.number }
         ensures block { (self.new.begun ≡ self.old.begun) × (self.new.block ≡ self.old.block) }
         ensures ok { OnOk result ((self.new.last ≡ Some (last.0, last.1 ++ drop 1 (front.now ++ back.now)))
-            × (self.new.partial.items ≡ (if has_cr then 32 ∷ 13 ∷ [] else 32 ∷ []))) }
+            × (self.new.partial.items ≡ (if has_cr then space ∷ carriage_return ∷ [] else space ∷ []))) }
         ensures err { IfErr result (λ fault. (text : List ℕ) → (n : ℕ) → (more : List Line)
             → EndsAtOnce fault (blocks_from self.old.begun self.old.block.items (logical_lines (last ∷ (n, (front.now ++ back.now) ++ text) ∷ more)))) }
     {
@@ -306,7 +307,7 @@ impl Unfolder {
         ensures number { self.new.number ≡ self.old.number + 1 }
         ensures partial { self.new.partial.items ≡ [] }
         ensures last { IfOk result (λ ends. ends ≡ true → self.new.last ≡ None) }
-        ensures joins { TakesLine (λ more. blocks_to_come_with self.old ((self.old.number, without_last 13 (self.old.partial.items ++ text.now)) ∷ more)) result self.new }
+        ensures joins { TakesLine (λ more. blocks_to_come_with self.old ((self.old.number, without_last carriage_return (self.old.partial.items ++ text.now)) ∷ more)) result self.new }
     {
         let number = self.number;
         self.number = number + 1;
@@ -326,7 +327,7 @@ impl Unfolder {
         ensures number { self.new.number ≡ self.old.number }
         ensures partial { self.new.partial ≡ self.old.partial }
         ensures last { IfOk result (λ ends. ends ≡ true → self.new.last ≡ None) }
-        ensures joins { TakesLine (λ more. blocks_to_come_with self.old ((number, without_last 13 (front.items ++ back.now)) ∷ more)) result self.new }
+        ensures joins { TakesLine (λ more. blocks_to_come_with self.old ((number, without_last carriage_return (front.items ++ back.now)) ∷ more)) result self.new }
     {
         if let Some(last) = self.last.take() {
             let (begin, end) = parts_without_cr(front.as_slice(), back);
@@ -347,7 +348,7 @@ impl Unfolder {
     fn continue_line(&mut self, last: Line, front: &[u8], back: &[u8]) -> Result<bool, StreamFault>
         requires none { self.old.partial.items ≡ [] }
         requires kept { may_be_continued (Some last) ≡ true }
-        requires space { begins_with 32 front.now ≡ true }
+        requires space { begins_with space front.now ≡ true }
         ensures number { self.new.number ≡ self.old.number }
         ensures partial { self.new.partial ≡ self.old.partial }
         ensures last { IfOk result (λ ends. ends ≡ true → self.new.last ≡ None) }
@@ -466,7 +467,7 @@ fn is_comment(line: &Line) -> bool
 }
 
 fn drop_cr(text: &mut Vec<u8>)
-    ensures { text.new.items ≡ without_last 13 text.old.items }
+    ensures { text.new.items ≡ without_last carriage_return text.old.items }
 {
     let length = without_cr(text.as_slice()).len();
     text.truncate(length);
