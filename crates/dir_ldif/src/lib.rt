@@ -1,4 +1,4 @@
-//! LDIF (RFC 2849): the devices that give and take its bytes, the reader, and the writer.
+//! LDIF (RFC 2849): devices that give and take bytes, records, and a reader and a writer of their text.
 #![tactic(auto)]
 
 mod device;

@@ -1,3 +1,6 @@
+//! The reader: it takes the bytes of a source in pieces, unfolds their lines (`unfolder`), and reads each block of
+//! lines as a record (`parser`).
+
 ghost use Rattle.std.specs.Prelude.{◌≡◌, ◌+◌, ◌-◌, ◌*◌, ◌++◌, ◌∷◌, ◌^◌, ◌<◌, ◌≤◌, [], All, IfErr, IfOk, OnOk, length, vec_len};
 ghost use Rattle.dir_ldif.specs.SoundRecords.{IsLegalFound};
 ghost use Rattle.dir_ldif.specs.Records.{EndsIn, all_found, found_of, records_of};
@@ -30,11 +33,10 @@ pub const MAX_TEXT: usize = 9_007_199_254_732_800;
 /// The greatest number of bytes that one read call is asked for.
 const PIECE: usize = 8192;
 
-/// What a record is answered as: the number of its first line that is no comment, and the record or its
-/// fault.
+/// The answer on one record: the number of its first line that is no comment, and the record or its fault.
 pub type Answer = (u64, Result<Record, RecordFault>);
 
-/// How far a reader has come.
+/// The state of a reader.
 #[derive(Clone, Copy, PartialEq, Eq)]
 enum Place {
     Reading,
@@ -109,8 +111,8 @@ impl<'s, R: Source + Drop> RecordReader<'s, R> {
     /// # Errors
     ///
     /// `LineTooLong` and `BadVersion` where the text is at fault and no record is left; `Read` where the source
-    /// failed in this call; `TooManyTurns` where the source gave as many bytes as read calls were allowed;
-    /// `Memory`; `Ended`.
+    /// failed in this call; `TooManyTurns` where the source gave at least as many bytes as read calls were
+    /// left; `Memory`; `Ended`.
     pub fn next(&mut self) -> Result<Option<Answer>, StreamFault>
         ensures some { IfOk result (λ o. IfSome o (λ found. GivesFirst (Ok found) (answers_to_come R.left self.old) (answers_to_come R.left self.new))) }
         ensures used { IfOk result (λ o. IfSome o (λ found. IsReading self.new → UsesUp R.left found self.old self.new)) }
@@ -132,7 +134,7 @@ impl<'s, R: Source + Drop> RecordReader<'s, R> {
         self.core.next(self.schema, &mut self.source)
     }
 
-    /// The source, behind all pieces that were read of it.
+    /// The source, of which some pieces were read.
     pub fn into_source(self) -> R
         ensures { result ≡ source_of self.entry }
     {
@@ -268,7 +270,7 @@ impl Core {
         }
     }
 
-    /// The next block, which has no line at the end of the text alone.
+    /// The next block. It is empty only at the end of the text.
     fn next_block<S: Source>(&mut self, source: &mut S) -> Result<Vec<Line>, StreamFault>
         requires { self.old.place ≡ Reading }
         ensures ok { IfOk result (λ block. (bytes : List ℕ)
@@ -299,7 +301,7 @@ impl Core {
         }
     }
 
-    /// Takes what is in hand, up to the end of a block. Answers that block, if there is one.
+    /// Uses up the bytes in hand, to the end of a block if one ends in them. Answers that block, if there is one.
     fn use_buffer(&mut self) -> Result<Option<Vec<Line>>, StreamFault>
         ensures turns { self.new.turns ≡ self.old.turns }
         ensures place { self.new.place ≡ self.old.place }
@@ -330,7 +332,7 @@ impl Core {
         }
     }
 
-    /// Reads the next piece. Answers whether there is one.
+    /// Reads the next piece, and answers whether there is one.
     fn read_more<S: Source>(&mut self, source: &mut S) -> Result<bool, StreamFault>
         requires { self.old.at ≡ self.old.end }
         ensures unfolder { self.new.unfolder ≡ self.old.unfolder }
@@ -359,7 +361,7 @@ impl Core {
         }
     }
 
-    /// Ends the text. Answers the last block.
+    /// Ends the text, and answers the last block.
     fn finish(&mut self) -> Result<Vec<Line>, StreamFault>
         requires empty { hand self.old ≡ [] }
         requires room { self.old.unfolder.number + 8192 * self.old.turns + 1 < 2 ^ 62 }
@@ -392,8 +394,8 @@ fn answer_of(alloc: Global, schema: &Schema, block: &[Line]) -> Result<Answer, S
     }
 }
 
-/// The records of a text, each with the number of its first line, or the text's stream fault alone. A text
-/// of more than 9,007,199,254,732,800 bytes is `TooManyTurns`.
+/// The records of a text, each with the number of its first line; or the stream fault, without the records
+/// before it. A text of more than 9,007,199,254,732,800 bytes is `TooManyTurns`.
 pub fn read_all(alloc: Global, schema: &Schema, text: &[u8]) -> Result<Vec<Answer>, StreamFault>
     ensures ok { IfOk result (λ answers. records_of schema.now text.now ≡ all_found answers.items) }
     ensures legal { IfOk result (λ answers. All (IsLegalFound schema.now) answers.items) }
@@ -433,7 +435,7 @@ pub fn read_all(alloc: Global, schema: &Schema, text: &[u8]) -> Result<Vec<Answe
     }
 }
 
-/// Appends the answer on a block.
+/// Appends the answer on a block to the answers.
 fn push_answer(
     alloc: Global,
     schema: &Schema,

@@ -1,3 +1,5 @@
+//! The records of LDIF: content records and change records.
+
 ghost use Rattle.std.specs.Prelude.{◌≡◌};
 
 mod checking;

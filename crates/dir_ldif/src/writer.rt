@@ -1,3 +1,5 @@
+//! The writer: the text of a record, line by line, folded.
+
 ghost use Rattle.std.specs.Prelude.{◌≡◌, ◌++◌, ◌∷◌, ◌≤◌, ℕ, List, [], IfOk, OnOk, codes};
 ghost use Rattle.std.specs.List.{flat_map, list_all};
 ghost use Rattle.dir_names.specs.Printing.{rdn_printed};
@@ -51,7 +53,7 @@ pub fn push_change(out: &mut Vec<u8>, change: &Change) -> Result<(), Memory>
     push_end(out)
 }
 
-/// Appends one line of a name and a value: plain where the value can stand so, else in base64; folded at
+/// Appends one line of a name and a value: plain where the value can be written so, else in base64; folded at
 /// 76 bytes; with its LF (RFC 2849, notes 2, 4 and 8).
 pub fn push_line(out: &mut Vec<u8>, name: &[u8], value: &[u8]) -> Result<(), Memory>
     ensures { OnOk result (out.new.items ≡ out.old.items ++ written_line name.now value.now) }
@@ -61,7 +63,7 @@ pub fn push_line(out: &mut Vec<u8>, name: &[u8], value: &[u8]) -> Result<(), Mem
     push_end(out)
 }
 
-/// Appends what stands behind a line's name.
+/// Appends what follows a line's name. Answers the room that is left in its physical line.
 fn push_value(out: &mut Vec<u8>, room: usize, value: &[u8]) -> Result<usize, Memory>
     requires { room ≤ COLUMNS }
     ensures { IfOk result (λ left. (rest : List ℕ)
@@ -94,8 +96,8 @@ pub fn push_end(out: &mut Vec<u8>) -> Result<(), Memory>
     Ok(())
 }
 
-/// Appends bytes of a line that has room for so many more, and begins a continuation wherever there is
-/// none. Answers the room that is left.
+/// Appends bytes to a line whose physical line has room for so many more, and begins a continuation wherever
+/// no room is left. Answers the room that is left.
 fn push_folded(out: &mut Vec<u8>, room: usize, text: &[u8]) -> Result<usize, Memory>
     requires { room ≤ COLUMNS }
     ensures room { IfOk result (λ left. left ≤ COLUMNS) }
@@ -105,17 +107,17 @@ fn push_folded(out: &mut Vec<u8>, room: usize, text: &[u8]) -> Result<usize, Mem
     let mut room = room;
     let mut rest = text;
     while rest.len() > room {
-        let (front, behind) = rest.split_at(room);
-        out.extend_from_slice(front)?;
+        let (head, after) = rest.split_at(room);
+        out.extend_from_slice(head)?;
         out.extend_from_slice(b"\n ")?;
-        rest = behind;
+        rest = after;
         room = COLUMNS - 1;
     }
     out.extend_from_slice(rest)?;
     Ok(room - rest.len())
 }
 
-/// Whether a value stands in a line as it is.
+/// Whether a value is written in a line as it is.
 fn is_plain(value: &[u8]) -> bool
     ensures { result ≡ is_plain value.now }
 {
@@ -193,7 +195,7 @@ fn change_word(kind: &ChangeKind) -> &'static [u8]
     }
 }
 
-/// Appends the lines behind the changetype.
+/// Appends the lines after the changetype.
 fn push_kind(out: &mut Vec<u8>, kind: &ChangeKind) -> Result<(), Memory>
     ensures { OnOk result (out.new.items ≡ out.old.items ++ kind_text kind.now) }
 {

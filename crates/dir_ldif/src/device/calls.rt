@@ -1,8 +1,10 @@
+//! The count of calls by which the devices for tests fail.
+
 ghost use Rattle.std.specs.Prelude.{◌≡◌, ◌-◌, ◌↔◌, IsTrue, MatchBool};
 ghost use Rattle.dir_ldif.specs.Device.{one_more};
 ghost use Rattle.dir_ldif.specs.TestDevices.{calls_after};
 
-/// The calls of a device for tests: how many still succeed, and how many have failed.
+/// The calls of a device for tests: how many will still succeed, and how many have failed.
 #[derive(Clone, Copy)]
 pub(crate) struct Calls {
     good: u64,
@@ -16,7 +18,7 @@ impl Calls {
         failures: 0,
     };
 
-    /// Each call from this one on fails; the first is 1.
+    /// Each call from this one on fails; the first call is 1.
     pub(crate) fn failing_from(call: u64) -> Calls
         ensures { result ≡ record { good = call - 1; failures = 0 } }
     {
@@ -26,7 +28,7 @@ impl Calls {
         }
     }
 
-    /// Counts a call. Answers whether it fails.
+    /// Counts a call, and answers whether it fails.
     pub(crate) fn fails(&mut self) -> bool
         ensures fails { IsTrue result ↔ (self.old.good ≡ 0) }
         ensures failures { MatchBool result (self.new.failures ≡ one_more self.old.failures) (self.new.failures ≡ self.old.failures) }

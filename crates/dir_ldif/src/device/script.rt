@@ -1,10 +1,12 @@
+//! The source for tests.
+
 ghost use Rattle.std.specs.Prelude.{◌<◌, ◌≤◌, length};
 
 use crate::device::calls::Calls;
 use crate::device::{DeviceFault, Source};
 
-/// A source over lent bytes, for tests: it gives them in pieces, and fails where it is told to. It takes no
-/// memory.
+/// A source over lent bytes, for tests: it gives them in pieces, and fails from the call that it is told. It
+/// allocates nothing.
 #[derive(Drop)]
 pub struct Script<'a> {
     bytes: &'a [u8],
@@ -80,7 +82,7 @@ impl<'a> Script<'a> {
         self
     }
 
-    /// Gives the next piece. Answers its length.
+    /// Gives the next piece, and answers its length.
     fn give(&mut self, buffer: &mut [u8]) -> usize
         ensures bound { result ≤ length buffer.new }
         ensures bytes { drop self.old.at self.old.bytes.now ≡ take result buffer.new ++ drop self.new.at self.new.bytes.now }

@@ -1,3 +1,5 @@
+//! Devices over std's readers and writers.
+
 ghost use Rattle.std.specs.Prelude.{◌≡◌, ⊤};
 
 use crate::device::{DeviceFault, Sink, Source};
@@ -41,8 +43,8 @@ impl<R: Read> Source for Reader<R> {
     }
 }
 
-/// A sink over any writer. Its flush is the writer's, of which the contract of `Write` says only that the bytes
-/// that the writer holds stay.
+/// A sink over any writer. A flush flushes the writer; the contract of `Write` says of that only that it
+/// leaves the writer's contents.
 #[derive(Drop)]
 pub struct Writer<W> {
     inner: W,

@@ -1,10 +1,12 @@
+//! The sink for tests.
+
 ghost use Rattle.std.specs.Prelude.{◌≤◌, length};
 
 use crate::device::calls::Calls;
 use crate::device::{DeviceFault, Sink};
 
-/// A sink over lent bytes, for tests: it takes what it is given in pieces, and fails or stalls where it is
-/// told to. It takes no memory.
+/// A sink over lent bytes, for tests: it takes what it is given in pieces, fails from the call that it is
+/// told, and stalls where it has no room. It allocates nothing.
 #[derive(Drop)]
 pub struct Tape<'a> {
     bytes: &'a mut [u8],

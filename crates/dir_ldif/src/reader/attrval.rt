@@ -1,3 +1,5 @@
+//! The name and the value of one line, plain or in base64 (RFC 2849, `attrval-spec`).
+
 ghost use Rattle.std.specs.Prelude.{◌≡◌, ◌<◌, ◌&&◌, ◌++◌, ℕ, List, IfErr, IfOk, length};
 ghost use Rattle.std.specs.List.{list_any};
 ghost use Rattle.base64.specs.GeneralPurpose.{IsBytes};
@@ -20,13 +22,13 @@ pub const MAX_VALUE: usize = 1_048_576;
 /// The greatest length of a base64 text whose value may be within the limit.
 const MAX_ENCODED: usize = 1_398_104;
 
-/// So many bytes of a base64 text are tested at once, in whole groups of four.
+/// How many bytes of a base64 text are tested at once, in whole groups of four.
 const ENCODED_PIECE: usize = 1024;
 
-/// So many bytes such a piece decodes to, where it has no padding.
+/// How many bytes such a piece decodes to, if it has no padding.
 const DECODED_PIECE: usize = 768;
 
-/// The value of a line: as it stands there, or decoded.
+/// The value of a line: a part of the line, or decoded.
 #[derive(Drop)]
 pub(crate) enum Value<'a> {
     Plain(&'a [u8]),
@@ -43,7 +45,7 @@ impl Value<'_> {
         }
     }
 
-    /// The value in memory of its own: only a plain one is copied.
+    /// The value in its own memory: only a plain one is copied.
     pub(crate) fn into_bytes(self, alloc: Global) -> Result<Bytes, Refusal>
         ensures ok { IfOk result (λ v. v ≡ bytes_of self.entry) }
         ensures bytes { IfOk result (λ v. IsBytes v) }
@@ -84,7 +86,7 @@ pub(crate) fn attrval_of(alloc: Global, line: &[u8]) -> Result<(&[u8], Value<'_>
     }
 }
 
-/// The value that stands behind a name and its colon, within the limit.
+/// The value in what follows a name and its colon, within the limit.
 fn limited_value(alloc: Global, text: &[u8]) -> Result<Value<'_>, Refusal>
     ensures { Meets Refuses bytes_of result (and_then (value_of text.now) within_limit) }
 {
@@ -95,7 +97,7 @@ fn limited_value(alloc: Global, text: &[u8]) -> Result<Value<'_>, Refusal>
     }
 }
 
-/// The value of a base64 text, within the limit. A text that is longer than those of such values is not decoded.
+/// The value of a base64 text, within the limit. A text that is too long for that is not decoded.
 fn limited_decoded(alloc: Global, text: &[u8]) -> Result<Value<'_>, Refusal>
     ensures { Meets Refuses bytes_of result (and_then (base64_value text.now) within_limit) }
 {
@@ -111,23 +113,23 @@ fn limited_decoded(alloc: Global, text: &[u8]) -> Result<Value<'_>, Refusal>
     }
 }
 
-/// Whether a text is base64. It takes no memory.
+/// Whether a text is base64. It allocates nothing.
 fn is_base64(text: &[u8]) -> bool
     ensures { result ≡ is_base64 text.now }
 {
     let mut rest = text;
     while rest.len() > ENCODED_PIECE {
-        let (front, behind) = rest.split_at(ENCODED_PIECE);
-        if !is_whole_piece(front) {
+        let (piece, after) = rest.split_at(ENCODED_PIECE);
+        if !is_whole_piece(piece) {
             return false;
         }
-        rest = behind;
+        rest = after;
     }
     let mut value = [0u8; DECODED_PIECE];
     STANDARD.decode_slice_unchecked(rest, &mut value).is_ok()
 }
 
-/// Whether a piece is a base64 text without padding, so that the rest of its text decides.
+/// Whether a piece is base64 without padding, so that the rest of the text decides whether all is base64.
 fn is_whole_piece(piece: &[u8]) -> bool
     requires { length piece.now ≡ ENCODED_PIECE }
     ensures { (rest : List ℕ) → IsBytes rest → 0 < length rest → is_base64 (piece.now ++ rest) ≡ (result && is_base64 rest) }
@@ -149,7 +151,7 @@ fn decoded(alloc: Global, text: &[u8]) -> Result<Vec<u8>, Refusal>
     }
 }
 
-/// A value that stands plainly.
+/// A value that is written plainly, within the limit.
 fn plain(text: &[u8]) -> Result<Value<'_>, Refusal>
     ensures { Meets Refuses bytes_of result (and_then (plain_value text.now) within_limit) }
 {

@@ -1,3 +1,5 @@
+//! Small operations on bytes.
+
 ghost use Rattle.std.specs.Prelude.{◌≡◌, ◌++◌};
 ghost use Rattle.std.specs.Option.{option_map};
 ghost use Rattle.dir_ldif.specs.Bytes.{begins_with, cut_at, without_leading, without_last};
@@ -5,7 +7,7 @@ ghost use Rattle.dir_ldif.specs.Ascii.{carriage_return, space};
 
 use memchr::memchr;
 
-/// The bytes before the first such byte, and those behind it.
+/// The bytes before the first such byte, and those after it.
 pub(crate) fn cut_at(byte: u8, text: &[u8]) -> Option<(&[u8], &[u8])>
     ensures { option_map (λ p. (p.0.now, p.1.now)) result ≡ cut_at byte text.now }
 {
@@ -15,7 +17,7 @@ pub(crate) fn cut_at(byte: u8, text: &[u8]) -> Option<(&[u8], &[u8])>
     }
 }
 
-/// The text behind the spaces that it begins with.
+/// The text without the spaces that it begins with.
 pub(crate) fn without_spaces(text: &[u8]) -> &[u8]
     ensures { result.now ≡ without_leading space text.now }
 {
@@ -42,7 +44,7 @@ pub(crate) fn without_cr(text: &[u8]) -> &[u8]
     if *last == b'\r' { before } else { text }
 }
 
-/// A text in two parts, without one final CR. Its first byte, if it has one, stands in the first part.
+/// A text in two parts, without one final CR. Its first byte, if it has one, is in the first part.
 pub(crate) fn parts_without_cr<'a>(front: &'a [u8], back: &'a [u8]) -> (&'a [u8], &'a [u8])
     ensures text { result.0.now ++ result.1.now ≡ without_last carriage_return (front.now ++ back.now) }
     ensures first { begins_with space result.0.now ≡ begins_with space (without_last carriage_return (front.now ++ back.now)) }

@@ -1,3 +1,5 @@
+//! The record that a block of lines is (RFC 2849, `ldif-attrval-record` and `ldif-change-record`).
+
 ghost use Rattle.std.specs.Prelude.{◌≡◌, ◌++◌, ◌∷◌, ◌<◌, [], Ok, Err, IfOk, codes, cond, length};
 ghost use Rattle.base64.specs.GeneralPurpose.{IsBytes};
 ghost use Rattle.dir_ldif.specs.declared.faults.RecordFault.TheVariants.{BadModify};
@@ -30,7 +32,7 @@ pub(crate) fn record_of(alloc: Global, schema: &Schema, block: &[Line]) -> Resul
     }
 }
 
-/// What stands behind the name.
+/// The record of a name and the lines after it.
 fn body_of(alloc: Global, schema: &Schema, dn: Dn, lines: &[Line]) -> Result<Record, Refusal>
     ensures read { Meets Refuses (λ r. r) result (body_of schema.now dn lines.now) }
     ensures sound { IsSoundName dn → IfOk result (λ r. IsSoundRecord r) }
@@ -48,7 +50,7 @@ fn body_of(alloc: Global, schema: &Schema, dn: Dn, lines: &[Line]) -> Result<Rec
     content_of(alloc, schema, dn, lines)
 }
 
-/// Whether a text is a keyword, in any ASCII case.
+/// Whether a text is this keyword, in any ASCII case.
 fn is_word(text: &[u8], word: &[u8]) -> bool
     ensures { result ≡ is_word text.now word.now }
 {
@@ -90,7 +92,7 @@ fn dn_line(alloc: Global, schema: &Schema, line: &Line) -> Result<Dn, Refusal>
     legal_dn(alloc, schema, value.as_slice())
 }
 
-/// A name that has a key.
+/// The name that a text spells, if it has a key.
 fn legal_dn(alloc: Global, schema: &Schema, text: &[u8]) -> Result<Dn, Refusal>
     ensures read { Meets Refuses (λ name. name) result (legal_dn schema.now text.now) }
     ensures sound { IfOk result (λ name. IsSoundName name) }
@@ -102,7 +104,7 @@ fn legal_dn(alloc: Global, schema: &Schema, text: &[u8]) -> Result<Dn, Refusal>
     Ok(dn)
 }
 
-/// An RDN that has a key.
+/// The RDN that a text spells, if it has a key.
 fn legal_rdn(alloc: Global, schema: &Schema, text: &[u8]) -> Result<Rdn, Refusal>
     ensures read { Meets Refuses (λ rdn. rdn) result (legal_rdn schema.now text.now) }
     ensures sound { IfOk result (λ rdn. IsSoundRdn rdn) }
@@ -114,7 +116,7 @@ fn legal_rdn(alloc: Global, schema: &Schema, text: &[u8]) -> Result<Rdn, Refusal
     Ok(rdn)
 }
 
-/// Lines of description and value.
+/// The descriptions and values of lines.
 fn value_lines(alloc: Global, schema: &Schema, lines: &[Line]) -> Result<Lines, Refusal>
     ensures read { Meets Refuses (λ ls. ls) result (value_lines schema.now lines.now) }
     ensures sound { IfOk result (λ ls. ValuesAreBytes ls) }
@@ -135,7 +137,7 @@ fn value_line(alloc: Global, schema: &Schema, line: &Line) -> Result<(Descriptio
     Ok((description, value.into_bytes(alloc)?))
 }
 
-/// The change of a changetype, with the lines behind it.
+/// The change of a changetype and the lines after it.
 fn change_of(
     alloc: Global,
     schema: &Schema,
@@ -160,7 +162,7 @@ fn change_of(
     Err(Refusal::Fault(RecordFault::BadChangetype))
 }
 
-/// A deletion has no further line; the line that is there has its own fault first.
+/// A deletion has no further line; a line that is there has its own fault first.
 fn deletion_of(alloc: Global, lines: &[Line]) -> Result<ChangeKind, Refusal>
     ensures read { Meets Refuses (λ kind. kind) result (deletion_of lines.now) }
     ensures sound { IfOk result (λ kind. IsSoundKind kind) }
@@ -188,7 +190,7 @@ fn mods_of(alloc: Global, schema: &Schema, lines: &[Line]) -> Result<Mods, Refus
     Ok(Mods::new(mods))
 }
 
-/// The lines before the first `-`, and those behind it.
+/// The lines before the first `-`, and those after it.
 fn cut_dash(lines: &[Line]) -> (&[Line], &[Line])
     requires { 0 < length lines.now }
     ensures cut { cut is_dash lines.now ≡ result.0.now ∷ cut is_dash result.1.now }
@@ -266,7 +268,7 @@ fn mod_values(
     Ok(Texts::new(values))
 }
 
-/// A value of the attribute that the head names.
+/// The value of a line whose attribute must be the one that the head names.
 fn mod_value(
     alloc: Global,
     schema: &Schema,
@@ -318,7 +320,7 @@ fn rename_after_rdn(
     })
 }
 
-/// The value of a line of a rename, which has one name only.
+/// The value of a line of a rename that must have this keyword.
 fn rename_line<'a>(alloc: Global, word: &[u8], line: &'a Line) -> Result<Value<'a>, Refusal>
     ensures { Meets Refuses bytes_of result (rename_line word.now line.now) }
 {
@@ -341,7 +343,7 @@ fn flag_of(value: &[u8]) -> Result<bool, Refusal>
     }
 }
 
-/// The new superior that a rename may end in.
+/// The new superior, with which a rename may end.
 fn superior_of(alloc: Global, schema: &Schema, lines: &[Line]) -> Result<Option<Dn>, Refusal>
     ensures read { Meets Refuses (λ superior. superior) result (superior_of schema.now lines.now) }
     ensures sound { IfOk result (λ superior. IsSoundSuperior superior) }
@@ -354,7 +356,7 @@ fn superior_of(alloc: Global, schema: &Schema, lines: &[Line]) -> Result<Option<
     no_further(alloc, dn, further)
 }
 
-/// A rename has no line behind its new superior; the line that is there has its own fault first.
+/// A rename has no line after its new superior; a line that is there has its own fault first.
 fn no_further(alloc: Global, dn: Dn, lines: &[Line]) -> Result<Option<Dn>, Refusal>
     ensures read { Meets Refuses (λ superior. superior) result (no_further dn lines.now) }
     ensures sound { IsSoundName dn → IfOk result (λ superior. IsSoundSuperior superior) }

@@ -1,15 +1,17 @@
+//! Memory that is used again from one block to the next.
+
 ghost use Rattle.std.specs.Prelude.{◌≡◌};
 
 use crate::reader::unfolder::Line;
 use std::alloc::Global;
 
-/// The greatest number of texts that are kept.
+/// The greatest number of texts whose memory is kept.
 const MOST: usize = 64;
 
 /// The greatest length for which a text's memory is kept, in bytes.
 const SHORT: usize = 512;
 
-/// Memory of lines that were taken, for lines to come.
+/// The memory of lines that were read, kept for lines to come.
 #[derive(Drop)]
 pub(crate) struct Spare {
     texts: Vec<Vec<u8>>,
@@ -22,7 +24,7 @@ impl Spare {
         }
     }
 
-    /// The same text; an empty one in memory that was kept.
+    /// The same text; an empty one gets memory that was kept, if there is some.
     pub(crate) fn text(&mut self, text: Vec<u8>) -> Vec<u8>
         ensures { result.items ≡ text.items }
     {

@@ -1,3 +1,6 @@
+//! The unfolder: from the chunks of a text it makes logical lines, drops comments and the version line, and
+//! gathers the lines to blocks (RFC 2849, notes 1 to 3).
+
 ghost use Rattle.std.specs.Prelude.{◌≡◌, ◌+◌, ◌∷◌, ◌++◌, ◌<◌, ◌≤◌, ◌^◌, [], IfErr, IfOk, IfSome, List, MatchOption, None, OnOk, Some, drop, false, true, length, ℕ};
 ghost use Rattle.std.specs.List.{list_any};
 ghost use Rattle.dir_ldif.specs.Bytes.{begins_with, without_last};
@@ -13,10 +16,10 @@ use std::alloc::Global;
 use std::marker::Model;
 use std::mem;
 
-/// The greatest length of a logical line, in bytes, after joining and without its final CR.
+/// The greatest length of a logical line, in bytes, unfolded and without its final CR.
 pub const MAX_LINE: usize = 2_097_152;
 
-/// For how many lines room is made at once, where the block before had as many.
+/// For at most how many lines room is made at once: as many as the block before had.
 const MAX_ROOM: usize = 64;
 
 /// A logical line, with the number of its first physical line.
@@ -53,7 +56,7 @@ impl Line {
         self.text.as_slice()
     }
 
-    /// The line with more text, which comes in two parts and begins with a space.
+    /// The line with its continuation, which comes in two parts and begins with a space.
     fn with_continuation(mut self, front: &[u8], back: &[u8]) -> Result<Line, StreamFault>
         requires { begins_with space front.now ≡ true }
         ensures ok { IfOk result (λ line. line ≡ (self.0, self.1 ++ drop 1 (front.now ++ back.now))) }
@@ -78,15 +81,19 @@ impl Line {
     }
 }
 
-/// The lines of a text that comes in pieces: the block in hand, the last line, which may be continued,
-/// and the physical line that has not ended. Where this continues the last line, it is held there, but for
-/// its space and a CR that may be its final one.
+/// Unfolds the lines of a text that comes in chunks, and gathers them to blocks.
 #[derive(Drop)]
 pub(crate) struct Unfolder {
+    // the lines of the block in hand, which are complete
     block: Vec<Line>,
+    // whether the text has had a line, so that no version line may come
     begun: bool,
+    // the last logical line, which the next physical line may continue
     last: Option<Line>,
+    // the number of the next physical line
     pub(crate) number: u64,
+    // the physical line that has not ended. If it continues the last line, its text is there already, and
+    // here are its space and a CR that may be its final one
     partial: Vec<u8>,
     alloc: Global,
     ghost kept: { may_be_continued last ≡ true },
@@ -117,8 +124,8 @@ impl Unfolder {
         }
     }
 
-    /// Takes a piece of the text, up to the end of a block where one ends in it. Answers that block and what
-    /// is left of the piece behind it, or none where all was taken.
+    /// Takes the next chunk of the text, up to the end of a block if one ends in it. Answers that block and the
+    /// rest of the chunk, or none where all was taken.
     pub(crate) fn push_chunk<'a>(
         &mut self,
         spare: &mut Spare,
@@ -152,7 +159,8 @@ impl Unfolder {
         }
     }
 
-    /// Takes the bytes before an LF. Answers the block, if that ends one with a line.
+    /// Finishes the physical line in hand, with the bytes before its LF. Answers the block, if that ends one
+    /// which has a line.
     fn finish_line(
         &mut self,
         spare: &mut Spare,
@@ -174,7 +182,7 @@ impl Unfolder {
         }
     }
 
-    /// Moves the block out, if it has a line.
+    /// Finishes the block in hand: moves it out, if it has a line.
     fn finish_block(&mut self) -> Option<Vec<Line>>
         requires { self.old.last ≡ None }
         ensures number { self.new.number ≡ self.old.number }
@@ -207,7 +215,7 @@ impl Unfolder {
         mem::replace(&mut self.block, next)
     }
 
-    /// Takes a piece in which no line ends.
+    /// Takes bytes in which no line ends.
     fn push_partial_line(&mut self, piece: &[u8]) -> Result<(), StreamFault>
         requires { list_any is_lf piece.now ≡ false }
         ensures number { self.new.number ≡ self.old.number }
@@ -224,7 +232,7 @@ impl Unfolder {
         }
     }
 
-    /// Takes a physical line that has not ended, in two parts, where a line stands before it.
+    /// Takes a physical line that has not ended, in two parts, where a line comes before it.
     fn push_partial_after(
         &mut self,
         last: Line,
@@ -252,8 +260,8 @@ impl Unfolder {
         }
     }
 
-    /// Puts the text of a physical line that has not ended behind the line that it continues. Its space is
-    /// left in hand, and a CR that may be its final one.
+    /// Continues a line by the text of a physical line that has not ended. Its space is left in hand, and a
+    /// CR that may be its final one.
     fn continue_partly(
         &mut self,
         last: Line,
@@ -300,8 +308,8 @@ impl Unfolder {
         Ok(())
     }
 
-    /// Ends the physical line in hand, with the bytes before its LF. Answers whether it is an empty line,
-    /// which ends the block.
+    /// Finishes the physical line in hand, with the bytes before its LF. Answers whether it is empty, so that
+    /// the block has ended.
     fn finish_physical_line(&mut self, spare: &mut Spare, text: &[u8]) -> Result<bool, StreamFault>
         requires room { self.old.number < 2 ^ 63 }
         ensures number { self.new.number ≡ self.old.number + 1 }
@@ -315,7 +323,7 @@ impl Unfolder {
         self.unfold(number, line, text, spare)
     }
 
-    /// Joins a physical line, in two parts, to what stands before it.
+    /// Takes a physical line, in two parts: it continues the last line, or begins a line.
     fn unfold(
         &mut self,
         number: u64,
@@ -357,7 +365,7 @@ impl Unfolder {
         self.set_last(last.with_continuation(front, back)?)
     }
 
-    /// Begins a logical line, unless the line is empty.
+    /// Begins a logical line. Answers whether it is empty, so that the block has ended.
     fn begin_line(&mut self, line: Line) -> Result<bool, StreamFault>
         requires none { self.old.partial.items ≡ [] }
         requires last { self.old.last ≡ None }
@@ -372,7 +380,7 @@ impl Unfolder {
         self.set_last(line)
     }
 
-    /// Makes a line the last one.
+    /// Makes a line the last one, unless it is too long.
     fn set_last(&mut self, line: Line) -> Result<bool, StreamFault>
         requires none { self.old.partial.items ≡ [] }
         requires some { is_empty line.1 ≡ false }
@@ -388,7 +396,7 @@ impl Unfolder {
         Ok(false)
     }
 
-    /// Puts a line that is not continued into the block. Comments and the version line belong to no block.
+    /// Adds a line that is complete to the block. Comments and the version line belong to no block.
     fn push_to_block(&mut self, line: Line) -> Result<(), StreamFault>
         requires { may_be_continued (Some line) ≡ true }
         ensures number { self.new.number ≡ self.old.number }
@@ -430,7 +438,7 @@ impl Unfolder {
         Ok(self.take_block())
     }
 
-    /// Ends the physical line in hand, if there is one, with the text.
+    /// Finishes the physical line in hand, if there is one: the text has ended.
     fn finish_partial_line(&mut self, spare: &mut Spare) -> Result<(), StreamFault>
         requires { self.old.number < 2 ^ 63 }
         ensures number { self.new.number ≤ self.old.number + 1 }
@@ -446,7 +454,7 @@ impl Unfolder {
         }
     }
 
-    /// Puts the last line into the block: no line follows.
+    /// Adds the last line, if there is one, to the block: no line follows.
     fn finish_last_line(&mut self) -> Result<(), StreamFault>
         ensures number { self.new.number ≡ self.old.number }
         ensures ok { OnOk result (blocks_to_come_with self.old [] ≡ block_then self.new.block.items []) }

@@ -1,3 +1,5 @@
+//! The version line of a text.
+
 ghost use Rattle.std.specs.Prelude.{◌≡◌};
 ghost use Rattle.dir_ldif.specs.Blocks.{version_of};
 

@@ -1,3 +1,5 @@
+//! Whether a change is legal, as each change is that was read.
+
 ghost use Rattle.std.specs.Prelude.{◌&&◌};
 ghost use Rattle.std.specs.List.{list_all};
 ghost use Rattle.dir_ldif.specs.LegalRecords.{Checks, has_key, is_legal, is_legal_kind, is_legal_line, is_legal_mod, is_read_under, is_short, rdn_has_key, superior_has_key};
@@ -10,13 +12,13 @@ use std::alloc::Global;
 
 impl Change {
     /// Whether the change is legal under the schema: its names have keys, its descriptions were read under
-    /// the schema, and its values keep the limit. The first fault in the order of the record's lines is
-    /// answered.
+    /// the schema, and no value is too long. If it is not, the answer is the first fault in the order of the
+    /// record's lines.
     ///
     /// # Errors
     ///
-    /// `ValueTooLong`; `Name` for a name without a key, with `BadDescription` for a description that has
-    /// another key under the schema, and with `Memory` for want of memory.
+    /// `ValueTooLong`; or `Name`: with the fault of a name that has no key, with `BadDescription` for a
+    /// description that has another key under the schema, and with `Memory` when memory runs out.
     pub fn check(&self, alloc: Global, schema: &Schema) -> Result<(), RecordFault>
         ensures { Checks result (is_legal schema.now self.now) }
     {
@@ -77,7 +79,7 @@ fn check_rename(
     }
 }
 
-/// Whether reading the spelling again gives the same description.
+/// Whether the schema gives the description's spelling the same key.
 fn check_description(
     alloc: Global,
     schema: &Schema,

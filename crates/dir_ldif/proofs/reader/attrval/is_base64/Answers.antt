@@ -11,24 +11,24 @@ loop-rest-init c = (refl, λ i. let fits = c.type_inv.text i in omega arith)
 pub returns-then-not-is_whole_piece : goal.returns-then-not-is_whole_piece
 returns-then-not-is_whole_piece c =
     let rest = c.loop-rest.rest.now in
-    let front = c.split_at.result.0.now in
-    let behind = c.split_at.result.1.now in
-    let whole : front ++ behind ≡ rest = rw (c.split_at.ensures.front, c.split_at.ensures.back) (take-append-drop 1024 rest) in
-    let bytes : IsBytes behind = rw c.split_at.ensures.back (drop_bytes 1024 rest c.loop-rest.invariant.1) in
-    let step = c.is_whole_piece.ensures behind bytes (omega arith) in
+    let piece = c.split_at.result.0.now in
+    let after = c.split_at.result.1.now in
+    let whole : piece ++ after ≡ rest = rw (c.split_at.ensures.front, c.split_at.ensures.back) (take-append-drop 1024 rest) in
+    let bytes : IsBytes after = rw c.split_at.ensures.back (drop_bytes 1024 rest c.loop-rest.invariant.1) in
+    let step = c.is_whole_piece.ensures after bytes (omega arith) in
     let not : c.is_whole_piece.result ≡ false = cc in
-    sym (c.loop-rest.invariant.0 ∙ ap is_base64 (sym whole) ∙ step ∙ ap (λ b. b && is_base64 behind) not)
+    sym (c.loop-rest.invariant.0 ∙ ap is_base64 (sym whole) ∙ step ∙ ap (λ b. b && is_base64 after) not)
 
 pub loop-rest-preserved : goal.loop-rest-preserved
 loop-rest-preserved c =
     let rest = c.loop-rest.rest.now in
-    let front = c.split_at.result.0.now in
-    let behind = c.split_at.result.1.now in
-    let whole : front ++ behind ≡ rest = rw (c.split_at.ensures.front, c.split_at.ensures.back) (take-append-drop 1024 rest) in
-    let bytes : IsBytes behind = rw c.split_at.ensures.back (drop_bytes 1024 rest c.loop-rest.invariant.1) in
-    let step = c.is_whole_piece.ensures behind bytes (omega arith) in
+    let piece = c.split_at.result.0.now in
+    let after = c.split_at.result.1.now in
+    let whole : piece ++ after ≡ rest = rw (c.split_at.ensures.front, c.split_at.ensures.back) (take-append-drop 1024 rest) in
+    let bytes : IsBytes after = rw c.split_at.ensures.back (drop_bytes 1024 rest c.loop-rest.invariant.1) in
+    let step = c.is_whole_piece.ensures after bytes (omega arith) in
     let so : c.is_whole_piece.result ≡ true = cc in
-    (c.loop-rest.invariant.0 ∙ ap is_base64 (sym whole) ∙ step ∙ ap (λ b. b && is_base64 behind) so, bytes)
+    (c.loop-rest.invariant.0 ∙ ap is_base64 (sym whole) ∙ step ∙ ap (λ b. b && is_base64 after) so, bytes)
 
 pub returns : goal.returns
 returns c =
