@@ -1,5 +1,5 @@
--- A base64 text in pieces: where its first 1,024 bytes are the text of 768 bytes, it is base64 exactly where the rest is;
--- else it is none.
+-- A base64 text in pieces: if its first 1,024 bytes are the text of 768 bytes, it is base64 exactly if the rest is; if not,
+-- it is not.
 use Rattle.std.proofs.Common.{◌≡◌, ℕ, zero, suc, ◌+◌, ◌-◌, ◌*◌, ◌/◌, ◌%◌, ◌<◌, ◌≤◌, nat_lt, nat_eq, ◌&&◌, Bool, true, false, List, [], ◌∷◌, ◌++◌, length, take, drop, replicate, slice_index, refl, sym, ap, subst, ◌∙◌, arith, inl, inr, ◌⊎◌}
 use Rattle.std.specs.Prelude.{IfErr, IfOk}
 use Rattle.std.proofs.lemmas.List.{take-append-drop, take_at, drop_at, length-append, length-drop, length-take-le, get_or-drop, length-replicate}

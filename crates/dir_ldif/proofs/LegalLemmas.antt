@@ -16,7 +16,7 @@ NameRefutes-weaker BadDn test whole h b = h b
 NameRefutes-weaker NameLimit test whole h b = h b
 NameRefutes-weaker Memory test whole h b = tt
 
--- what blames a part blames the whole
+-- a fault that refutes a part of a test refutes the whole
 pub Refutes-weaker : (f : RecordFault) (test whole : Bool) → (test ≡ false → whole ≡ false) → Refutes f test → Refutes f whole
 Refutes-weaker fault.BadLine test whole h b = b
 Refutes-weaker fault.BadBase64 test whole h b = b

@@ -8,7 +8,7 @@ use Rattle.dir_ldif.specs.LogicalLines.{Line}
 use Rattle.dir_ldif.specs.Blocks.{BlockResult, EndsAtOnce, block_then}
 use Rattle.dir_ldif.specs.Records.{Found, Answer, found_of, answers_on, records_of, all_found, EndsIn}
 
--- the text ends in a fault behind what was found
+-- the text ends in a fault after what was found
 pub ends_in : (fault : StreamFault) (rows : List TypeRow) (text : List ℕ) (found : List Found) (parts : List BlockResult) → records_of rows (text ++ []) ≡ all_found found ++ answers_on rows parts
     → EndsAtOnce fault parts → EndsIn fault rows text
 ends_in LineTooLong rows text found parts inv e =
@@ -20,7 +20,7 @@ ends_in Read rows text found parts inv e = absurd e
 ends_in Ended rows text found parts inv e = absurd e
 ends_in TooManyTurns rows text found parts inv e = absurd e
 
--- a block before other parts
+-- a block before other blocks
 pub answers_on-block_then : (rows : List TypeRow) (block : List Line) (parts : List BlockResult) → is_empty block ≡ false → answers_on rows (block_then block parts) ≡ Ok (found_of rows block) ∷ answers_on rows parts
 answers_on-block_then rows [] parts e = cc
 answers_on-block_then rows (line ∷ lines) parts e = refl

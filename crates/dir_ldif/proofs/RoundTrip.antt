@@ -29,11 +29,11 @@ use Rattle.dir_ldif.specs.LineText.{base64_of, fold_from, folded_line, is_plain,
 use Rattle.dir_ldif.specs.RoundTrip.{ends_name, without_line, records_text, RecordsReadBack}
 use Rattle.dir_ldif.specs.SoundRecords.{AreLegalAndSound, IsSoundKind, IsSoundName, IsSoundRecord, IsSoundSuperior}
 use Rattle.dir_ldif.proofs.BytesLemmas.{true_or_false}
-use Rattle.dir_ldif.proofs.BlocksRead.{Good, AllGood, AllBlocks, texts, block_text, blocks_text, block_reads, blocks_read, first_parts, with_first_line-empty}
-use Rattle.dir_ldif.proofs.RecordReads.{described_back, refused-none, within, value_line_of, mod_value_lines, mod_front, mod_lines, superior_lines, kind_lines, record_lines, record_of-back}
+use Rattle.dir_ldif.proofs.WrittenBlocks.{Good, AllGood, AllBlocks, texts, block_text, blocks_text, block_reads, blocks_read, first_parts, with_first_line-empty}
+use Rattle.dir_ldif.proofs.WrittenRecords.{described_back, refused-none, within, value_line_of, mod_value_lines, mod_front, mod_lines, superior_lines, kind_lines, record_lines, record_of-back}
 use Rattle.dir_ldif.proofs.SoundNames.{name_short, rdn_short}
-use Rattle.dir_ldif.proofs.SpelledLemmas.{IsSpelling, is_spelled, spelled-allowed, spelling_of}
-use Rattle.dir_ldif.proofs.WrittenLemmas.{and_first, and_second, name-end, line-clean, value_spec-tail}
+use Rattle.dir_ldif.proofs.Spellings.{IsSpelling, is_spelled, spelled-allowed, spelling_of}
+use Rattle.dir_ldif.proofs.WrittenLines.{and_first, and_second, name-end, line-clean, value_spec-tail}
 
 -- ---- the text of a record is that of its lines
 

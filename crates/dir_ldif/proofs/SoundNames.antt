@@ -10,7 +10,7 @@ use Rattle.dir_names.specs.Reading.{is_small, name_read, rdn_read}
 use Rattle.dir_names.specs.ValueKeys.{is_ascii}
 use Rattle.dir_names.proofs.ReadNames.{name_ascii, rdn_ascii, name_read_back, rdn_read_back}
 use Rattle.dir_ldif.specs.SoundRecords.{IsSoundName, IsSoundRdn}
-use Rattle.dir_ldif.proofs.WrittenLemmas.{and_first, and_second}
+use Rattle.dir_ldif.proofs.WrittenLines.{and_first, and_second}
 
 ascii_bytes : (xs : List ℕ) → is_ascii xs ≡ true → IsBytes xs
 ascii_bytes [] e i = omega arith

@@ -1,3 +1,5 @@
+//! Reading: texts, their faults and the lines of these, pieces, sources that fail or never end, and long lines.
+
 use super::*;
 use base64::engine::general_purpose::STANDARD;
 use dir_names::{Bytes, Description, Dn, Lines, Schema};
@@ -10,13 +12,13 @@ mod examples;
 mod writing;
 
 /// What a text reads as: the line of each record, and its text or its fault; then what ends the text.
-fn shown(rt: &impl Abort, alloc: Global, text: &[u8]) -> String {
+fn shown_text(rt: &impl Abort, alloc: Global, text: &[u8]) -> String {
     let schema = Schema::builtin(alloc).expect(rt, "a schema");
     let reader = RecordReader::new(alloc, &schema, Script::new(text)).expect(rt, "a reader");
-    shown_records(rt, alloc, reader)
+    shown_answers(rt, alloc, reader)
 }
 
-fn shown_records<R: Source + Drop>(
+fn shown_answers<R: Source + Drop>(
     rt: &impl Abort,
     alloc: Global,
     mut reader: RecordReader<R>,
@@ -84,7 +86,7 @@ fn texts_are_read(rt: HostRuntime) {
         ),
     ] {
         assert_eq!(rt;
-            shown(&rt, alloc, text.as_bytes()).as_str(),
+            shown_text(&rt, alloc, text.as_bytes()).as_str(),
             want,
             "at {text}"
         );
@@ -137,7 +139,7 @@ fn faults_have_their_line(rt: HostRuntime) -> Result<(), Fail> {
             "dn: cn=e,dc=com\nchangetype: add\nnote: x\n\ndn: cn=f,dc=com\nchangetype: add\nnote:: AAE",
             "1 dn: cn=e,dc=com|changetype: add|note: x||;5 L2 BadBase64;",
         ),
-        // The first line at fault decides: its own fault before that of its place, and what is missing at the end.
+        // The first faulty line decides: its own fault comes before that of its place, and a missing line last.
         ("dn: cn=a\nnote:: A\nother:< x\n", "1 L2 BadBase64;"),
         (
             "dn: cn=a\nchangetype: delete\nnote:: A\n",
@@ -151,7 +153,7 @@ fn faults_have_their_line(rt: HostRuntime) -> Result<(), Fail> {
         ("dn: cn=a\nchangetype;x: b\n", "1 L9 N2 ReservedName;"),
     ] {
         assert_eq!(rt;
-            shown(&rt, alloc, text.as_bytes()).as_str(),
+            shown_text(&rt, alloc, text.as_bytes()).as_str(),
             want,
             "at {text}"
         );
@@ -173,7 +175,7 @@ const ALL_SIGNS: [u8; 48] = [
     0xab, 0xb2, 0xdb, 0xaf, 0xc3, 0x1c, 0xb3, 0xd3, 0x5d, 0xb7, 0xe3, 0x9e, 0xbb, 0xf3, 0xdf, 0xbf,
 ];
 
-/// Folded behind 76 bytes.
+/// Folded after 76 bytes.
 const ALL_SIGNS_TEXT: &str =
     "dn: cn=a\ndescription:: ABCDEFGHIJKLMNOPQRSTUVWXYZabcdefghijklmnopqrstuvwxyz0123456789\n +/\n\n";
 
@@ -211,18 +213,18 @@ fn pieces_change_nothing(rt: HostRuntime) -> Result<(), Fail> {
     let alloc = rt.alloc();
     let schema = Schema::builtin(alloc)?;
     let text = FOLDED.as_bytes();
-    assert_eq!(rt; shown(&rt, alloc, text).as_str(), FOLDED_SHOWN);
+    assert_eq!(rt; shown_text(&rt, alloc, text).as_str(), FOLDED_SHOWN);
     let mut whole = String::new(alloc);
     for (line, answer) in read_all(alloc, &schema, text)? {
         show(&rt, alloc, &mut whole, line, answer);
     }
     assert_eq!(rt; whole.as_str(), FOLDED_SHOWN);
     let single = RecordReader::new(alloc, &schema, Script::new(text).pieces(1))?;
-    assert_eq!(rt; shown_records(&rt, alloc, single).as_str(), FOLDED_SHOWN);
+    assert_eq!(rt; shown_answers(&rt, alloc, single).as_str(), FOLDED_SHOWN);
     for at in 1..text.len() {
         let cut = RecordReader::new(alloc, &schema, Script::new(text).first_piece(at))?;
         assert_eq!(rt;
-            shown_records(&rt, alloc, cut).as_str(),
+            shown_answers(&rt, alloc, cut).as_str(),
             FOLDED_SHOWN,
             "cut at {at}"
         );
@@ -236,12 +238,12 @@ fn a_source_ends_or_fails(rt: HostRuntime) -> Result<(), Fail> {
     let schema = Schema::builtin(alloc)?;
     let slow = RecordReader::with_turns(alloc, &schema, Script::new(b"dn: dc=com\n").pieces(1), 3)?;
     assert_eq!(rt;
-        shown_records(&rt, alloc, slow).as_str(),
+        shown_answers(&rt, alloc, slow).as_str(),
         "L14 TooManyTurns;L13 Ended;"
     );
     let failing = RecordReader::new(alloc, &schema, Script::new(b"").failing_from(1))?;
     assert_eq!(rt;
-        shown_records(&rt, alloc, failing).as_str(),
+        shown_answers(&rt, alloc, failing).as_str(),
         "L11 Read;L13 Ended;"
     );
     let later = RecordReader::new(
@@ -250,12 +252,12 @@ fn a_source_ends_or_fails(rt: HostRuntime) -> Result<(), Fail> {
         Script::new(b"dn: dc=com\n\n").failing_from(2),
     )?;
     assert_eq!(rt;
-        shown_records(&rt, alloc, later).as_str(),
+        shown_answers(&rt, alloc, later).as_str(),
         "1 dn: dc=com||;L11 Read;L13 Ended;"
     );
     let empty = RecordReader::with_turns(alloc, &schema, Script::new(b"\n").endless(), 100)?;
     assert_eq!(rt;
-        shown_records(&rt, alloc, empty).as_str(),
+        shown_answers(&rt, alloc, empty).as_str(),
         "L14 TooManyTurns;L13 Ended;"
     );
     Ok(())
@@ -277,7 +279,7 @@ fn a_long_line_ends_the_text(rt: HostRuntime) -> Result<(), Fail> {
     let block = vec![in alloc; b'a'; 8192]?;
     let long = RecordReader::new(alloc, &schema, Script::new(block.as_slice()).endless())?;
     assert_eq!(rt;
-        shown_records(&rt, alloc, long).as_str(),
+        shown_answers(&rt, alloc, long).as_str(),
         "L10 LineTooLong;L13 Ended;"
     );
     for (length, want) in [

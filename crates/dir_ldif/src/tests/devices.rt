@@ -1,9 +1,11 @@
+//! The devices: over lent bytes, over std's readers and writers, and lent themselves.
+
 use super::*;
 use std::io::{self, ErrorKind, Read, Write};
 
-/// What a source gives in some calls, with room for so many bytes in each: the pieces, each behind a `|`, and `!` for
-/// a fault.
-fn given<S: Source>(
+/// What a source gives in some calls, with room for so many bytes in each: each piece after a `|`, and `!` for a
+/// fault.
+fn bytes_given<S: Source>(
     rt: &impl Abort,
     alloc: Global,
     source: &mut S,
@@ -40,7 +42,7 @@ fn scripts_give_pieces(rt: HostRuntime) {
         (Script::new(b""), b"||||"),
         (Script::new(b"").endless(), b"||||"),
     ] {
-        let found = given(&rt, alloc, &mut script, &mut room, 4);
+        let found = bytes_given(&rt, alloc, &mut script, &mut room, 4);
         assert_eq!(rt; found.as_slice(), want);
     }
 }
@@ -112,9 +114,9 @@ fn readers_and_writers_of_the_standard_library_are_devices(rt: HostRuntime) -> R
     let alloc = rt.alloc();
     let mut room = [0u8; 4];
     let mut reader = Reader::new(b"abcdef".as_slice());
-    let found = given(&rt, alloc, &mut reader, &mut room, 3);
+    let found = bytes_given(&rt, alloc, &mut reader, &mut room, 3);
     assert_eq!(rt; found.as_slice(), b"|abcd|ef|".as_slice());
-    let found = given(&rt, alloc, &mut Reader::new(Broken), &mut room, 2);
+    let found = bytes_given(&rt, alloc, &mut Reader::new(Broken), &mut room, 2);
     assert_eq!(rt; found.as_slice(), b"!!".as_slice());
 
     let mut taken = Vec::new(alloc);
@@ -169,7 +171,7 @@ fn a_record_comes_before_the_next_read(rt: HostRuntime) -> Result<(), Fail> {
     assert_eq!(rt; reader.into_source().calls, 1);
     let reader = RecordReader::new(alloc, &schema, Script::new(text).failing_from(2))?;
     assert_eq!(rt;
-        shown_records(&rt, alloc, reader).as_str(),
+        shown_answers(&rt, alloc, reader).as_str(),
         "1 dn: dc=com||;L11 Read;L13 Ended;"
     );
     Ok(())
@@ -209,7 +211,7 @@ fn endless_texts_without_a_record_use_up_the_read_calls(rt: HostRuntime) -> Resu
         let source = Script::new(piece).endless();
         let reader = RecordReader::with_turns(alloc, &schema, source, 100)?;
         assert_eq!(rt;
-            shown_records(&rt, alloc, reader).as_str(),
+            shown_answers(&rt, alloc, reader).as_str(),
             "L14 TooManyTurns;L13 Ended;"
         );
     }

@@ -1,5 +1,5 @@
-//! The examples of RFC 2849 (the second entry with language tags without its comments), each with the records that it
-//! has: the line of a record behind a `#`, and its text or its fault.
+//! The examples of RFC 2849 (the second entry with language tags without its comments), each with its records: the
+//! line of each record, after a `#`, and its text or its fault.
 
 use super::*;
 
@@ -319,7 +319,7 @@ control: 1.2.840.113556.1.4.805 true
 changetype: delete
 ";
 
-/// The records of a text: the line of each behind a `#`, and its text or its fault.
+/// The records of a text: the line of each, after a `#`, and its text or its fault.
 fn records_text(rt: &impl Abort, alloc: Global, text: &str) -> String {
     let schema = Schema::builtin(alloc).expect(rt, "a schema");
     let answers = read_all(alloc, &schema, text.as_bytes()).expect(rt, "records");

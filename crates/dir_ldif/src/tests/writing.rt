@@ -1,8 +1,10 @@
+//! Writing, and checking what is written.
+
 use super::*;
 use dir_names::{NameFault, Rdn, Texts};
 
 /// A text whose LF are written as `|`.
-fn unfolded(rt: &impl Abort, alloc: Global, text: &str) -> String {
+fn with_line_feeds(rt: &impl Abort, alloc: Global, text: &str) -> String {
     text.replace(alloc, "|", "\n").expect(rt, "memory")
 }
 
@@ -18,7 +20,7 @@ fn the_text_of_a_record_reads_back(rt: HostRuntime) -> Result<(), Fail> {
         "dn: dc=b,dc=com|changetype: modrdn|newrdn: dc=a|deleteoldrdn: 1||",
         "dn: ou=Team,ou=B,dc=com|changetype: modrdn|newrdn: ou=Team|deleteoldrdn: 1|newsuperior: ou=A,dc=com||",
     ] {
-        let text = unfolded(&rt, alloc, text);
+        let text = with_line_feeds(&rt, alloc, text);
         let answers = read_all(alloc, &schema, text.as_bytes())?;
         assert_eq!(rt; answers.len(), 1);
         let (1, Ok(record)) = &answers[0] else {

@@ -1,6 +1,6 @@
 use Rattle.std.proofs.Common.{◌∙◌}
 use Rattle.std.proofs.lemmas.Result.{on_ok_weaker}
-use Rattle.dir_ldif.proofs.TextLemmas.{folded_whole}
+use Rattle.dir_ldif.proofs.FoldLemmas.{folded_whole}
 use Rattle.dir_ldif.specs.LineText.{value_spec}
 use Rattle.dir_ldif.proofs.writer.push_line.Goals as goal
 

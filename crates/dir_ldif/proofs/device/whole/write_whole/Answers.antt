@@ -1,5 +1,5 @@
 use Rattle.std.proofs.Common.{◌++◌, drop, sym, ap, ◌∙◌}
-use Rattle.dir_ldif.proofs.WholeLemmas.{front_of, front_kept, front_grown}
+use Rattle.dir_ldif.proofs.WriteWholeLemmas.{front_of, front_kept, front_grown}
 use Rattle.dir_ldif.proofs.device.whole.write_whole.Goals as goal
 
 pub returns-then-n-eq0-clause-prefix : goal.returns-then-n-eq0-clause-prefix

@@ -1,7 +1,7 @@
 use Rattle.std.proofs.Common.{◌≡◌, ap, ◌∙◌}
 use Rattle.dir_ldif.specs.Records.{found_of}
-use Rattle.dir_ldif.proofs.NextLemmas.{next_faults}
-use Rattle.dir_ldif.proofs.SoonLemmas.{answer_used, ends_soon}
+use Rattle.dir_ldif.proofs.AnswerLemmas.{next_faults}
+use Rattle.dir_ldif.proofs.LongLineSoon.{answer_used, ends_soon}
 use Rattle.dir_ldif.proofs.reader.Core.next_answer.Goals as goal
 
 pub returns-in-Err-clause-err : goal.returns-in-Err-clause-err

@@ -2,9 +2,9 @@ use Rattle.std.proofs.Common.{◌≡◌, ℕ, ◌<◌, Ok, List, ◌++◌, lengt
 use Rattle.dir_ldif.specs.Reader.Unfolding.{blocks_to_come}
 use Rattle.dir_ldif.specs.Reader.Answers.{blocks_left, hand}
 use Rattle.dir_ldif.specs.Inside.Reader.{FailsToRead}
-use Rattle.dir_ldif.proofs.ReadingLemmas.{more_read}
-use Rattle.dir_ldif.proofs.StopsLemmas.{Consumes-none, hand_stops, read_stops}
-use Rattle.dir_ldif.proofs.SoonLemmas.{length_hand, takes_piece, hand_soon, end_soon, any_err, block_used}
+use Rattle.dir_ldif.proofs.HandLemmas.{more_read}
+use Rattle.dir_ldif.proofs.WhyStopped.{Consumes-none, hand_stops, read_stops}
+use Rattle.dir_ldif.proofs.LongLineSoon.{length_hand, takes_piece, hand_soon, end_soon, any_err, block_used}
 use Rattle.dir_ldif.proofs.reader.Core.next_block.Goals as goal
 
 pub returns-in-Err-clause-err : goal.returns-in-Err-clause-err

@@ -2,7 +2,7 @@ use Rattle.std.proofs.Common.{◌≡◌, ◌+◌, ◌*◌, ◌++◌, ◌≤◌, 
 use Rattle.std.specs.Io.KnownBytes.{Consumes}
 use Rattle.dir_ldif.specs.declared.reader.Place.TheVariants.{Reading}
 use Rattle.dir_ldif.specs.Reader.Answers.{blocks_left, bytes_ahead}
-use Rattle.dir_ldif.proofs.SoonLemmas.{Takes}
+use Rattle.dir_ldif.proofs.LongLineSoon.{Takes}
 use Rattle.dir_ldif.proofs.reader.Core.next_block.Given as goal
 
 abbrev pub invariant-loop-block : goal.invariant-loop-block

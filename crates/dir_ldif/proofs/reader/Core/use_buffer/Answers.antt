@@ -1,5 +1,5 @@
 use Rattle.std.proofs.Common.{arith}
-use Rattle.dir_ldif.proofs.ReadingLemmas.{hand_found, hand_used}
+use Rattle.dir_ldif.proofs.HandLemmas.{hand_found, hand_used}
 use Rattle.dir_ldif.proofs.reader.Core.use_buffer.Goals as goal
 
 pub returns-in-Ok-Some-clause-ok : goal.returns-in-Ok-Some-clause-ok

@@ -1,6 +1,6 @@
 use Rattle.std.proofs.Common.{sym, subst, ◌∙◌}
 use Rattle.dir_ldif.specs.Inside.Refusals.{Refuses}
-use Rattle.dir_ldif.proofs.PartLemmas.{attrval_of-none, attrval_of-cut, attrval_from-nameless, attrval_from-value, attrval_from-refuses}
+use Rattle.dir_ldif.proofs.AttrValLemmas.{attrval_of-none, attrval_of-cut, attrval_from-nameless, attrval_from-value, attrval_from-refuses}
 use Rattle.dir_ldif.specs.Inside.Values.{bytes_of}
 use Rattle.dir_ldif.proofs.reader.attrval.attrval_of.Goals as goal
 

@@ -1,6 +1,6 @@
 use Rattle.std.proofs.Common.{◌∙◌}
 use Rattle.dir_ldif.specs.AttrVal.{is_nul_or_cr}
-use Rattle.dir_ldif.proofs.PartLemmas.{is_some-first}
+use Rattle.dir_ldif.proofs.AttrValLemmas.{is_some-first}
 use Rattle.dir_ldif.proofs.reader.attrval.has_nul_or_cr.Goals as goal
 
 pub returns : goal.returns

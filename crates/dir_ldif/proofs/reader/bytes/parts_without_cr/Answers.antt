@@ -1,5 +1,5 @@
 use Rattle.std.proofs.Common.{◌++◌, ap, ◌∙◌}
-use Rattle.dir_ldif.proofs.PartialLemmas.{part_text}
+use Rattle.dir_ldif.proofs.PartialLines.{part_text}
 use Rattle.dir_ldif.proofs.reader.bytes.parts_without_cr.Goals as goal
 
 pub returns-else-is_empty-2-clause-text : goal.returns-else-is_empty-2-clause-text

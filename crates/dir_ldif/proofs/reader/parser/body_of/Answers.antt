@@ -5,7 +5,7 @@ use Rattle.dir_names.specs.Results.{Meets, and_then}
 use Rattle.dir_ldif.specs.Inside.Refusals.{Refuses}
 use Rattle.dir_ldif.specs.AttrVal.{attrval_of}
 use Rattle.dir_ldif.specs.Inside.Values.{bytes_of}
-use Rattle.dir_ldif.proofs.BlockLemmas.{body_of-change}
+use Rattle.dir_ldif.proofs.GrammarLemmas.{body_of-change}
 use Rattle.dir_ldif.proofs.reader.parser.body_of.Goals as goal
 
 pub returns-then-is_word-2-clause-read : goal.returns-then-is_word-2-clause-read

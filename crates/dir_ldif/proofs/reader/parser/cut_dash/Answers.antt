@@ -2,7 +2,7 @@ use Rattle.std.proofs.Common.{◌+◌, take, ◌∷◌, sym, ap, ◌∙◌}
 use Rattle.std.proofs.lemmas.List.{take_rest}
 use Rattle.dir_ldif.specs.RecordGrammar.{is_dash}
 use Rattle.dir_ldif.specs.LogicalLines.{cut}
-use Rattle.dir_ldif.proofs.BlockLemmas.{cut_at_index, cut_whole}
+use Rattle.dir_ldif.proofs.GrammarLemmas.{cut_at_index, cut_whole}
 use Rattle.dir_ldif.proofs.reader.parser.cut_dash.Goals as goal
 
 pub returns-then-is_dash-clause-cut : goal.returns-then-is_dash-clause-cut

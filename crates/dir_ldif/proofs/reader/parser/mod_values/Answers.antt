@@ -1,8 +1,8 @@
 use Rattle.std.proofs.Common.{◌≡◌, ◌+◌, drop, sym, subst}
 use Rattle.dir_ldif.specs.RecordGrammar.{mod_value, try_map}
 use Rattle.dir_ldif.specs.SoundRecords.{AreBytes}
-use Rattle.dir_ldif.proofs.BlockLemmas.{try_map-turn, after_prefix}
-use Rattle.dir_ldif.proofs.SoundRecords.{values_more}
+use Rattle.dir_ldif.proofs.GrammarLemmas.{try_map-turn, after_prefix}
+use Rattle.dir_ldif.proofs.ReadIsSound.{values_more}
 use Rattle.dir_ldif.proofs.reader.parser.mod_values.Goals as goal
 
 pub loop-line-preserved : goal.loop-line-preserved

@@ -1,7 +1,7 @@
 use Rattle.std.proofs.Common.{◌≡◌, drop}
 use Rattle.dir_ldif.specs.RecordGrammar.{mod_value, try_map}
 use Rattle.dir_ldif.specs.SoundRecords.{AreBytes}
-use Rattle.dir_ldif.proofs.BlockLemmas.{after_prefix}
+use Rattle.dir_ldif.proofs.GrammarLemmas.{after_prefix}
 use Rattle.dir_ldif.proofs.reader.parser.mod_values.Given as goal
 
 abbrev pub invariant-loop-line : goal.invariant-loop-line

@@ -2,8 +2,8 @@ use Rattle.std.proofs.Common.{◌≡◌, sym, ap, subst, ◌∙◌}
 use Rattle.dir_ldif.specs.RecordGrammar.{is_dash, mod_of, mods_of, try_map}
 use Rattle.dir_ldif.specs.LogicalLines.{cut}
 use Rattle.dir_ldif.specs.SoundRecords.{ModsAreBytes}
-use Rattle.dir_ldif.proofs.BlockLemmas.{try_map-next, after_prefix}
-use Rattle.dir_ldif.proofs.SoundRecords.{mods_more}
+use Rattle.dir_ldif.proofs.GrammarLemmas.{try_map-next, after_prefix}
+use Rattle.dir_ldif.proofs.ReadIsSound.{mods_more}
 use Rattle.dir_ldif.proofs.reader.parser.mods_of.Goals as goal
 
 pub loop-rest-preserved : goal.loop-rest-preserved

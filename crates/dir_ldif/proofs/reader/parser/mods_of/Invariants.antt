@@ -2,7 +2,7 @@ use Rattle.std.proofs.Common.{◌≡◌, length}
 use Rattle.dir_ldif.specs.RecordGrammar.{is_dash, mod_of, mods_of, try_map}
 use Rattle.dir_ldif.specs.LogicalLines.{cut}
 use Rattle.dir_ldif.specs.SoundRecords.{ModsAreBytes}
-use Rattle.dir_ldif.proofs.BlockLemmas.{after_prefix}
+use Rattle.dir_ldif.proofs.GrammarLemmas.{after_prefix}
 use Rattle.dir_ldif.proofs.reader.parser.mods_of.Given as goal
 
 abbrev pub invariant-loop-rest : goal.invariant-loop-rest

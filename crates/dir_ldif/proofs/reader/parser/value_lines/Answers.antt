@@ -1,8 +1,8 @@
 use Rattle.std.proofs.Common.{◌≡◌, ◌+◌, drop, sym, subst}
 use Rattle.dir_ldif.specs.RecordGrammar.{try_map, value_line, value_lines}
 use Rattle.dir_ldif.specs.SoundRecords.{ValuesAreBytes}
-use Rattle.dir_ldif.proofs.BlockLemmas.{try_map-turn, after_prefix}
-use Rattle.dir_ldif.proofs.SoundRecords.{lines_more}
+use Rattle.dir_ldif.proofs.GrammarLemmas.{try_map-turn, after_prefix}
+use Rattle.dir_ldif.proofs.ReadIsSound.{lines_more}
 use Rattle.dir_ldif.proofs.reader.parser.value_lines.Goals as goal
 
 pub loop-line-preserved : goal.loop-line-preserved

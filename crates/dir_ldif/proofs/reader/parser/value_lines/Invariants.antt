@@ -1,7 +1,7 @@
 use Rattle.std.proofs.Common.{◌≡◌, drop}
 use Rattle.dir_ldif.specs.RecordGrammar.{try_map, value_line, value_lines}
 use Rattle.dir_ldif.specs.SoundRecords.{ValuesAreBytes}
-use Rattle.dir_ldif.proofs.BlockLemmas.{after_prefix}
+use Rattle.dir_ldif.proofs.GrammarLemmas.{after_prefix}
 use Rattle.dir_ldif.proofs.reader.parser.value_lines.Given as goal
 
 abbrev pub invariant-loop-line : goal.invariant-loop-line

@@ -2,7 +2,7 @@ use Rattle.std.proofs.Common.{◌≡◌, ℕ, ◌+◌, ◌-◌, List, ◌++◌, 
 use Rattle.std.proofs.lemmas.List.{take-append-drop, take_at, drop-drop, length-drop, length-take}
 use Rattle.dir_ldif.proofs.device.script.Script.give.Goals as goal
 
--- what was copied to the front of the buffer is the next piece
+-- what was copied to the start of the buffer is the next piece
 next_piece : (bytes part rest : List ℕ) (at n : ℕ) → part ≡ take n (drop at bytes) → length part ≡ n
     → drop at bytes ≡ take n (part ++ rest) ++ drop (at + n) bytes
 next_piece bytes part rest at n e k =

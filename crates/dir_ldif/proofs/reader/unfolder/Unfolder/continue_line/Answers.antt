@@ -3,7 +3,7 @@ use Rattle.dir_ldif.specs.Bytes.{begins_with}
 use Rattle.dir_ldif.specs.LogicalLines.{Line, logical_lines}
 use Rattle.dir_ldif.specs.Blocks.{blocks_from}
 use Rattle.dir_ldif.proofs.BytesLemmas.{begins_with-append}
-use Rattle.dir_ldif.proofs.LinesLemmas.{logical_lines-continued, TakesLine-same, some_of_begins, some_of_kept_line}
+use Rattle.dir_ldif.proofs.LogicalLineLemmas.{logical_lines-continued, TakesLine-same, some_of_begins, some_of_kept_line}
 use Rattle.dir_ldif.proofs.reader.unfolder.Unfolder.continue_line.Goals as goal
 
 pub returns-clause-joins : goal.returns-clause-joins

@@ -1,5 +1,5 @@
 use Rattle.std.proofs.lemmas.Result.{on_ok_weaker}
-use Rattle.dir_ldif.proofs.JoinerLemmas.{closed_end}
+use Rattle.dir_ldif.proofs.UnfolderLemmas.{closed_end}
 use Rattle.dir_ldif.proofs.reader.unfolder.Unfolder.finish_last_line.Goals as goal
 
 pub returns-in-Some-clause-ok : goal.returns-in-Some-clause-ok

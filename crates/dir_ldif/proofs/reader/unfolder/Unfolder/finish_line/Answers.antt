@@ -1,5 +1,5 @@
 use Rattle.std.proofs.Common.{ap, ◌∙◌}
-use Rattle.dir_ldif.proofs.JoinerLemmas.{line_goes_on, line_Ends, line_ends_block}
+use Rattle.dir_ldif.proofs.UnfolderLemmas.{line_goes_on, line_Ends, line_ends_block}
 use Rattle.dir_ldif.proofs.reader.unfolder.Unfolder.finish_line.Goals as goal
 
 pub returns-in-Ok-true-clause-ok : goal.returns-in-Ok-true-clause-ok

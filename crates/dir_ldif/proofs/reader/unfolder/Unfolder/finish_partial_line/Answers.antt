@@ -1,4 +1,4 @@
-use Rattle.dir_ldif.proofs.JoinerLemmas.{ended_text, ended_text_Ends, some_of_count}
+use Rattle.dir_ldif.proofs.UnfolderLemmas.{ended_text, ended_text_Ends, some_of_count}
 use Rattle.dir_ldif.proofs.reader.unfolder.Unfolder.finish_partial_line.Goals as goal
 
 pub returns-in-Ok-clause-ok : goal.returns-in-Ok-clause-ok

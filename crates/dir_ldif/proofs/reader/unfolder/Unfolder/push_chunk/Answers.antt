@@ -2,7 +2,7 @@ use Rattle.std.proofs.Common.{◌++◌, ap, sym, subst, ◌∙◌, arith}
 use Rattle.dir_ldif.specs.Reader.Unfolding.{blocks_to_come}
 use Rattle.dir_ldif.specs.Blocks.{EndsAtOnce}
 use Rattle.dir_ldif.proofs.BytesLemmas.{cut_at-text, cut_at-lacks}
-use Rattle.dir_ldif.proofs.JoinerLemmas.{piece_first, length-piece, front_more}
+use Rattle.dir_ldif.proofs.UnfolderLemmas.{piece_first, length-piece, front_more}
 use Rattle.dir_ldif.proofs.reader.unfolder.Unfolder.push_chunk.Goals as goal
 
 pub finish_line-requires-clause-line : goal.finish_line-requires-clause-line

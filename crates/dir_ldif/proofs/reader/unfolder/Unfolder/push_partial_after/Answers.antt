@@ -3,8 +3,8 @@ use Rattle.std.proofs.lemmas.Result.{on_ok_weaker, IfErr-weaker}
 use Rattle.dir_ldif.specs.Bytes.{begins_with, without_last}
 use Rattle.dir_ldif.specs.Blocks.{EndsAtOnce}
 use Rattle.dir_ldif.proofs.BytesLemmas.{begins_with-append}
-use Rattle.dir_ldif.proofs.LinesLemmas.{some_of_begins}
-use Rattle.dir_ldif.proofs.PartialLemmas.{apart_Ends, closed_before, grown_Ends, grown_to_come}
+use Rattle.dir_ldif.proofs.LogicalLineLemmas.{some_of_begins}
+use Rattle.dir_ldif.proofs.PartialLines.{apart_Ends, closed_before, grown_Ends, grown_to_come}
 use Rattle.dir_ldif.proofs.reader.unfolder.Unfolder.push_partial_after.Goals as goal
 
 pub returns-then-begins_with_space-clause-ok : goal.returns-then-begins_with_space-clause-ok

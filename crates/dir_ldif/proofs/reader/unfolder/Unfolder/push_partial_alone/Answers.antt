@@ -1,6 +1,6 @@
 use Rattle.std.proofs.Common.{◌≡◌, ◌++◌, ◌<◌, ap, length, subst, ◌∙◌}
 use Rattle.dir_ldif.specs.Bytes.{without_last}
-use Rattle.dir_ldif.proofs.LinesLemmas.{long_alone}
+use Rattle.dir_ldif.proofs.LogicalLineLemmas.{long_alone}
 use Rattle.dir_ldif.proofs.reader.unfolder.Unfolder.push_partial_alone.Goals as goal
 
 pub returns-then-without_cr-gt-MAX_LINE-clause-err : goal.returns-then-without_cr-gt-MAX_LINE-clause-err

@@ -1,7 +1,7 @@
 use Rattle.std.proofs.Common.{sym, subst}
 use Rattle.std.proofs.lemmas.Result.{IfErr-weaker}
 use Rattle.dir_ldif.specs.Blocks.{EndsAtOnce}
-use Rattle.dir_ldif.proofs.PartialLemmas.{rest_none, rest_some}
+use Rattle.dir_ldif.proofs.PartialLines.{rest_none, rest_some}
 use Rattle.dir_ldif.proofs.reader.unfolder.Unfolder.push_partial_line.Goals as goal
 
 pub returns-in-Some-clause-err : goal.returns-in-Some-clause-err

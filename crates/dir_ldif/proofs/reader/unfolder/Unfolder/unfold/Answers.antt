@@ -1,6 +1,6 @@
 use Rattle.std.proofs.Common.{◌≡◌, ◌++◌, false, ap, ◌∙◌}
 use Rattle.dir_ldif.specs.Bytes.{begins_with, without_last}
-use Rattle.dir_ldif.proofs.LinesLemmas.{EndsAtOnce-apart, TakesLine-continued}
+use Rattle.dir_ldif.proofs.LogicalLineLemmas.{EndsAtOnce-apart, TakesLine-continued}
 use Rattle.dir_ldif.proofs.reader.unfolder.Unfolder.unfold.Goals as goal
 
 pub returns-then-begins_with_space-clause-joins : goal.returns-then-begins_with_space-clause-joins

@@ -12,8 +12,8 @@ use Rattle.dir_ldif.specs.Blocks.{EndsAtOnce, blocks_from}
 use Rattle.dir_ldif.specs.Reader.Unfolding.{blocks_to_come}
 use Rattle.dir_ldif.specs.Inside.Bounds.{may_be_continued}
 use Rattle.dir_ldif.proofs.BytesLemmas.{true_or_false, without_last-behind}
-use Rattle.dir_ldif.proofs.LinesLemmas.{logical_lines-apart, logical_lines-continued, partial_first, blocks_from-long, some_of_kept_line}
-use Rattle.dir_ldif.proofs.ShortLemmas.{neither}
+use Rattle.dir_ldif.proofs.LogicalLineLemmas.{logical_lines-apart, logical_lines-continued, partial_first, blocks_from-long, some_of_kept_line}
+use Rattle.dir_ldif.proofs.NoLongLine.{neither}
 
 -- ---- two parts without a final CR
 
@@ -49,7 +49,7 @@ one_cr (x ∷ y ∷ ys) =
     (λ (e : y ∷ ys ≡ without_last 13 (y ∷ ys) ++ 13 ∷ []). inr (ap (λ t. x ∷ t) e))
     (one_cr (y ∷ ys))
 
--- more text leaves the front as it is
+-- more text leaves the prefix as it is
 front_stays : (xs ys : List ℕ) → (rest : List ℕ) × (without_last 13 (xs ++ ys) ≡ without_last 13 xs ++ rest)
 front_stays xs [] = ([], ap (without_last 13) (append-nil xs) ∙ sym (append-nil (without_last 13 xs)))
 front_stays xs (y ∷ ys) =
@@ -87,7 +87,7 @@ cut_over x (z ∷ zs) ys e =
 
 -- ---- a line that grows by what continues it
 
--- behind a space, the front of a physical line may go over to the line before
+-- after a space, the first part of a physical line may go over to the line before
 rest_behind : (front rest : List ℕ) → (rest ≡ [] → without_last 13 (32 ∷ front) ≡ 32 ∷ front)
     → drop 1 (without_last 13 (32 ∷ (front ++ rest))) ≡ front ++ drop 1 (without_last 13 (32 ∷ rest))
 rest_behind front [] h = ap (λ t. drop 1 (without_last 13 (32 ∷ t))) (append-nil front) ∙ ap (drop 1) (h refl) ∙ sym (append-nil front)
@@ -112,7 +112,7 @@ module _ (begun : Bool) (block : List Line) (last : Line) (n : ℕ) where
       let same : last.1 ++ drop 1 long ≡ (last.1 ++ front) ++ drop 1 short = ap (λ t. last.1 ++ t) (rest_behind front p h) ∙ sym (append_assoc last.1 front (drop 1 short)) in
       ap (blocks_from begun block) (one ∙ ap (λ t. logical_lines ((last.0, t) ∷ ps)) same ∙ sym two)
 
-  -- the whole line is the front and what is held back
+  -- the whole line is its first part and what is held back
   grows_by : (line front held text : List ℕ) → is_empty last.1 ≡ false → list_any is_lf line ≡ false → line ≡ (32 ∷ front) ++ held → (first_piece (cut is_lf (held ++ text)) ≡ [] → without_last 13 (32 ∷ front) ≡ 32 ∷ front)
       → blocks_from begun block (logical_lines (last ∷ physical_lines n (cut is_lf (line ++ text)))) ≡ blocks_from begun block (logical_lines ((last.0, last.1 ++ front) ∷ physical_lines n (cut is_lf (32 ∷ (held ++ text)))))
   grows_by line front held text some lacks e h =
@@ -207,7 +207,7 @@ pub apart_Ends : (fault : StreamFault) (begun : Bool) (block : List Line) (last 
 apart_Ends fault begun block last n line lacks some space h text =
     subst (λ t. EndsAtOnce fault (blocks_from begun block t)) (sym (apart_behind last n line text lacks some space)) (h (logical_lines (physical_lines n (cut is_lf (line ++ text)))))
 
--- ---- a piece behind what is in hand
+-- ---- a chunk after what is in hand
 
 pub rest_some : (j : Unfolder) (last : Line) (front piece : List ℕ) → j.last ≡ Some last → front ≡ j.partial.items
     → (text : List ℕ) → blocks_to_come j (piece ++ text) ≡ blocks_from j.begun j.block.items (logical_lines (last ∷ physical_lines j.number (cut is_lf ((front ++ piece) ++ text))))

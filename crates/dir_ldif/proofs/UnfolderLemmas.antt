@@ -1,4 +1,4 @@
--- Lemmas on what a joiner has still to give.
+-- Lemmas on the blocks that an unfolder has still to give.
 use Rattle.std.proofs.Common.{◌≡◌, ℕ, ◌+◌, Bool, true, false, eqb, ◌≤◌, List, [], ◌∷◌, ◌++◌, length, refl, sym, ap, subst, ◌∙◌, Option, None, Some, Result, Ok, MatchOption, append_assoc, length-append, arith}
 use Rattle.std.specs.List.{list_any}
 use Rattle.dir_ldif.specs.declared.faults.StreamFault.{StreamFault}
@@ -9,9 +9,9 @@ use Rattle.dir_ldif.specs.Blocks.{BlockResult, EndsAtOnce, block_then, blocks_fr
 use Rattle.dir_ldif.specs.Reader.Unfolding.{blocks_to_come, blocks_to_come_with, lines_after}
 use Rattle.dir_ldif.specs.Inside.Unfolder.{TakesLine, blocks_after_block}
 use Rattle.dir_ldif.proofs.BytesLemmas.{cut_at-text}
-use Rattle.dir_ldif.proofs.LinesLemmas.{line_first, line_alone}
+use Rattle.dir_ldif.proofs.LogicalLineLemmas.{line_first, line_alone}
 
--- the last line is closed, and none follows
+-- the last line is complete, and none follows
 pub closed_end : (begun begun' : Bool) (block block' : List Line) (o : Option Line) (last : Line) → o ≡ Some last
     → ((more : List Line) → blocks_from begun block (last ∷ more) ≡ blocks_from begun' block' more) → blocks_from begun block (lines_after o []) ≡ block_then block' []
 closed_end begun begun' block block' o last is h = rw is (h [])
@@ -73,7 +73,7 @@ line_ends_block items j k m line r o p q n f is h g =
     let ends : TakesLine (λ more. blocks_to_come_with j ((j.number, without_last 13 (j.partial.items ++ line)) ∷ more)) (Ok true) k = rw is at h in
     ends_block items j k m line o p q n f ends g
 
--- ---- a piece and the text behind it
+-- ---- a chunk and the text after it
 
 pub piece_first : (rest text after : List ℕ) → Some (text, after) ≡ cut_at 10 rest → (more : List ℕ) → rest ++ more ≡ text ++ 10 ∷ (after ++ more)
 piece_first rest text after e more = ap (λ t. t ++ more) (cut_at-text 10 rest text after e).0 ∙ append_assoc text (10 ∷ after) more
@@ -81,7 +81,7 @@ piece_first rest text after e more = ap (λ t. t ++ more) (cut_at-text 10 rest t
 pub length-piece : (rest text after : List ℕ) → Some (text, after) ≡ cut_at 10 rest → length after + 1 ≤ length rest
 length-piece rest text after e = omega (arith, ap length (cut_at-text 10 rest text after e).0, length-append text (10 ∷ after))
 
--- what is left of a piece stays its end, and the front was taken
+-- what is left of a chunk is its end, and the prefix before it was taken
 pub front_more : (j k : Unfolder) (piece rest line after : List ℕ) → Some (line, after) ≡ cut_at 10 rest → (front : List ℕ) × (piece ≡ front ++ rest) × ((text : List ℕ) → blocks_to_come j (front ++ text) ≡ blocks_to_come k text)
     → (parts : List ℕ → List BlockResult) → ((text : List ℕ) → blocks_to_come k (line ++ 10 ∷ text) ≡ parts text)
     → (front : List ℕ) × (piece ≡ front ++ after) × ((text : List ℕ) → blocks_to_come j (front ++ text) ≡ parts text)

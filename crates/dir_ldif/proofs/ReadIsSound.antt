@@ -9,7 +9,7 @@ use Rattle.dir_names.specs.Sound.{is_rdn}
 use Rattle.dir_names.proofs.SoundLemmas.{bytes_from_fits, sound_name}
 use Rattle.dir_ldif.specs.declared.records.Mod.{Mod}
 use Rattle.dir_ldif.specs.SoundRecords.{AreBytes, IsSoundName, IsSoundRdn, ModsAreBytes, ValuesAreBytes}
-use Rattle.dir_ldif.proofs.WrittenLemmas.{and_first}
+use Rattle.dir_ldif.proofs.WrittenLines.{and_first}
 
 -- ---- names
 

@@ -12,9 +12,9 @@ use Rattle.dir_ldif.specs.Inside.Bounds.{has_room, may_be_continued}
 use Rattle.dir_ldif.specs.Blocks.{BlockResult, block_then, by_version, blocks_from, version_of}
 use Rattle.dir_ldif.specs.Reader.Unfolding.{blocks_to_come, lines_after}
 use Rattle.dir_ldif.proofs.BytesLemmas.{true_or_false}
-use Rattle.dir_ldif.proofs.LinesLemmas.{line_alone, not_second}
+use Rattle.dir_ldif.proofs.LogicalLineLemmas.{line_alone, not_second}
 
--- the parts are not the fault alone
+-- the blocks are not the fault alone
 abbrev Goes : List BlockResult → Type 0
 Goes parts = parts ≡ Err LineTooLong ∷ [] → ⊥
 
@@ -66,7 +66,7 @@ pub length-drop_space : (text : List ℕ) → begins_with 32 text ≡ true → l
 length-drop_space [] e = cc
 length-drop_space (x ∷ xs) e = omega arith
 
--- the last line and a physical line behind it
+-- the last line and a physical line after it
 continued_short : (k n a : ℕ) (tail next : List ℕ) → begins_with 32 next ≡ true → length (a ∷ tail) + length next ≤ 2097153
     → list_any is_long (logical_lines ((k, a ∷ tail) ∷ (n, next) ∷ [])) ≡ false
 continued_short k n a tail next space room =

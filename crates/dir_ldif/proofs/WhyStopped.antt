@@ -12,7 +12,7 @@ use Rattle.dir_ldif.specs.Blocks.{EndsAtOnce}
 use Rattle.dir_ldif.specs.Reader.Unfolding.{blocks_to_come}
 use Rattle.dir_ldif.specs.Inside.Reader.{Stops, MayFail}
 use Rattle.dir_ldif.specs.Reader.Answers.{blocks_left, hand}
-use Rattle.dir_ldif.proofs.SettledLemmas.{may_fail}
+use Rattle.dir_ldif.proofs.IncompleteBlocks.{may_fail}
 
 -- nothing was read beside
 pub Consumes-none : (a b c : Option (List ℕ)) (bytes piece : List ℕ) → Consumes a b bytes → Consumes b c piece → piece ≡ [] → Consumes a c bytes

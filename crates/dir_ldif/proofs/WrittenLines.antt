@@ -14,7 +14,7 @@ use Rattle.dir_names.specs.Results.{and_then}
 use Rattle.dir_ldif.specs.AttrVal.{base64_value, is_nul_or_cr, or_bad_base64, attrval_of, attrval_of_cut, value_of, within_limit}
 use Rattle.dir_ldif.specs.LineText.{base64_of, folded_line, is_plain, is_safe, is_safe_first, line_of, value_spec}
 use Rattle.dir_ldif.proofs.BytesLemmas.{true_or_false}
-use Rattle.dir_ldif.proofs.FoldedLemmas.{or_first, or_second, line_reads}
+use Rattle.dir_ldif.proofs.FoldedLines.{or_first, or_second, line_reads}
 use Rattle.dir_ldif.specs.LogicalLines.{cut, is_lf, logical_lines, physical_lines}
 use Rattle.dir_ldif.specs.RoundTrip.{ends_name, WrittenLineReadsBack}
 
@@ -95,7 +95,7 @@ no_space (x ∷ xs) e =
 
 -- ---- the value of what is written
 
--- what stands behind the first colon
+-- what follows the first colon
 abbrev pub tail_of : List ℕ → List ℕ
 tail_of [] = []
 tail_of (b ∷ bs) = if is_plain (b ∷ bs) then 32 ∷ b ∷ bs else (58 ∷ 32 ∷ base64_of (b ∷ bs))

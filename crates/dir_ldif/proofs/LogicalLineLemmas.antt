@@ -1,4 +1,4 @@
--- Lemmas on the lines of a text that comes in pieces.
+-- Lemmas on the logical lines of a text that comes in chunks.
 use Rattle.std.proofs.Common.{◌≡◌, ℕ, ◌+◌, ◌<◌, ◌≤◌, Bool, true, false, not, ◌&&◌, eqb, List, [], ◌∷◌, ◌++◌, length, drop, refl, sym, ap, ⊎_elim, ◌∙◌, append_assoc, append-nil, length-append, if◌then◌else◌, nat_lt, subst, Option, Some, Result, Ok, Err, arith}
 use Rattle.std.specs.List.{list_any, onto_first}
 use Rattle.std.proofs.lemmas.Bool.{eqb-true}
@@ -15,7 +15,7 @@ use Rattle.dir_ldif.specs.Inside.Unfolder.{TakesLine}
 use Rattle.dir_ldif.specs.Inside.Bounds.{may_be_continued}
 use Rattle.dir_ldif.proofs.BytesLemmas.{true_or_false}
 
--- the first piece ends at the first LF
+-- the first physical line ends at the first LF
 pub cut-line : (xs ys : List ℕ) → list_any is_lf xs ≡ false → cut is_lf (xs ++ 10 ∷ ys) ≡ xs ∷ cut is_lf ys
 cut-line [] ys e = refl
 cut-line (x ∷ xs) ys e =
@@ -113,7 +113,7 @@ logical_lines-continued (k, []) n text more some space = cc
 logical_lines-continued (k, a ∷ tail) n [] more some space = cc
 logical_lines-continued (k, a ∷ tail) n (c ∷ cs) more some space = rw (eqb-true c 32 space) (with_first_line-continued k a tail n cs (logical_lines more))
 
--- what was to come, said otherwise
+-- the blocks to come, written otherwise
 pub TakesLine-same : (before before' : List Line → List BlockResult) (r : Result Bool StreamFault) (j : Unfolder) → ((more : List Line) → before more ≡ before' more) → TakesLine before' r j → TakesLine before r j
 TakesLine-same before before' (Ok ends) j e h = λ more. e more ∙ h more
 TakesLine-same before before' (Err fault) j e h = λ more. subst (EndsAtOnce fault) (sym (e more)) (h more)

@@ -6,8 +6,8 @@ use Rattle.dir_ldif.specs.Bytes.{is_empty, begins_with, without_last}
 use Rattle.dir_ldif.specs.LogicalLines.{Line, cut, is_lf, is_long, logical_lines, physical_lines, with_first_line}
 use Rattle.dir_ldif.specs.BlocksAtOnce.{LongLinesStay}
 use Rattle.dir_ldif.proofs.BytesLemmas.{true_or_false}
-use Rattle.dir_ldif.proofs.LinesLemmas.{with_first_line-first, logical_lines-apart, logical_lines-continued, length-without_last, begins_with-without_last, some_of_begins}
-use Rattle.dir_ldif.proofs.ShortLemmas.{length-drop_space}
+use Rattle.dir_ldif.proofs.LogicalLineLemmas.{with_first_line-first, logical_lines-apart, logical_lines-continued, length-without_last, begins_with-without_last, some_of_begins}
+use Rattle.dir_ldif.proofs.NoLongLine.{length-drop_space}
 
 -- ---- the pieces of a text, and of one that begins with it: all but the last are the same, and the last goes on
 
@@ -86,7 +86,7 @@ stays last lines long =
     let f = with_first_line-first last.0 last.1 (logical_lines lines) in
     rw f.2 (or_first _ (list_any is_long f.1) (long_longer last.0 last.0 last.1 (last.1 ++ f.0) (omega (arith, length-append last.1 f.0)) long))
 
--- a line behind the last one continues it, or stands apart
+-- a line after the last one continues it, or begins a logical line
 abbrev Apart : Line → Line → Type 0
 Apart last next = (more : List Line) → logical_lines (last ∷ next ∷ more) ≡ last ∷ logical_lines (next ∷ more)
 

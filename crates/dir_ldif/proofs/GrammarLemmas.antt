@@ -1,4 +1,4 @@
--- Lemmas on lists of lines.
+-- Lemmas on lists of lines, each of which is read.
 use Rattle.std.proofs.Common.{◌≡◌, ℕ, suc, ◌+◌, ◌-◌, ◌<◌, ◌≤◌, Bool, true, false, List, [], ◌∷◌, ◌++◌, length, get_or, take, drop, refl, sym, ap, subst, ⊎_elim, ◌∙◌, append_assoc, drop-cons, codes, Result, Ok, Err, arith}
 use Rattle.std.specs.List.{list_any, onto_first}
 use Rattle.std.proofs.lemmas.List.{take-append-drop, take_rest, take_all}
@@ -16,7 +16,7 @@ use Rattle.dir_names.specs.Results.{and_then}
 use Rattle.dir_ldif.specs.Inside.Refusals.{Refuses}
 use Rattle.dir_ldif.proofs.BytesLemmas.{true_or_false}
 
--- what came first, and then the rest, if it comes
+-- what came first, and then the rest, if it is read
 abbrev pub after_prefix : {B : Type 0} → List B → Result (List B) RecordFault → Result (List B) RecordFault
 after_prefix front rest = and_then rest (λ ys. Ok (front ++ ys))
 

@@ -1,4 +1,4 @@
--- No answer on a block is settled while its last line may still go on.
+-- No block is complete while its last line may still be continued.
 use Rattle.std.proofs.Common.{◌≡◌, ℕ, zero, suc, ◌+◌, ◌<◌, ◌≤◌, Bool, true, false, List, [], ◌∷◌, ◌++◌, length, replicate, refl, sym, ap, subst, ⊎_elim, ◌∙◌, append-nil, length-append, Option, None, Some, Err, arith, lit≤}
 use Rattle.std.specs.List.{list_any}
 use Rattle.std.proofs.lemmas.List.Folds.{list_any-append}
@@ -14,7 +14,7 @@ use Rattle.dir_ldif.specs.Blocks.{BlockResult, by_version, blocks_from, version_
 use Rattle.dir_ldif.specs.Reader.Unfolding.{blocks_to_come, blocks_to_come_with, lines_after}
 use Rattle.dir_ldif.specs.Inside.Reader.{MayFail}
 use Rattle.dir_ldif.proofs.BytesLemmas.{true_or_false}
-use Rattle.dir_ldif.proofs.LinesLemmas.{line_alone, blocks_from-long, logical_lines-apart, glued_long, ltb-of_lt, some_of_length, not_first, not_second}
+use Rattle.dir_ldif.proofs.LogicalLineLemmas.{line_alone, blocks_from-long, logical_lines-apart, glued_long, ltb-of_lt, some_of_length, not_first, not_second}
 
 -- the text ends in some fault, with no block before it
 abbrev Faulty : List BlockResult → Type 0
@@ -40,7 +40,7 @@ closed_faulty begun block line rest short some h =
     (true_or_false (is_comment line))
     )
 
--- too long a line behind the last one
+-- a line after the last one that is too long
 long_faulty : (begun : Bool) (block : List Line) (o : Option Line) (n : ℕ) (text : List ℕ) → may_be_continued o ≡ true → 2097153 < length text → Faulty (blocks_from begun block (lines_after o ((n, text) ∷ [])))
 long_faulty begun block None n text kept long = (LineTooLong, blocks_from-long begun block n text [] (ltb-of_lt _ _ (omega arith)))
 long_faulty begun block (Some last) n text kept long =

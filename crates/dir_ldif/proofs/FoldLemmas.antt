@@ -1,8 +1,8 @@
--- Lemmas on written lines.
+-- Lemmas on folding a line.
 use Rattle.std.proofs.Common.{◌≡◌, ℕ, zero, suc, ◌-◌, ◌<◌, ◌≤◌, List, [], ◌∷◌, ◌++◌, length, refl, sym, ap, ◌∙◌, append_assoc, append-nil, length-append, arith}
 use Rattle.dir_ldif.specs.LineText.{fold_from}
 
--- a front that there is room for stays as it is
+-- a prefix that there is room for stays as it is
 pub fold_from-fits : (front rest : List ℕ) (room : ℕ) → length front ≤ room → fold_from room (front ++ rest) ≡ front ++ fold_from (room - length front) rest
 unfolding fold_from
 fold_from-fits [] rest room h = let e : room ≡ room - 0 = omega arith in ap (λ r. fold_from r rest) e
@@ -11,7 +11,7 @@ fold_from-fits (x ∷ xs) rest (suc room) h =
     let e : suc room - length (x ∷ xs) ≡ room - length xs = omega arith in
     rw e (ap (λ t. x ∷ t) (fold_from-fits xs rest room (omega arith)))
 
--- where a front fills the room, the rest goes on in a new line
+-- where a prefix fills the room, the rest goes on in a new physical line
 pub fold_from-full : (front rest : List ℕ) (room : ℕ) → length front ≡ room → 0 < length rest → fold_from room (front ++ rest) ≡ front ++ 10 ∷ 32 ∷ fold_from 75 rest
 unfolding fold_from
 fold_from-full [] [] room e h = absurd (omega arith)
@@ -20,7 +20,7 @@ fold_from-full [] (r ∷ rs) (suc room) e h = absurd (omega arith)
 fold_from-full (x ∷ xs) rest zero e h = absurd (omega arith)
 fold_from-full (x ∷ xs) rest (suc room) e h = ap (λ t. x ∷ t) (fold_from-full xs rest room (omega arith) h)
 
--- one turn of the writer: a front that fills the room, and the begin of a new line
+-- one turn of the writer: a prefix that fills the room, and the beginning of a new physical line
 pub fold_from-turn : (out first second front behind rest wanted : List ℕ) (room : ℕ) → first ≡ out ++ front → second ≡ first ++ 10 ∷ 32 ∷ [] → length front ≡ room
     → 0 < length behind → out ++ fold_from room ((front ++ behind) ++ rest) ≡ wanted → second ++ fold_from 75 (behind ++ rest) ≡ wanted
 fold_from-turn out first second front behind rest wanted room a b k h e =

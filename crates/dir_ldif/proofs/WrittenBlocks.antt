@@ -9,7 +9,7 @@ use Rattle.dir_ldif.specs.Bytes.{is_line_break}
 use Rattle.dir_ldif.specs.LogicalLines.{Line, cut, is_comment, is_lf, is_long, logical_lines, physical_lines, with_first_line}
 use Rattle.dir_ldif.specs.Blocks.{BlockResult, block_then, blocks_from, version_of}
 use Rattle.dir_ldif.specs.LineText.{folded_line}
-use Rattle.dir_ldif.proofs.FoldedLemmas.{front, more, cut-folded_line, front-lacks, without_last-lacks, apart, line_reads}
+use Rattle.dir_ldif.proofs.FoldedLines.{front, more, cut-folded_line, front-lacks, without_last-lacks, apart, line_reads}
 
 -- a line of a record: some bytes without LF and CR, the first of which is no space and no `#`
 abbrev pub Good : List ℕ → Type 0
@@ -68,7 +68,7 @@ block_reads lines rest n g =
       ap (λ t. logical_lines (physical_lines n (cut is_lf t))) (append_assoc (flat_map folded_line lines) (10 ∷ []) rest) ∙ r.3 ∙ ap (λ t. r.0 ++ t) (with_first_line-empty r.1 (logical_lines (physical_lines (r.1 + 1) (cut is_lf rest)))),
     )
 
--- ---- parts
+-- ---- blocks
 
 good_short : (n : ℕ) (text : List ℕ) → Good text → is_long (n, text) ≡ false
 good_short n [] g = absurd g
@@ -82,7 +82,7 @@ good_some : (text : List ℕ) → Good text → is_empty text ≡ false
 good_some [] g = absurd g
 good_some (c ∷ cs) g = refl
 
--- a block that has begun, and the empty line behind it
+-- a block that has begun, and the empty line after it
 pub block_parts : (block held : List Line) (n : ℕ) (rest : List Line) → AllGood (texts block) → blocks_from true held (block ++ (n, []) ∷ rest) ≡ block_then (held ++ block) (blocks_from true [] rest)
 block_parts [] held n rest g = ap (λ t. block_then t (blocks_from true [] rest)) (sym (append-nil held))
 block_parts (line ∷ lines) held n rest g =

@@ -1,4 +1,4 @@
--- The parts of a text, found from line to line, are those that are said of all its lines.
+-- The blocks of a text, found from line to line, are those of the definition that takes all its lines at once.
 use Rattle.std.proofs.Common.{◌≡◌, true, false, List, [], ◌∷◌, ◌++◌, refl, sym, ap, ⊎_elim, ◌∙◌, append_assoc, append-nil, Err}
 use Rattle.std.specs.List.{list_any, onto_first}
 use Rattle.dir_ldif.specs.declared.faults.StreamFault.TheVariants.{LineTooLong, BadVersion}
@@ -9,9 +9,9 @@ use Rattle.dir_ldif.specs.LogicalLines.{Line, cut, lines_of, is_comment, is_long
 use Rattle.dir_ldif.specs.Blocks.{BlockResult, block_then, by_version, blocks_from, version_of}
 use Rattle.dir_ldif.specs.BlocksAtOnce.{TextsAreBlocks, lines_before_long, body_blocks, ended_pieces, is_blank, nonempty_blocks, onto_first_piece, blocks_at_once, without_comments}
 use Rattle.dir_ldif.proofs.BytesLemmas.{true_or_false}
-use Rattle.dir_ldif.proofs.ShortLemmas.{neither}
+use Rattle.dir_ldif.proofs.NoLongLine.{neither}
 
--- ---- a block in hand, and the pieces behind it
+-- ---- a block in hand, and the pieces after it
 
 abbrev with_block : List Line → List (List Line) → List (List Line)
 with_block block [] = block ∷ []
@@ -45,7 +45,7 @@ give_ended : (block : List Line) (pieces : List (List Line)) (end : List BlockRe
 give_ended [] pieces end = refl
 give_ended (line ∷ block) pieces end = refl
 
--- ---- behind the version line
+-- ---- after the version line
 
 abbrev seen : List Line → List Line
 seen lines = without_comments (lines_before_long lines)

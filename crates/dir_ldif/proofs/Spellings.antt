@@ -1,4 +1,4 @@
--- What a description's spelling has in it.
+-- Which bytes the spelling of a description has.
 use Rattle.std.proofs.Common.{◌≡◌, ℕ, ◌≤◌, Bool, true, false, not, ◌&&◌, ◌||◌, eqb, nat_le, List, [], ◌∷◌, length, codes, refl, sym, ap, ⊎_elim, ◌∙◌, Ok, IfOk, arith}
 use Rattle.std.specs.List.{list_any, list_all, slice_split, onto_first}
 use Rattle.std.specs.Str.{str_to_ascii_lowercase, str_eq_ignore_ascii_case}
@@ -9,9 +9,9 @@ use Rattle.dir_names.specs.Described.{Described}
 use Rattle.dir_names.specs.Descriptions.{is_letter, is_digit, is_keychar, is_name, is_decimal, is_number, is_type, is_option, is_reserved, description_from, description_of}
 use Rattle.dir_ldif.specs.RoundTrip.{ends_name}
 use Rattle.dir_ldif.proofs.BytesLemmas.{true_or_false}
-use Rattle.dir_ldif.proofs.WrittenLemmas.{and_first, and_second, both}
-use Rattle.dir_ldif.proofs.FoldedLemmas.{or_first, or_second}
-use Rattle.dir_ldif.proofs.LegalRecords.{chosen, known}
+use Rattle.dir_ldif.proofs.WrittenLines.{and_first, and_second, both}
+use Rattle.dir_ldif.proofs.FoldedLines.{or_first, or_second}
+use Rattle.dir_ldif.proofs.ReadIsLegal.{chosen, known}
 use Rattle.dir_ldif.specs.Bytes.{is_empty}
 use Rattle.dir_names.specs.Orders.{bytes_eq_decides}
 use Rattle.std.specs.Char.{to_ascii_lowercase}

@@ -1,4 +1,4 @@
--- Lemmas on how soon a reader ends behind a line that is too long.
+-- Lemmas on how soon a reader finds a line that is too long.
 use Rattle.std.proofs.Common.{◌≡◌, ℕ, ◌-◌, ◌≤◌, false, List, [], ◌∷◌, ◌++◌, length, drop, refl, sym, ap, ◌∙◌, append_assoc, append-nil, Option, None, Some, Result, Ok, Err, IfErr, arith}
 use Rattle.std.proofs.lemmas.List.{length-take}
 use Rattle.std.specs.Io.KnownBytes.{Consumes}
@@ -16,13 +16,13 @@ use Rattle.dir_ldif.specs.Blocks.{BlockResult, block_then}
 use Rattle.dir_ldif.specs.Records.{Found, found_of, answers_on}
 use Rattle.dir_ldif.specs.Reader.Answers.{EndsSoon, GoesOn}
 use Rattle.dir_ldif.proofs.RecordsLemmas.{answers_on-block_then}
-use Rattle.dir_ldif.proofs.ShortLemmas.{joiner_goes}
+use Rattle.dir_ldif.proofs.NoLongLine.{joiner_goes}
 
 pub Consumes-nothing : (o : Option (List ℕ)) → Consumes o o []
 Consumes-nothing None = tt
 Consumes-nothing (Some xs) = refl
 
--- what is in hand now stands at the end of what was taken
+-- what is in hand now is the end of what was read
 abbrev pub Takes : Core → List ℕ → Core → Type 0
 Takes c bytes now = (front : List ℕ) × (hand c ++ bytes ≡ front ++ hand now) × ((text : List ℕ) → blocks_to_come c.unfolder (front ++ text) ≡ blocks_to_come now.unfolder text)
 

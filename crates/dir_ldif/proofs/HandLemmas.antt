@@ -1,4 +1,4 @@
--- Lemmas on what a reader has still to give.
+-- Lemmas on the bytes in hand and the blocks to come.
 use Rattle.std.proofs.Common.{◌≡◌, ℕ, ◌+◌, ◌-◌, ◌≤◌, List, ◌++◌, length, take, drop, sym, ap, ◌∙◌, append_assoc, length-append, Option, arith}
 use Rattle.std.proofs.lemmas.List.{drop-drop, drop-take, length-take, length-drop}
 use Rattle.std.proofs.Math.Seq.{drop-append_seam}

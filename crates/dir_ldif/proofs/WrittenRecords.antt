@@ -32,12 +32,12 @@ use Rattle.dir_ldif.specs.RoundTrip.{ends_name}
 use Rattle.dir_ldif.specs.SoundRecords.{AreBytes, IsSoundKind, IsSoundName, IsSoundRdn, IsSoundRecord, IsSoundSuperior, ModsAreBytes, ValuesAreBytes}
 use Rattle.dir_ldif.specs.RecordText.{op_word, change_word, flag_text}
 use Rattle.dir_ldif.specs.LineText.{line_of, value_spec}
-use Rattle.dir_ldif.proofs.BlockLemmas.{cut-piece}
-use Rattle.dir_ldif.proofs.BlocksRead.{texts}
-use Rattle.dir_ldif.proofs.LegalRecords.{known, description_of-spelling}
+use Rattle.dir_ldif.proofs.GrammarLemmas.{cut-piece}
+use Rattle.dir_ldif.proofs.WrittenBlocks.{texts}
+use Rattle.dir_ldif.proofs.ReadIsLegal.{known, description_of-spelling}
 use Rattle.dir_ldif.proofs.SoundNames.{name_short, name_bytes, name_back, rdn_short, rdn_bytes, rdn_back}
-use Rattle.dir_ldif.proofs.SpelledLemmas.{IsSpelling, is_spelled, spelled-allowed, spelling_of}
-use Rattle.dir_ldif.proofs.WrittenLemmas.{and_first, and_second, both, attrval_of-line, name-colon, value_spec-tail}
+use Rattle.dir_ldif.proofs.Spellings.{IsSpelling, is_spelled, spelled-allowed, spelling_of}
+use Rattle.dir_ldif.proofs.WrittenLines.{and_first, and_second, both, attrval_of-line, name-colon, value_spec-tail}
 
 -- ---- descriptions
 
@@ -52,7 +52,7 @@ pub described_back : (rows : List TypeRow) (d : Described) → is_read_under row
 described_back rows d h =
     same_read (description_of rows d.spelling) d (λ e r. known (description_of rows d.spelling) (λ (t : Described). t.spelling ≡ d.spelling) e (description_of-spelling rows d.spelling) r) h
 
--- ---- parts of lines
+-- ---- the names of lines
 
 pub refused-none : (xs : List ℕ) → list_all is_spelled xs ≡ true → list_any ends_name xs ≡ false
 refused-none [] e = refl
@@ -169,7 +169,7 @@ mod_of-back rows m (x ∷ xs) e legal bytes =
     let values = mod_values-back rows m.description m.values xs rest read (and_second (is_read_under rows m.description) (list_all is_short m.values) legal) bytes in
     rw (head, values) refl
 
--- a part of a block
+-- some lines of a block
 split_texts : (block : List Line) (a b : List (List ℕ)) → texts block ≡ a ++ b → (x : List Line) × (y : List Line) × (block ≡ x ++ y) × (texts x ≡ a) × (texts y ≡ b)
 split_texts block [] b e = ([], block, refl, refl, e)
 split_texts [] (t ∷ a) b e = cc
