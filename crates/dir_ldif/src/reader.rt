@@ -254,20 +254,13 @@ impl Core {
         ensures count { OnOk result (S.failures source.new ≡ S.failures source.old) }
         ensures same { S.is_same source.old source.new }
     {
-        let block = match self.next_block(source) {
-            Ok(block) => block,
-            Err(fault) => return Err(fault),
-        };
+        let block = self.next_block(source)?;
         if block.is_empty() {
             return Ok(None);
         }
-        match answer_of(self.alloc, schema, block.as_slice()) {
-            Ok(answer) => {
-                self.spare.keep(block);
-                Ok(Some(answer))
-            }
-            Err(fault) => Err(fault),
-        }
+        let answer = answer_of(self.alloc, schema, block.as_slice())?;
+        self.spare.keep(block);
+        Ok(Some(answer))
     }
 
     /// The next block. It is empty only at the end of the text.
@@ -288,15 +281,11 @@ impl Core {
         ensures same { S.is_same source.old source.new }
     {
         loop {
-            match self.use_buffer() {
-                Ok(Some(block)) => return Ok(block),
-                Ok(None) => {}
-                Err(fault) => return Err(fault),
+            if let Some(block) = self.use_buffer()? {
+                return Ok(block);
             }
-            match self.read_more(source) {
-                Ok(true) => {}
-                Ok(false) => return self.finish(),
-                Err(fault) => return Err(fault),
+            if !self.read_more(source)? {
+                return self.finish();
             }
         }
     }
@@ -409,30 +398,17 @@ pub fn read_all(alloc: Global, schema: &Schema, text: &[u8]) -> Result<Vec<Answe
     let mut spare = Spare::new(alloc);
     let mut answers = Vec::new(alloc);
     let mut rest = text;
-    loop {
-        match unfolder.push_chunk(&mut spare, rest) {
-            Ok(Some((block, after))) => {
-                rest = after;
-                if let Err(fault) = push_answer(alloc, schema, &mut answers, block.as_slice()) {
-                    return Err(fault);
-                }
-                spare.keep(block);
-            }
-            Ok(None) => break,
-            Err(fault) => return Err(fault),
-        }
+    while let Some((block, after)) = unfolder.push_chunk(&mut spare, rest)? {
+        rest = after;
+        push_answer(alloc, schema, &mut answers, block.as_slice())?;
+        spare.keep(block);
     }
-    let block = match unfolder.finish(&mut spare) {
-        Ok(block) => block,
-        Err(fault) => return Err(fault),
-    };
+    let block = unfolder.finish(&mut spare)?;
     if block.is_empty() {
         return Ok(answers);
     }
-    match push_answer(alloc, schema, &mut answers, block.as_slice()) {
-        Ok(()) => Ok(answers),
-        Err(fault) => Err(fault),
-    }
+    push_answer(alloc, schema, &mut answers, block.as_slice())?;
+    Ok(answers)
 }
 
 /// Appends the answer on a block to the answers.

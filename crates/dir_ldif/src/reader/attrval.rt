@@ -80,10 +80,7 @@ pub(crate) fn attrval_of(alloc: Global, line: &[u8]) -> Result<(&[u8], Value<'_>
     if name.is_empty() {
         return Err(Refusal::Fault(RecordFault::BadLine));
     }
-    match limited_value(alloc, rest) {
-        Ok(value) => Ok((name, value)),
-        Err(refusal) => Err(refusal),
-    }
+    Ok((name, limited_value(alloc, rest)?))
 }
 
 /// The value in what follows a name and its colon, within the limit.
@@ -107,10 +104,7 @@ fn limited_decoded(alloc: Global, text: &[u8]) -> Result<Value<'_>, Refusal>
         }
         return Err(Refusal::Fault(RecordFault::BadBase64));
     }
-    match decoded(alloc, text) {
-        Ok(value) => limited(Value::Decoded(value)),
-        Err(refusal) => Err(refusal),
-    }
+    limited(Value::Decoded(decoded(alloc, text)?))
 }
 
 /// Whether a text is base64. It allocates nothing.

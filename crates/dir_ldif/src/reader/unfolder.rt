@@ -129,34 +129,30 @@ impl Unfolder {
     pub(crate) fn push_chunk<'a>(
         &mut self,
         spare: &mut Spare,
-        piece: &'a [u8],
+        chunk: &'a [u8],
     ) -> Result<Option<(Vec<Line>, &'a [u8])>, StreamFault>
-        requires { self.old.number + length piece.now < 2 ^ 63 }
-        ensures number { self.new.number ≤ self.old.number + length piece.now }
+        requires { self.old.number + length chunk.now < 2 ^ 63 }
+        ensures number { self.new.number ≤ self.old.number + length chunk.now }
         ensures left { IfOk result (λ o. IfSome o
-            (λ p. self.new.number + length p.1.now ≤ self.old.number + length piece.now)) }
-        ensures shorter { IfOk result (λ o. IfSome o (λ p. length p.1.now < length piece.now)) }
-        ensures used { IfOk result (λ o. IfSome o (λ p. (front : List ℕ) × (piece.now ≡ front ++ p.1.now)
+            (λ p. self.new.number + length p.1.now ≤ self.old.number + length chunk.now)) }
+        ensures shorter { IfOk result (λ o. IfSome o (λ p. length p.1.now < length chunk.now)) }
+        ensures used { IfOk result (λ o. IfSome o (λ p. (front : List ℕ) × (chunk.now ≡ front ++ p.1.now)
             × ((text : List ℕ) → blocks_to_come self.old (front ++ text) ≡ block_then p.0.items (blocks_to_come self.new text)))) }
         ensures ok { IfOk result (λ o. MatchOption o
-            ((text : List ℕ) → blocks_to_come self.old (piece.now ++ text) ≡ blocks_to_come self.new text)
-            (λ p. (text : List ℕ) → blocks_to_come self.old (piece.now ++ text) ≡ block_then p.0.items (blocks_to_come self.new (p.1.now ++ text)))) }
+            ((text : List ℕ) → blocks_to_come self.old (chunk.now ++ text) ≡ blocks_to_come self.new text)
+            (λ p. (text : List ℕ) → blocks_to_come self.old (chunk.now ++ text) ≡ block_then p.0.items (blocks_to_come self.new (p.1.now ++ text)))) }
         ensures some { IfOk result (λ o. IfSome o (λ p. is_empty p.0.items ≡ false)) }
-        ensures err { IfErr result (λ fault. (text : List ℕ) → EndsAtOnce fault (blocks_to_come self.old (piece.now ++ text))) }
+        ensures err { IfErr result (λ fault. (text : List ℕ) → EndsAtOnce fault (blocks_to_come self.old (chunk.now ++ text))) }
     {
-        let mut rest = piece;
+        let mut rest = chunk;
         while let Some((text, after)) = cut_at(b'\n', rest) {
             rest = after;
-            match self.finish_line(spare, text) {
-                Ok(None) => {}
-                Ok(Some(block)) => return Ok(Some((block, rest))),
-                Err(fault) => return Err(fault),
+            if let Some(block) = self.finish_line(spare, text)? {
+                return Ok(Some((block, rest)));
             }
         }
-        match self.push_partial_line(rest) {
-            Ok(()) => Ok(None),
-            Err(fault) => Err(fault),
-        }
+        self.push_partial_line(rest)?;
+        Ok(None)
     }
 
     /// Finishes the physical line in hand, with the bytes before its LF. Answers the block, if that ends one
@@ -175,10 +171,10 @@ impl Unfolder {
         ensures some { IfOk result (λ o. IfSome o (λ block. is_empty block.items ≡ false)) }
         ensures err { IfErr result (λ fault. (rest : List ℕ) → EndsAtOnce fault (blocks_to_come self.old (text.now ++ line_feed ∷ rest))) }
     {
-        match self.finish_physical_line(spare, text) {
-            Ok(true) => Ok(self.finish_block()),
-            Ok(false) => Ok(None),
-            Err(fault) => Err(fault),
+        if self.finish_physical_line(spare, text)? {
+            Ok(self.finish_block())
+        } else {
+            Ok(None)
         }
     }
 
@@ -216,19 +212,19 @@ impl Unfolder {
     }
 
     /// Takes bytes in which no line ends.
-    fn push_partial_line(&mut self, piece: &[u8]) -> Result<(), StreamFault>
-        requires { list_any is_lf piece.now ≡ false }
+    fn push_partial_line(&mut self, chunk: &[u8]) -> Result<(), StreamFault>
+        requires { list_any is_lf chunk.now ≡ false }
         ensures number { self.new.number ≡ self.old.number }
-        ensures ok { OnOk result ((text : List ℕ) → blocks_to_come self.old (piece.now ++ text) ≡ blocks_to_come self.new text) }
-        ensures err { IfErr result (λ fault. (text : List ℕ) → EndsAtOnce fault (blocks_to_come self.old (piece.now ++ text))) }
+        ensures ok { OnOk result ((text : List ℕ) → blocks_to_come self.old (chunk.now ++ text) ≡ blocks_to_come self.new text) }
+        ensures err { IfErr result (λ fault. (text : List ℕ) → EndsAtOnce fault (blocks_to_come self.old (chunk.now ++ text))) }
     {
-        if piece.is_empty() {
+        if chunk.is_empty() {
             return Ok(());
         }
         let partial = mem::replace(&mut self.partial, Vec::new(self.alloc));
         match self.last.take() {
-            Some(last) => self.push_partial_after(last, partial, piece),
-            None => self.push_partial_alone(partial, piece),
+            Some(last) => self.push_partial_after(last, partial, chunk),
+            None => self.push_partial_alone(partial, chunk),
         }
     }
 
@@ -254,10 +250,8 @@ impl Unfolder {
             let has_cr = begin.len() + end.len() < front.len() + back.len();
             return self.continue_partly(last, begin, end, has_cr);
         }
-        match self.push_to_block(last) {
-            Ok(()) => self.push_partial_alone(front, back),
-            Err(fault) => Err(fault),
-        }
+        self.push_to_block(last)?;
+        self.push_partial_alone(front, back)
     }
 
     /// Continues a line by the text of a physical line that has not ended. Its space is left in hand, and a
@@ -342,9 +336,7 @@ impl Unfolder {
             if begins_with_space(begin) {
                 return self.continue_line(last, begin, end);
             }
-            if let Err(fault) = self.push_to_block(last) {
-                return Err(fault);
-            }
+            self.push_to_block(last)?;
         }
         let mut text = spare.text(front);
         text.extend_from_slice(back)?;
@@ -429,12 +421,8 @@ impl Unfolder {
         ensures ok { IfOk result (λ block. blocks_to_come self.old [] ≡ block_then block.items []) }
         ensures err { IfErr result (λ fault. EndsAtOnce fault (blocks_to_come self.old [])) }
     {
-        if let Err(fault) = self.finish_partial_line(spare) {
-            return Err(fault);
-        }
-        if let Err(fault) = self.finish_last_line() {
-            return Err(fault);
-        }
+        self.finish_partial_line(spare)?;
+        self.finish_last_line()?;
         Ok(self.take_block())
     }
 
@@ -448,10 +436,8 @@ impl Unfolder {
         if self.partial.is_empty() {
             return Ok(());
         }
-        match self.finish_physical_line(spare, &[]) {
-            Ok(_) => Ok(()),
-            Err(fault) => Err(fault),
-        }
+        let _ = self.finish_physical_line(spare, &[])?;
+        Ok(())
     }
 
     /// Adds the last line, if there is one, to the block: no line follows.

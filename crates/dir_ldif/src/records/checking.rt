@@ -22,9 +22,7 @@ impl Change {
     pub fn check(&self, alloc: Global, schema: &Schema) -> Result<(), RecordFault>
         ensures { Checks result (is_legal schema.now self.now) }
     {
-        if let Err(fault) = check_dn(alloc, schema, &self.dn) {
-            return Err(fault);
-        }
+        check_dn(alloc, schema, &self.dn)?;
         check_kind(alloc, schema, &self.kind)
     }
 }
@@ -70,9 +68,7 @@ fn check_rename(
 ) -> Result<(), RecordFault>
     ensures { Checks result (rdn_has_key schema.now newrdn.now && superior_has_key schema.now newsuperior.now) }
 {
-    if let Err(fault) = check_rdn(alloc, schema, newrdn) {
-        return Err(fault);
-    }
+    check_rdn(alloc, schema, newrdn)?;
     match newsuperior {
         Some(dn) => check_dn(alloc, schema, dn),
         None => Ok(()),
@@ -116,9 +112,7 @@ fn check_lines(
     ensures { Checks result (list_all (is_legal_line schema.now) lines.now) }
 {
     for line in lines {
-        if let Err(fault) = check_line(alloc, schema, line) {
-            return Err(fault);
-        }
+        check_line(alloc, schema, line)?;
     }
     Ok(())
 }
@@ -130,9 +124,7 @@ fn check_line(
 ) -> Result<(), RecordFault>
     ensures { Checks result (is_legal_line schema.now line.now) }
 {
-    if let Err(fault) = check_value(&line.1) {
-        return Err(fault);
-    }
+    check_value(&line.1)?;
     check_description(alloc, schema, &line.0)
 }
 
@@ -140,9 +132,7 @@ fn check_mods(alloc: Global, schema: &Schema, mods: &[Mod]) -> Result<(), Record
     ensures { Checks result (list_all (is_legal_mod schema.now) mods.now) }
 {
     for m in mods {
-        if let Err(fault) = check_mod(alloc, schema, m) {
-            return Err(fault);
-        }
+        check_mod(alloc, schema, m)?;
     }
     Ok(())
 }
@@ -151,9 +141,7 @@ fn check_mods(alloc: Global, schema: &Schema, mods: &[Mod]) -> Result<(), Record
 fn check_mod(alloc: Global, schema: &Schema, m: &Mod) -> Result<(), RecordFault>
     ensures { Checks result (is_legal_mod schema.now m.now) }
 {
-    if let Err(fault) = check_description(alloc, schema, &m.description) {
-        return Err(fault);
-    }
+    check_description(alloc, schema, &m.description)?;
     check_values(m.values.as_slice())
 }
 
@@ -161,9 +149,7 @@ fn check_values(values: &[Bytes]) -> Result<(), RecordFault>
     ensures { Checks result (list_all is_short values.now) }
 {
     for value in values {
-        if let Err(fault) = check_value(value) {
-            return Err(fault);
-        }
+        check_value(value)?;
     }
     Ok(())
 }

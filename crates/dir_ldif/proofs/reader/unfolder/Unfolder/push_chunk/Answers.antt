@@ -1,3 +1,4 @@
+use Rattle.std.proofs.lemmas.Result.{err_from_is_err_and}
 use Rattle.std.proofs.Common.{◌++◌, ap, sym, subst, ◌∙◌, arith}
 use Rattle.dir_ldif.specs.Reader.Unfolding.{blocks_to_come}
 use Rattle.dir_ldif.specs.Blocks.{EndsAtOnce}
@@ -16,33 +17,36 @@ loop-text-preserved c =
     let shorter = length-piece c.loop-text.rest.now c.in-Some.text.now c.in-Some.after.now c.in-Some.ensures in (
       omega (arith, shorter),
       omega (arith, shorter),
-      front_more c.args.self.now c.loop-text.self c.args.piece.now c.loop-text.rest.now c.in-Some.text.now c.in-Some.after.now c.in-Some.ensures c.loop-text.invariant.2 (blocks_to_come c.finish_line.new.self) (rw c.in-Ok-None.field-0-is at c.in-Ok-None.ensures.ok),
+      front_more c.args.self.now c.loop-text.self c.args.chunk.now c.loop-text.rest.now c.in-Some.text.now c.in-Some.after.now c.in-Some.ensures c.loop-text.invariant.2 (blocks_to_come c.finish_line.new.self) (rw c.in_default-2.is at c.in_ok-block.ensures.ok),
       λ text.
           let first = piece_first c.loop-text.rest.now c.in-Some.text.now c.in-Some.after.now c.in-Some.ensures text in
-          c.loop-text.invariant.3 text ∙ ap (blocks_to_come c.loop-text.self) first ∙ (rw c.in-Ok-None.field-0-is at c.in-Ok-None.ensures.ok) (c.in-Some.after.now ++ text),
+          c.loop-text.invariant.3 text ∙ ap (blocks_to_come c.loop-text.self) first ∙ (rw c.in_default-2.is at c.in_ok-block.ensures.ok) (c.in-Some.after.now ++ text),
     )
 
-pub returns-in-Ok-Some-clause-left : goal.returns-in-Ok-Some-clause-left
-returns-in-Ok-Some-clause-left c = omega (arith, length-piece c.loop-text.rest.now c.in-Some.text.now c.in-Some.after.now c.in-Some.ensures)
+pub returns-in-Some-2-clause-left : goal.returns-in-Some-2-clause-left
+returns-in-Some-2-clause-left c = omega (arith, length-piece c.loop-text.rest.now c.in-Some.text.now c.in-Some.after.now c.in-Some.ensures)
 
-pub returns-in-Ok-Some-clause-shorter : goal.returns-in-Ok-Some-clause-shorter
-returns-in-Ok-Some-clause-shorter c = omega (arith, length-piece c.loop-text.rest.now c.in-Some.text.now c.in-Some.after.now c.in-Some.ensures)
+pub returns-in-Some-2-clause-shorter : goal.returns-in-Some-2-clause-shorter
+returns-in-Some-2-clause-shorter c = omega (arith, length-piece c.loop-text.rest.now c.in-Some.text.now c.in-Some.after.now c.in-Some.ensures)
 
-pub returns-in-Ok-Some-clause-used : goal.returns-in-Ok-Some-clause-used
-returns-in-Ok-Some-clause-used c =
-    front_more c.args.self.now c.loop-text.self c.args.piece.now c.loop-text.rest.now c.in-Some.text.now c.in-Some.after.now c.in-Some.ensures c.loop-text.invariant.2 _ (rw c.in-Ok-Some.field-0-is at c.in-Ok-Some.ensures.ok)
+pub returns-in-Some-2-clause-used : goal.returns-in-Some-2-clause-used
+returns-in-Some-2-clause-used c =
+    front_more c.args.self.now c.loop-text.self c.args.chunk.now c.loop-text.rest.now c.in-Some.text.now c.in-Some.after.now c.in-Some.ensures c.loop-text.invariant.2 _ (rw c.in-Some-2.is at c.in_ok-block.ensures.ok)
 
-pub returns-in-Ok-Some-clause-ok : goal.returns-in-Ok-Some-clause-ok
-returns-in-Ok-Some-clause-ok c =
+pub returns-in-Some-2-clause-ok : goal.returns-in-Some-2-clause-ok
+returns-in-Some-2-clause-ok c =
     λ text.
     let first = piece_first c.loop-text.rest.now c.in-Some.text.now c.in-Some.after.now c.in-Some.ensures text in
-    c.loop-text.invariant.3 text ∙ ap (blocks_to_come c.loop-text.self) first ∙ (rw c.in-Ok-Some.field-0-is at c.in-Ok-Some.ensures.ok) (c.in-Some.after.now ++ text)
+    c.loop-text.invariant.3 text ∙ ap (blocks_to_come c.loop-text.self) first ∙ (rw c.in-Some-2.is at c.in_ok-block.ensures.ok) (c.in-Some.after.now ++ text)
 
-pub returns-in-Err-clause-err : goal.returns-in-Err-clause-err
-returns-in-Err-clause-err c =
+pub returns-in_err-block-clause-err : goal.returns-in_err-block-clause-err
+returns-in_err-block-clause-err c =
+    let e = err_from_is_err_and c.from_residual.result c.from_residual.ensures.1 in
+    rw (e.1, e.2) (
     λ text.
     let first = piece_first c.loop-text.rest.now c.in-Some.text.now c.in-Some.after.now c.in-Some.ensures text in
-    subst (EndsAtOnce c.in-Err.fault) (sym (c.loop-text.invariant.3 text ∙ ap (blocks_to_come c.loop-text.self) first)) (c.in-Err.ensures.err (c.in-Some.after.now ++ text))
+    subst (EndsAtOnce c.in_err-block.field-0.0) (sym (c.loop-text.invariant.3 text ∙ ap (blocks_to_come c.loop-text.self) first)) (c.in_err-block.ensures.err (c.in-Some.after.now ++ text))
+    )
 
 pub push_partial_line-requires : goal.push_partial_line-requires
 push_partial_line-requires c = cut_at-lacks 10 c.loop-text.rest.now c.in_default.ensures

@@ -1,5 +1,5 @@
 use Rattle.std.proofs.Common.{◌≡◌, ◌+◌, ◌++◌, true, false, nat_lt, length, length-append, sym, ap, subst, ◌∙◌, arith}
-use Rattle.std.proofs.lemmas.Result.{on_ok_weaker, IfErr-weaker}
+use Rattle.std.proofs.lemmas.Result.{err_from_is_err_and, on_ok_weaker, IfErr-weaker}
 use Rattle.dir_ldif.specs.Bytes.{begins_with, without_last}
 use Rattle.dir_ldif.specs.Blocks.{EndsAtOnce}
 use Rattle.dir_ldif.proofs.BytesLemmas.{begins_with-append}
@@ -29,28 +29,31 @@ returns-then-begins_with_space-clause-err c =
     let same : shown ≡ without_last 13 line = c.parts_without_cr.ensures.text ∙ ap (λ t. without_last 13 (t ++ c.args.back.now)) c.as_slice.ensures.value in
     IfErr-weaker c.continue_partly.result _ _ (λ fault h. grown_Ends fault j.begun j.block.items c.args.last j.number line shown c.requires.line c.requires.some same h) c.continue_partly.ensures.err
 
-pub returns-in-Ok-clause-ok : goal.returns-in-Ok-clause-ok
-returns-in-Ok-clause-ok c =
+pub returns-clause-ok : goal.returns-clause-ok
+returns-clause-ok c =
     let j = c.args.self.now in
     let k = c.push_to_block.new.self in
     let line = c.args.front.items ++ c.args.back.now in
     let first : begins_with 32 c.parts_without_cr.result.0.now ≡ begins_with 32 (without_last 13 line) = c.parts_without_cr.ensures.first ∙ ap (λ t. begins_with 32 (without_last 13 (t ++ c.args.back.now))) c.as_slice.ensures.value in
     let apart : begins_with 32 (without_last 13 line) ≡ false = cc in
-    on_ok_weaker c.push_partial_alone.result (λ h text. closed_before j.begun k.begun j.block.items k.block.items c.args.last j.number k.number line c.requires.line c.requires.some apart c.in-Ok.ensures.ok c.push_to_block.ensures.number text ∙ h text) c.push_partial_alone.ensures.ok
+    on_ok_weaker c.push_partial_alone.result (λ h text. closed_before j.begun k.begun j.block.items k.block.items c.args.last j.number k.number line c.requires.line c.requires.some apart c.in_ok-push_to_block.ensures.ok c.push_to_block.ensures.number text ∙ h text) c.push_partial_alone.ensures.ok
 
-pub returns-in-Ok-clause-err : goal.returns-in-Ok-clause-err
-returns-in-Ok-clause-err c =
+pub returns-clause-err : goal.returns-clause-err
+returns-clause-err c =
     let j = c.args.self.now in
     let k = c.push_to_block.new.self in
     let line = c.args.front.items ++ c.args.back.now in
     let first : begins_with 32 c.parts_without_cr.result.0.now ≡ begins_with 32 (without_last 13 line) = c.parts_without_cr.ensures.first ∙ ap (λ t. begins_with 32 (without_last 13 (t ++ c.args.back.now))) c.as_slice.ensures.value in
     let apart : begins_with 32 (without_last 13 line) ≡ false = cc in
-    IfErr-weaker c.push_partial_alone.result _ _ (λ fault h text. subst (EndsAtOnce fault) (sym (closed_before j.begun k.begun j.block.items k.block.items c.args.last j.number k.number line c.requires.line c.requires.some apart c.in-Ok.ensures.ok c.push_to_block.ensures.number text)) (h text)) c.push_partial_alone.ensures.err
+    IfErr-weaker c.push_partial_alone.result _ _ (λ fault h text. subst (EndsAtOnce fault) (sym (closed_before j.begun k.begun j.block.items k.block.items c.args.last j.number k.number line c.requires.line c.requires.some apart c.in_ok-push_to_block.ensures.ok c.push_to_block.ensures.number text)) (h text)) c.push_partial_alone.ensures.err
 
-pub returns-in-Err-clause-err : goal.returns-in-Err-clause-err
-returns-in-Err-clause-err c =
+pub returns-in_err-push_to_block-clause-err : goal.returns-in_err-push_to_block-clause-err
+returns-in_err-push_to_block-clause-err c =
+    let e = err_from_is_err_and c.from_residual.result c.from_residual.ensures.1 in
     let j = c.args.self.now in
     let line = c.args.front.items ++ c.args.back.now in
     let first : begins_with 32 c.parts_without_cr.result.0.now ≡ begins_with 32 (without_last 13 line) = c.parts_without_cr.ensures.first ∙ ap (λ t. begins_with 32 (without_last 13 (t ++ c.args.back.now))) c.as_slice.ensures.value in
     let apart : begins_with 32 (without_last 13 line) ≡ false = cc in
-    apart_Ends c.in-Err.fault j.begun j.block.items c.args.last j.number line c.requires.line c.requires.some apart c.in-Err.ensures.err
+    rw (e.1, e.2) (
+    apart_Ends c.in_err-push_to_block.field-0.0 j.begun j.block.items c.args.last j.number line c.requires.line c.requires.some apart c.in_err-push_to_block.ensures.err
+    )

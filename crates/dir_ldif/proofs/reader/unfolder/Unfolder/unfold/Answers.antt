@@ -1,3 +1,4 @@
+use Rattle.std.proofs.lemmas.Result.{err_from_is_err_and}
 use Rattle.std.proofs.Common.{◌≡◌, ◌++◌, false, ap, ◌∙◌}
 use Rattle.dir_ldif.specs.Bytes.{begins_with, without_last}
 use Rattle.dir_ldif.proofs.LogicalLineLemmas.{EndsAtOnce-apart, TakesLine-continued}
@@ -11,10 +12,13 @@ returns-then-begins_with_space-clause-joins c =
     let same : shown ≡ without_last 13 line = c.parts_without_cr.ensures.text ∙ ap (λ t. without_last 13 (t ++ c.args.back.now)) c.as_slice.ensures.value in
     TakesLine-continued j.begun j.block.items j.last c.in-Some.last c.args.number (without_last 13 line) shown c.continue_line.result c.continue_line.new.self (cc) same (c.continue_line.ensures.joins c.args.number)
 
-pub returns-in-Err-clause-joins : goal.returns-in-Err-clause-joins
-returns-in-Err-clause-joins c =
+pub returns-in_err-push_to_block-clause-joins : goal.returns-in_err-push_to_block-clause-joins
+returns-in_err-push_to_block-clause-joins c =
+    let e = err_from_is_err_and c.from_residual.result c.from_residual.ensures.1 in
     let j = c.args.self.now in
     let line = c.args.front.items ++ c.args.back.now in
     let first : begins_with 32 c.parts_without_cr.result.0.now ≡ begins_with 32 (without_last 13 line) = c.parts_without_cr.ensures.first ∙ ap (λ t. begins_with 32 (without_last 13 (t ++ c.args.back.now))) c.as_slice.ensures.value in
     let apart : begins_with 32 (without_last 13 line) ≡ false = cc in
-    λ more. EndsAtOnce-apart c.in-Err.fault j.begun j.block.items j.last c.in-Some.last c.args.number (without_last 13 line) more (cc) apart c.in-Err.ensures.err
+    rw (e.1, e.2) (
+    λ more. EndsAtOnce-apart c.in_err-push_to_block.field-0.0 j.begun j.block.items j.last c.in-Some.last c.args.number (without_last 13 line) more (cc) apart c.in_err-push_to_block.ensures.err
+    )
