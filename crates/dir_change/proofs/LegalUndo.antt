@@ -12,7 +12,7 @@ use Rattle.dir_names.specs.Orders.{attr_eq_decides}
 use Rattle.dir_ldif.specs.declared.records.Change.{Change}
 use Rattle.dir_ldif.specs.declared.records.ChangeKind.{ChangeKind}
 use Rattle.dir_ldif.specs.declared.records.ChangeKind.TheVariants as kind
-use Rattle.dir_ldif.specs.Legal.{has_this_key, is_legal, is_legal_line, is_read_under, is_short}
+use Rattle.dir_ldif.specs.LegalRecords.{has_this_key, is_legal, is_legal_line, is_read_under, is_short}
 use Rattle.dir_tree.specs.Content.{Stored}
 use Rattle.dir_tree.specs.Dir.{Dir}
 use Rattle.dir_tree.specs.WellFormed.{Each, IsSoundAttribute, IsSoundValue, IsWellFormed, attribute_lines}

@@ -7,7 +7,8 @@ use Rattle.dir_ldif.specs.declared.faults.StreamFault.{StreamFault}
 use Rattle.dir_ldif.specs.declared.records.Change.{Change}
 use Rattle.dir_ldif.specs.declared.records.Record.{Record}
 use Rattle.dir_ldif.specs.declared.records.Record.TheVariants as form
-use Rattle.dir_ldif.specs.Laws.{AllAreSound, RecordsReadBack, records_text, without_line}
+use Rattle.dir_ldif.specs.RoundTrip.{RecordsReadBack, records_text, without_line}
+use Rattle.dir_ldif.specs.SoundRecords.{AreLegalAndSound}
 use Rattle.dir_ldif.specs.Records.{records_of}
 use Rattle.dir_ldif.specs.RecordText.{change_text}
 use Rattle.dir_tree.specs.Dir.{Dir}
@@ -39,7 +40,7 @@ as_records [] = refl
 as_records (c ∷ cs) = ap (λ z. change_text c ++ z) (as_records cs)
 
 module _ (rows : List TypeRow) where
-  all_sound : (changes : List Change) → Each (IsSoundChange rows) changes → AllAreSound rows (map (λ c. form.Change c) changes)
+  all_sound : (changes : List Change) → Each (IsSoundChange rows) changes → AreLegalAndSound rows (map (λ c. form.Change c) changes)
   all_sound [] sound = tt
   all_sound (c ∷ cs) sound = (sound.0.0, sound.0.1, all_sound cs sound.1)
 

@@ -21,8 +21,8 @@ use Rattle.dir_names.specs.Sound.{is_name, is_pair, is_rdn}
 use Rattle.dir_ldif.specs.declared.records.Change.{Change}
 use Rattle.dir_ldif.specs.declared.records.ChangeKind.{ChangeKind}
 use Rattle.dir_ldif.specs.declared.records.ChangeKind.TheVariants as kind
-use Rattle.dir_ldif.specs.Laws.{KindIsSound, ValuesAreBytes}
-use Rattle.dir_ldif.specs.Legal.{has_this_key, is_legal_kind, is_legal_line, is_read_under, is_short}
+use Rattle.dir_ldif.specs.SoundRecords.{IsSoundKind, ValuesAreBytes}
+use Rattle.dir_ldif.specs.LegalRecords.{has_this_key, is_legal_kind, is_legal_line, is_read_under, is_short}
 use Rattle.dir_tree.specs.Content.{Content}
 use Rattle.dir_tree.specs.Dir.{Dir, entry_at, has_parent, put_entry, without}
 use Rattle.dir_tree.specs.Made.{leaf_of}
@@ -184,7 +184,7 @@ step_keeps rows d change well sound new is = by (name_key rows change.dn) refl i
     name_sound : (is_name change.dn ≡ true) × (is_within_limits change.dn ≡ true)
     name_sound = sound.1.0
 
-    done : (k : DnKeys) → name_key rows change.dn ≡ Some k → (c : ChangeKind) → is_legal_kind rows c ≡ true → KindIsSound c → directory_after rows d k change.dn c ≡ Ok new → IsWellFormed rows new
+    done : (k : DnKeys) → name_key rows change.dn ≡ Some k → (c : ChangeKind) → is_legal_kind rows c ≡ true → IsSoundKind c → directory_after rows d k change.dn c ≡ Ok new → IsWellFormed rows new
     done k t (kind.Add lines) legal bytes h =
         let known = added_is rows d k change.dn lines new h in
         let entry = known.3 in

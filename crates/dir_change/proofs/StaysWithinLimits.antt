@@ -18,13 +18,13 @@ use Rattle.dir_names.specs.Sound.{is_name, is_rdn}
 use Rattle.dir_ldif.specs.declared.records.Change.{Change}
 use Rattle.dir_ldif.specs.declared.records.ChangeKind.{ChangeKind}
 use Rattle.dir_ldif.specs.declared.records.ChangeKind.TheVariants as kind
-use Rattle.dir_ldif.specs.Laws.{NameIsSound, ValuesAreBytes}
+use Rattle.dir_ldif.specs.SoundRecords.{IsSoundName, ValuesAreBytes}
 use Rattle.dir_tree.specs.Content.{Content, Stored}
 use Rattle.dir_tree.specs.Dir.{Dir, entry_at, put_entry}
 use Rattle.dir_tree.specs.Spelled as spelled
 use Rattle.dir_tree.specs.Spelled.{own_at, prefixes, spelled_name}
 use Rattle.dir_tree.specs.WellFormed.{Each, IsSoundAttribute, IsSoundValue, IsWellFormed, IsWithinLimits, are_bytes, attribute_lines}
-use Rattle.dir_ldif.specs.Legal.{is_legal}
+use Rattle.dir_ldif.specs.LegalRecords.{is_legal}
 use Rattle.dir_tree.proofs.DirLemmas.{get_put, get_without, same_key}
 use Rattle.dir_change.specs.Operation.{directory_after, own_rdns, step, step_at}
 use Rattle.dir_change.specs.Runs.{group_at, group_of}
@@ -59,7 +59,7 @@ all_own d p h k = by (entry_at d k) refl
     by None t = refl
     by (Some e) t = h k e t
 
-pub name_sound : (rows : List TypeRow) (d : Dir) → IsWellFormed rows d → IsWithinLimits d → (k : DnKeys) (e : Content) → entry_at d k ≡ Some e → NameIsSound (spelled_name d k)
+pub name_sound : (rows : List TypeRow) (d : Dir) → IsWellFormed rows d → IsWithinLimits d → (k : DnKeys) (e : Content) → entry_at d k ≡ Some e → IsSoundName (spelled_name d k)
 name_sound rows d well within k e there =
     (all_joined is_rdn (own_at d) (all_own d is_rdn (λ q x h. (within q x h).1)) (prefixes k), λ i. short i && small i)
   where

@@ -9,7 +9,7 @@ use Rattle.dir_names.specs.Orders.{dn_key_eq}
 use Rattle.dir_ldif.specs.declared.records.Change.{Change}
 use Rattle.dir_ldif.specs.declared.records.ChangeKind.{ChangeKind}
 use Rattle.dir_ldif.specs.declared.records.ChangeKind.TheVariants as kind
-use Rattle.dir_ldif.specs.Legal.{is_legal}
+use Rattle.dir_ldif.specs.LegalRecords.{is_legal}
 use Rattle.dir_tree.specs.Content.{Content}
 use Rattle.dir_tree.specs.Dir.{Dir, entry_at}
 use Rattle.dir_tree.specs.Spelled.{spelled_name}

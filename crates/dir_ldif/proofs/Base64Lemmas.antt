@@ -1,5 +1,5 @@
--- A base64 text in pieces: where its first 1,024 bytes are the text of 768 bytes, it is base64 exactly where the rest is;
--- else it is none.
+-- A base64 text in pieces: if its first 1,024 bytes are the text of 768 bytes, it is base64 exactly if the rest is; if not,
+-- it is not.
 use Rattle.std.proofs.Common.{◌≡◌, ℕ, zero, suc, ◌+◌, ◌-◌, ◌*◌, ◌/◌, ◌%◌, ◌<◌, ◌≤◌, nat_lt, nat_eq, ◌&&◌, Bool, true, false, List, [], ◌∷◌, ◌++◌, length, take, drop, replicate, slice_index, refl, sym, ap, subst, ◌∙◌, arith, inl, inr, ◌⊎◌}
 use Rattle.std.specs.Prelude.{IfErr, IfOk}
 use Rattle.std.proofs.lemmas.List.{take-append-drop, take_at, drop_at, length-append, length-drop, length-take-le, get_or-drop, length-replicate}
@@ -21,8 +21,8 @@ use Rattle.base64.proofs.Tables.{IsDecodeTable_from, are_tables_inverse}
 use Rattle.std.specs.Result.{is_ok}
 use Rattle.std.proofs.lemmas.Bool.{cases_Bool, eq-eqb, eqb-true, lt-ltb}
 use Rattle.dir_ldif.specs.declared.faults.RecordFault.TheVariants.{BadBase64, ValueTooLong}
-use Rattle.dir_ldif.specs.Outcome.{then_of}
-use Rattle.dir_ldif.specs.Part.{decoded, is_base64, limited, or_bad}
+use Rattle.dir_names.specs.Results.{and_then}
+use Rattle.dir_ldif.specs.AttrVal.{base64_value, is_base64, or_bad_base64, within_limit}
 
 -- ---- what is decoded is bytes
 
@@ -170,12 +170,12 @@ cut_pieces front rest w bytes lf some ok =
 -- ---- the test of a text
 
 pub base64-yes : (s b : List ℕ) → decode_of standard s ≡ Ok b → is_base64 s ≡ true
-unfolding is_base64 decoded
-base64-yes s b e = ap (λ r. is_ok (or_bad r)) e
+unfolding is_base64 base64_value
+base64-yes s b e = ap (λ r. is_ok (or_bad_base64 r)) e
 
 pub base64-no : (s : List ℕ) (f : DecodeError) → decode_of standard s ≡ Err f → is_base64 s ≡ false
-unfolding is_base64 decoded
-base64-no s f e = ap (λ r. is_ok (or_bad r)) e
+unfolding is_base64 base64_value
+base64-no s f e = ap (λ r. is_ok (or_bad_base64 r)) e
 
 -- what decoding a text into a slice tells
 pub told : (s old new : List ℕ) (r : Result ℕ DecodeError) → IfOk r (λ n. IsDecodedInto standard s n old new) → IfErr r (λ e. decode_of standard s ≡ Err e) → is_ok r ≡ is_base64 s
@@ -219,18 +219,18 @@ piece_told front rest old new n fb rb lf some fits ok = elim (cases_Bool (nat_eq
 ]
 
 -- a text past the limit
-pub long-yes : (s : List ℕ) → IsBytes s → 1398104 < length s → is_base64 s ≡ true → then_of (decoded s) limited ≡ Err ValueTooLong
-unfolding decoded
+pub long-yes : (s : List ℕ) → IsBytes s → 1398104 < length s → is_base64 s ≡ true → and_then (base64_value s) within_limit ≡ Err ValueTooLong
+unfolding base64_value
 long-yes s bytes long good = elim (result_cases (decode_of standard s)) [
   | inl ok ↦
       let past : nat_lt 1048576 (length ok.0) ≡ true = lt-ltb 1048576 (length ok.0) (long_value s ok.0 bytes ok.1 long) in
-      ap (λ r. then_of (or_bad r) limited) ok.1 ∙ rw past refl
+      ap (λ r. and_then (or_bad_base64 r) within_limit) ok.1 ∙ rw past refl
   | inr err ↦ cc (sym good ∙ base64-no s err.0 err.1)
 ]
 
-pub long-no : (s : List ℕ) → is_base64 s ≡ false → then_of (decoded s) limited ≡ Err BadBase64
-unfolding decoded
+pub long-no : (s : List ℕ) → is_base64 s ≡ false → and_then (base64_value s) within_limit ≡ Err BadBase64
+unfolding base64_value
 long-no s bad = elim (result_cases (decode_of standard s)) [
   | inl ok ↦ cc (sym bad ∙ base64-yes s ok.0 ok.1)
-  | inr err ↦ ap (λ r. then_of (or_bad r) limited) err.1
+  | inr err ↦ ap (λ r. and_then (or_bad_base64 r) within_limit) err.1
 ]

@@ -22,7 +22,7 @@ without_last-other b c [] e = rw e refl
 without_last-other b c (x ∷ []) e = rw e refl
 without_last-other b c (x ∷ y ∷ ys) e = ap (λ t. x ∷ t) (without_last-other b c (y ∷ ys) e)
 
--- what has more behind it stays
+-- the list is the same with more after it
 pub without_last-behind : (b : ℕ) (xs : List ℕ) (y : ℕ) (ys : List ℕ) → without_last b (xs ++ y ∷ ys) ≡ xs ++ without_last b (y ∷ ys)
 without_last-behind b [] y ys = refl
 without_last-behind b (x ∷ []) y ys = refl
@@ -76,7 +76,7 @@ cut_there : (b x : ℕ) (xs front back before after : List ℕ) → eqb x b ≡ 
     → list_any (λ x. eqb x b) before ≡ false → (x ∷ xs ≡ front ++ b ∷ back) × (list_any (λ x. eqb x b) front ≡ false)
 cut_there b x xs front back before after other f g whole lacks = rw (f, g, whole, other) (refl, lacks)
 
--- what stands before and behind the cut
+-- what comes before the cut and after it
 pub cut_at-text : (b : ℕ) (xs front back : List ℕ) → Some (front, back) ≡ cut_at b xs → (xs ≡ front ++ b ∷ back) × (list_any (λ x. eqb x b) front ≡ false)
 cut_at-text b [] front back e = cc
 cut_at-text b (x ∷ xs) front back e =
@@ -109,7 +109,7 @@ cut_at-lacks b (x ∷ xs) e =
     rw no (cut_at-lacks b xs (sym gone)))
     (true_or_false (eqb x b))
 
--- it is the front of the list that is left
+-- what is left is a prefix of the list
 pub take-without_last : (b : ℕ) (xs : List ℕ) → take (length (without_last b xs)) xs ≡ without_last b xs
 take-without_last b [] = refl
 take-without_last b (x ∷ []) =

@@ -6,27 +6,27 @@ use Rattle.dir_names.specs.declared.fault.NameFault.{NameFault}
 use Rattle.dir_names.specs.declared.fault.NameFault.TheVariants.{BadDescription, ReservedName, BadValue, BadDn, NameLimit, Memory}
 use Rattle.dir_ldif.specs.declared.faults.RecordFault.{RecordFault}
 use Rattle.dir_ldif.specs.declared.faults.RecordFault.TheVariants as fault
-use Rattle.dir_ldif.specs.Legal.{Blames, BlamesName}
+use Rattle.dir_ldif.specs.LegalRecords.{Refutes, NameRefutes}
 
-BlamesName-weaker : (f : NameFault) (test whole : Bool) → (test ≡ false → whole ≡ false) → BlamesName f test → BlamesName f whole
-BlamesName-weaker BadDescription test whole h b = h b
-BlamesName-weaker ReservedName test whole h b = h b
-BlamesName-weaker BadValue test whole h b = h b
-BlamesName-weaker BadDn test whole h b = h b
-BlamesName-weaker NameLimit test whole h b = h b
-BlamesName-weaker Memory test whole h b = tt
+NameRefutes-weaker : (f : NameFault) (test whole : Bool) → (test ≡ false → whole ≡ false) → NameRefutes f test → NameRefutes f whole
+NameRefutes-weaker BadDescription test whole h b = h b
+NameRefutes-weaker ReservedName test whole h b = h b
+NameRefutes-weaker BadValue test whole h b = h b
+NameRefutes-weaker BadDn test whole h b = h b
+NameRefutes-weaker NameLimit test whole h b = h b
+NameRefutes-weaker Memory test whole h b = tt
 
--- what blames a part blames the whole
-pub Blames-weaker : (f : RecordFault) (test whole : Bool) → (test ≡ false → whole ≡ false) → Blames f test → Blames f whole
-Blames-weaker fault.BadLine test whole h b = b
-Blames-weaker fault.BadBase64 test whole h b = b
-Blames-weaker fault.UrlValue test whole h b = b
-Blames-weaker fault.Control test whole h b = b
-Blames-weaker fault.BadChangetype test whole h b = b
-Blames-weaker fault.BadModify test whole h b = b
-Blames-weaker fault.BadRename test whole h b = b
-Blames-weaker fault.ValueTooLong test whole h b = h b
-Blames-weaker (fault.Name f) test whole h b = BlamesName-weaker f test whole h b
+-- a fault that refutes a part of a test refutes the whole
+pub Refutes-weaker : (f : RecordFault) (test whole : Bool) → (test ≡ false → whole ≡ false) → Refutes f test → Refutes f whole
+Refutes-weaker fault.BadLine test whole h b = b
+Refutes-weaker fault.BadBase64 test whole h b = b
+Refutes-weaker fault.UrlValue test whole h b = b
+Refutes-weaker fault.Control test whole h b = b
+Refutes-weaker fault.BadChangetype test whole h b = b
+Refutes-weaker fault.BadModify test whole h b = b
+Refutes-weaker fault.BadRename test whole h b = b
+Refutes-weaker fault.ValueTooLong test whole h b = h b
+Refutes-weaker (fault.Name f) test whole h b = NameRefutes-weaker f test whole h b
 
-pub Blames-one : {A : Type 0} (f : RecordFault) (p : A → Bool) (xs : List A) (i : ℕ) (x : A) → i < length xs → x ≡ get_or xs i x → Blames f (p x) → Blames f (list_all p xs)
-Blames-one f p xs i x lt here b = Blames-weaker f (p x) (list_all p xs) (λ e. list_all_at p xs i x lt (ap p (sym here) ∙ e)) b
+pub Refutes-one : {A : Type 0} (f : RecordFault) (p : A → Bool) (xs : List A) (i : ℕ) (x : A) → i < length xs → x ≡ get_or xs i x → Refutes f (p x) → Refutes f (list_all p xs)
+Refutes-one f p xs i x lt here b = Refutes-weaker f (p x) (list_all p xs) (λ e. list_all_at p xs i x lt (ap p (sym here) ∙ e)) b

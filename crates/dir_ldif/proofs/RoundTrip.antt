@@ -18,45 +18,46 @@ use Rattle.dir_ldif.specs.declared.records.ChangeKind.TheVariants as kind
 use Rattle.dir_ldif.specs.declared.records.Mod.{Mod}
 use Rattle.dir_ldif.specs.declared.records.ModOp.{ModOp}
 use Rattle.dir_ldif.specs.declared.records.ModOp.TheVariants as op
-use Rattle.dir_ldif.specs.declared.version.Version.TheVariants.{Absent}
+use Rattle.dir_ldif.specs.declared.reader.version.Version.TheVariants.{Absent}
 use Rattle.dir_ldif.specs.Bytes.{is_empty, cut_at}
-use Rattle.dir_ldif.specs.Legal.{has_key, is_read_under, is_short, is_legal_line, is_legal_mod, is_legal_kind, is_legal_record}
-use Rattle.dir_ldif.specs.Lines.{Line, cut, is_lf, numbered, glue, joined}
-use Rattle.dir_ldif.specs.Parts.{parts_from, parts_of, version_of, version_of_cut}
+use Rattle.dir_ldif.specs.LegalRecords.{has_key, is_read_under, is_short, is_legal_line, is_legal_mod, is_legal_kind, is_legal_record}
+use Rattle.dir_ldif.specs.LogicalLines.{Line, cut, is_lf, logical_lines, physical_lines, with_first_line}
+use Rattle.dir_ldif.specs.Blocks.{blocks_from, blocks_of, version_of, version_of_cut}
 use Rattle.dir_ldif.specs.Records.{answers_on, records_of}
 use Rattle.dir_ldif.specs.RecordText.{op_word, mod_text, change_word, flag_text, superior_text, kind_text, record_text_of}
-use Rattle.dir_ldif.specs.Text.{fold_from, folded, is_plain, base64_of, written, line_of, written_line}
-use Rattle.dir_ldif.specs.Laws.{is_refused_in_name, NameIsSound, SuperiorIsSound, KindIsSound, PartsAreSound, AllAreSound, without_line, records_text, RecordsReadBack}
+use Rattle.dir_ldif.specs.LineText.{base64_of, fold_from, folded_line, is_plain, line_of, value_spec, written_line}
+use Rattle.dir_ldif.specs.RoundTrip.{ends_name, without_line, records_text, RecordsReadBack}
+use Rattle.dir_ldif.specs.SoundRecords.{AreLegalAndSound, IsSoundKind, IsSoundName, IsSoundRecord, IsSoundSuperior}
 use Rattle.dir_ldif.proofs.BytesLemmas.{true_or_false}
-use Rattle.dir_ldif.proofs.BlocksRead.{Good, AllGood, AllBlocks, texts, block_text, blocks_text, block_reads, blocks_read, first_parts, glue-empty}
-use Rattle.dir_ldif.proofs.RecordReads.{described_back, refused-none, within, value_line_of, mod_value_lines, mod_front, mod_lines, superior_lines, kind_lines, record_lines, record_of-back}
+use Rattle.dir_ldif.proofs.WrittenBlocks.{Good, AllGood, AllBlocks, texts, block_text, blocks_text, block_reads, blocks_read, first_parts, with_first_line-empty}
+use Rattle.dir_ldif.proofs.WrittenRecords.{described_back, refused-none, within, value_line_of, mod_value_lines, mod_front, mod_lines, superior_lines, kind_lines, record_lines, record_of-back}
 use Rattle.dir_ldif.proofs.SoundNames.{name_short, rdn_short}
-use Rattle.dir_ldif.proofs.SpelledLemmas.{IsSpelling, is_spelled, spelled-allowed, spelling_of}
-use Rattle.dir_ldif.proofs.WrittenLemmas.{and_first, and_second, name-end, line-clean, written-tail}
+use Rattle.dir_ldif.proofs.Spellings.{IsSpelling, is_spelled, spelled-allowed, spelling_of}
+use Rattle.dir_ldif.proofs.WrittenLines.{and_first, and_second, name-end, line-clean, value_spec-tail}
 
 -- ---- the text of a record is that of its lines
 
-dash-text : flat_map folded (codes "-" ∷ []) ≡ codes "-\n"
+dash-text : flat_map folded_line (codes "-" ∷ []) ≡ codes "-\n"
 unfolding fold_from
 dash-text = refl
 
-mod-text : (m : Mod) → mod_text m ≡ flat_map folded (mod_lines m)
+mod-text : (m : Mod) → mod_text m ≡ flat_map folded_line (mod_lines m)
 mod-text m =
-    let values : flat_map folded (mod_value_lines m.description m.values) ≡ flat_map (λ v. written_line m.description.spelling v) m.values =
-    flat_map-map folded (λ v. line_of m.description.spelling v) m.values in
-    sym (flat_map-append folded (mod_front m) (codes "-" ∷ []) ∙ ap (λ t. flat_map folded (mod_front m) ++ t) dash-text ∙ ap (λ t. (written_line (op_word m.op) m.description.spelling ++ t) ++ codes "-\n") values)
+    let values : flat_map folded_line (mod_value_lines m.description m.values) ≡ flat_map (λ v. written_line m.description.spelling v) m.values =
+    flat_map-map folded_line (λ v. line_of m.description.spelling v) m.values in
+    sym (flat_map-append folded_line (mod_front m) (codes "-" ∷ []) ∙ ap (λ t. flat_map folded_line (mod_front m) ++ t) dash-text ∙ ap (λ t. (written_line (op_word m.op) m.description.spelling ++ t) ++ codes "-\n") values)
 
-mods-text : (mods : List Mod) → flat_map mod_text mods ≡ flat_map folded (flat_map mod_lines mods)
+mods-text : (mods : List Mod) → flat_map mod_text mods ≡ flat_map folded_line (flat_map mod_lines mods)
 mods-text [] = refl
 mods-text (m ∷ mods) =
-    ap (λ t. t ++ flat_map mod_text mods) (mod-text m) ∙ ap (λ t. flat_map folded (mod_lines m) ++ t) (mods-text mods) ∙ sym (flat_map-append folded (mod_lines m) (flat_map mod_lines mods))
+    ap (λ t. t ++ flat_map mod_text mods) (mod-text m) ∙ ap (λ t. flat_map folded_line (mod_lines m) ++ t) (mods-text mods) ∙ sym (flat_map-append folded_line (mod_lines m) (flat_map mod_lines mods))
 
-superior-text : (superior : Option SpelledName) → superior_text superior ≡ flat_map folded (superior_lines superior)
+superior-text : (superior : Option SpelledName) → superior_text superior ≡ flat_map folded_line (superior_lines superior)
 superior-text None = refl
 superior-text (Some name) = sym (append-nil (written_line (codes "newsuperior") (name_printed name)))
 
-kind-text : (k : ChangeKind) → kind_text k ≡ flat_map folded (kind_lines k)
-kind-text (kind.Add lines) = sym (flat_map-map folded value_line_of lines)
+kind-text : (k : ChangeKind) → kind_text k ≡ flat_map folded_line (kind_lines k)
+kind-text (kind.Add lines) = sym (flat_map-map folded_line value_line_of lines)
 kind-text kind.Delete = refl
 kind-text (kind.Modify mods) = mods-text mods
 kind-text (kind.Rename rdn flag superior) =
@@ -66,7 +67,7 @@ kind-text (kind.Rename rdn flag superior) =
 
 record-text : (r : Record) → record_text_of r ≡ block_text (record_lines r)
 record-text (form.Content name lines) =
-    ap (λ t. (written_line (codes "dn") (name_printed name) ++ t) ++ 10 ∷ []) (sym (flat_map-map folded value_line_of lines))
+    ap (λ t. (written_line (codes "dn") (name_printed name) ++ t) ++ 10 ∷ []) (sym (flat_map-map folded_line value_line_of lines))
 record-text (form.Change change) =
     let a = written_line (codes "dn") (name_printed change.dn) in
     let b = written_line (codes "changetype") (change_word change.kind) in
@@ -91,22 +92,22 @@ length-base64 value short =
     let symbols = encode_symbols standard.encode_table value in
     omega (arith, length-append symbols (replicate (padding_len (length value)) 61), length-encode_symbols standard.encode_table value, length-padding (padding_len (length value)))
 
-length-written : (value : List ℕ) → length value ≤ 1048576 → length (written value) ≤ 1398210
-length-written [] short = omega arith
-length-written (b ∷ bs) short =
+length-value_spec : (value : List ℕ) → length value ≤ 1048576 → length (value_spec value) ≤ 1398210
+length-value_spec [] short = omega arith
+length-value_spec (b ∷ bs) short =
     ⊎_elim
     (λ (yes : is_plain (b ∷ bs) ≡ true). subst (λ v. length (if v then 58 ∷ 32 ∷ b ∷ bs else (58 ∷ 58 ∷ 32 ∷ base64_of (b ∷ bs))) ≤ 1398210) (sym yes) (omega arith))
     (λ (other : is_plain (b ∷ bs) ≡ false).
     subst (λ v. length (if v then 58 ∷ 32 ∷ b ∷ bs else (58 ∷ 58 ∷ 32 ∷ base64_of (b ∷ bs))) ≤ 1398210) (sym other) (omega (arith, length-base64 (b ∷ bs) short)))
     (true_or_false (is_plain (b ∷ bs)))
 
-good_line : (b : ℕ) (name value : List ℕ) → list_any is_refused_in_name (b ∷ name) ≡ false → eqb b 32 ≡ false → eqb b 35 ≡ false → length (b ∷ name) ≤ 512 → length value ≤ 1048576
+good_line : (b : ℕ) (name value : List ℕ) → list_any ends_name (b ∷ name) ≡ false → eqb b 32 ≡ false → eqb b 35 ≡ false → length (b ∷ name) ≤ 512 → length value ≤ 1048576
     → Good (line_of (b ∷ name) value)
 good_line b name value allowed space hash short short' = (
   line-clean (b ∷ name) value (name-end (b ∷ name) allowed),
   space,
   hash,
-  omega (arith, length-append (b ∷ name) (written value), length-written value short'),
+  omega (arith, length-append (b ∷ name) (value_spec value), length-value_spec value short'),
 )
 
 good_spelled : (text value : List ℕ) → IsSpelling text → length value ≤ 1048576 → Good (line_of text value)
@@ -149,7 +150,7 @@ good_mods rows (m ∷ mods) e =
     good-append (mod_lines m) (flat_map mod_lines mods) (good-append (mod_front m) (codes "-" ∷ []) (good_op m.op m.description.spelling short, values) (dash, tt))
     (good_mods rows mods (and_second (is_legal_mod rows m) (list_all (is_legal_mod rows) mods) e))
 
-good_superior : (superior : Option SpelledName) → SuperiorIsSound superior → AllGood (superior_lines superior)
+good_superior : (superior : Option SpelledName) → IsSoundSuperior superior → AllGood (superior_lines superior)
 good_superior None back = tt
 good_superior (Some name) back = (good_line 110 (101 ∷ 119 ∷ 115 ∷ 117 ∷ 112 ∷ 101 ∷ 114 ∷ 105 ∷ 111 ∷ 114 ∷ []) (name_printed name) refl refl refl (omega arith) (name_short name back), tt)
 
@@ -157,7 +158,7 @@ flag-short : (flag : Bool) → length (flag_text flag) ≤ 1048576
 flag-short true = omega arith
 flag-short false = omega arith
 
-good_kind : (rows : List TypeRow) (k : ChangeKind) → is_legal_kind rows k ≡ true → KindIsSound k → AllGood (kind_lines k)
+good_kind : (rows : List TypeRow) (k : ChangeKind) → is_legal_kind rows k ≡ true → IsSoundKind k → AllGood (kind_lines k)
 good_kind rows (kind.Add lines) legal back = good_values rows lines legal
 good_kind rows kind.Delete legal back = tt
 good_kind rows (kind.Modify mods) legal back = good_mods rows mods legal
@@ -175,10 +176,10 @@ word-short kind.Delete = omega arith
 word-short (kind.Modify mods) = omega arith
 word-short (kind.Rename rdn flag superior) = omega arith
 
-good_dn : (name : SpelledName) → NameIsSound name → Good (line_of (codes "dn") (name_printed name))
+good_dn : (name : SpelledName) → IsSoundName name → Good (line_of (codes "dn") (name_printed name))
 good_dn name back = good_line 100 (110 ∷ []) (name_printed name) refl refl refl (omega arith) (name_short name back)
 
-good_record : (rows : List TypeRow) (r : Record) → is_legal_record rows r ≡ true → PartsAreSound r → AllGood (record_lines r)
+good_record : (rows : List TypeRow) (r : Record) → is_legal_record rows r ≡ true → IsSoundRecord r → AllGood (record_lines r)
 good_record rows (form.Content name lines) legal back = (good_dn name back.0, good_values rows lines (and_second (has_key rows name) (list_all (is_legal_line rows) lines) legal))
 good_record rows (form.Change change) legal back = (
   good_dn change.dn back.0,
@@ -192,27 +193,27 @@ some_lines : (r : Record) → is_empty (record_lines r) ≡ false
 some_lines (form.Content name lines) = refl
 some_lines (form.Change change) = refl
 
-good_all : (rows : List TypeRow) (records : List Record) → AllAreSound rows records → AllBlocks (map record_lines records)
+good_all : (rows : List TypeRow) (records : List Record) → AreLegalAndSound rows records → AllBlocks (map record_lines records)
 good_all rows [] back = tt
 good_all rows (r ∷ rs) back = (good_record rows r back.0 back.1, some_lines r, good_all rows rs back.2)
 
 -- ---- the blocks of the text
 
-version-plain : (value : List ℕ) → version_of (line_of (codes "dn") value) ≡ Absent
-version-plain value = ap (λ t. version_of_cut (cut_at 58 (codes "dn" ++ t))) (written-tail value)
+version-plain_value : (value : List ℕ) → version_of (line_of (codes "dn") value) ≡ Absent
+version-plain_value value = ap (λ t. version_of_cut (cut_at 58 (codes "dn" ++ t))) (value_spec-tail value)
 
 first_block : (r : Record) (block : List Line) (n : ℕ) (rest : List Line) → texts block ≡ record_lines r → AllGood (record_lines r)
-    → parts_from false [] (block ++ (n, []) ∷ rest) ≡ Ok block ∷ parts_from true [] rest
+    → blocks_from false [] (block ++ (n, []) ∷ rest) ≡ Ok block ∷ blocks_from true [] rest
 first_block (form.Content name lines) [] n rest e g = cc
 first_block (form.Content name lines) (x ∷ xs) n rest e g =
     let here : x.1 ≡ line_of (codes "dn") (name_printed name) = cc in
-    first_parts x xs n rest (subst AllGood (sym e) g) (ap version_of here ∙ version-plain (name_printed name))
+    first_parts x xs n rest (subst AllGood (sym e) g) (ap version_of here ∙ version-plain_value (name_printed name))
 first_block (form.Change change) [] n rest e g = cc
 first_block (form.Change change) (x ∷ xs) n rest e g =
     let here : x.1 ≡ line_of (codes "dn") (name_printed change.dn) = cc in
-    first_parts x xs n rest (subst AllGood (sym e) g) (ap version_of here ∙ version-plain (name_printed change.dn))
+    first_parts x xs n rest (subst AllGood (sym e) g) (ap version_of here ∙ version-plain_value (name_printed change.dn))
 
-answers-back : (rows : List TypeRow) (records : List Record) (blocks : List (List Line)) → map texts blocks ≡ map record_lines records → AllAreSound rows records
+answers-back : (rows : List TypeRow) (records : List Record) (blocks : List (List Line)) → map texts blocks ≡ map record_lines records → AreLegalAndSound rows records
     → map without_line (answers_on rows (map (λ (b : List Line). Ok b) blocks)) ≡ map (λ (r : Record). Ok (Ok r)) records
 answers-back rows [] [] e back = refl
 answers-back rows [] (b ∷ bs) e back = cc
@@ -222,7 +223,7 @@ answers-back rows (r ∷ rs) (b ∷ bs) e back =
     let rest : map texts bs ≡ map record_lines rs = cc in
     ap (λ t. Ok t ∷ map without_line (answers_on rows (map (λ (c : List Line). Ok c) bs))) (record_of-back rows r b here back.0 back.1) ∙ ap (λ t. Ok (Ok r) ∷ t) (answers-back rows rs bs rest back.2)
 
-plain_read : (rows : List TypeRow) (records : List Record) → AllAreSound rows records
+plain_read : (rows : List TypeRow) (records : List Record) → AreLegalAndSound rows records
     → map without_line (records_of rows (blocks_text (map record_lines records))) ≡ map (λ (r : Record). Ok (Ok r)) records
 plain_read rows [] back = refl
 plain_read rows (r ∷ rs) back =
@@ -230,20 +231,20 @@ plain_read rows (r ∷ rs) back =
     let good = good_record rows r back.0 back.1 in
     let here = block_reads (record_lines r) (blocks_text others) 1 good in
     let later = blocks_read others (here.1 + 1) (good_all rows rs back.2) in
-    let rest = joined (numbered (here.1 + 1) (cut is_lf (blocks_text others))) in
-    let parts : parts_of (blocks_text (record_lines r ∷ others)) ≡ map (λ (b : List Line). Ok b) (here.0 ∷ later.0) =
-    ap (parts_from false []) here.3 ∙ first_block r here.0 here.1 rest here.2 good ∙ ap (λ t. Ok here.0 ∷ t) later.2 in
+    let rest = logical_lines (physical_lines (here.1 + 1) (cut is_lf (blocks_text others))) in
+    let parts : blocks_of (blocks_text (record_lines r ∷ others)) ≡ map (λ (b : List Line). Ok b) (here.0 ∷ later.0) =
+    ap (blocks_from false []) here.3 ∙ first_block r here.0 here.1 rest here.2 good ∙ ap (λ t. Ok here.0 ∷ t) later.2 in
     ap (λ p. map without_line (answers_on rows p)) parts
     ∙ answers-back rows (r ∷ rs) (here.0 ∷ later.0) (ap (λ t. t ∷ map texts later.0) here.2 ∙ ap (λ t. record_lines r ∷ t) later.1) back
 
-version_read : (rows : List TypeRow) (records : List Record) → AllAreSound rows records
+version_read : (rows : List TypeRow) (records : List Record) → AreLegalAndSound rows records
     → map without_line (records_of rows (codes "version: 1\n\n" ++ blocks_text (map record_lines records))) ≡ map (λ (r : Record). Ok (Ok r)) records
 version_read rows records back =
     let all = map record_lines records in
     let later = blocks_read all 3 (good_all rows records back) in
-    let rest = joined (numbered 3 (cut is_lf (blocks_text all))) in
-    let parts : parts_of (codes "version: 1\n\n" ++ blocks_text all) ≡ map (λ (b : List Line). Ok b) later.0 =
-    ap (λ t. parts_from false [] (glue (1, codes "version: 1") t)) (glue-empty 2 rest) ∙ later.2 in
+    let rest = logical_lines (physical_lines 3 (cut is_lf (blocks_text all))) in
+    let parts : blocks_of (codes "version: 1\n\n" ++ blocks_text all) ≡ map (λ (b : List Line). Ok b) later.0 =
+    ap (λ t. blocks_from false [] (with_first_line (1, codes "version: 1") t)) (with_first_line-empty 2 rest) ∙ later.2 in
     ap (λ p. map without_line (answers_on rows p)) parts ∙ answers-back rows records later.0 later.1 back
 
 pub records-read : RecordsReadBack

@@ -9,8 +9,8 @@ use Rattle.dir_names.specs.Printing.{name_printed, rdn_printed}
 use Rattle.dir_names.specs.Reading.{is_small, name_read, rdn_read}
 use Rattle.dir_names.specs.ValueKeys.{is_ascii}
 use Rattle.dir_names.proofs.ReadNames.{name_ascii, rdn_ascii, name_read_back, rdn_read_back}
-use Rattle.dir_ldif.specs.Laws.{NameIsSound, RdnIsSound}
-use Rattle.dir_ldif.proofs.WrittenLemmas.{and_first, and_second}
+use Rattle.dir_ldif.specs.SoundRecords.{IsSoundName, IsSoundRdn}
+use Rattle.dir_ldif.proofs.WrittenLines.{and_first, and_second}
 
 ascii_bytes : (xs : List ℕ) → is_ascii xs ≡ true → IsBytes xs
 ascii_bytes [] e i = omega arith
@@ -31,23 +31,23 @@ joined_within (r ∷ s ∷ rest) e =
 few_parts : (name : SpelledName) → nat_le (length name) 64 ≡ true → length name ≤ 64
 few_parts name e = grind (arith, nat_tests)
 
-pub name_short : (name : SpelledName) → NameIsSound name → length (name_printed name) ≤ 1048576
+pub name_short : (name : SpelledName) → IsSoundName name → length (name_printed name) ≤ 1048576
 name_short name sound =
     let few = few_parts name (and_first (nat_le (length name) 64) (list_all is_small name) sound.1) in
     let long = joined_within name (and_second (nat_le (length name) 64) (list_all is_small name) sound.1) in
     omega (arith, few, long)
 
-pub name_bytes : (name : SpelledName) → NameIsSound name → IsBytes (name_printed name)
+pub name_bytes : (name : SpelledName) → IsSoundName name → IsBytes (name_printed name)
 name_bytes name sound = ascii_bytes (name_printed name) (name_ascii name sound.0)
 
-pub name_back : (name : SpelledName) → NameIsSound name → name_read (name_printed name) ≡ Ok name
+pub name_back : (name : SpelledName) → IsSoundName name → name_read (name_printed name) ≡ Ok name
 name_back name sound = name_read_back name sound.0 sound.1
 
-pub rdn_short : (rdn : SpelledRdn) → RdnIsSound rdn → length (rdn_printed rdn) ≤ 1048576
+pub rdn_short : (rdn : SpelledRdn) → IsSoundRdn rdn → length (rdn_printed rdn) ≤ 1048576
 rdn_short rdn sound = let here = small_within rdn sound.1 in omega (arith, here)
 
-pub rdn_bytes : (rdn : SpelledRdn) → RdnIsSound rdn → IsBytes (rdn_printed rdn)
+pub rdn_bytes : (rdn : SpelledRdn) → IsSoundRdn rdn → IsBytes (rdn_printed rdn)
 rdn_bytes rdn sound = ascii_bytes (rdn_printed rdn) (rdn_ascii rdn sound.0)
 
-pub rdn_back : (rdn : SpelledRdn) → RdnIsSound rdn → rdn_read (rdn_printed rdn) ≡ Ok rdn
+pub rdn_back : (rdn : SpelledRdn) → IsSoundRdn rdn → rdn_read (rdn_printed rdn) ≡ Ok rdn
 rdn_back rdn sound = rdn_read_back rdn sound.0 sound.1

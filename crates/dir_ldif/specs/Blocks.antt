@@ -1,63 +1,66 @@
--- The parts of a text (RFC 2849, "Formal Syntax Definition of LDIF", and notes 1 to 3), said of all its lines at once: a
--- law beside the definition in Parts, which goes from line to line.
-use Rattle.std.specs.Prelude.{◌≡◌, ℕ, Bool, true, false, not, if◌then◌else◌, List, [], ◌∷◌, ◌++◌, map, Ok, Err}
-use Rattle.std.specs.List.{filter, list_any}
-use Rattle.dir_ldif.specs.declared.faults.StreamFault.TheVariants.{LineTooLong, BadVersion}
-use Rattle.dir_ldif.specs.Bytes.{is_empty}
-use Rattle.dir_ldif.specs.Lines.{Line, cut, lines_of, is_comment, is_long}
-use Rattle.dir_ldif.specs.Parts.{Part, parts_of, version_of, by_version}
+-- The blocks of a text (RFC 2849, "Formal Syntax Definition of LDIF"), and the fault in which it may end.
+use Rattle.std.specs.Prelude.{◌≡◌, ℕ, Bool, true, false, if◌then◌else◌, List, [], ◌∷◌, ◌++◌, Option, None, Some, Result, Ok, Err}
+use Rattle.std.specs.Str.{str_eq_ignore_ascii_case, bytes_eq}
+use Rattle.dir_ldif.specs.declared.faults.StreamFault.{StreamFault}
+use Rattle.dir_ldif.specs.declared.faults.StreamFault.TheVariants.{LineTooLong, Read, Memory, Ended, TooManyTurns, BadVersion}
+use Rattle.dir_ldif.specs.declared.reader.version.Version.{Version}
+use Rattle.dir_ldif.specs.declared.reader.version.Version.TheVariants.{Absent, One, Other}
+use Rattle.dir_ldif.specs.Bytes.{is_empty, cut_at, without_leading}
+use Rattle.dir_ldif.specs.LogicalLines.{Line, lines_of, is_comment, is_long}
+use Rattle.dir_ldif.specs.Ascii.{colon, space}
 
-abbrev pub is_blank : Line → Bool
-is_blank line = is_empty line.1
+-- a block of lines, or the fault in which the text ends
+abbrev pub BlockResult : Type 0
+BlockResult = Result (List Line) StreamFault
 
--- the lines before the first that is too long
-abbrev pub before_long : List Line → List Line
-before_long [] = []
-before_long (line ∷ lines) = if is_long line then [] else (line ∷ before_long lines)
+-- the keyword `version`
+abbrev pub version_word : List ℕ
+version_word = 118 ∷ 101 ∷ 114 ∷ 115 ∷ 105 ∷ 111 ∷ 110 ∷ []
 
-abbrev pub without_comments : List Line → List Line
-without_comments lines = filter (λ line. not (is_comment line)) lines
+-- what a line that is cut at its first colon says of the version: none, 1 (as a plain value), or another (RFC 2849,
+-- version-spec)
+abbrev pub version_of_cut : Option (List ℕ × List ℕ) → Version
+version_of_cut None = Absent
+version_of_cut (Some p) =
+    if str_eq_ignore_ascii_case p.0 version_word
+    then (if bytes_eq (without_leading space p.1) (49 ∷ []) then One else Other)
+    else Absent
 
--- the lines from the first one that is not empty
-abbrev pub without_blanks : List Line → List Line
-without_blanks [] = []
-without_blanks (line ∷ lines) = if is_blank line then without_blanks lines else (line ∷ lines)
+-- what a line says of the version
+abbrev pub version_of : List ℕ → Version
+version_of line = version_of_cut (cut_at colon line)
 
--- an element goes onto the first piece, if there is one
-abbrev pub onto_ended : {A : Type 0} → A → List (List A) → List (List A)
-onto_ended x [] = []
-onto_ended x (piece ∷ pieces) = (x ∷ piece) ∷ pieces
+-- one of three values, by what a line says of the version
+abbrev pub by_version : {A : Type 0} → Version → A → A → A → A
+by_version Absent absent one other = absent
+by_version One absent one other = one
+by_version Other absent one other = other
 
--- the pieces of a list that an element which passes a test ends: those of `cut`, without a rest behind the last such
--- element
-abbrev pub ended : {A : Type 0} → (A → Bool) → List A → List (List A)
-ended test [] = []
-ended test (x ∷ xs) = if test x then [] ∷ ended test xs else onto_ended x (ended test xs)
+-- a block before others, if it has a line
+abbrev pub block_then : List Line → List BlockResult → List BlockResult
+block_then [] rest = rest
+block_then (line ∷ lines) rest = Ok (line ∷ lines) ∷ rest
 
--- the pieces that have a line are blocks
-abbrev pub blocks : List (List Line) → List Part
-blocks pieces = map (λ (block : List Line). Ok block) (filter (λ (piece : List Line). not (is_empty piece)) pieces)
+-- the blocks of logical lines, where these lines of a block come first. A line that is too long ends the text; a comment is
+-- dropped; an empty line ends the block; and the first line that is left, before which none has `begun`, may say the version
+abbrev pub blocks_from : Bool → List Line → List Line → List BlockResult
+blocks_from begun block [] = block_then block []
+blocks_from begun block (line ∷ rest) =
+    if is_long line then Err LineTooLong ∷ []
+    else (if is_comment line then blocks_from begun block rest
+    else (if is_empty line.1 then block_then block (blocks_from begun [] rest)
+    else (if begun then blocks_from true (block ++ line ∷ []) rest
+    else by_version (version_of line.1) (blocks_from true (block ++ line ∷ []) rest) (blocks_from true block rest) (Err BadVersion ∷ []))))
 
--- empty lines end blocks. Where a line that is too long follows, a block that none ended is lost
-abbrev pub body_parts : Bool → List Line → List Part
-body_parts false lines = blocks (cut is_blank lines)
-body_parts true lines = blocks (ended is_blank lines) ++ Err LineTooLong ∷ []
+-- the blocks of a text
+abbrev pub blocks_of : List ℕ → List BlockResult
+blocks_of text = blocks_from false [] (lines_of text)
 
--- the first line may say the version, and then belongs to no block
-abbrev pub parts_behind_version : Bool → List Line → List Part
-parts_behind_version long [] = body_parts long []
-parts_behind_version long (first ∷ rest) =
-    by_version (version_of first.1) (body_parts long (first ∷ rest)) (body_parts long rest) (Err BadVersion ∷ [])
-
--- the parts of the lines of a text: what counts are the lines before the first that is too long, without comments, from
--- the first that is not empty
-abbrev pub parts_said : List Line → List Part
-parts_said lines = parts_behind_version (list_any is_long lines) (without_blanks (without_comments (before_long lines)))
-
--- the definition from line to line says the same
-abbrev pub TextsAreBlocks : Type 0
-TextsAreBlocks = (text : List ℕ) → parts_of text ≡ parts_said (lines_of text)
-
--- a text that begins with a text in which a line is too long has such a line too
-abbrev pub LongLinesStay : Type 0
-LongLinesStay = (text more : List ℕ) → list_any is_long (lines_of text) ≡ true → list_any is_long (lines_of (text ++ more)) ≡ true
+-- the text ends in this fault, with no block before it. That memory ran out says nothing of the text
+abbrev pub EndsAtOnce : StreamFault → List BlockResult → Type 0
+EndsAtOnce LineTooLong blocks = blocks ≡ Err LineTooLong ∷ []
+EndsAtOnce BadVersion blocks = blocks ≡ Err BadVersion ∷ []
+EndsAtOnce Memory blocks = Unit {0}
+EndsAtOnce Read blocks = ⊥
+EndsAtOnce Ended blocks = ⊥
+EndsAtOnce TooManyTurns blocks = ⊥

@@ -1,6 +1,8 @@
--- Words on bytes and lists.
+-- Words on lists, most of them lists of bytes.
 use Rattle.std.specs.Prelude.{ℕ, Bool, true, false, if◌then◌else◌, ◌==◌, List, [], ◌∷◌, Option, None, Some}
 use Rattle.std.specs.Option.{option_map}
+use Rattle.std.specs.Prelude.{◌||◌}
+use Rattle.dir_ldif.specs.Ascii.{line_feed, carriage_return}
 
 -- the list has no element
 abbrev pub is_empty : {A : Type 0} → List A → Bool
@@ -24,12 +26,16 @@ without_last b [] = []
 without_last b (c ∷ []) = if c == b then [] else (c ∷ [])
 without_last b (c ∷ d ∷ ds) = c ∷ without_last b (d ∷ ds)
 
--- the list without such numbers at its front
-abbrev pub without_front : ℕ → List ℕ → List ℕ
-without_front b [] = []
-without_front b (c ∷ cs) = if c == b then without_front b cs else (c ∷ cs)
+-- the list without the copies of this number that it begins with
+abbrev pub without_leading : ℕ → List ℕ → List ℕ
+without_leading b [] = []
+without_leading b (c ∷ cs) = if c == b then without_leading b cs else (c ∷ cs)
 
--- what stands before the first such number, and what behind it, if there is one
+-- what comes before the first such number, and what comes after it, if there is one
 abbrev pub cut_at : ℕ → List ℕ → Option (List ℕ × List ℕ)
 cut_at b [] = None
 cut_at b (c ∷ cs) = if c == b then Some ([], cs) else option_map (λ p. (c ∷ p.0, p.1)) (cut_at b cs)
+
+-- LF and CR
+abbrev pub is_line_break : ℕ → Bool
+is_line_break b = b == line_feed || b == carriage_return

@@ -1,4 +1,4 @@
--- The number and the name by which a fault of a record, or of a text, is told.
+-- The text of a fault, of a record or of the stream: its number and its name.
 use Rattle.std.specs.Prelude.{ℕ, List, ◌++◌, codes}
 use Rattle.dir_names.specs.FaultText.{name_fault_text}
 use Rattle.dir_ldif.specs.declared.faults.RecordFault.{RecordFault}

@@ -1,30 +1,31 @@
--- What a reader of records has still to give, and in what state it is.
+-- What contracts say of a `RecordReader`: the answers that it has still to give, and its state. The words of Reader.Answers say what
+-- these mean.
 use Rattle.std.specs.Prelude.{◌≡◌, ℕ, ◌+◌, ◌≤◌, List, length, Option}
 use Rattle.std.specs.Io.KnownBytes.{Consumes}
 use Rattle.dir_names.specs.declared.schema.TypeRow.{TypeRow}
 use Rattle.dir_ldif.specs.declared.faults.StreamFault.{StreamFault}
 use Rattle.dir_ldif.specs.declared.reader.RecordReader.{RecordReader}
 use Rattle.dir_ldif.specs.declared.reader.Place.TheVariants.{Reading, AtEnd, Ended}
-use Rattle.dir_ldif.specs.Next.{answers_ahead, answers_left, EndsSoon, Faults, GoesOn}
-use Rattle.dir_ldif.specs.Reading.{hand, bytes_ahead, IsInPieces}
+use Rattle.dir_ldif.specs.Reader.Answers.{answers_ahead, answers_left, bytes_ahead, EndsSoon, ExplainsFault, GoesOn, hand, IsInPieces}
 use Rattle.dir_ldif.specs.Records.{Found, Answer}
-use Rattle.dir_ldif.specs.LegalFound.{IsLegalFound}
-use Rattle.dir_ldif.specs.SoundFound.{IsSoundFound}
+use Rattle.dir_ldif.specs.SoundRecords.{IsLegalFound, IsSoundFound}
+pub mod Answers
+pub mod Unfolding
 
 module _ {R : Type 0} where
-  -- the answers that are left, where the source tells its bytes
-  abbrev pub to_give : (R → Option (List ℕ)) → RecordReader R → Option (List Answer)
-  to_give left r = answers_left r.schema.now r.core (left r.source)
+  -- the answers to come, where the source tells its bytes
+  abbrev pub answers_to_come : (R → Option (List ℕ)) → RecordReader R → Option (List Answer)
+  answers_to_come left r = answers_left r.schema.now r.core (left r.source)
 
-  -- the answers to come where this text stands behind what was used up
-  abbrev pub to_give_on : RecordReader R → List ℕ → List Answer
-  to_give_on r text = answers_ahead r.schema.now r.core text
+  -- the answers to come where this text follows what was used up
+  abbrev pub answers_to_come_with : RecordReader R → List ℕ → List Answer
+  answers_to_come_with r text = answers_ahead r.schema.now r.core text
 
-  -- the bytes that were read and not used up
+  -- the bytes in hand: they were read, and not used up yet
   abbrev pub in_hand : RecordReader R → List ℕ
   in_hand r = hand r.core
 
-  -- the first answer was used up, whatever text follows it
+  -- the bytes of this answer were used up: whatever text follows them, it comes first
   abbrev pub UsesUp : (R → Option (List ℕ)) → Found → RecordReader R → RecordReader R → Type 0
   UsesUp left found old new = GoesOn found old.schema.now old.core new.core (left old.source) (left new.source)
 
@@ -46,7 +47,7 @@ module _ {R : Type 0} where
   abbrev pub IsReading : RecordReader R → Type 0
   IsReading r = r.core.place ≡ Reading
 
-  -- each read call but one at the end gave a byte or more
+  -- each read call, but one at the end of the source, gave a byte or more
   abbrev pub SpendsTurns : (R → Option (List ℕ)) → RecordReader R → RecordReader R → Type 0
   SpendsTurns left old new = (bytes : List ℕ) × Consumes (left old.source) (left new.source) bytes × (old.core.turns ≤ new.core.turns + length bytes)
 
@@ -68,12 +69,12 @@ module _ {R : Type 0} where
 
   -- why no further answer is given
   abbrev pub StopsFor : (R → Option (List ℕ)) → (R → ℕ) → StreamFault → RecordReader R → RecordReader R → Type 0
-  StopsFor left failures fault old new = Faults fault old.schema.now old.core (left old.source) (left new.source) (failures old.source) (failures new.source)
+  StopsFor left failures fault old new = ExplainsFault fault old.schema.now old.core (left old.source) (left new.source) (failures old.source) (failures new.source)
 
   -- each read call gave at most 8,192 bytes
   abbrev pub ReadsPieces : (R → Option (List ℕ)) → RecordReader R → RecordReader R → Type 0
   ReadsPieces left old new = IsInPieces old.core new.core (left old.source) (left new.source)
 
-  -- at `LineTooLong` the bytes that were taken end at most 8,192 behind a text in which no line is too long
+  -- at `LineTooLong` the bytes that were read are a text in which no line is too long, and at most 8,192 bytes more
   abbrev pub StopsSoonFor : (R → Option (List ℕ)) → StreamFault → RecordReader R → RecordReader R → Type 0
   StopsSoonFor left fault old new = EndsSoon fault old.schema.now old.core (left old.source) (left new.source)

@@ -12,13 +12,14 @@ use Rattle.dir_ldif.specs.declared.records.ChangeKind.TheVariants as kind
 use Rattle.dir_ldif.specs.declared.records.Mod.{Mod}
 use Rattle.dir_ldif.specs.declared.records.ModOp.{ModOp}
 use Rattle.dir_ldif.specs.declared.records.ModOp.TheVariants as op
-use Rattle.dir_ldif.specs.Text.{written_line}
+use Rattle.dir_ldif.specs.LineText.{written_line}
+use Rattle.dir_ldif.specs.Ascii.{line_feed}
 
--- a line of a word and a name
+-- a line of a keyword and a name
 abbrev pub name_line : List ℕ → SpelledName → List ℕ
 name_line word name = written_line word (name_printed name)
 
--- a description as spelled, and its value
+-- a line of a description, as spelled, and a value
 abbrev pub value_text : Described × List ℕ → List ℕ
 value_text line = written_line line.0.spelling line.1
 
@@ -27,7 +28,7 @@ op_word op.Add = codes "add"
 op_word op.Delete = codes "delete"
 op_word op.Replace = codes "replace"
 
--- its head, its values and a line `-`
+-- the text of a modification: its head, its values and a line `-`
 abbrev pub mod_text : Mod → List ℕ
 mod_text m =
     written_line (op_word m.op) m.description.spelling ++ flat_map (λ value. written_line m.description.spelling value) m.values ++ codes "-\n"
@@ -46,7 +47,7 @@ abbrev pub superior_text : Option SpelledName → List ℕ
 superior_text None = []
 superior_text (Some name) = name_line (codes "newsuperior") name
 
--- the lines behind the changetype
+-- the lines after the changetype
 abbrev pub kind_text : ChangeKind → List ℕ
 kind_text (kind.Add lines) = flat_map value_text lines
 kind_text kind.Delete = []
@@ -55,8 +56,8 @@ kind_text (kind.Rename rdn flag superior) =
     written_line (codes "newrdn") (rdn_printed rdn) ++ written_line (codes "deleteoldrdn") (flag_text flag) ++ superior_text superior
 
 abbrev pub change_text : Change → List ℕ
-change_text c = name_line (codes "dn") c.dn ++ written_line (codes "changetype") (change_word c.kind) ++ kind_text c.kind ++ 10 ∷ []
+change_text c = name_line (codes "dn") c.dn ++ written_line (codes "changetype") (change_word c.kind) ++ kind_text c.kind ++ line_feed ∷ []
 
 abbrev pub record_text_of : Record → List ℕ
-record_text_of (form.Content name lines) = name_line (codes "dn") name ++ flat_map value_text lines ++ 10 ∷ []
+record_text_of (form.Content name lines) = name_line (codes "dn") name ++ flat_map value_text lines ++ line_feed ∷ []
 record_text_of (form.Change change) = change_text change

@@ -6,15 +6,15 @@ use Rattle.dir_ldif.specs.declared.faults.RecordFault.{RecordFault}
 use Rattle.dir_ldif.specs.declared.faults.StreamFault.{StreamFault}
 use Rattle.dir_ldif.specs.declared.faults.StreamFault.TheVariants.{LineTooLong, Read, Memory, Ended, TooManyTurns, BadVersion}
 use Rattle.dir_ldif.specs.declared.records.Record.{Record}
-use Rattle.dir_ldif.specs.Block.{record_of}
-use Rattle.dir_ldif.specs.Lines.{Line}
-use Rattle.dir_ldif.specs.Parts.{Part, parts_of}
+use Rattle.dir_ldif.specs.RecordGrammar.{record_of}
+use Rattle.dir_ldif.specs.LogicalLines.{Line}
+use Rattle.dir_ldif.specs.Blocks.{BlockResult, blocks_of}
 
 -- the number of a record's first line that is no comment, and the record or its fault
 abbrev pub Found : Type 0
 Found = ℕ × Result Record RecordFault
 
--- one answer of a reader; a stream fault is the last
+-- one answer of a reader. A stream fault is the last one
 abbrev pub Answer : Type 0
 Answer = Result Found StreamFault
 
@@ -26,23 +26,24 @@ first_number (line ∷ lines) = line.0
 abbrev pub found_of : List TypeRow → List Line → Found
 found_of rows block = (first_number block, record_of rows block)
 
-abbrev pub answer_of : List TypeRow → Part → Answer
+abbrev pub answer_of : List TypeRow → BlockResult → Answer
 answer_of rows (Ok block) = Ok (found_of rows block)
 answer_of rows (Err fault) = Err fault
 
--- the answers on the parts of a text
-abbrev pub answers_on : List TypeRow → List Part → List Answer
-answers_on rows parts = map (answer_of rows) parts
+-- the answers on the blocks of a text
+abbrev pub answers_on : List TypeRow → List BlockResult → List Answer
+answers_on rows blocks = map (answer_of rows) blocks
 
--- the records of a text, and the fault in which it ends
+-- the records of a text, and the fault in which it may end
 abbrev pub records_of : List TypeRow → List ℕ → List Answer
-records_of rows text = answers_on rows (parts_of text)
+records_of rows text = answers_on rows (blocks_of text)
 
--- records without a fault at the end
+-- the answers of a text that ends in no fault
 abbrev pub all_found : List Found → List Answer
 all_found found = map (λ (f : Found). Ok f) found
 
--- the fault in which a text ends, behind its records; a text that is too long, and want of memory
+-- why a text is not read whole: it ends in a fault after its records; it has too many bytes to be read at once; or memory ran
+-- out, which says nothing of the text
 abbrev pub EndsIn : StreamFault → List TypeRow → List ℕ → Type 0
 EndsIn LineTooLong rows text = (found : List Found) × (records_of rows text ≡ all_found found ++ Err LineTooLong ∷ [])
 EndsIn BadVersion rows text = (found : List Found) × (records_of rows text ≡ all_found found ++ Err BadVersion ∷ [])

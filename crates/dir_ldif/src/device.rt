@@ -1,16 +1,29 @@
+//! Devices: sources that give bytes and sinks that take them, each of which may fail; over std's readers and
+//! writers, and over lent bytes for tests.
+
 ghost use Rattle.std.specs.Prelude.{◌≡◌, ◌<◌, ◌≤◌, ℕ, List, Option, length, IfOk, OnOk, refl};
 ghost use Rattle.std.proofs.Common.{◌∙◌};
 ghost use Rattle.std.specs.Io.KnownBytes.{Keeps, ReadConsumes, WriteAppends};
 ghost use Rattle.dir_ldif.specs.Device.{Counts};
 
-use thiserror::Error;
+mod calls;
+mod script;
+mod standard;
+mod tape;
+mod whole;
 
-/// A device failed. It has taken and given no byte in that call.
+pub use script::Script;
+pub use standard::{Reader, Writer};
+pub use tape::Tape;
+use thiserror::Error;
+pub use whole::write_whole;
+
+/// A device failed. In that call it took and gave no byte.
 #[derive(Clone, Copy, PartialEq, Eq, Debug, Error)]
 #[error("the device failed")]
 pub struct DeviceFault;
 
-/// What gives bytes.
+/// A source of bytes.
 pub trait Source {
     // The bytes that are left, where the source tells them.
     ghost left: { Self → Option (List ℕ) };
@@ -18,11 +31,11 @@ pub trait Source {
     // How often the source has failed; the count stops at the greatest number.
     ghost failures: { Self → ℕ };
 
-    // Whether a borrowed source is the same one still.
+    // That it is the same source still, of a borrowed one.
     ghost is_same: { Self → Self → Type 0 };
 
-    /// Puts up to `buffer.len()` bytes into the front of `buffer`, and says how many. None come only at the
-    /// end, or where the buffer has no room.
+    /// Puts up to `buffer.len()` bytes at the start of `buffer`, and answers how many. It answers 0 only at
+    /// the end, or where the buffer is empty.
     fn read(&mut self, buffer: &mut [u8]) -> Result<usize, DeviceFault>
         ensures bound { IfOk result (λ n. n ≤ length buffer.new) }
         ensures bytes { ReadConsumes (left self.old) (left self.new) result buffer.new }
@@ -34,7 +47,7 @@ pub trait Source {
     ghost same_trans: { (a b c : Self) → is_same a b → is_same b c → is_same a c };
 }
 
-/// What takes bytes.
+/// A sink for bytes.
 pub trait Sink {
     // The bytes that were taken, where the sink tells them.
     ghost taken: { Self → Option (List ℕ) };
@@ -42,13 +55,13 @@ pub trait Sink {
     // How often the sink has failed; the count stops at the greatest number.
     ghost failures: { Self → ℕ };
 
-    // Whether the sink may take no byte of a text that has one.
+    // Whether the sink may take no byte of a text that is not empty.
     ghost may_stall: { Self → Type 0 };
 
-    // Whether the sink has passed on what it took. A sink that does not tell is always said to have.
+    // That the sink has passed on what it took. Of a sink that does not tell, this holds always.
     ghost is_flushed: { Self → Type 0 };
 
-    /// Takes a front of `bytes`, and says how many.
+    /// Takes a prefix of `bytes`, and answers its length.
     fn write(&mut self, bytes: &[u8]) -> Result<usize, DeviceFault>
         ensures bound { IfOk result (λ n. n ≤ length bytes.now) }
         ensures bytes { WriteAppends (taken self.old) (taken self.new) result bytes.now }

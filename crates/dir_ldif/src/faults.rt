@@ -1,28 +1,30 @@
+//! Faults: of one record, after which reading goes on, and of the whole stream, which end it.
+
 use dir_names::NameFault;
 use std::alloc::{AllocError, AllocFailed};
 use std::error::Error;
 use std::fmt;
 
-/// Why a block of lines is no record. The first line that has a fault decides.
+/// Why a block of lines is not a record. The first line that has a fault decides.
 #[derive(Clone, Copy, PartialEq, Eq, Debug)]
 pub enum RecordFault {
-    /// A line without a name or a colon, a plain value with a NUL or a CR, or a line that has no place.
+    /// A line without a name or a colon, a plain value with a NUL or a CR, or a line where none is allowed.
     BadLine,
-    /// A base64 text that RFC 4648 doesn't allow, stray bits and missing padding included.
+    /// A base64 text that RFC 4648 doesn't allow, as with stray bits or without its padding.
     BadBase64,
     /// A value that is named by a URL.
     UrlValue,
     /// A control.
     Control,
-    /// A change type that isn't known, or a content record where a change is wanted.
+    /// A change type that isn't known, or a content record where a change is expected.
     BadChangetype,
-    /// A line of a modification that is out of its place.
+    /// A line of a modification that is not allowed there.
     BadModify,
-    /// A line of a rename that is missing, out of its place or one too many.
+    /// A line of a rename that is missing, misplaced or one too many.
     BadRename,
     /// A value of more than 1,048,576 bytes.
     ValueTooLong,
-    /// A name or a description that is none.
+    /// An invalid name or description.
     Name(NameFault),
 }
 
@@ -56,7 +58,7 @@ pub enum StreamFault {
     LineTooLong,
     /// The source failed in this call.
     Read,
-    /// No memory is left.
+    /// Memory ran out.
     Memory,
     /// An earlier call answered a fault.
     Ended,
@@ -108,7 +110,7 @@ impl<T: Drop> From<AllocFailed<T>> for StreamFault {
     }
 }
 
-/// Why a block was not read: for a fault of its own, or for want of memory.
+/// Why a block was not read: for a fault of its own, or since memory ran out.
 #[derive(Clone, Copy, PartialEq, Eq, Debug)]
 pub enum Refusal {
     Fault(RecordFault),
@@ -128,7 +130,7 @@ impl From<RecordFault> for Refusal {
 
 impl From<NameFault> for Refusal {
     ghost use Rattle.std.specs.Prelude.{◌≡◌};
-    ghost use Rattle.dir_ldif.specs.Refused.{refusal_of};
+    ghost use Rattle.dir_ldif.specs.Inside.Refusals.{refusal_of};
 
     ghost from_gives = { λ f r. r ≡ refusal_of f };
 

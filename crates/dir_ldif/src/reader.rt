@@ -1,16 +1,28 @@
-ghost use Rattle.std.specs.Prelude.{◌≡◌, ◌+◌, ◌-◌, ◌*◌, ◌++◌, ◌∷◌, ◌^◌, ◌<◌, ◌≤◌, [], All, IfErr, IfOk, OnOk, length, vec_len};
-ghost use Rattle.dir_ldif.specs.LegalFound.{IsLegalFound};
-ghost use Rattle.dir_ldif.specs.Records.{EndsIn, all_found, found_of, records_of};
-ghost use Rattle.dir_ldif.specs.SoundFound.{IsSoundFound};
+//! The reader: it takes the bytes of a source in pieces, unfolds their lines (`unfolder`), and reads each block of
+//! lines as a record (`parser`).
 
-use crate::block::record_of;
+ghost use Rattle.std.specs.Prelude.{◌≡◌, ◌+◌, ◌-◌, ◌*◌, ◌++◌, ◌∷◌, ◌^◌, ◌<◌, ◌≤◌, [], All, IfErr, IfOk, OnOk, length, vec_len};
+ghost use Rattle.dir_ldif.specs.SoundRecords.{IsLegalFound};
+ghost use Rattle.dir_ldif.specs.Records.{EndsIn, all_found, found_of, records_of};
+ghost use Rattle.dir_ldif.specs.SoundRecords.{IsSoundFound};
+
+mod attrval;
+mod bytes;
+mod parser;
+mod spare;
+mod unfolder;
+mod version;
+
 use crate::device::Source;
 use crate::faults::{RecordFault, Refusal, StreamFault};
-use crate::lines::{Joiner, Line};
+use crate::reader::parser::record_of;
+use crate::reader::spare::Spare;
+use crate::reader::unfolder::{Line, Unfolder};
 use crate::records::Record;
-use crate::spare::Spare;
+pub use attrval::MAX_VALUE;
 use dir_names::Schema;
 use std::alloc::Global;
+pub use unfolder::MAX_LINE;
 
 /// The greatest number of read calls of one reader.
 pub const MAX_TURNS: u64 = 1_099_511_627_776;
@@ -21,11 +33,10 @@ pub const MAX_TEXT: usize = 9_007_199_254_732_800;
 /// The greatest number of bytes that one read call is asked for.
 const PIECE: usize = 8192;
 
-/// What a record is answered as: the number of its first line that is no comment, and the record or its
-/// fault.
+/// The answer on one record: the number of its first line that is no comment, and the record or its fault.
 pub type Answer = (u64, Result<Record, RecordFault>);
 
-/// How far a reader has come.
+/// The state of a reader.
 #[derive(Clone, Copy, PartialEq, Eq)]
 enum Place {
     Reading,
@@ -46,8 +57,8 @@ pub struct RecordReader<'s, R> {
 impl<'s, R: Source + Drop> RecordReader<'s, R> {
     ghost use Rattle.std.specs.Prelude.{◌≡◌, ◌<◌, ℕ, List, [], None, Ok, Err, IfErr, IfNone, IfOk, IfSome, OnOk};
     ghost use Rattle.std.specs.Option.{option_map};
-    ghost use Rattle.dir_ldif.specs.Next.{GivesFirst, GivesNone};
-    ghost use Rattle.dir_ldif.specs.Reader.{GivesLegal, GivesSound, IsAtEnd, IsEnded, IsReading, ReadsPieces, SpendsTurns, StopsFor, StopsSoonFor, UsesUp, budget, in_hand, schema_of, source_of, to_give, to_give_on, turns_left};
+    ghost use Rattle.dir_ldif.specs.Reader.Answers.{GivesFirst, GivesNone};
+    ghost use Rattle.dir_ldif.specs.Reader.{GivesLegal, GivesSound, IsAtEnd, IsEnded, IsReading, ReadsPieces, SpendsTurns, StopsFor, StopsSoonFor, UsesUp, answers_to_come, answers_to_come_with, budget, in_hand, schema_of, source_of, turns_left};
     ghost use Rattle.dir_ldif.specs.Records.{records_of};
 
     /// A reader that is allowed 1,099,511,627,776 read calls.
@@ -60,8 +71,8 @@ impl<'s, R: Source + Drop> RecordReader<'s, R> {
         schema: &'s Schema,
         source: R,
     ) -> Result<RecordReader<'s, R>, StreamFault>
-        ensures answers { IfOk result (λ r. to_give R.left r ≡ option_map (records_of schema.now) (R.left source)) }
-        ensures ahead { IfOk result (λ r. (in_hand r ≡ []) × ((text : List ℕ) → to_give_on r text ≡ records_of schema.now text)) }
+        ensures answers { IfOk result (λ r. answers_to_come R.left r ≡ option_map (records_of schema.now) (R.left source)) }
+        ensures ahead { IfOk result (λ r. (in_hand r ≡ []) × ((text : List ℕ) → answers_to_come_with r text ≡ records_of schema.now text)) }
         ensures turns { IfOk result (λ r. turns_left r ≡ MAX_TURNS) }
         ensures source { IfOk result (λ r. (source_of r ≡ source) × (schema_of r ≡ schema.now) × IsReading r) }
         ensures err { IfErr result (λ fault. fault ≡ StreamFault.Memory) }
@@ -81,8 +92,8 @@ impl<'s, R: Source + Drop> RecordReader<'s, R> {
         turns: u64,
     ) -> Result<RecordReader<'s, R>, StreamFault>
         requires { turns ≤ MAX_TURNS }
-        ensures answers { IfOk result (λ r. to_give R.left r ≡ option_map (records_of schema.now) (R.left source)) }
-        ensures ahead { IfOk result (λ r. (in_hand r ≡ []) × ((text : List ℕ) → to_give_on r text ≡ records_of schema.now text)) }
+        ensures answers { IfOk result (λ r. answers_to_come R.left r ≡ option_map (records_of schema.now) (R.left source)) }
+        ensures ahead { IfOk result (λ r. (in_hand r ≡ []) × ((text : List ℕ) → answers_to_come_with r text ≡ records_of schema.now text)) }
         ensures turns { IfOk result (λ r. turns_left r ≡ turns) }
         ensures source { IfOk result (λ r. (source_of r ≡ source) × (schema_of r ≡ schema.now) × IsReading r) }
         ensures err { IfErr result (λ fault. fault ≡ StreamFault.Memory) }
@@ -100,13 +111,13 @@ impl<'s, R: Source + Drop> RecordReader<'s, R> {
     /// # Errors
     ///
     /// `LineTooLong` and `BadVersion` where the text is at fault and no record is left; `Read` where the source
-    /// failed in this call; `TooManyTurns` where the source gave as many bytes as read calls were allowed;
-    /// `Memory`; `Ended`.
+    /// failed in this call; `TooManyTurns` where the source gave at least as many bytes as read calls were
+    /// left; `Memory`; `Ended`.
     pub fn next(&mut self) -> Result<Option<Answer>, StreamFault>
-        ensures some { IfOk result (λ o. IfSome o (λ found. GivesFirst (Ok found) (to_give R.left self.old) (to_give R.left self.new))) }
+        ensures some { IfOk result (λ o. IfSome o (λ found. GivesFirst (Ok found) (answers_to_come R.left self.old) (answers_to_come R.left self.new))) }
         ensures used { IfOk result (λ o. IfSome o (λ found. IsReading self.new → UsesUp R.left found self.old self.new)) }
         ensures shrinks { IfOk result (λ o. IfSome o (λ _. budget self.new < budget self.old)) }
-        ensures none { IfOk result (λ o. IfNone o (GivesNone (to_give R.left self.old) × IsAtEnd self.new)) }
+        ensures none { IfOk result (λ o. IfNone o (GivesNone (answers_to_come R.left self.old) × IsAtEnd self.new)) }
         ensures err { IfErr result (λ fault. StopsFor R.left R.failures fault self.old self.new × IsEnded self.new) }
         ensures soon { IfErr result (λ fault. StopsSoonFor R.left fault self.old self.new) }
         ensures pieces { ReadsPieces R.left self.old self.new }
@@ -123,7 +134,7 @@ impl<'s, R: Source + Drop> RecordReader<'s, R> {
         self.core.next(self.schema, &mut self.source)
     }
 
-    /// The source, behind all pieces that were read of it.
+    /// The source, of which some pieces were read.
     pub fn into_source(self) -> R
         ensures { result ≡ source_of self.entry }
     {
@@ -135,7 +146,7 @@ impl<'s, R: Source + Drop> RecordReader<'s, R> {
 /// A reader without its source.
 #[derive(Drop)]
 struct Core {
-    joiner: Joiner,
+    unfolder: Unfolder,
     spare: Spare,
     buffer: Vec<u8>,
     at: usize,
@@ -146,32 +157,33 @@ struct Core {
     ghost in_range: { at ≤ end },
     ghost in_buffer: { end ≤ vec_len buffer },
     ghost piece: { vec_len buffer ≡ 8192 },
-    ghost room: { joiner.number + (end - at) + 8192 * turns < 2 ^ 62 },
+    ghost room: { unfolder.number + (end - at) + 8192 * turns < 2 ^ 62 },
 }
 
 impl Core {
     ghost use Rattle.std.specs.Prelude.{◌≡◌, ◌+◌, ◌++◌, ◌*◌, ◌^◌, ◌<◌, ◌≤◌, ℕ, List, [], None, Ok, Err, true, false, IfErr, IfNone, IfOk, IfSome, MatchOption, OnOk, length};
     ghost use Rattle.std.specs.Io.KnownBytes.{Consumes, IsAtEnd};
     ghost use Rattle.dir_ldif.specs.declared.reader.Place.TheVariants.{AtEnd, Ended, Reading};
-    ghost use Rattle.dir_ldif.specs.Next.{EndsSoon, Faults, GivesFirst, GivesNone, GoesOn, answers_left};
-    ghost use Rattle.dir_ldif.specs.LegalFound.{IsLegalFound};
-    ghost use Rattle.dir_ldif.specs.SoundFound.{IsSoundFound};
+    ghost use Rattle.dir_ldif.specs.Reader.Answers.{EndsSoon, ExplainsFault, GivesFirst, GivesNone, GoesOn, answers_left};
+    ghost use Rattle.dir_ldif.specs.SoundRecords.{IsLegalFound};
+    ghost use Rattle.dir_ldif.specs.SoundRecords.{IsSoundFound};
     ghost use Rattle.dir_ldif.specs.Bytes.{is_empty};
-    ghost use Rattle.dir_ldif.specs.Device.{FailsToRead};
-    ghost use Rattle.dir_ldif.specs.Joining.{to_come};
-    ghost use Rattle.dir_ldif.specs.Parts.{Ends, give, parts_of};
-    ghost use Rattle.dir_ldif.specs.Reading.{Finds, IsInPieces, Stops, StopsSoon, Uses, bytes_ahead, coming, hand};
+    ghost use Rattle.dir_ldif.specs.Inside.Reader.{FailsToRead};
+    ghost use Rattle.dir_ldif.specs.Reader.Unfolding.{blocks_to_come};
+    ghost use Rattle.dir_ldif.specs.Blocks.{EndsAtOnce, block_then, blocks_of};
+    ghost use Rattle.dir_ldif.specs.Inside.Reader.{Finds, Stops, StopsSoon, Uses};
+    ghost use Rattle.dir_ldif.specs.Reader.Answers.{IsInPieces, blocks_left, bytes_ahead, hand};
 
     fn new(alloc: Global, turns: u64) -> Result<Core, StreamFault>
         requires { turns ≤ MAX_TURNS }
-        ensures text { IfOk result (λ c. (text : List ℕ) → to_come c.joiner text ≡ parts_of text) }
+        ensures text { IfOk result (λ c. (text : List ℕ) → blocks_to_come c.unfolder text ≡ blocks_of text) }
         ensures fresh { IfOk result (λ c. hand c ≡ []) }
         ensures place { IfOk result (λ c. c.place ≡ Reading) }
         ensures turns { IfOk result (λ c. c.turns ≡ turns) }
         ensures err { IfErr result (λ fault. fault ≡ StreamFault.Memory) }
     {
         Ok(Core {
-            joiner: Joiner::new(alloc),
+            unfolder: Unfolder::new(alloc),
             spare: Spare::new(alloc),
             buffer: vec![in alloc; 0; PIECE]?,
             at: 0,
@@ -192,7 +204,7 @@ impl Core {
         ensures used { IfOk result (λ o. IfSome o (λ found. self.new.place ≡ Reading → GoesOn found schema.now self.old self.new (S.left source.old) (S.left source.new))) }
         ensures shrinks { IfOk result (λ o. IfSome o (λ _. bytes_ahead self.new < bytes_ahead self.old)) }
         ensures none { IfOk result (λ o. IfNone o (GivesNone (answers_left schema.now self.old (S.left source.old)) × (self.new.place ≡ AtEnd))) }
-        ensures err { IfErr result (λ fault. Faults fault schema.now self.old (S.left source.old) (S.left source.new) (S.failures source.old) (S.failures source.new)
+        ensures err { IfErr result (λ fault. ExplainsFault fault schema.now self.old (S.left source.old) (S.left source.new) (S.failures source.old) (S.failures source.new)
             × (self.new.place ≡ Ended)) }
         ensures soon { IfErr result (λ fault. EndsSoon fault schema.now self.old (S.left source.old) (S.left source.new)) }
         ensures pieces { IsInPieces self.old self.new (S.left source.old) (S.left source.new) }
@@ -231,7 +243,7 @@ impl Core {
         ensures used { IfOk result (λ o. IfSome o (λ found. self.new.place ≡ Reading → GoesOn found schema.now self.old self.new (S.left source.old) (S.left source.new))) }
         ensures shrinks { IfOk result (λ _. bytes_ahead self.new < bytes_ahead self.old) }
         ensures none { IfOk result (λ o. IfNone o (GivesNone (answers_left schema.now self.old (S.left source.old)) × (self.new.place ≡ AtEnd))) }
-        ensures err { IfErr result (λ fault. Faults fault schema.now self.old (S.left source.old) (S.left source.new) (S.failures source.old) (S.failures source.new)) }
+        ensures err { IfErr result (λ fault. ExplainsFault fault schema.now self.old (S.left source.old) (S.left source.new) (S.failures source.old) (S.failures source.new)) }
         ensures soon { IfErr result (λ fault. EndsSoon fault schema.now self.old (S.left source.old) (S.left source.new)) }
         ensures pieces { IsInPieces self.old self.new (S.left source.old) (S.left source.new) }
         ensures legal { IfOk result (λ o. IfSome o (IsLegalFound schema.now)) }
@@ -242,28 +254,21 @@ impl Core {
         ensures count { OnOk result (S.failures source.new ≡ S.failures source.old) }
         ensures same { S.is_same source.old source.new }
     {
-        let block = match self.next_block(source) {
-            Ok(block) => block,
-            Err(fault) => return Err(fault),
-        };
+        let block = self.next_block(source)?;
         if block.is_empty() {
             return Ok(None);
         }
-        match answer_of(self.alloc, schema, block.as_slice()) {
-            Ok(answer) => {
-                self.spare.keep(block);
-                Ok(Some(answer))
-            }
-            Err(fault) => Err(fault),
-        }
+        let answer = answer_of(self.alloc, schema, block.as_slice())?;
+        self.spare.keep(block);
+        Ok(Some(answer))
     }
 
-    /// The next block, which has no line at the end of the text alone.
+    /// The next block. It is empty only at the end of the text.
     fn next_block<S: Source>(&mut self, source: &mut S) -> Result<Vec<Line>, StreamFault>
         requires { self.old.place ≡ Reading }
         ensures ok { IfOk result (λ block. (bytes : List ℕ)
             × Consumes (S.left source.old) (S.left source.new) bytes
-            × Finds self.new.place (coming self.old) block.items (coming self.new) bytes (S.left source.new)
+            × Finds self.new.place (blocks_left self.old) block.items (blocks_left self.new) bytes (S.left source.new)
             × (self.new.place ≡ Reading → (self.old.turns ≤ self.new.turns + length bytes) × (is_empty block.items ≡ false))) }
         ensures used { IfOk result (λ block. self.new.place ≡ Reading → Uses self.old self.new block.items (S.left source.old) (S.left source.new)) }
         ensures shrinks { IfOk result (λ _. bytes_ahead self.new < bytes_ahead self.old) }
@@ -276,35 +281,31 @@ impl Core {
         ensures same { S.is_same source.old source.new }
     {
         loop {
-            match self.take_hand() {
-                Ok(Some(block)) => return Ok(block),
-                Ok(None) => {}
-                Err(fault) => return Err(fault),
+            if let Some(block) = self.use_buffer()? {
+                return Ok(block);
             }
-            match self.read_more(source) {
-                Ok(true) => {}
-                Ok(false) => return self.finish(),
-                Err(fault) => return Err(fault),
+            if !self.read_more(source)? {
+                return self.finish();
             }
         }
     }
 
-    /// Takes what is in hand, up to the end of a block. Answers that block, if there is one.
-    fn take_hand(&mut self) -> Result<Option<Vec<Line>>, StreamFault>
+    /// Uses up the bytes in hand, to the end of a block if one ends in them. Answers that block, if there is one.
+    fn use_buffer(&mut self) -> Result<Option<Vec<Line>>, StreamFault>
         ensures turns { self.new.turns ≡ self.old.turns }
         ensures place { self.new.place ≡ self.old.place }
         ensures ok { IfOk result (λ o. MatchOption o
-            ((text : List ℕ) → coming self.old text ≡ to_come self.new.joiner text)
-            (λ block. (text : List ℕ) → coming self.old text ≡ give block.items (coming self.new text))) }
+            ((text : List ℕ) → blocks_left self.old text ≡ blocks_to_come self.new.unfolder text)
+            (λ block. (text : List ℕ) → blocks_left self.old text ≡ block_then block.items (blocks_left self.new text))) }
         ensures used { IfOk result (λ o. IfSome o (λ block. (used : List ℕ) × (hand self.old ≡ used ++ hand self.new)
-            × ((text : List ℕ) → to_come self.old.joiner (used ++ text) ≡ give block.items (to_come self.new.joiner text)))) }
+            × ((text : List ℕ) → blocks_to_come self.old.unfolder (used ++ text) ≡ block_then block.items (blocks_to_come self.new.unfolder text)))) }
         ensures shorter { IfOk result (λ o. IfSome o (λ _. length (hand self.new) < length (hand self.old))) }
         ensures none { IfOk result (λ o. IfNone o (self.new.at ≡ self.new.end)) }
         ensures some { IfOk result (λ o. IfSome o (λ block. is_empty block.items ≡ false)) }
-        ensures err { IfErr result (λ fault. (text : List ℕ) → Ends fault (coming self.old text)) }
+        ensures err { IfErr result (λ fault. (text : List ℕ) → EndsAtOnce fault (blocks_left self.old text)) }
     {
         let piece = &self.buffer[self.at..self.end];
-        match self.joiner.take_piece(&mut self.spare, piece) {
+        match self.unfolder.push_chunk(&mut self.spare, piece) {
             Ok(Some((block, rest))) => {
                 self.at = self.end - rest.len();
                 Ok(Some(block))
@@ -320,10 +321,10 @@ impl Core {
         }
     }
 
-    /// Reads the next piece. Answers whether there is one.
+    /// Reads the next piece, and answers whether there is one.
     fn read_more<S: Source>(&mut self, source: &mut S) -> Result<bool, StreamFault>
         requires { self.old.at ≡ self.old.end }
-        ensures joiner { self.new.joiner ≡ self.old.joiner }
+        ensures unfolder { self.new.unfolder ≡ self.old.unfolder }
         ensures place { self.new.place ≡ self.old.place }
         ensures bytes { Consumes (S.left source.old) (S.left source.new) (hand self.new) }
         ensures some { result ≡ Ok true → 0 < length (hand self.new) }
@@ -349,20 +350,20 @@ impl Core {
         }
     }
 
-    /// Ends the text. Answers the last block.
+    /// Ends the text, and answers the last block.
     fn finish(&mut self) -> Result<Vec<Line>, StreamFault>
         requires empty { hand self.old ≡ [] }
-        requires room { self.old.joiner.number + 8192 * self.old.turns + 1 < 2 ^ 62 }
+        requires room { self.old.unfolder.number + 8192 * self.old.turns + 1 < 2 ^ 62 }
         ensures place { self.new.place ≡ AtEnd }
         ensures empty { hand self.new ≡ [] }
         ensures turns { self.new.turns ≡ self.old.turns }
-        ensures ok { IfOk result (λ block. coming self.old [] ≡ give block.items []) }
-        ensures err { IfErr result (λ fault. Ends fault (coming self.old [])) }
+        ensures ok { IfOk result (λ block. blocks_left self.old [] ≡ block_then block.items []) }
+        ensures err { IfErr result (λ fault. EndsAtOnce fault (blocks_left self.old [])) }
     {
         self.place = Place::AtEnd;
         self.at = 0;
         self.end = 0;
-        self.joiner.finish(&mut self.spare)
+        self.unfolder.finish(&mut self.spare)
     }
 }
 
@@ -382,8 +383,8 @@ fn answer_of(alloc: Global, schema: &Schema, block: &[Line]) -> Result<Answer, S
     }
 }
 
-/// The records of a text, each with the number of its first line, or the text's stream fault alone. A text
-/// of more than 9,007,199,254,732,800 bytes is `TooManyTurns`.
+/// The records of a text, each with the number of its first line; or the stream fault, without the records
+/// before it. A text of more than 9,007,199,254,732,800 bytes is `TooManyTurns`.
 pub fn read_all(alloc: Global, schema: &Schema, text: &[u8]) -> Result<Vec<Answer>, StreamFault>
     ensures ok { IfOk result (λ answers. records_of schema.now text.now ≡ all_found answers.items) }
     ensures legal { IfOk result (λ answers. All (IsLegalFound schema.now) answers.items) }
@@ -393,37 +394,24 @@ pub fn read_all(alloc: Global, schema: &Schema, text: &[u8]) -> Result<Vec<Answe
     if text.len() > MAX_TEXT {
         return Err(StreamFault::TooManyTurns);
     }
-    let mut joiner = Joiner::new(alloc);
+    let mut unfolder = Unfolder::new(alloc);
     let mut spare = Spare::new(alloc);
     let mut answers = Vec::new(alloc);
     let mut rest = text;
-    loop {
-        match joiner.take_piece(&mut spare, rest) {
-            Ok(Some((block, after))) => {
-                rest = after;
-                if let Err(fault) = push_answer(alloc, schema, &mut answers, block.as_slice()) {
-                    return Err(fault);
-                }
-                spare.keep(block);
-            }
-            Ok(None) => break,
-            Err(fault) => return Err(fault),
-        }
+    while let Some((block, after)) = unfolder.push_chunk(&mut spare, rest)? {
+        rest = after;
+        push_answer(alloc, schema, &mut answers, block.as_slice())?;
+        spare.keep(block);
     }
-    let block = match joiner.finish(&mut spare) {
-        Ok(block) => block,
-        Err(fault) => return Err(fault),
-    };
+    let block = unfolder.finish(&mut spare)?;
     if block.is_empty() {
         return Ok(answers);
     }
-    match push_answer(alloc, schema, &mut answers, block.as_slice()) {
-        Ok(()) => Ok(answers),
-        Err(fault) => Err(fault),
-    }
+    push_answer(alloc, schema, &mut answers, block.as_slice())?;
+    Ok(answers)
 }
 
-/// Appends the answer on a block.
+/// Appends the answer on a block to the answers.
 fn push_answer(
     alloc: Global,
     schema: &Schema,

@@ -1,4 +1,8 @@
+//! The records of LDIF: content records and change records.
+
 ghost use Rattle.std.specs.Prelude.{◌≡◌};
+
+mod checking;
 
 use dir_names::{Description, Dn, Lines, Rdn, Texts};
 use std::marker::Model;

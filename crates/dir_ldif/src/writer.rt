@@ -1,9 +1,12 @@
+//! The writer: the text of a record, line by line, folded.
+
 ghost use Rattle.std.specs.Prelude.{◌≡◌, ◌++◌, ◌∷◌, ◌≤◌, ℕ, List, [], IfOk, OnOk, codes};
 ghost use Rattle.std.specs.List.{flat_map, list_all};
 ghost use Rattle.dir_names.specs.Printing.{rdn_printed};
 ghost use Rattle.dir_ldif.specs.Bytes.{ends_in};
 ghost use Rattle.dir_ldif.specs.RecordText.{change_text, change_word, flag_text, kind_text, mod_text, name_line, op_word, record_text_of, superior_text, value_text};
-ghost use Rattle.dir_ldif.specs.Text.{base64_of, fold_from, is_plain, is_safe, is_safe_first, written, written_line};
+ghost use Rattle.dir_ldif.specs.LineText.{base64_of, fold_from, is_plain, is_safe, is_safe_first, value_spec, written_line};
+ghost use Rattle.dir_ldif.specs.Ascii.{line_feed, space};
 
 use crate::records::{Change, ChangeKind, Mod, ModOp, Record};
 use base64::engine::general_purpose::STANDARD;
@@ -50,7 +53,7 @@ pub fn push_change(out: &mut Vec<u8>, change: &Change) -> Result<(), Memory>
     push_end(out)
 }
 
-/// Appends one line of a name and a value: plain where the value can stand so, else in base64; folded at
+/// Appends one line of a name and a value: plain where the value can be written so, else in base64; folded at
 /// 76 bytes; with its LF (RFC 2849, notes 2, 4 and 8).
 pub fn push_line(out: &mut Vec<u8>, name: &[u8], value: &[u8]) -> Result<(), Memory>
     ensures { OnOk result (out.new.items ≡ out.old.items ++ written_line name.now value.now) }
@@ -60,11 +63,11 @@ pub fn push_line(out: &mut Vec<u8>, name: &[u8], value: &[u8]) -> Result<(), Mem
     push_end(out)
 }
 
-/// Appends what stands behind a line's name.
+/// Appends what follows a line's name. Answers the room that is left in its physical line.
 fn push_value(out: &mut Vec<u8>, room: usize, value: &[u8]) -> Result<usize, Memory>
     requires { room ≤ COLUMNS }
     ensures { IfOk result (λ left. (rest : List ℕ)
-        → out.new.items ++ fold_from left rest ≡ out.old.items ++ fold_from room (written value.now ++ rest)) }
+        → out.new.items ++ fold_from left rest ≡ out.old.items ++ fold_from room (value_spec value.now ++ rest)) }
 {
     if value.is_empty() {
         push_folded(out, room, b":")
@@ -87,14 +90,14 @@ fn encoded(alloc: Global, value: &[u8]) -> Result<Vec<u8>, Memory>
 
 /// Appends the LF that ends a line, or the empty line that ends a record.
 pub fn push_end(out: &mut Vec<u8>) -> Result<(), Memory>
-    ensures { OnOk result (out.new.items ≡ out.old.items ++ 10 ∷ []) }
+    ensures { OnOk result (out.new.items ≡ out.old.items ++ line_feed ∷ []) }
 {
     out.push(b'\n')?;
     Ok(())
 }
 
-/// Appends bytes of a line that has room for so many more, and begins a continuation wherever there is
-/// none. Answers the room that is left.
+/// Appends bytes to a line whose physical line has room for so many more, and begins a continuation wherever
+/// no room is left. Answers the room that is left.
 fn push_folded(out: &mut Vec<u8>, room: usize, text: &[u8]) -> Result<usize, Memory>
     requires { room ≤ COLUMNS }
     ensures room { IfOk result (λ left. left ≤ COLUMNS) }
@@ -104,17 +107,17 @@ fn push_folded(out: &mut Vec<u8>, room: usize, text: &[u8]) -> Result<usize, Mem
     let mut room = room;
     let mut rest = text;
     while rest.len() > room {
-        let (front, behind) = rest.split_at(room);
-        out.extend_from_slice(front)?;
+        let (head, after) = rest.split_at(room);
+        out.extend_from_slice(head)?;
         out.extend_from_slice(b"\n ")?;
-        rest = behind;
+        rest = after;
         room = COLUMNS - 1;
     }
     out.extend_from_slice(rest)?;
     Ok(room - rest.len())
 }
 
-/// Whether a value stands in a line as it is.
+/// Whether a value is written in a line as it is.
 fn is_plain(value: &[u8]) -> bool
     ensures { result ≡ is_plain value.now }
 {
@@ -145,7 +148,7 @@ fn is_safe_first(b: u8) -> bool
 }
 
 fn ends_in_space(text: &[u8]) -> bool
-    ensures { result ≡ ends_in 32 text.now }
+    ensures { result ≡ ends_in space text.now }
 {
     match text.split_last() {
         Some((last, _)) => *last == b' ',
@@ -192,7 +195,7 @@ fn change_word(kind: &ChangeKind) -> &'static [u8]
     }
 }
 
-/// Appends the lines behind the changetype.
+/// Appends the lines after the changetype.
 fn push_kind(out: &mut Vec<u8>, kind: &ChangeKind) -> Result<(), Memory>
     ensures { OnOk result (out.new.items ≡ out.old.items ++ kind_text kind.now) }
 {

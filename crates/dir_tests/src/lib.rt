@@ -5,4 +5,6 @@
 #[cfg(test)]
 mod change;
 #[cfg(test)]
+mod ldif;
+#[cfg(test)]
 mod tools;

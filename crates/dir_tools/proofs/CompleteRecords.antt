@@ -9,8 +9,8 @@ use Rattle.dir_ldif.specs.declared.reader.RecordReader.{RecordReader}
 use Rattle.dir_ldif.specs.declared.records.Change.{Change}
 use Rattle.std.specs.Io.KnownBytes.{Consumes}
 use Rattle.dir_ldif.specs.declared.reader.Place.TheVariants.{Reading}
-use Rattle.dir_ldif.specs.Next.{IsSettled, answers_ahead, answers_at}
-use Rattle.dir_ldif.specs.Reader.{StopsFor, UsesUp, in_hand, schema_of, source_of, to_give_on}
+use Rattle.dir_ldif.specs.Reader.Answers.{FirstIsComplete, answers_ahead, answers_at}
+use Rattle.dir_ldif.specs.Reader.{StopsFor, UsesUp, answers_to_come_with, in_hand, schema_of, source_of}
 use Rattle.dir_ldif.specs.Records.{Answer, Found, all_found, records_of}
 use Rattle.dir_tree.specs.Dir.{Dir}
 use Rattle.dir_tools.specs.declared.copy.loading.Loading.{Loading}
@@ -34,7 +34,7 @@ first_same : (f g : Found) (xs ys : List Answer) → Ok f ∷ xs ≡ Ok g ∷ ys
 first_same f g xs ys same = (cc, cc)
 
 -- no complete record comes after those that were given
-pub are_given : (given settled : List Found) (tail : List ℕ → List Answer) → ((text : List ℕ) → (rest : List Answer) × (all_found given ++ tail text ≡ all_found settled ++ rest)) → (IsSettled tail → ⊥)
+pub are_given : (given settled : List Found) (tail : List ℕ → List Answer) → ((text : List ℕ) → (rest : List Answer) × (all_found given ++ tail text ≡ all_found settled ++ rest)) → (FirstIsComplete tail → ⊥)
     → (more : List Found) × (given ≡ settled ++ more)
 are_given given [] tail same unsettled = (given, refl)
 are_given [] (g ∷ settled) tail same unsettled = absurd (unsettled (g, λ text. (all_found settled ++ (same text).0, (same text).1)))
@@ -59,7 +59,7 @@ module _ {S : Type 0} (left : S → Option (List ℕ)) where
   abbrev pub ComesFrom : RecordReader S → RecordReader S → List Found → Type 0
   ComesFrom first now founds =
       (bytes : List ℕ) × (used : List ℕ) × Consumes (left (source_of first)) (left (source_of now)) bytes × (in_hand first ++ bytes ≡ used ++ in_hand now)
-      × ((text : List ℕ) → to_give_on first (used ++ text) ≡ all_found founds ++ to_give_on now text)
+      × ((text : List ℕ) → answers_to_come_with first (used ++ text) ≡ all_found founds ++ answers_to_come_with now text)
 
   pub comes_begun : (r : RecordReader S) → ComesFrom r r []
   comes_begun r = ([], [], Consumes-nil (left (source_of r)), append-nil (in_hand r), λ text. refl)
@@ -72,10 +72,10 @@ module _ {S : Type 0} (left : S → Option (List ℕ)) where
         was.1 ++ uses.1,
         Consumes-trans (left (source_of first)) (left (source_of old)) (left (source_of new)) was.0 uses.0 was.2 uses.2,
         hands,
-        λ text. ap (to_give_on first) (append_assoc was.1 uses.1 text) ∙ was.4 (uses.1 ++ text)
+        λ text. ap (answers_to_come_with first) (append_assoc was.1 uses.1 text) ∙ was.4 (uses.1 ++ text)
             ∙ ap (λ t. all_found founds ++ t) (uses.4 text ∙ ap (λ rows. Ok found ∷ answers_ahead rows new.core text) (sym same))
-            ∙ sym (append_assoc (all_found founds) (Ok found ∷ []) (to_give_on new text))
-            ∙ ap (λ t. t ++ to_give_on new text) (sym (map-append found_one founds (found ∷ []))),
+            ∙ sym (append_assoc (all_found founds) (Ok found ∷ []) (answers_to_come_with new text))
+            ∙ ap (λ t. t ++ answers_to_come_with new text) (sym (map-append found_one founds (found ∷ []))),
       )
 
   -- where reading failed, every complete record had been given
@@ -83,11 +83,11 @@ module _ {S : Type 0} (left : S → Option (List ℕ)) where
   GaveAll founds answers = (settled : List Found) → AreComplete answers settled → (more : List Found) × (founds ≡ settled ++ more)
 
   stopped : (first old new : RecordReader S) (founds : List Found) (bytes : List ℕ) → Consumes (left (source_of old)) (left (source_of new)) bytes
-      → (IsSettled (λ text. answers_at Reading (schema_of old) old.core (bytes ++ text)) → ⊥) → ComesFrom first old founds → GaveBytesTo left first new (GaveAll founds)
+      → (FirstIsComplete (λ text. answers_at Reading (schema_of old) old.core (bytes ++ text)) → ⊥) → ComesFrom first old founds → GaveBytesTo left first new (GaveAll founds)
   stopped first old new founds bytes gave unsettled was =
-      let tail : List ℕ → List Answer = (λ text. to_give_on old (in_hand old ++ (bytes ++ text))) in
-      let whole : (text : List ℕ) → to_give_on first (in_hand first ++ ((was.0 ++ bytes) ++ text)) ≡ all_found founds ++ tail text = (λ text.
-      ap (to_give_on first)
+      let tail : List ℕ → List Answer = (λ text. answers_to_come_with old (in_hand old ++ (bytes ++ text))) in
+      let whole : (text : List ℕ) → answers_to_come_with first (in_hand first ++ ((was.0 ++ bytes) ++ text)) ≡ all_found founds ++ tail text = (λ text.
+      ap (answers_to_come_with first)
       (ap (λ t. in_hand first ++ t) (append_assoc was.0 bytes text) ∙ sym (append_assoc (in_hand first) was.0 (bytes ++ text)) ∙ ap (λ t. t ++ (bytes ++ text)) was.3 ∙ append_assoc was.1 (in_hand old) (bytes ++ text))
       ∙ was.4 (in_hand old ++ (bytes ++ text))) in (
         was.0 ++ bytes,
@@ -242,13 +242,13 @@ settles_so a b same founds h = λ text. ((h text).0, sym (same text) ∙ (h text
 module _ {S : Type 0} (rows : List TypeRow) (left : S → Option (List ℕ)) where
   -- what it gives is the records of the text
   pub from_start : (P : (List ℕ → List Answer) → Type 0) → ((a b : List ℕ → List Answer) → ((text : List ℕ) → b text ≡ a text) → P a → P b) → (first now : RecordReader S) (before behind : Option (List ℕ))
-      → in_hand first ≡ [] → ((text : List ℕ) → to_give_on first text ≡ records_of rows text) → left (source_of first) ≡ before → left (source_of now) ≡ behind
+      → in_hand first ≡ [] → ((text : List ℕ) → answers_to_come_with first text ≡ records_of rows text) → left (source_of first) ≡ before → left (source_of now) ≡ behind
       → GaveBytesTo left first now P → GaveBytes before behind (λ bytes. P (answers_after rows bytes))
   from_start P moves first now before behind empty reads starts ends gave = (
     gave.0,
     subst (λ o. Consumes before o gave.0) ends (subst (λ o. Consumes o (left (source_of now)) gave.0) starts gave.1),
-    moves (λ text. to_give_on first (in_hand first ++ (gave.0 ++ text))) (answers_after rows gave.0)
-        (λ text. sym (ap (λ t. to_give_on first (t ++ (gave.0 ++ text))) empty ∙ reads (gave.0 ++ text))) gave.2,
+    moves (λ text. answers_to_come_with first (in_hand first ++ (gave.0 ++ text))) (answers_after rows gave.0)
+        (λ text. sym (ap (λ t. answers_to_come_with first (t ++ (gave.0 ++ text))) empty ∙ reads (gave.0 ++ text))) gave.2,
   )
 
 pub taken_so : (rows : List TypeRow) (start : LoadedCopy) (a b : List ℕ → List Answer) → ((text : List ℕ) → b text ≡ a text) → CompleteRecordsLoad rows start a → CompleteRecordsLoad rows start b

@@ -11,8 +11,9 @@ use Rattle.dir_names.specs.Sorted.{rises}
 use Rattle.dir_names.proofs.Placed.{is_sorted-keys}
 use Rattle.dir_ldif.specs.declared.records.Record.{Record}
 use Rattle.dir_ldif.specs.declared.records.Record.TheVariants as form
-use Rattle.dir_ldif.specs.Laws.{AllAreSound, PartsAreSound, RecordsReadBack, records_text, without_line}
-use Rattle.dir_ldif.specs.Legal.{is_legal_record}
+use Rattle.dir_ldif.specs.RoundTrip.{RecordsReadBack, records_text, without_line}
+use Rattle.dir_ldif.specs.SoundRecords.{AreLegalAndSound, IsSoundRecord}
+use Rattle.dir_ldif.specs.LegalRecords.{is_legal_record}
 use Rattle.dir_ldif.specs.RecordText.{record_text_of}
 use Rattle.dir_ldif.specs.Records.{Answer, records_of}
 use Rattle.dir_tree.specs.Content.{Content}
@@ -69,14 +70,14 @@ module _ (rows : List TypeRow) (d : Dir) (well : IsWellFormed rows d) (within : 
   key_at : (p : DnKeys × Content) → Stands p → name_key rows (spelled_name d p.0) ≡ Some p.0
   key_at p there = spelled_key rows d well.1 (λ q x h. (well.2 q x h).1) p.0 (ap is_some there)
 
-  sound_at : (p : DnKeys × Content) → Stands p → (is_legal_record rows (content_at p) ≡ true) × PartsAreSound (content_at p)
+  sound_at : (p : DnKeys × Content) → Stands p → (is_legal_record rows (content_at p) ≡ true) × IsSoundRecord (content_at p)
   sound_at p there =
       let key = key_at p there in
       let attributes = (well.2 p.0 p.1 there).0.1 in
       let lines = legal_attributes rows (fin.entries p.1.attributes) attributes in
       ((λ i. is_some (key i) && lines i), (name_sound rows d well within p.0 p.1 there, bytes_all rows (fin.entries p.1.attributes) attributes))
 
-  all_sound : (es : Entries) → Each Stands es → AllAreSound rows (map content_at es)
+  all_sound : (es : Entries) → Each Stands es → AreLegalAndSound rows (map content_at es)
   all_sound [] each = tt
   all_sound (p ∷ es) each = let sound = sound_at p each.0 in (sound.0, sound.1, all_sound es each.1)
 

@@ -9,8 +9,8 @@ use Rattle.dir_ldif.specs.Device.{HasFailed}
 use Rattle.dir_ldif.specs.declared.faults.StreamFault.{StreamFault}
 use Rattle.dir_ldif.specs.declared.faults.StreamFault.TheVariants as stream
 use Rattle.dir_ldif.specs.declared.reader.RecordReader.{RecordReader}
-use Rattle.dir_ldif.specs.Next.{GivesFirst}
-use Rattle.dir_ldif.specs.Reader.{IsEnded, StopsFor, source_of, to_give, SpendsTurns, turns_left}
+use Rattle.dir_ldif.specs.Reader.Answers.{GivesFirst}
+use Rattle.dir_ldif.specs.Reader.{IsEnded, SpendsTurns, StopsFor, answers_to_come, source_of, turns_left}
 use Rattle.dir_ldif.specs.Records.{Answer, Found, records_of}
 use Rattle.dir_tree.specs.Content.{Content}
 use Rattle.dir_tree.specs.Dir.{Dir, entry_at}
@@ -126,12 +126,12 @@ ended_so rows start m fault (Some answers) (Some rest) ends was = was ∙ ap (wi
 module _ {D : Type 0} {S : Type 0} where
   pub loads_blamed : (state : D → Dir) (rows : List TypeRow) (left : S → Option (List ℕ)) (failures : S → ℕ) (fault : StreamFault) (first : Option (List Answer)) (count : ℕ) (old new : RecordReader S) (begun loading : Loading D)
       → (IsEnded old → ⊥) → failures (source_of old) ≡ count → StopsFor left failures fault old new
-      → LoadsSoFar state rows first (to_give left old) begun loading
+      → LoadsSoFar state rows first (answers_to_come left old) begun loading
       → StopsLoading state rows first count (failures (source_of new)) begun (copy_fault fault)
   loads_blamed state rows left failures stream.LineTooLong first count old new begun loading going same stops was = λ start at_start.
-      let so_far = was start at_start in ended_so rows start so_far.0 stream.LineTooLong first (to_give left old) stops so_far.3
+      let so_far = was start at_start in ended_so rows start so_far.0 stream.LineTooLong first (answers_to_come left old) stops so_far.3
   loads_blamed state rows left failures stream.BadVersion first count old new begun loading going same stops was = λ start at_start.
-      let so_far = was start at_start in ended_so rows start so_far.0 stream.BadVersion first (to_give left old) stops so_far.3
+      let so_far = was start at_start in ended_so rows start so_far.0 stream.BadVersion first (answers_to_come left old) stops so_far.3
   loads_blamed state rows left failures stream.Read first count old new begun loading going same stops was = subst (λ n. HasFailed n (failures (source_of new))) same stops.0
   loads_blamed state rows left failures stream.Memory first count old new begun loading going same stops was = tt
   loads_blamed state rows left failures stream.TooManyTurns first count old new begun loading going same stops was = refl

@@ -12,7 +12,7 @@ use Rattle.dir_names.specs.Keys.{DnKeys}
 use Rattle.dir_names.specs.Names.{SpelledName}
 use Rattle.dir_names.specs.Reading.{or_bad_dn}
 use Rattle.dir_names.specs.Orders.{dn_key_cmp, dn_key_cmp_total}
-use Rattle.dir_ldif.specs.Next.{GivesFirst, GivesNone}
+use Rattle.dir_ldif.specs.Reader.Answers.{GivesFirst, GivesNone}
 use Rattle.dir_ldif.specs.Records.{Answer, Found, records_of}
 use Rattle.dir_tree.specs.Content.{Content}
 use Rattle.dir_tree.specs.Dir.{Dir, IsClosed, entry_at, has_parent, put_entry}
@@ -24,7 +24,7 @@ use Rattle.dir_tools.specs.declared.copy.loading.Loading.{Loading}
 use Rattle.dir_tools.specs.declared.copy.loading.Waiting.{Waiting}
 use Rattle.dir_tools.specs.CopyOf.{LoadedCopy, copy_of, empty_copy, refused_if, whole_directory, with_content, with_entry, with_record, with_records}
 use Rattle.dir_names.specs.Results.{and_then}
-use Rattle.dir_ldif.specs.SoundFound.{IsSoundFound}
+use Rattle.dir_ldif.specs.SoundRecords.{IsSoundFound}
 use Rattle.dir_tree.specs.WellFormed.{IsWellFormed, IsWithinLimits}
 use Rattle.dir_tools.proofs.CopySound.{order_taken, order_whole}
 use Rattle.dir_tools.specs.Inside.Loading.{AllWait, AreSoundInPlace, IsLoaded, IsMadeOf, IsPut, KeepsSound, LoadsOver, LoadsTo, waiting_or}

@@ -14,9 +14,9 @@ use Rattle.dir_names.specs.Sound.{is_rdn}
 use Rattle.dir_ldif.specs.declared.faults.RecordFault.{RecordFault}
 use Rattle.dir_ldif.specs.declared.records.Record.{Record}
 use Rattle.dir_ldif.specs.declared.records.Record.TheVariants as form
-use Rattle.dir_ldif.specs.Laws.{NameIsSound, ValuesAreBytes}
-use Rattle.dir_ldif.specs.Legal.{has_key, is_legal_line}
-use Rattle.dir_ldif.specs.SoundFound.{IsSoundFound}
+use Rattle.dir_ldif.specs.SoundRecords.{IsSoundName, ValuesAreBytes}
+use Rattle.dir_ldif.specs.LegalRecords.{has_key, is_legal_line}
+use Rattle.dir_ldif.specs.SoundRecords.{IsSoundFound}
 use Rattle.dir_tree.specs.Content.{Content}
 use Rattle.dir_tree.specs.Dir.{Dir, IsClosed, entry_at, put_entry}
 use Rattle.dir_tree.specs.Made.{made}
@@ -44,7 +44,7 @@ all_own_of p suffix k name e = by (dn_key_eq k suffix)
     by false = first name e
 
 order_one : (rows : List TypeRow) (suffix k : DnKeys) (name : SpelledName) (lines : List (Described × List ℕ)) (e : Content)
-    → name_key rows name ≡ Some k → NameIsSound name → list_all (is_legal_line rows) lines ≡ true → ValuesAreBytes lines → made rows (own_rdns suffix k name) lines ≡ Ok e → IsSoundAt rows suffix k e
+    → name_key rows name ≡ Some k → IsSoundName name → list_all (is_legal_line rows) lines ≡ true → ValuesAreBytes lines → made rows (own_rdns suffix k name) lines ≡ Ok e → IsSoundAt rows suffix k e
 order_one rows suffix k name lines e named sound legal bytes makes =
     let own = made_own rows (own_rdns suffix k name) lines e makes in
     let long : length name ≡ length k = key_length rows name k named in

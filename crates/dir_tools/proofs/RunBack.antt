@@ -6,7 +6,7 @@ use Rattle.dir_ldif.specs.declared.faults.StreamFault.{StreamFault}
 use Rattle.dir_ldif.specs.declared.records.Change.{Change}
 use Rattle.dir_ldif.specs.declared.records.Record.{Record}
 use Rattle.dir_ldif.specs.declared.records.Record.TheVariants as form
-use Rattle.dir_ldif.specs.Laws.{without_line}
+use Rattle.dir_ldif.specs.RoundTrip.{without_line}
 use Rattle.dir_ldif.specs.Records.{Answer, Found, records_of}
 use Rattle.dir_tree.specs.Dir.{Dir}
 use Rattle.dir_change.specs.declared.result_code.ResultCode.{ResultCode}

@@ -10,18 +10,18 @@ use Rattle.dir_ldif.specs.declared.records.Record.{Record}
 use Rattle.dir_ldif.specs.Device.{HasFailed}
 use Rattle.dir_ldif.specs.declared.faults.StreamFault.TheVariants as stream
 use Rattle.dir_ldif.specs.declared.reader.RecordReader.{RecordReader}
-use Rattle.dir_ldif.specs.Reader.{IsEnded, SpendsTurns, StopsFor, source_of, to_give, turns_left}
+use Rattle.dir_ldif.specs.Reader.{IsEnded, SpendsTurns, StopsFor, answers_to_come, source_of, turns_left}
 use Rattle.dir_tools.specs.ReadCalls.{GaveAtLeast}
 use Rattle.dir_tools.specs.declared.fault.ToolFault.TheVariants as tool
 use Rattle.dir_tools.proofs.ReadCalls.{spends_all}
-use Rattle.dir_ldif.specs.Next.{GivesFirst, GivesNone}
+use Rattle.dir_ldif.specs.Reader.Answers.{GivesFirst, GivesNone}
 use Rattle.dir_ldif.specs.Records.{Answer, Found}
 use Rattle.dir_tree.specs.Dir.{Dir}
 use Rattle.dir_tools.specs.declared.fault.Cause.{Cause}
 use Rattle.dir_tools.specs.declared.run.Run.{Run}
 use Rattle.dir_tools.specs.RunOf.{Outcome, RecordStep, RunEnd, cause_in, change_step, ended_run, group_in, groups_in, record_step, run_after, run_of, with_outcomes_before, HasAccepted}
 use Rattle.dir_tools.specs.Report.{outcome_line}
-use Rattle.dir_ldif.specs.SoundFound.{IsSoundFound}
+use Rattle.dir_ldif.specs.SoundRecords.{IsSoundFound}
 use Rattle.dir_ldif.specs.declared.records.Record.TheVariants as form
 use Rattle.dir_tree.specs.WellFormed.{Each}
 use Rattle.dir_change.specs.declared.result_code.ResultCode.{ResultCode}
@@ -260,10 +260,10 @@ runs_faulty state rows fault first old begun run ends was =
 module _ {D : Type 0} {S : Type 0} where
   pub runs_blamed : (state : D → Dir) (rows : List TypeRow) (left : S → Option (List ℕ)) (failures : S → ℕ) (fault : StreamFault) (first : Option (List Answer)) (count : ℕ) (old new : RecordReader S) (begun run : Run D)
       → (IsEnded old → ⊥) → failures (source_of old) ≡ count → StopsFor left failures fault old new
-      → RunsSoFar state rows first (to_give left old) begun run
+      → RunsSoFar state rows first (answers_to_come left old) begun run
       → IsChangesFaultCause state rows first count (failures (source_of new)) begun (changes_fault fault)
-  runs_blamed state rows left failures stream.LineTooLong first count old new begun run going same stops was = runs_faulty state rows stream.LineTooLong first (to_give left old) begun run stops was
-  runs_blamed state rows left failures stream.BadVersion first count old new begun run going same stops was = runs_faulty state rows stream.BadVersion first (to_give left old) begun run stops was
+  runs_blamed state rows left failures stream.LineTooLong first count old new begun run going same stops was = runs_faulty state rows stream.LineTooLong first (answers_to_come left old) begun run stops was
+  runs_blamed state rows left failures stream.BadVersion first count old new begun run going same stops was = runs_faulty state rows stream.BadVersion first (answers_to_come left old) begun run stops was
   runs_blamed state rows left failures stream.Read first count old new begun run going same stops was = subst (λ n. HasFailed n (failures (source_of new))) same stops.0
   runs_blamed state rows left failures stream.Memory first count old new begun run going same stops was = tt
   runs_blamed state rows left failures stream.TooManyTurns first count old new begun run going same stops was = tt

@@ -3,7 +3,7 @@ use Rattle.std.proofs.Common.{◌≡◌, Bool, true, false, not, ◌&&◌, List,
 use Rattle.dir_ldif.specs.declared.faults.RecordFault.{RecordFault}
 use Rattle.dir_ldif.specs.declared.faults.StreamFault.{StreamFault}
 use Rattle.dir_ldif.specs.declared.records.Record.{Record}
-use Rattle.dir_ldif.specs.Laws.{without_line}
+use Rattle.dir_ldif.specs.RoundTrip.{without_line}
 use Rattle.dir_ldif.specs.Records.{Answer, Found}
 
 pub left : (a b : Bool) → (a && b) ≡ true → a ≡ true

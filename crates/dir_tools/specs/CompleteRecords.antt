@@ -5,7 +5,7 @@ use Rattle.dir_names.specs.declared.schema.TypeRow.{TypeRow}
 use Rattle.dir_ldif.specs.declared.faults.StreamFault.TheVariants as stream
 use Rattle.dir_ldif.specs.declared.reader.RecordReader.{RecordReader}
 use Rattle.dir_ldif.specs.declared.records.Change.{Change}
-use Rattle.dir_ldif.specs.Reader.{in_hand, source_of, to_give_on}
+use Rattle.dir_ldif.specs.Reader.{answers_to_come_with, in_hand, source_of}
 use Rattle.dir_ldif.specs.Records.{Answer, Found, all_found, records_of}
 use Rattle.dir_tree.specs.Dir.{Dir}
 use Rattle.dir_tools.specs.declared.fault.Cause.TheVariants as cause
@@ -49,4 +49,4 @@ CompleteRecordsAreAccepted rows d answers = (founds : List Found) → AreComplet
 module _ {S : Type 0} where
   -- the same of the bytes that a reader had in hand and those that its source gave it
   abbrev pub GaveBytesTo : (S → Option (List ℕ)) → RecordReader S → RecordReader S → ((List ℕ → List Answer) → Type 0) → Type 0
-  GaveBytesTo left old new P = GaveBytes (left (source_of old)) (left (source_of new)) (λ bytes. P (λ text. to_give_on old (in_hand old ++ (bytes ++ text))))
+  GaveBytesTo left old new P = GaveBytes (left (source_of old)) (left (source_of new)) (λ bytes. P (λ text. answers_to_come_with old (in_hand old ++ (bytes ++ text))))

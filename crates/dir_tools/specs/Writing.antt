@@ -1,7 +1,7 @@
 -- What the writers of a run took.
 use Rattle.std.specs.Prelude.{◌≡◌, ℕ, Bool, true, false, List, Option, Result, Ok, Err, ⊤}
 use Rattle.std.specs.Io.KnownBytes.{Appends}
-use Rattle.dir_ldif.specs.Device.{AppendsFront}
+use Rattle.dir_ldif.specs.Device.{AppendsPrefix}
 use Rattle.dir_tools.specs.declared.fault.ToolFault.{ToolFault}
 use Rattle.dir_tools.specs.declared.fault.ToolFault.TheVariants as fault
 use Rattle.dir_tools.specs.declared.fault.Output.{Output}
@@ -16,7 +16,7 @@ abbrev pub TookWhole : TakenBytes → List ℕ → Type 0
 TookWhole tape text = Appends tape.0 tape.1 text
 
 abbrev pub TookPrefix : TakenBytes → List ℕ → Type 0
-TookPrefix tape text = (n : ℕ) × AppendsFront tape.0 tape.1 text n
+TookPrefix tape text = (n : ℕ) × AppendsPrefix tape.0 tape.1 text n
 
 abbrev pub TookNothing : TakenBytes → Type 0
 TookNothing tape = tape.1 ≡ tape.0

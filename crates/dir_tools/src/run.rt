@@ -64,7 +64,7 @@ impl<D: Directory + Drop> Run<D> {
     ghost use Rattle.dir_tools.specs.declared.fault.ToolFault.TheVariants as ToolFault;
     ghost use Rattle.std.specs.Option.{option_map};
     ghost use Rattle.dir_ldif.specs.Records.{records_of};
-    ghost use Rattle.dir_ldif.specs.Reader.{IsReading, schema_of, source_of, to_give, turns_left};
+    ghost use Rattle.dir_ldif.specs.Reader.{IsReading, answers_to_come, schema_of, source_of, turns_left};
     ghost use Rattle.dir_tools.specs.Inside.Running.{AreTextsOfRun, HasChangeOutcome, HasOutcome, HasTakenNone, IsChangesFaultCause, KeepsReport, RunsOver, Takes, records_taken};
 
     /// A run that has taken no record.
@@ -117,8 +117,8 @@ impl<D: Directory + Drop> Run<D> {
         requires records_taken { records_taken self.old ≡ 0 }
         requires reading { IsReading records.old }
         requires schema { schema_of records.old ≡ schema.now }
-        ensures ok { OnOk result (RunsOver D.state schema.now (to_give S.left records.old) self.old self.new) }
-        ensures blamed { IfErr result (IsChangesFaultCause D.state schema.now (to_give S.left records.old) (S.failures (source_of records.old)) (S.failures (source_of records.new)) self.old) }
+        ensures ok { OnOk result (RunsOver D.state schema.now (answers_to_come S.left records.old) self.old self.new) }
+        ensures blamed { IfErr result (IsChangesFaultCause D.state schema.now (answers_to_come S.left records.old) (S.failures (source_of records.old)) (S.failures (source_of records.new)) self.old) }
         ensures settled { IfErr result (λ fault. IsReaderFault fault → self.old.options.go_on ≡ false → GaveBytesTo S.left records.old records.new (CompleteRecordsAreAccepted schema.now (D.state self.old.directory))) }
         ensures turns { result ≡ Err (ToolFault.BadChanges StreamFault.TooManyTurns) → GaveAtLeast (S.left (source_of records.old)) (S.left (source_of records.new)) (turns_left records.old) }
         ensures unfailed { OnOk result (S.failures (source_of records.new) ≡ S.failures (source_of records.old)) }

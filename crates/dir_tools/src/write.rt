@@ -2,7 +2,7 @@
 
 ghost use Rattle.std.specs.Prelude.{◌≡◌, ◌⊎◌, ℕ, IfErr, OnErr, OnOk};
 ghost use Rattle.std.specs.Io.KnownBytes.{Appends};
-ghost use Rattle.dir_ldif.specs.Device.{AppendsFront, HasFailed};
+ghost use Rattle.dir_ldif.specs.Device.{AppendsPrefix, HasFailed};
 ghost use Rattle.dir_tools.specs.declared.fault.ToolFault.TheVariants as ToolFault;
 
 use crate::{Output, ToolFault};
@@ -19,7 +19,7 @@ pub(crate) fn write_text<W: Sink>(
     output: Output,
 ) -> Result<(), ToolFault>
     ensures ok { OnOk result (Appends (W.taken writer.old) (W.taken writer.new) text.now) }
-    ensures front { (n : ℕ) × AppendsFront (W.taken writer.old) (W.taken writer.new) text.now n }
+    ensures front { (n : ℕ) × AppendsPrefix (W.taken writer.old) (W.taken writer.new) text.now n }
     ensures unfailed { OnOk result (W.failures writer.new ≡ W.failures writer.old) }
     ensures flushed { OnOk result (W.is_flushed writer.new) }
     ensures fault { IfErr result (λ e. e ≡ ToolFault.Write output) }

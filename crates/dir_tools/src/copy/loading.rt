@@ -35,7 +35,7 @@ struct Waiting {
 impl<D: Directory + Drop> Loading<D> {
     ghost use Rattle.std.specs.Prelude.{◌≡◌, IfErr, IfOk, Ok, OnOk};
     ghost use Rattle.std.specs.BTreeMap.{IsEmpty};
-    ghost use Rattle.dir_ldif.specs.Reader.{IsReading, schema_of, source_of, to_give, turns_left};
+    ghost use Rattle.dir_ldif.specs.Reader.{IsReading, answers_to_come, schema_of, source_of, turns_left};
     ghost use Rattle.dir_names.specs.NameKeys.{name_key};
     ghost use Rattle.dir_tree.specs.Dir.{IsClosed};
     ghost use Rattle.dir_tools.specs.CopyOf.{LoadedCopy, whole_directory, with_content, with_record};
@@ -62,8 +62,8 @@ impl<D: Directory + Drop> Loading<D> {
         requires schema { schema_of records.old ≡ schema.now }
         ensures suffix { OnOk result ((D.state self.new.directory).suffix ≡ (D.state self.old.directory).suffix) }
         ensures order { OnOk result (KeepsSound D.state schema.now self.old self.new) }
-        ensures reads { OnOk result (LoadsOver D.state schema.now (to_give S.left records.old) self.old self.new) }
-        ensures blamed { IfErr result (StopsLoading D.state schema.now (to_give S.left records.old) (S.failures (source_of records.old)) (S.failures (source_of records.new)) self.old) }
+        ensures reads { OnOk result (LoadsOver D.state schema.now (answers_to_come S.left records.old) self.old self.new) }
+        ensures blamed { IfErr result (StopsLoading D.state schema.now (answers_to_come S.left records.old) (S.failures (source_of records.old)) (S.failures (source_of records.new)) self.old) }
         ensures settled { IfErr result (λ fault. IsReaderFault fault → (start : LoadedCopy) → IsLoaded D.state start self.old → GaveBytesTo S.left records.old records.new (CompleteRecordsLoad schema.now start)) }
         ensures turns { result ≡ Err (ToolFault.BadCopy 0 (Cause.Ended StreamFault.TooManyTurns)) → GaveAtLeast (S.left (source_of records.old)) (S.left (source_of records.new)) (turns_left records.old) }
         ensures unfailed { OnOk result (S.failures (source_of records.new) ≡ S.failures (source_of records.old)) }

@@ -1,4 +1,4 @@
-use Rattle.dir_ldif.proofs.RunLemmas.{run-soon}
+use Rattle.dir_ldif.proofs.ManyCallsLemmas.{run-soon}
 use Rattle.dir_ldif.proofs.laws.reading_ends_soon.Goals as goal
 
 pub returns : goal.returns

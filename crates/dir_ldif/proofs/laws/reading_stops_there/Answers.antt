@@ -1,4 +1,4 @@
-use Rattle.dir_ldif.proofs.RunLemmas.{run-stops}
+use Rattle.dir_ldif.proofs.ManyCallsLemmas.{run-stops}
 use Rattle.dir_ldif.proofs.laws.reading_stops_there.Goals as goal
 
 pub returns : goal.returns

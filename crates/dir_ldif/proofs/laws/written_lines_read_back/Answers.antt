@@ -1,4 +1,4 @@
-use Rattle.dir_ldif.proofs.WrittenLemmas.{written_line-reads}
+use Rattle.dir_ldif.proofs.WrittenLines.{written_line-reads}
 use Rattle.dir_ldif.proofs.laws.written_lines_read_back.Goals as goal
 
 pub returns : goal.returns

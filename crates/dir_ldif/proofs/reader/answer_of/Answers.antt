@@ -1,4 +1,4 @@
-use Rattle.dir_ldif.proofs.LegalRecords.{legal_of}
+use Rattle.dir_ldif.proofs.ReadIsLegal.{legal_of}
 use Rattle.dir_ldif.proofs.reader.answer_of.Goals as goal
 
 pub returns-in-Ok-clause-legal : goal.returns-in-Ok-clause-legal

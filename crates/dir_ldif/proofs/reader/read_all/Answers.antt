@@ -1,7 +1,11 @@
 use Rattle.std.proofs.Common.{[]}
+use Rattle.std.proofs.lemmas.Result.{err_from_is_err_and}
 use Rattle.dir_ldif.proofs.RecordsLemmas.{ends_in}
 use Rattle.dir_ldif.proofs.reader.read_all.Goals as goal
 
-pub returns-in-Err-clause-err : goal.returns-in-Err-clause-err
-returns-in-Err-clause-err c =
-    ends_in c.in-Err.fault c.args.schema.now c.args.text.now c.loop-block.answers.items _ (c.loop-block.invariant.4 []) (c.in-Err.ensures.err [])
+pub returns-in_err-block-clause-err : goal.returns-in_err-block-clause-err
+returns-in_err-block-clause-err c =
+    let e = err_from_is_err_and c.from_residual.result c.from_residual.ensures.1 in
+    rw (e.1, e.2) (
+    ends_in c.in_err-block.field-0.0 c.args.schema.now c.args.text.now c.loop-answers.answers.items _ (c.loop-answers.invariant.4 []) (c.in_err-block.ensures.err [])
+    )

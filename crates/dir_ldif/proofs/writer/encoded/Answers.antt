@@ -1,5 +1,5 @@
 use Rattle.std.proofs.Common.{rules}
-use Rattle.dir_ldif.specs.Text.{base64_of}
+use Rattle.dir_ldif.specs.LineText.{base64_of}
 use Rattle.dir_ldif.proofs.writer.encoded.Goals as goal
 
 pub returns : goal.returns

@@ -1,5 +1,5 @@
 use Rattle.std.proofs.Common.{sym, rules, arith}
-use Rattle.dir_ldif.proofs.TextLemmas.{fold_from-turn, fold_from-end}
+use Rattle.dir_ldif.proofs.FoldLemmas.{fold_from-turn, fold_from-end}
 use Rattle.dir_ldif.proofs.writer.push_folded.Goals as goal
 
 pub loop-room-preserved : goal.loop-room-preserved

@@ -1,5 +1,5 @@
 use Rattle.std.proofs.Common.{◌≡◌, ◌++◌, ◌+◌, ◌-◌, ◌*◌, ◌≤◌, ℕ, List, length}
-use Rattle.dir_ldif.specs.Text.{fold_from}
+use Rattle.dir_ldif.specs.LineText.{fold_from}
 use Rattle.dir_ldif.proofs.writer.push_folded.Given as goal
 
 abbrev pub invariant-loop-room : goal.invariant-loop-room

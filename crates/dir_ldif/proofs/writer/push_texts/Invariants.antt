@@ -1,6 +1,6 @@
 use Rattle.std.proofs.Common.{◌≡◌, ◌++◌, take}
 use Rattle.std.specs.List.{flat_map}
-use Rattle.dir_ldif.specs.Text.{written_line}
+use Rattle.dir_ldif.specs.LineText.{written_line}
 use Rattle.dir_ldif.proofs.writer.push_texts.Given as goal
 
 abbrev pub invariant-loop-value : goal.invariant-loop-value

@@ -1,21 +1,29 @@
+use Rattle.std.proofs.lemmas.Result.{err_from_is_err_and}
 use Rattle.std.proofs.Common.{◌≡◌, ap, ◌∙◌}
 use Rattle.dir_ldif.specs.Records.{found_of}
-use Rattle.dir_ldif.proofs.NextLemmas.{next_faults}
-use Rattle.dir_ldif.proofs.SoonLemmas.{answer_used, ends_soon}
+use Rattle.dir_ldif.proofs.AnswerLemmas.{next_faults}
+use Rattle.dir_ldif.proofs.LongLineSoon.{answer_used, ends_soon}
 use Rattle.dir_ldif.proofs.reader.Core.next_answer.Goals as goal
 
-pub returns-in-Err-clause-err : goal.returns-in-Err-clause-err
-returns-in-Err-clause-err g c =
-    let e = c.in-Err.ensures.err in
-    next_faults c.in-Err.fault c.args.schema.now c.args.self.now c.next_block.new.self _ _ e.0 _ _ c.requires e.1 e.2
+pub returns-in_err-block-clause-err : goal.returns-in_err-block-clause-err
+returns-in_err-block-clause-err g c =
+    let e = err_from_is_err_and c.from_residual.result c.from_residual.ensures.1 in
+    let why = c.in_err-block.ensures.err in
+    rw (e.1, e.2) (
+    next_faults c.in_err-block.field-0.0 c.args.schema.now c.args.self.now c.next_block.new.self _ _ why.0 _ _ c.requires why.1 why.2
+    )
 
-pub returns-in-Ok-answer_of-clause-used : goal.returns-in-Ok-answer_of-clause-used
-returns-in-Ok-answer_of-clause-used g c =
-    let block = c.in-Ok.block.items in
+pub returns-clause-used : goal.returns-clause-used
+returns-clause-used g c =
+    let block = c.in_ok-block.block.items in
     let rows = c.args.schema.now in
     let same : c.as_slice.result.now ≡ block = c.as_slice.ensures.value in
-    let found = c.in-Ok-answer_of.ensures.ok ∙ ap (found_of rows) same in
-    λ reading. answer_used rows c.args.self.now c.next_block.new.self block c.in-Ok-answer_of.answer _ _ found (c.in-Ok.ensures.ok.3 reading).1 (c.in-Ok.ensures.used reading)
+    let found = c.in_ok-answer.ensures.ok ∙ ap (found_of rows) same in
+    λ reading. answer_used rows c.args.self.now c.next_block.new.self block c.in_ok-answer.answer _ _ found (c.in_ok-block.ensures.ok.3 reading).1 (c.in_ok-block.ensures.used reading)
 
-pub returns-in-Err-clause-soon : goal.returns-in-Err-clause-soon
-returns-in-Err-clause-soon g c = ends_soon c.in-Err.fault c.args.schema.now c.args.self.now _ _ c.in-Err.ensures.soon
+pub returns-in_err-block-clause-soon : goal.returns-in_err-block-clause-soon
+returns-in_err-block-clause-soon g c =
+    let e = err_from_is_err_and c.from_residual.result c.from_residual.ensures.1 in
+    rw (e.1, e.2) (
+    ends_soon c.in_err-block.field-0.0 c.args.schema.now c.args.self.now _ _ c.in_err-block.ensures.soon
+    )

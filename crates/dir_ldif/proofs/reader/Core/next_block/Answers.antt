@@ -1,28 +1,35 @@
+use Rattle.std.proofs.lemmas.Result.{err_from_is_err_and}
 use Rattle.std.proofs.Common.{◌≡◌, ℕ, ◌<◌, Ok, List, ◌++◌, length, sym, ap, subst, ◌∙◌, length-append, arith}
-use Rattle.dir_ldif.specs.Joining.{to_come}
-use Rattle.dir_ldif.specs.Reading.{coming, hand}
-use Rattle.dir_ldif.specs.Device.{FailsToRead}
-use Rattle.dir_ldif.proofs.ReadingLemmas.{more_read}
-use Rattle.dir_ldif.proofs.StopsLemmas.{Consumes-none, hand_stops, read_stops}
-use Rattle.dir_ldif.proofs.SoonLemmas.{length_hand, takes_piece, hand_soon, end_soon, any_err, block_used}
+use Rattle.dir_ldif.specs.Reader.Unfolding.{blocks_to_come}
+use Rattle.dir_ldif.specs.Reader.Answers.{blocks_left, hand}
+use Rattle.dir_ldif.specs.Inside.Reader.{FailsToRead}
+use Rattle.dir_ldif.proofs.HandLemmas.{more_read}
+use Rattle.dir_ldif.proofs.WhyStopped.{Consumes-none, hand_stops, read_stops}
+use Rattle.dir_ldif.proofs.LongLineSoon.{length_hand, takes_piece, hand_soon, end_soon, any_err, block_used}
 use Rattle.dir_ldif.proofs.reader.Core.next_block.Goals as goal
 
-pub returns-in-Err-clause-err : goal.returns-in-Err-clause-err
-returns-in-Err-clause-err g c =
+pub returns-in_err-block-clause-err : goal.returns-in_err-block-clause-err
+returns-in_err-block-clause-err g c =
+    let e = err_from_is_err_and c.from_residual.result c.from_residual.ensures.1 in
     let so_far = c.loop-block.invariant.3 in
-    (so_far.0, so_far.1, hand_stops c.in-Err.fault c.args.self.now c.loop-block.self _ so_far.0 _ _ _ so_far.2 c.in-Err.ensures.err)
+    rw (e.1, e.2) (
+    (so_far.0, so_far.1, hand_stops c.in_err-block.field-0.0 c.args.self.now c.loop-block.self _ so_far.0 _ _ _ so_far.2 c.in_err-block.ensures.err)
+    )
 
-pub returns-in-Err-read_more-clause-err : goal.returns-in-Err-read_more-clause-err
-returns-in-Err-read_more-clause-err g c =
+pub returns-in_err-read_more-clause-err : goal.returns-in_err-read_more-clause-err
+returns-in_err-read_more-clause-err g c =
+    let e = err_from_is_err_and c.from_residual-in_err-read_more.result c.from_residual-in_err-read_more.ensures.1 in
     let so_far = c.loop-block.invariant.3 in
     let old = c.args.self.now in
     let new = c.read_more.new.self in
-    let taken : (text : List ℕ) → coming c.loop-block.self text ≡ to_come c.take_hand.new.self.joiner text = rw c.in-Ok-None.field-0-is at c.in-Ok-None.ensures.ok in
-    let same : (text : List ℕ) → coming old (so_far.0 ++ text) ≡ to_come new.joiner text = λ text. so_far.2 text ∙ taken text ∙ ap (λ j. to_come j text) (sym c.read_more.ensures.joiner) in
-    let failed = c.in-Err-read_more.ensures.err in (
+    let taken : (text : List ℕ) → blocks_left c.loop-block.self text ≡ blocks_to_come c.use_buffer.new.self.unfolder text = rw c.in_default.is at c.in_ok-block.ensures.ok in
+    let same : (text : List ℕ) → blocks_left old (so_far.0 ++ text) ≡ blocks_to_come new.unfolder text = λ text. so_far.2 text ∙ taken text ∙ ap (λ j. blocks_to_come j text) (sym c.read_more.ensures.unfolder) in
+    rw (e.1, e.2) (
+    let failed = c.in_err-read_more.ensures.err in (
       so_far.0,
       Consumes-none _ _ _ so_far.0 (hand new) so_far.1 c.read_more.ensures.bytes failed.0,
-      read_stops c.in-Err-read_more.fault old new so_far.0 _ c.take_hand.new.self.turns _ _ same failed.0 (omega (arith, so_far.3, c.take_hand.ensures.turns)) (subst (λ f. FailsToRead c.in-Err-read_more.fault c.take_hand.new.self.turns f (g.S.Source.failures c.read_more.new.source)) c.loop-block.invariant.2 failed.1),
+      read_stops c.in_err-read_more.field-0.0 old new so_far.0 _ c.use_buffer.new.self.turns _ _ same failed.0 (omega (arith, so_far.3, c.use_buffer.ensures.turns)) (subst (λ f. FailsToRead c.in_err-read_more.field-0.0 c.use_buffer.new.self.turns f (g.S.Source.failures c.read_more.new.source)) c.loop-block.invariant.2 failed.1),
+    )
     )
 
 pub loop-block-preserved : goal.loop-block-preserved
@@ -30,39 +37,42 @@ loop-block-preserved g c =
     let so_far = c.loop-block.invariant.3 in
     let old = c.args.self.now in
     let new = c.read_more.new.self in
-    let taken : (text : List ℕ) → coming c.loop-block.self text ≡ to_come c.take_hand.new.self.joiner text = rw c.in-Ok-None.field-0-is at c.in-Ok-None.ensures.ok in
-    let same : (text : List ℕ) → coming c.loop-block.self (hand new ++ text) ≡ coming new text = λ text. taken (hand new ++ text) ∙ ap (λ j. to_come j (hand new ++ text)) (sym c.read_more.ensures.joiner) in
-    let more = more_read (coming old) (coming c.loop-block.self) (coming new) _ _ _ so_far.0 (hand new) so_far.1 so_far.2 c.read_more.ensures.bytes same in
-    let some : 0 < length (hand new) = c.in-Ok-true.ensures.some (ap Ok c.in-Ok-true.field-0-test) in (
-      c.read_more.ensures.place ∙ c.take_hand.ensures.place ∙ c.loop-block.invariant.0,
+    let taken : (text : List ℕ) → blocks_left c.loop-block.self text ≡ blocks_to_come c.use_buffer.new.self.unfolder text = rw c.in_default.is at c.in_ok-block.ensures.ok in
+    let same : (text : List ℕ) → blocks_left c.loop-block.self (hand new ++ text) ≡ blocks_left new text = λ text. taken (hand new ++ text) ∙ ap (λ j. blocks_to_come j (hand new ++ text)) (sym c.read_more.ensures.unfolder) in
+    let more = more_read (blocks_left old) (blocks_left c.loop-block.self) (blocks_left new) _ _ _ so_far.0 (hand new) so_far.1 so_far.2 c.read_more.ensures.bytes same in
+    let some : 0 < length (hand new) = c.in_ok-read_more.ensures.some (cc) in (
+      c.read_more.ensures.place ∙ c.use_buffer.ensures.place ∙ c.loop-block.invariant.0,
       g.met.S.Source.same_trans _ _ _ c.loop-block.invariant.1 c.read_more.ensures.same,
-      c.in-Ok-true.ensures.counts ∙ c.loop-block.invariant.2,
+      c.in_ok-read_more.ensures.counts ∙ c.loop-block.invariant.2,
       (
         so_far.0 ++ hand new,
         more.0,
         more.1,
-        omega (arith, so_far.3, c.take_hand.ensures.turns, c.in-Ok-true.ensures.turns, some, length-append so_far.0 (hand new)),
-        omega (arith, so_far.4, c.take_hand.ensures.turns, c.in-Ok-true.ensures.turns, length_hand new, length-append so_far.0 (hand new)),
-        takes_piece old c.loop-block.self new c.take_hand.new.self.joiner so_far.0 so_far.2 taken c.read_more.ensures.joiner,
+        omega (arith, so_far.3, c.use_buffer.ensures.turns, c.in_ok-read_more.ensures.turns, some, length-append so_far.0 (hand new)),
+        omega (arith, so_far.4, c.use_buffer.ensures.turns, c.in_ok-read_more.ensures.turns, length_hand new, length-append so_far.0 (hand new)),
+        takes_piece old c.loop-block.self new c.use_buffer.new.self.unfolder so_far.0 so_far.2 taken c.read_more.ensures.unfolder,
       ),
-      omega (arith, c.loop-block.invariant.4, c.take_hand.ensures.turns, c.in-Ok-true.ensures.turns, length_hand new),
+      omega (arith, c.loop-block.invariant.4, c.use_buffer.ensures.turns, c.in_ok-read_more.ensures.turns, length_hand new),
     )
 
-pub returns-in-Err-clause-soon : goal.returns-in-Err-clause-soon
-returns-in-Err-clause-soon g c =
+pub returns-in_err-block-clause-soon : goal.returns-in_err-block-clause-soon
+returns-in_err-block-clause-soon g c =
+    let e = err_from_is_err_and c.from_residual.result c.from_residual.ensures.1 in
     let so_far = c.loop-block.invariant.3 in
-    hand_soon c.in-Err.fault c.args.self.now c.loop-block.self _ _ so_far.0 so_far.1 so_far.5
+    rw (e.1, e.2) (
+    hand_soon c.in_err-block.field-0.0 c.args.self.now c.loop-block.self _ _ so_far.0 so_far.1 so_far.5
+    )
 
-pub returns-in-Ok-false-clause-soon : goal.returns-in-Ok-false-clause-soon
-returns-in-Ok-false-clause-soon g c =
+pub returns-then-not-branch-clause-soon : goal.returns-then-not-branch-clause-soon
+returns-then-not-branch-clause-soon g c =
     let so_far = c.loop-block.invariant.3 in
-    let mid = c.take_hand.new.self.joiner in
-    let taken : (text : List ℕ) → coming c.loop-block.self text ≡ to_come mid text = rw c.in-Ok-None.field-0-is at c.in-Ok-None.ensures.ok in
-    let empty = c.in-Ok-false.ensures.none (ap Ok c.in-Ok-false.field-0-test) in
+    let mid = c.use_buffer.new.self.unfolder in
+    let taken : (text : List ℕ) → blocks_left c.loop-block.self text ≡ blocks_to_come mid text = rw c.in_default.is at c.in_ok-block.ensures.ok in
+    let empty = c.in_ok-read_more.ensures.none (cc) in
     let took = Consumes-none _ _ _ so_far.0 (hand c.read_more.new.self) so_far.1 c.read_more.ensures.bytes empty.0 in
     any_err c.finish.result _ (λ fault. end_soon fault c.args.self.now c.loop-block.self mid _ _ so_far.0 took so_far.2 taken)
 
-pub returns-in-Ok-Some-clause-used : goal.returns-in-Ok-Some-clause-used
-returns-in-Ok-Some-clause-used g c =
+pub returns-in-Some-clause-used : goal.returns-in-Some-clause-used
+returns-in-Some-clause-used g c =
     let so_far = c.loop-block.invariant.3 in
-    λ _. block_used c.args.self.now c.loop-block.self c.take_hand.new.self c.in-Ok-Some.block.items _ _ so_far.0 so_far.1 so_far.5 (rw c.in-Ok-Some.field-0-is at c.in-Ok-Some.ensures.used)
+    λ _. block_used c.args.self.now c.loop-block.self c.use_buffer.new.self c.in-Some.block.items _ _ so_far.0 so_far.1 so_far.5 (rw c.in-Some.is at c.in_ok-block.ensures.used)

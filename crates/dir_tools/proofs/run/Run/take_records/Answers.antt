@@ -1,7 +1,7 @@
 use Rattle.std.proofs.Common.{◌≡◌, sym, subst, true, false, Ok, rules, ◌∙◌}
-use Rattle.dir_ldif.specs.Next.{GivesFirst}
-use Rattle.dir_ldif.specs.Reader.{IsReading, UsesUp, schema_of, source_of, to_give}
-use Rattle.dir_ldif.specs.SoundFound.{IsSoundFound}
+use Rattle.dir_ldif.specs.Reader.Answers.{GivesFirst}
+use Rattle.dir_ldif.specs.Reader.{IsReading, UsesUp, answers_to_come, schema_of, source_of}
+use Rattle.dir_ldif.specs.SoundRecords.{IsSoundFound}
 use Rattle.dir_tools.specs.Inside.Running.{IsChangesFaultCause}
 use Rattle.dir_tools.proofs.RunLemmas.{changes_long, runs_begun, runs_blamed, runs_further, runs_stopped}
 use Rattle.dir_tools.proofs.run.Run.take_records.Goals.{else-not-is_accepted-via-then-not-is_accepted+else-not-self, else-not-is_accepted-via-else-not-is_accepted}
@@ -14,14 +14,14 @@ pub returns-then-not-self-clause-ok : goal.returns-then-not-self-clause-ok
 returns-then-not-self-clause-ok g c =
     let inv = c.loop-line.invariant in
     let off : c.args.self.now.options.go_on ≡ false = cc in
-    let gives : GivesFirst (Ok (c.in-Ok-Some.line, c.in-Ok-Some.found)) (to_give g.S.Source.left c.loop-line.records) (to_give g.S.Source.left c.next.new.self) = search rules in
-    runs_stopped g.D.Directory.state c.args.schema.now c.in-Ok.is_accepted (c.in-Ok-Some.line, c.in-Ok-Some.found) _ (to_give g.S.Source.left c.loop-line.records) (to_give g.S.Source.left c.next.new.self) c.args.self.now c.loop-line.self c.take.new.self
+    let gives : GivesFirst (Ok (c.in-Ok-Some.line, c.in-Ok-Some.found)) (answers_to_come g.S.Source.left c.loop-line.records) (answers_to_come g.S.Source.left c.next.new.self) = search rules in
+    runs_stopped g.D.Directory.state c.args.schema.now c.in-Ok.is_accepted (c.in-Ok-Some.line, c.in-Ok-Some.found) _ (answers_to_come g.S.Source.left c.loop-line.records) (answers_to_come g.S.Source.left c.next.new.self) c.args.self.now c.loop-line.self c.take.new.self
     c.if-not-is_accepted.true off c.in-Ok.ensures.ok gives inv.6
 
 pub returns-in-Err-clause-blamed : goal.returns-in-Err-clause-blamed
 returns-in-Err-clause-blamed g c =
     let inv = c.loop-line.invariant in
-    subst (λ e. IsChangesFaultCause g.D.Directory.state c.args.schema.now (to_give g.S.Source.left c.args.records.now) (g.S.Source.failures (source_of c.args.records.now)) (g.S.Source.failures (source_of c.next.new.self)) c.args.self.now e)
+    subst (λ e. IsChangesFaultCause g.D.Directory.state c.args.schema.now (answers_to_come g.S.Source.left c.args.records.now) (g.S.Source.failures (source_of c.args.records.now)) (g.S.Source.failures (source_of c.next.new.self)) c.args.self.now e)
     (sym c.ended.ensures)
     (runs_blamed g.D.Directory.state c.args.schema.now g.S.Source.left g.S.Source.failures c.in-Err.fault _ _ c.loop-line.records c.next.new.self c.args.self.now c.loop-line.self
     inv.1 inv.4 c.in-Err.ensures.err.0 inv.6)
@@ -29,7 +29,7 @@ returns-in-Err-clause-blamed g c =
 pub loop-line-preserved : goal.loop-line-preserved
 loop-line-preserved g c =
     let inv = c.loop-line.invariant in
-    let gives : GivesFirst (Ok (c.in-Ok-Some.line, c.in-Ok-Some.found)) (to_give g.S.Source.left c.loop-line.records) (to_give g.S.Source.left c.next.new.self) = search rules in
+    let gives : GivesFirst (Ok (c.in-Ok-Some.line, c.in-Ok-Some.found)) (answers_to_come g.S.Source.left c.loop-line.records) (answers_to_come g.S.Source.left c.next.new.self) = search rules in
     let on : c.in-Ok.is_accepted ≡ false → c.args.self.now.options.go_on ≡ true =
     elim c.else-not-is_accepted.branch [ else-not-is_accepted-via-then-not-is_accepted+else-not-self w ↦ (λ _. cc) | else-not-is_accepted-via-else-not-is_accepted w ↦ (λ e. absurd (cc)) ] in
     let given : IsSoundFound (schema_of c.loop-line.records) (c.in-Ok-Some.line, c.in-Ok-Some.found) = search rules in
@@ -42,7 +42,7 @@ loop-line-preserved g c =
       search rules,
       search rules,
       g.met.S.Source.same_trans _ _ _ inv.5 c.next.ensures.same,
-      runs_further g.D.Directory.state c.args.schema.now c.in-Ok.is_accepted (c.in-Ok-Some.line, c.in-Ok-Some.found) _ (to_give g.S.Source.left c.loop-line.records) (to_give g.S.Source.left c.next.new.self) c.args.self.now c.loop-line.self c.take.new.self
+      runs_further g.D.Directory.state c.args.schema.now c.in-Ok.is_accepted (c.in-Ok-Some.line, c.in-Ok-Some.found) _ (answers_to_come g.S.Source.left c.loop-line.records) (answers_to_come g.S.Source.left c.next.new.self) c.args.self.now c.loop-line.self c.take.new.self
           on sound c.in-Ok.ensures.ok gives inv.6,
       (λ reading. spends_more g.S.Source.left c.args.records.now c.loop-line.records c.next.new.self (inv.7 was_reading) (c.in-Ok-Some.ensures.turns reading)),
       (λ reading. accepted_further g.D.Directory.state c.args.schema.now g.S.Source.left c.args.records.now c.loop-line.records c.next.new.self c.args.self.now c.loop-line.self c.take.new.self c.in-Ok.is_accepted (c.in-Ok-Some.line, c.in-Ok-Some.found)
@@ -57,7 +57,7 @@ loop-line-init g c = (
   search rules,
   search rules,
   g.met.S.Source.same_refl _,
-  runs_begun g.D.Directory.state c.args.schema.now (to_give g.S.Source.left c.args.records.now) c.args.self.now,
+  runs_begun g.D.Directory.state c.args.schema.now (answers_to_come g.S.Source.left c.args.records.now) c.args.self.now,
   (λ _. spends_none g.S.Source.left c.args.records.now),
   (λ _. accepted_begun g.D.Directory.state c.args.schema.now g.S.Source.left c.args.records.now c.args.self.now),
 )

@@ -1,7 +1,7 @@
 use Rattle.std.proofs.Common.{◌∙◌, rules, refl, sym, subst, Ok}
-use Rattle.dir_ldif.specs.Next.{GivesFirst, GivesNone}
-use Rattle.dir_ldif.specs.Reader.{IsReading, UsesUp, schema_of, source_of, to_give}
-use Rattle.dir_ldif.specs.SoundFound.{IsSoundFound}
+use Rattle.dir_ldif.specs.Reader.Answers.{GivesFirst, GivesNone}
+use Rattle.dir_ldif.specs.Reader.{IsReading, UsesUp, answers_to_come, schema_of, source_of}
+use Rattle.dir_ldif.specs.SoundRecords.{IsSoundFound}
 use Rattle.dir_tools.specs.Inside.Loading.{StopsLoading}
 use Rattle.dir_tools.proofs.CopyFaults.{copy_long, loads_blamed, stops_at}
 use Rattle.dir_tools.proofs.CopyLemmas.{loads_begun, loads_further, loads_out, order_out}
@@ -17,26 +17,26 @@ loop-line-init g c = (
   c.requires.schema,
   refl,
   g.met.S.Source.same_refl _,
-  loads_begun g.D.Directory.state c.args.schema.now (to_give g.S.Source.left c.args.records.now) c.args.self.now,
+  loads_begun g.D.Directory.state c.args.schema.now (answers_to_come g.S.Source.left c.args.records.now) c.args.self.now,
   (λ _. spends_none g.S.Source.left c.args.records.now),
   (λ _. taken_begun g.D.Directory.state c.args.schema.now g.S.Source.left c.args.records.now c.args.self.now),
 )
 
 pub returns-in-Ok-None-clause-reads : goal.returns-in-Ok-None-clause-reads
 returns-in-Ok-None-clause-reads g c =
-    let none : GivesNone (to_give g.S.Source.left c.loop-line.records) = search rules in
-    loads_out g.D.Directory.state c.args.schema.now (to_give g.S.Source.left c.args.records.now) (to_give g.S.Source.left c.loop-line.records) c.args.self.now c.loop-line.self none c.loop-line.invariant.5
+    let none : GivesNone (answers_to_come g.S.Source.left c.loop-line.records) = search rules in
+    loads_out g.D.Directory.state c.args.schema.now (answers_to_come g.S.Source.left c.args.records.now) (answers_to_come g.S.Source.left c.loop-line.records) c.args.self.now c.loop-line.self none c.loop-line.invariant.5
 
 pub returns-in-Ok-None-clause-order : goal.returns-in-Ok-None-clause-order
 returns-in-Ok-None-clause-order g c =
-    order_out g.D.Directory.state c.args.schema.now (to_give g.S.Source.left c.args.records.now) (to_give g.S.Source.left c.loop-line.records) c.args.self.now c.loop-line.self c.loop-line.invariant.5
+    order_out g.D.Directory.state c.args.schema.now (answers_to_come g.S.Source.left c.args.records.now) (answers_to_come g.S.Source.left c.loop-line.records) c.args.self.now c.loop-line.self c.loop-line.invariant.5
 
 pub loop-line-preserved : goal.loop-line-preserved
 loop-line-preserved g c =
     let inv = c.loop-line.invariant in
     let given : IsSoundFound (schema_of c.loop-line.records) (c.in-Ok-Some.line, c.in-Ok-Some.found) = search rules in
     let sound : IsSoundFound c.args.schema.now (c.in-Ok-Some.line, c.in-Ok-Some.found) = subst (λ rows. IsSoundFound rows (c.in-Ok-Some.line, c.in-Ok-Some.found)) inv.2 given in
-    let gives : GivesFirst (Ok (c.in-Ok-Some.line, c.in-Ok-Some.found)) (to_give g.S.Source.left c.loop-line.records) (to_give g.S.Source.left c.next.new.self) = search rules in
+    let gives : GivesFirst (Ok (c.in-Ok-Some.line, c.in-Ok-Some.found)) (answers_to_come g.S.Source.left c.loop-line.records) (answers_to_come g.S.Source.left c.next.new.self) = search rules in
     let uses : IsReading c.next.new.self → UsesUp g.S.Source.left (c.in-Ok-Some.line, c.in-Ok-Some.found) c.loop-line.records c.next.new.self = search rules in
     let was_reading : IsReading c.loop-line.records = reads_on c.loop-line.records inv.1 (λ at_end. some_none c.next.result c.in-Ok-Some.field-0 (c.in-Ok-Some.line, c.in-Ok-Some.found) c.in-Ok-Some.is c.in-Ok-Some.field-0-is (c.next.ensures.at_end at_end)) in (
       search rules,
@@ -44,7 +44,7 @@ loop-line-preserved g c =
       search rules,
       search rules,
       g.met.S.Source.same_trans _ _ _ inv.4 c.next.ensures.same,
-      loads_further g.D.Directory.state c.args.schema.now (c.in-Ok-Some.line, c.in-Ok-Some.found) _ (to_give g.S.Source.left c.loop-line.records) (to_give g.S.Source.left c.next.new.self) c.args.self.now c.loop-line.self c.take.new.self
+      loads_further g.D.Directory.state c.args.schema.now (c.in-Ok-Some.line, c.in-Ok-Some.found) _ (answers_to_come g.S.Source.left c.loop-line.records) (answers_to_come g.S.Source.left c.next.new.self) c.args.self.now c.loop-line.self c.take.new.self
           sound c.in_default.ensures.reads gives inv.5,
       (λ reading. spends_more g.S.Source.left c.args.records.now c.loop-line.records c.next.new.self (inv.6 was_reading) (c.in-Ok-Some.ensures.turns reading)),
       (λ reading. taken_further g.D.Directory.state c.args.schema.now g.S.Source.left c.args.records.now c.loop-line.records c.next.new.self c.args.self.now c.loop-line.self c.take.new.self (c.in-Ok-Some.line, c.in-Ok-Some.found)
@@ -53,14 +53,14 @@ loop-line-preserved g c =
 
 pub returns-in-Err-take-clause-blamed : goal.returns-in-Err-take-clause-blamed
 returns-in-Err-take-clause-blamed g c =
-    let gives : GivesFirst (Ok (c.in-Ok-Some.line, c.in-Ok-Some.found)) (to_give g.S.Source.left c.loop-line.records) (to_give g.S.Source.left c.next.new.self) = search rules in
-    stops_at g.D.Directory.state c.args.schema.now (c.in-Ok-Some.line, c.in-Ok-Some.found) _ (to_give g.S.Source.left c.loop-line.records) (to_give g.S.Source.left c.next.new.self) c.args.self.now c.loop-line.self _ _ c.in-Err-take.fault
+    let gives : GivesFirst (Ok (c.in-Ok-Some.line, c.in-Ok-Some.found)) (answers_to_come g.S.Source.left c.loop-line.records) (answers_to_come g.S.Source.left c.next.new.self) = search rules in
+    stops_at g.D.Directory.state c.args.schema.now (c.in-Ok-Some.line, c.in-Ok-Some.found) _ (answers_to_come g.S.Source.left c.loop-line.records) (answers_to_come g.S.Source.left c.next.new.self) c.args.self.now c.loop-line.self _ _ c.in-Err-take.fault
     c.in-Err-take.ensures.fault c.in-Err-take.ensures.cause gives c.loop-line.invariant.5
 
 pub returns-in-Err-clause-blamed : goal.returns-in-Err-clause-blamed
 returns-in-Err-clause-blamed g c =
     let inv = c.loop-line.invariant in
-    subst (StopsLoading g.D.Directory.state c.args.schema.now (to_give g.S.Source.left c.args.records.now) (g.S.Source.failures (source_of c.args.records.now)) (g.S.Source.failures (source_of c.next.new.self)) c.args.self.now)
+    subst (StopsLoading g.D.Directory.state c.args.schema.now (answers_to_come g.S.Source.left c.args.records.now) (g.S.Source.failures (source_of c.args.records.now)) (g.S.Source.failures (source_of c.next.new.self)) c.args.self.now)
     (sym c.ended.ensures)
     (loads_blamed g.D.Directory.state c.args.schema.now g.S.Source.left g.S.Source.failures c.in-Err.fault _ _ c.loop-line.records c.next.new.self c.args.self.now c.loop-line.self
     inv.1 inv.3 c.in-Err.ensures.err.0 inv.5)

@@ -1,0 +1,110 @@
+-- A text in which no line is too long does not end in that fault.
+use Rattle.std.proofs.Common.{◌≡◌, ℕ, ◌+◌, ◌≤◌, Bool, true, false, ◌||◌, nat_le, List, [], ◌∷◌, ◌++◌, length, drop, refl, sym, subst, ⊎_elim, append-nil, length-append, Option, None, Some, Err, arith}
+use Rattle.std.specs.List.{list_any}
+use Rattle.std.proofs.lemmas.Bool.Decides.{nat_tests}
+use Rattle.dir_ldif.specs.declared.faults.StreamFault.TheVariants.{LineTooLong, BadVersion}
+use Rattle.dir_ldif.specs.declared.reader.unfolder.Unfolder.{Unfolder}
+use Rattle.dir_ldif.specs.declared.reader.version.Version.{Version}
+use Rattle.dir_ldif.specs.declared.reader.version.Version.TheVariants.{Absent, One, Other}
+use Rattle.dir_ldif.specs.Bytes.{is_empty, begins_with, without_last}
+use Rattle.dir_ldif.specs.LogicalLines.{Line, cut, is_comment, is_lf, is_long, logical_lines, physical_lines}
+use Rattle.dir_ldif.specs.Inside.Bounds.{has_room, may_be_continued}
+use Rattle.dir_ldif.specs.Blocks.{BlockResult, block_then, by_version, blocks_from, version_of}
+use Rattle.dir_ldif.specs.Reader.Unfolding.{blocks_to_come, lines_after}
+use Rattle.dir_ldif.proofs.BytesLemmas.{true_or_false}
+use Rattle.dir_ldif.proofs.LogicalLineLemmas.{line_alone, not_second}
+
+-- the blocks are not the fault alone
+abbrev Goes : List BlockResult → Type 0
+Goes parts = parts ≡ Err LineTooLong ∷ [] → ⊥
+
+give_goes : (block : List Line) (parts : List BlockResult) → Goes parts → Goes (block_then block parts)
+give_goes [] parts h = h
+give_goes (line ∷ block) parts h = λ e. cc
+
+by_version_goes : (v : Version) (absent one : List BlockResult) → Goes absent → Goes one → Goes (by_version v absent one (Err BadVersion ∷ []))
+by_version_goes Absent absent one p q = p
+by_version_goes One absent one p q = q
+by_version_goes Other absent one p q = λ e. cc
+
+pub neither : (v w : Bool) → (v || w) ≡ false → (v ≡ false) × (w ≡ false)
+neither true w e = cc
+neither false w e = (refl, e)
+
+pub short_goes : (begun : Bool) (block : List Line) (lines : List Line) → list_any is_long lines ≡ false → Goes (blocks_from begun block lines)
+short_goes begun block [] short = give_goes block [] (λ e. cc)
+short_goes begun block (line ∷ rest) short =
+    let both = neither (is_long line) (list_any is_long rest) short in
+    rw both.0 (
+    ⊎_elim
+    (λ (yes : is_comment line ≡ true). rw yes (short_goes begun block rest both.1))
+    (λ (other : is_comment line ≡ false).
+    rw other (⊎_elim
+    (λ (empty : is_empty line.1 ≡ true). rw empty (give_goes block _ (short_goes begun [] rest both.1)))
+    (λ (some : is_empty line.1 ≡ false).
+    rw some (⊎_elim
+    (λ (yes : begun ≡ true). rw yes (short_goes true (block ++ line ∷ []) rest both.1))
+    (λ (fresh : begun ≡ false). rw fresh (by_version_goes (version_of line.1) _ _ (short_goes true (block ++ line ∷ []) rest both.1) (short_goes true block rest both.1)))
+    (true_or_false begun)))
+    (true_or_false (is_empty line.1))))
+    (true_or_false (is_comment line))
+    )
+
+fits : (n : ℕ) (text : List ℕ) → length text ≤ 2097152 → is_long (n, text) ≡ false
+fits n text h = grind (arith, nat_tests)
+
+le_of_test : (a b : ℕ) → nat_le a b ≡ true → a ≤ b
+le_of_test a b h = grind (arith, nat_tests)
+
+none_of_two : (x y : Line) → is_long x ≡ false → is_long y ≡ false → list_any is_long (x ∷ y ∷ []) ≡ false
+none_of_two x y p q = rw (p, q) refl
+
+none_of_one : (x : Line) → is_long x ≡ false → list_any is_long (x ∷ []) ≡ false
+none_of_one x p = rw p refl
+
+pub length-drop_space : (text : List ℕ) → begins_with 32 text ≡ true → length (drop 1 text) + 1 ≡ length text
+length-drop_space [] e = cc
+length-drop_space (x ∷ xs) e = omega arith
+
+-- the last line and a physical line after it
+continued_short : (k n a : ℕ) (tail next : List ℕ) → begins_with 32 next ≡ true → length (a ∷ tail) + length next ≤ 2097153
+    → list_any is_long (logical_lines ((k, a ∷ tail) ∷ (n, next) ∷ [])) ≡ false
+continued_short k n a tail next space room =
+    rw space (none_of_one (k, (a ∷ tail) ++ drop 1 next) (fits k ((a ∷ tail) ++ drop 1 next) (omega (arith, length-append (a ∷ tail) (drop 1 next), length-drop_space next space))))
+
+apart_short : (k n a : ℕ) (tail next : List ℕ) → begins_with 32 next ≡ false → is_long (k, a ∷ tail) ≡ false → length next ≤ 2097152
+    → list_any is_long (logical_lines ((k, a ∷ tail) ∷ (n, next) ∷ [])) ≡ false
+apart_short k n a tail next space short room = rw space (none_of_two (k, a ∷ tail) (n, next) short (fits n next room))
+
+two_short : (last : Line) (n : ℕ) (partial : List ℕ) → may_be_continued (Some last) ≡ true → has_room (Some last) partial ≡ true
+    → list_any is_long (logical_lines (last ∷ (n, without_last 13 partial) ∷ [])) ≡ false
+two_short (k, []) n partial kept room = cc
+two_short (k, a ∷ tail) n partial kept room =
+    let short : is_long (k, a ∷ tail) ≡ false = not_second true (is_long (k, a ∷ tail)) kept in
+    ⊎_elim
+    (λ (space : begins_with 32 (without_last 13 partial) ≡ true).
+    let test : nat_le (length (a ∷ tail) + length (without_last 13 partial)) 2097153 ≡ true = rw space at room in
+    continued_short k n a tail (without_last 13 partial) space (le_of_test _ _ test))
+    (λ (other : begins_with 32 (without_last 13 partial) ≡ false).
+    let test : nat_le (length (without_last 13 partial)) 2097152 ≡ true = rw other at room in
+    apart_short k n a tail (without_last 13 partial) other short (le_of_test _ _ test))
+    (true_or_false (begins_with 32 (without_last 13 partial)))
+
+last_short : (o : Option Line) → may_be_continued o ≡ true → list_any is_long (lines_after o []) ≡ false
+last_short None kept = refl
+last_short (Some (k, [])) kept = cc
+last_short (Some (k, a ∷ tail)) kept = none_of_one (k, a ∷ tail) (not_second true (is_long (k, a ∷ tail)) kept)
+
+behind_short : (o : Option Line) (n : ℕ) (partial : List ℕ) → may_be_continued o ≡ true → has_room o partial ≡ true → list_any is_long (lines_after o ((n, without_last 13 partial) ∷ [])) ≡ false
+behind_short None n partial kept room = none_of_one (n, without_last 13 partial) (fits n (without_last 13 partial) (le_of_test _ _ room))
+behind_short (Some last) n partial kept room = two_short last n partial kept room
+
+hand_short : (o : Option Line) (n : ℕ) (partial : List ℕ) → may_be_continued o ≡ true → list_any is_lf partial ≡ false → has_room o partial ≡ true
+    → list_any is_long (lines_after o (physical_lines n (cut is_lf (partial ++ [])))) ≡ false
+hand_short o n [] kept lacks room = last_short o kept
+hand_short o n (x ∷ xs) kept lacks room =
+    rw (line_alone n (x ∷ xs) lacks refl) (subst (λ t. list_any is_long (lines_after o ((n, without_last 13 t) ∷ [])) ≡ false) (sym (append-nil (x ∷ xs))) (behind_short o n (x ∷ xs) kept room))
+
+-- what was taken is no such fault, had the text ended there
+pub joiner_goes : (j : Unfolder) → blocks_to_come j [] ≡ Err LineTooLong ∷ [] → ⊥
+joiner_goes j = short_goes j.begun j.block.items (lines_after j.last (physical_lines j.number (cut is_lf (j.partial.items ++ [])))) (hand_short j.last j.number j.partial.items j.kept j.unended j.short)

@@ -1,7 +1,0 @@
-use Rattle.std.proofs.Common.{◌≡◌, false, take}
-use Rattle.std.specs.List.{list_any}
-use Rattle.dir_ldif.specs.Block.{is_dash}
-use Rattle.dir_ldif.proofs.block.cut_dash.Given as goal
-
-abbrev pub invariant-loop-i : goal.invariant-loop-i
-invariant-loop-i l = list_any is_dash (take l.i l.lines) ≡ false

@@ -1,7 +1,0 @@
-use Rattle.std.proofs.Common.{◌++◌, ap, ◌∙◌}
-use Rattle.dir_ldif.proofs.PartialLemmas.{part_text}
-use Rattle.dir_ldif.proofs.bytes.parts_without_cr.Goals as goal
-
-pub returns-else-is_empty-2-clause-text : goal.returns-else-is_empty-2-clause-text
-returns-else-is_empty-2-clause-text c =
-    ap (λ t. c.args.front.now ++ t) c.without_cr-else-is_empty-2.ensures ∙ part_text c.args.front.now c.args.back.now (cc)

@@ -1,0 +1,52 @@
+use Rattle.std.proofs.lemmas.Result.{err_from_is_err_and}
+use Rattle.std.proofs.Common.{◌++◌, ap, sym, subst, ◌∙◌, arith}
+use Rattle.dir_ldif.specs.Reader.Unfolding.{blocks_to_come}
+use Rattle.dir_ldif.specs.Blocks.{EndsAtOnce}
+use Rattle.dir_ldif.proofs.BytesLemmas.{cut_at-text, cut_at-lacks}
+use Rattle.dir_ldif.proofs.UnfolderLemmas.{piece_first, length-piece, front_more}
+use Rattle.dir_ldif.proofs.reader.unfolder.Unfolder.push_chunk.Goals as goal
+
+pub finish_line-requires-clause-line : goal.finish_line-requires-clause-line
+finish_line-requires-clause-line c = (cut_at-text 10 c.loop-text.rest.now c.in-Some.text.now c.in-Some.after.now c.in-Some.ensures).1
+
+pub loop-text-smaller : goal.loop-text-smaller
+loop-text-smaller c = omega (arith, length-piece c.loop-text.rest.now c.in-Some.text.now c.in-Some.after.now c.in-Some.ensures)
+
+pub loop-text-preserved : goal.loop-text-preserved
+loop-text-preserved c =
+    let shorter = length-piece c.loop-text.rest.now c.in-Some.text.now c.in-Some.after.now c.in-Some.ensures in (
+      omega (arith, shorter),
+      omega (arith, shorter),
+      front_more c.args.self.now c.loop-text.self c.args.chunk.now c.loop-text.rest.now c.in-Some.text.now c.in-Some.after.now c.in-Some.ensures c.loop-text.invariant.2 (blocks_to_come c.finish_line.new.self) (rw c.in_default-2.is at c.in_ok-block.ensures.ok),
+      λ text.
+          let first = piece_first c.loop-text.rest.now c.in-Some.text.now c.in-Some.after.now c.in-Some.ensures text in
+          c.loop-text.invariant.3 text ∙ ap (blocks_to_come c.loop-text.self) first ∙ (rw c.in_default-2.is at c.in_ok-block.ensures.ok) (c.in-Some.after.now ++ text),
+    )
+
+pub returns-in-Some-2-clause-left : goal.returns-in-Some-2-clause-left
+returns-in-Some-2-clause-left c = omega (arith, length-piece c.loop-text.rest.now c.in-Some.text.now c.in-Some.after.now c.in-Some.ensures)
+
+pub returns-in-Some-2-clause-shorter : goal.returns-in-Some-2-clause-shorter
+returns-in-Some-2-clause-shorter c = omega (arith, length-piece c.loop-text.rest.now c.in-Some.text.now c.in-Some.after.now c.in-Some.ensures)
+
+pub returns-in-Some-2-clause-used : goal.returns-in-Some-2-clause-used
+returns-in-Some-2-clause-used c =
+    front_more c.args.self.now c.loop-text.self c.args.chunk.now c.loop-text.rest.now c.in-Some.text.now c.in-Some.after.now c.in-Some.ensures c.loop-text.invariant.2 _ (rw c.in-Some-2.is at c.in_ok-block.ensures.ok)
+
+pub returns-in-Some-2-clause-ok : goal.returns-in-Some-2-clause-ok
+returns-in-Some-2-clause-ok c =
+    λ text.
+    let first = piece_first c.loop-text.rest.now c.in-Some.text.now c.in-Some.after.now c.in-Some.ensures text in
+    c.loop-text.invariant.3 text ∙ ap (blocks_to_come c.loop-text.self) first ∙ (rw c.in-Some-2.is at c.in_ok-block.ensures.ok) (c.in-Some.after.now ++ text)
+
+pub returns-in_err-block-clause-err : goal.returns-in_err-block-clause-err
+returns-in_err-block-clause-err c =
+    let e = err_from_is_err_and c.from_residual.result c.from_residual.ensures.1 in
+    rw (e.1, e.2) (
+    λ text.
+    let first = piece_first c.loop-text.rest.now c.in-Some.text.now c.in-Some.after.now c.in-Some.ensures text in
+    subst (EndsAtOnce c.in_err-block.field-0.0) (sym (c.loop-text.invariant.3 text ∙ ap (blocks_to_come c.loop-text.self) first)) (c.in_err-block.ensures.err (c.in-Some.after.now ++ text))
+    )
+
+pub push_partial_line-requires : goal.push_partial_line-requires
+push_partial_line-requires c = cut_at-lacks 10 c.loop-text.rest.now c.in_default.ensures

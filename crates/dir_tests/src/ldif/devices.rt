@@ -1,0 +1,235 @@
+//! The devices: over lent bytes, over std's readers and writers, and lent themselves.
+
+use super::*;
+use std::io::{self, ErrorKind, Read, Write};
+
+/// What a source gives in some calls, with room for so many bytes in each: each piece after a `|`, and `!` for a
+/// fault.
+fn bytes_given<S: Source>(
+    rt: &impl Abort,
+    alloc: Global,
+    source: &mut S,
+    room: &mut [u8],
+    calls: usize,
+) -> Vec<u8> {
+    let mut out = Vec::new(alloc);
+    for _ in 0..calls {
+        match source.read(&mut *room) {
+            Ok(n) => {
+                out.push(b'|').expect(rt, "memory");
+                out.extend_from_slice(&room[..n]).expect(rt, "memory");
+            }
+            Err(DeviceFault) => out.push(b'!').expect(rt, "memory"),
+        }
+    }
+    out
+}
+
+#[test]
+fn scripts_give_pieces(rt: HostRuntime) {
+    let alloc = rt.alloc();
+    let text = b"abcdef".as_slice();
+    let mut room = [0u8; 4];
+    for (mut script, want) in [
+        (Script::new(text), b"|abcd|ef||".as_slice()),
+        (Script::new(text).pieces(3), b"|abc|def||"),
+        (Script::new(text).pieces(0), b"|a|b|c|d"),
+        (Script::new(text).first_piece(1), b"|a|bcde|f|"),
+        (Script::new(text).pieces(2).first_piece(3), b"|abc|de|f|"),
+        (Script::new(text).endless(), b"|abcd|ef|abcd|ef"),
+        (Script::new(text).failing_from(1), b"!!!!"),
+        (Script::new(text).failing_from(3), b"|abcd|ef!!"),
+        (Script::new(b""), b"||||"),
+        (Script::new(b"").endless(), b"||||"),
+    ] {
+        let found = bytes_given(&rt, alloc, &mut script, &mut room, 4);
+        assert_eq!(rt; found.as_slice(), want);
+    }
+}
+
+/// A text, and a flush.
+fn written<W: Sink + Drop>(mut sink: W, text: &[u8]) -> Result<(), DeviceFault> {
+    write_whole(&mut sink, text)?;
+    sink.flush()
+}
+
+#[test]
+fn a_lent_sink_is_one(rt: HostRuntime) {
+    let mut room = [0u8; 6];
+    let mut tape = Tape::new(&mut room).pieces(2).failing_from(5);
+    assert_eq!(rt; written(&mut tape, b"abc"), Ok(()));
+    assert_eq!(rt; tape.flushed(), b"abc".as_slice());
+    assert_eq!(rt; written(&mut tape, b"d"), Err(DeviceFault));
+    assert_eq!(rt; tape.as_slice(), b"abcd".as_slice());
+    assert_eq!(rt; tape.flushed(), b"abc".as_slice());
+}
+
+#[test]
+fn tapes_take_pieces(rt: HostRuntime) {
+    let mut room = [0u8; 6];
+    let mut tape = Tape::new(&mut room).pieces(4);
+    assert_eq!(rt; tape.as_slice(), b"".as_slice());
+    assert_eq!(rt; tape.write(b"abcdef"), Ok(4));
+    assert_eq!(rt; tape.flush(), Ok(()));
+    assert_eq!(rt; tape.write(b"ef"), Ok(2));
+    assert_eq!(rt; tape.write(b"g"), Ok(0));
+    assert_eq!(rt; tape.as_slice(), b"abcdef".as_slice());
+    assert_eq!(rt; tape.flushed(), b"abcd".as_slice());
+    let mut room = [0u8; 6];
+    let mut stalled = Tape::new(&mut room).pieces(0);
+    assert_eq!(rt; write_whole(&mut stalled, b""), Ok(()));
+    assert_eq!(rt; write_whole(&mut stalled, b"a"), Err(DeviceFault));
+    assert_eq!(rt; stalled.as_slice(), b"".as_slice());
+    // Writes and flushes are counted together.
+    let mut room = [0u8; 6];
+    let mut failing = Tape::new(&mut room).pieces(1).failing_from(3);
+    assert_eq!(rt; failing.flush(), Ok(()));
+    assert_eq!(rt; write_whole(&mut failing, b"ab"), Err(DeviceFault));
+    assert_eq!(rt; failing.flush(), Err(DeviceFault));
+    assert_eq!(rt; failing.as_slice(), b"a".as_slice());
+}
+
+/// A device that fails in every call.
+#[derive(Drop)]
+struct Broken;
+
+impl Read for Broken {
+    fn read(&mut self, _buf: &mut [u8]) -> io::Result<usize> {
+        Err(io::Error::from(ErrorKind::Other))
+    }
+}
+
+impl Write for Broken {
+    fn write(&mut self, _buf: &[u8]) -> io::Result<usize> {
+        Err(io::Error::from(ErrorKind::Other))
+    }
+
+    fn flush(&mut self) -> io::Result<()> {
+        Err(io::Error::from(ErrorKind::Other))
+    }
+}
+
+#[test]
+fn readers_and_writers_of_the_standard_library_are_devices(rt: HostRuntime) -> Result<(), Fail> {
+    let alloc = rt.alloc();
+    let mut room = [0u8; 4];
+    let mut reader = Reader::new(b"abcdef".as_slice());
+    let found = bytes_given(&rt, alloc, &mut reader, &mut room, 3);
+    assert_eq!(rt; found.as_slice(), b"|abcd|ef|".as_slice());
+    let found = bytes_given(&rt, alloc, &mut Reader::new(Broken), &mut room, 2);
+    assert_eq!(rt; found.as_slice(), b"!!".as_slice());
+
+    let mut taken = Vec::new(alloc);
+    let mut writer = Writer::new(&mut taken);
+    assert_eq!(rt; write_whole(&mut writer, b"abc"), Ok(()));
+    assert_eq!(rt; writer.flush(), Ok(()));
+    assert_eq!(rt; taken.as_slice(), b"abc".as_slice());
+    let mut writer = Writer::new(Broken);
+    assert_eq!(rt; write_whole(&mut writer, b"abc"), Err(DeviceFault));
+    assert_eq!(rt; writer.flush(), Err(DeviceFault));
+    Ok(())
+}
+
+/// A script that counts its calls.
+#[derive(Drop)]
+struct Counted<'a> {
+    script: Script<'a>,
+    calls: usize,
+}
+
+impl Source for Counted<'_> {
+    ghost use Rattle.std.specs.Prelude.{⊤};
+    ghost use Rattle.dir_ldif.specs.TestDevices.{failures_of, left_of};
+
+    ghost left = { λ c. left_of c.script };
+
+    ghost failures = { λ c. failures_of c.script };
+
+    ghost is_same = { λ _ _. ⊤ };
+
+    ghost same_refl = { λ _. tt };
+
+    ghost same_trans = { λ _ _ _ _ _. tt };
+
+    fn read(&mut self, buffer: &mut [u8]) -> Result<usize, DeviceFault> {
+        self.calls = self.calls.saturating_add(1);
+        self.script.read(buffer)
+    }
+}
+
+#[test]
+fn a_record_comes_before_the_next_read(rt: HostRuntime) -> Result<(), Fail> {
+    let alloc = rt.alloc();
+    let schema = Schema::builtin(alloc)?;
+    let text = b"dn: dc=com\n\ndn: cn=a,";
+    let mut source = Counted {
+        script: Script::new(text).failing_from(2),
+        calls: 0,
+    };
+    let mut reader = RecordReader::new(alloc, &schema, &mut source)?;
+    assert!(rt; matches!(reader.next(), Ok(Some((1, Ok(_))))));
+    assert_eq!(rt; reader.into_source().calls, 1);
+    let reader = RecordReader::new(alloc, &schema, Script::new(text).failing_from(2))?;
+    assert_eq!(rt;
+        shown_answers(&rt, alloc, reader).as_str(),
+        "1 dn: dc=com||;L11 Read;L13 Ended;"
+    );
+    Ok(())
+}
+
+#[test]
+fn reading_ends_soon_after_a_line_is_too_long(rt: HostRuntime) -> Result<(), Fail> {
+    let alloc = rt.alloc();
+    let schema = Schema::builtin(alloc)?;
+    // 256 pieces of 8,192 bytes are the greatest line; the next one has the first byte too many.
+    for byte in [b'a', b'#'] {
+        let piece = vec![in alloc; byte; 8192]?;
+        let mut source = Counted {
+            script: Script::new(piece.as_slice()).endless(),
+            calls: 0,
+        };
+        let mut reader = RecordReader::new(alloc, &schema, &mut source)?;
+        assert!(rt; matches!(reader.next(), Err(StreamFault::LineTooLong)));
+        drop(reader);
+        assert_eq!(rt; source.calls, 257);
+    }
+    Ok(())
+}
+
+#[test]
+fn endless_texts_without_a_record_use_up_the_read_calls(rt: HostRuntime) -> Result<(), Fail> {
+    let alloc = rt.alloc();
+    let schema = Schema::builtin(alloc)?;
+    for piece in [
+        b"\n".as_slice(),
+        b"\r\n",
+        b"#\n",
+        b"# a comment\n",
+        b" \n",
+        b" \r\n",
+    ] {
+        let source = Script::new(piece).endless();
+        let reader = RecordReader::with_turns(alloc, &schema, source, 100)?;
+        assert_eq!(rt;
+            shown_answers(&rt, alloc, reader).as_str(),
+            "L14 TooManyTurns;L13 Ended;"
+        );
+    }
+    Ok(())
+}
+
+#[test]
+fn tapes_take_and_stall(rt: HostRuntime) -> Result<(), Fail> {
+    let mut room = [0u8; 8];
+    let mut tape = Tape::new(&mut room).pieces(3);
+    assert!(rt; write_whole(&mut tape, b"abcdef").is_ok());
+    assert_eq!(rt; tape.as_slice(), b"abcdef".as_slice());
+    assert!(rt; write_whole(&mut tape, b"ghi").is_err());
+    assert_eq!(rt; tape.as_slice(), b"abcdefgh".as_slice());
+    let mut room = [0u8; 8];
+    let mut tape = Tape::new(&mut room).failing_from(2);
+    assert!(rt; write_whole(&mut tape, b"abc").is_ok());
+    assert!(rt; tape.flush().is_err());
+    assert_eq!(rt; tape.as_slice(), b"abc".as_slice());
+    Ok(())
+}
