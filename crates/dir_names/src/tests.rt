@@ -1,5 +1,7 @@
+//! Worked examples of names, keys, values and limits, and vectors of Unicode's case folding and NFKC.
+
 use super::*;
-use crate::table::FREQUENT;
+use crate::schema::table::FREQUENT;
 use std::alloc::Global;
 use std::process::Abort;
 use std::test::Fail;
@@ -12,18 +14,18 @@ fn key_text(
     rt: &impl Abort,
     alloc: Global,
     schema: &Schema,
-    kind: &str,
+    attr_type: &str,
     value: &[u8],
     want: Option<&[u8]>,
 ) {
-    let Ok(description) = described(alloc, schema, kind) else {
-        panic!(rt; "no description: {kind}");
+    let Ok(description) = described(alloc, schema, attr_type) else {
+        panic!(rt; "no description: {attr_type}");
     };
     match schema.value_key(alloc, description.key(), value) {
-        Ok(key) => assert_eq!(rt; key.text(), want, "{kind}"),
+        Ok(key) => assert_eq!(rt; key.text(), want, "{attr_type}"),
         Err(fault) => {
-            assert_eq!(rt; fault, NameFault::BadValue, "{kind}");
-            assert_eq!(rt; want, None, "{kind}");
+            assert_eq!(rt; fault, NameFault::BadValue, "{attr_type}");
+            assert_eq!(rt; want, None, "{attr_type}");
         }
     }
 }
@@ -36,13 +38,13 @@ fn descriptions_have_keys_of_their_types(rt: HostRuntime) -> Result<(), Fail> {
     let plain = described(alloc, &schema, "cn")?;
     let number = described(alloc, &schema, "2.5.4.3")?;
     assert_eq!(rt; english.spelling(), b"CommonName;lang-en".as_slice());
-    assert_eq!(rt; english.key().kind(), b"cn".as_slice());
+    assert_eq!(rt; english.key().attr_type(), b"cn".as_slice());
     assert_eq!(rt; english.key().options().len(), 1);
     assert_eq!(rt;
         english.key().options()[0].as_slice(),
         b"lang-en".as_slice()
     );
-    assert_eq!(rt; plain.key().kind(), b"cn".as_slice());
+    assert_eq!(rt; plain.key().attr_type(), b"cn".as_slice());
     assert_eq!(rt; plain.key().options().len(), 0);
     assert!(rt; plain.key().covers(english.key()));
     assert!(rt; !english.key().covers(plain.key()));
@@ -80,8 +82,8 @@ fn values_have_keys_by_the_rule_of_their_type(rt: HostRuntime) -> Result<(), Fai
         ("homeDirectory", b"/home/A", Some(b"/home/A")),
         ("objectClass", b"inetOrgPerson", Some(b"inetorgperson")),
     ];
-    for (kind, value, want) in rows {
-        key_text(&rt, alloc, &schema, kind, value, want);
+    for (attr_type, value, want) in rows {
+        key_text(&rt, alloc, &schema, attr_type, value, want);
     }
     let member = described(alloc, &schema, "member")?;
     let upper = schema.value_key(alloc, member.key(), b"CN=K, DC=Com")?;
@@ -161,8 +163,8 @@ fn frequent_types_are_looked_up(rt: HostRuntime) -> Result<(), Fail> {
     let alloc = rt.alloc();
     let schema = Schema::builtin(alloc)?;
     for name in &FREQUENT {
-        let is_ready = schema.ready(name.as_bytes()).is_some();
-        assert!(rt; is_ready, "{name}");
+        let is_frequent = schema.frequent(name.as_bytes()).is_some();
+        assert!(rt; is_frequent, "{name}");
     }
     Ok(())
 }
@@ -413,10 +415,10 @@ fn types_have_the_rules_of_their_standards(rt: HostRuntime) -> Result<(), Fail> 
         ("objectClass", Rule::ObjectId, false),
         ("x-unknown", Rule::Octet, false),
     ];
-    for (kind, rule, single) in rows {
-        let description = described(alloc, &schema, kind)?;
-        assert_eq!(rt; schema.rule(description.key()), rule, "{kind}");
-        assert_eq!(rt; schema.single(description.key()), single, "{kind}");
+    for (attr_type, rule, single) in rows {
+        let description = described(alloc, &schema, attr_type)?;
+        assert_eq!(rt; schema.rule(description.key()), rule, "{attr_type}");
+        assert_eq!(rt; schema.single(description.key()), single, "{attr_type}");
     }
     Ok(())
 }
@@ -427,17 +429,17 @@ fn rdns_have_their_pairs_as_spelled_and_their_keys_in_order(rt: HostRuntime) -> 
     let schema = Schema::builtin(alloc)?;
     let rdn = Rdn::read(alloc, b"SN=B+commonName=A")?;
     assert_eq!(rt; rdn.pairs().len(), 2);
-    for (pair, kind, value) in [
+    for (pair, attr_type, value) in [
         (&rdn.pairs()[0], b"SN".as_slice(), b"B"),
         (&rdn.pairs()[1], b"commonName".as_slice(), b"A"),
     ] {
-        assert_eq!(rt; pair.0.as_slice(), kind);
+        assert_eq!(rt; pair.0.as_slice(), attr_type);
         assert_eq!(rt; pair.1.as_slice(), value.as_slice());
     }
     let key = rdn.key(alloc, &schema)?;
     assert_eq!(rt; key.pairs().len(), 2);
-    for (pair, kind, value) in [(&key.pairs()[0], "cn", b"a"), (&key.pairs()[1], "sn", b"b")] {
-        assert!(rt; pair.0 == *described(alloc, &schema, kind)?.key());
+    for (pair, attr_type, value) in [(&key.pairs()[0], "cn", b"a"), (&key.pairs()[1], "sn", b"b")] {
+        assert!(rt; pair.0 == *described(alloc, &schema, attr_type)?.key());
         assert_eq!(rt; pair.1.as_slice(), value.as_slice());
     }
     Ok(())
