@@ -476,3 +476,20 @@ fn lists_hold_what_they_are_made_of(rt: HostRuntime) -> Result<(), Fail> {
     assert_eq!(rt; items[0].1.as_slice(), b"a value".as_slice());
     Ok(())
 }
+
+/// The example of the crate's README.
+#[test]
+fn names_and_values_are_compared_by_their_keys(rt: HostRuntime) -> Result<(), Fail> {
+    let alloc = rt.alloc();
+    let schema = Schema::builtin(alloc)?;
+    let name = Dn::read(alloc, b" cn = a\\,b , DC=com")?;
+    let printed = name.print(alloc)?;
+    assert_eq!(rt; printed.as_slice(), b"cn=a\\2Cb,DC=com".as_slice());
+    let com = Dn::read(alloc, b"dc=COM")?.key(alloc, &schema)?;
+    assert!(rt; com.is_parent_of(&name.key(alloc, &schema)?));
+
+    let english = Description::read(alloc, &schema, b"CommonName;lang-en")?;
+    let key = schema.value_key(alloc, english.key(), b"  A  b ")?;
+    assert_eq!(rt; key.text(), Some(b"a b".as_slice()));
+    Ok(())
+}
