@@ -1,4 +1,4 @@
--- Items in rising order of their keys, kept in a `Vec` and seen as a finite map. `place` is what a binary search answers.
+-- Items in rising order of their keys in a `Vec`, as a finite map. `place` is what a binary search answers.
 use Rattle.std.proofs.Common.{◌≡◌, ℕ, suc, set, Bool, true, List, [], ◌∷◌, map, length, get_or, Some, None, Result, Ok, Err, refl, sym, ap, subst, ◌∙◌, IsTrue, T}
 use Rattle.std.specs.declared.cmp.Ordering.{Ordering}
 use Rattle.std.specs.declared.cmp.Ordering.TheVariants.{Less, Equal, Greater}

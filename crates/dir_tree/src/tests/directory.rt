@@ -1,3 +1,5 @@
+//! Names as spelled, walks, and each call of a flat directory.
+
 use crate::{Directory, Entry, FlatDirectory, may_stand, own_rdns};
 use dir_names::{Dn, DnKey, Lines, Memory, Schema};
 use std::alloc::Global;

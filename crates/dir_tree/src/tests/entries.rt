@@ -1,3 +1,5 @@
+//! What an add makes of its lines, and each fault before the next.
+
 use crate::{Entry, EntryFault, entries_hold_their_lines};
 use dir_names::{AttrKey, Bytes, Description, Dn, Lines, Schema, ValueKey};
 use std::alloc::Global;
@@ -36,8 +38,8 @@ fn attr(alloc: Global, schema: &Schema, text: &[u8]) -> Result<AttrKey, Fail> {
     )
 }
 
-fn value(alloc: Global, schema: &Schema, kind: &[u8], text: &[u8]) -> Result<ValueKey, Fail> {
-    let attr = attr(alloc, schema, kind)?;
+fn value(alloc: Global, schema: &Schema, attr_type: &[u8], text: &[u8]) -> Result<ValueKey, Fail> {
+    let attr = attr(alloc, schema, attr_type)?;
     Ok(schema.value_key(alloc, &attr, text)?)
 }
 

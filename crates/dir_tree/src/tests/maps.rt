@@ -1,3 +1,5 @@
+//! The maps of values and attributes, through calls that aren't public.
+
 use crate::EntryFault;
 use crate::attributes::AttributeMap;
 use crate::values::ValueMap;

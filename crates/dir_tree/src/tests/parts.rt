@@ -1,3 +1,5 @@
+//! Fields that are closed to an entry, or refused.
+
 use crate::{Entry, EntryFault, Parts};
 use dir_names::{Bytes, Description, Dn, Lines, Rdn, Schema};
 use std::alloc::Global;
@@ -18,10 +20,10 @@ fn add(
     alloc: Global,
     schema: &Schema,
     parts: &mut Parts,
-    kind: &[u8],
+    attr_type: &[u8],
     text: &[u8],
 ) -> Result<(), Fail> {
-    let description = Description::read(alloc, schema, kind)?;
+    let description = Description::read(alloc, schema, attr_type)?;
     let key = schema.value_key(alloc, description.key(), text)?;
     parts
         .attributes

@@ -3,10 +3,11 @@ use Rattle.std.specs.FinMap as fin
 use Rattle.dir_names.specs.Sorted.{place}
 use Rattle.dir_names.specs.Orders.{attr_cmp, attr_cmp_total}
 use Rattle.dir_names.specs.Described.{Described}
-use Rattle.dir_tree.specs.Content.{Keyed, Stored, StoredAttributes, attribute_pair, attributes_in}
-use Rattle.dir_tree.specs.Made.{with_description}
-use Rattle.dir_tree.proofs.Kept.{got, missing, put, still_rises, keys_in}
-use Rattle.dir_tree.proofs.attributes.AttributeMap.declare.Goals as goal
+use Rattle.dir_tree.specs.Content.{Keyed, Stored, StoredAttributes}
+use Rattle.dir_tree.specs.Inside.Stored.{attribute_pair, attributes_in}
+use Rattle.dir_tree.specs.NewEntry.{with_description}
+use Rattle.dir_tree.proofs.SortedVecs.{got, missing, put, still_rises, keys_in}
+use Rattle.dir_tree.proofs.attributes.AttributeMap.add_description.Goals as goal
 
 -- a description that is new stands without values, and one that is there stays
 new_description : (xs : StoredAttributes) (d : Described) → fin.get xs d.key ≡ None → fin.insert xs d.key (record { spelling = d.spelling; values = fin.empty }) ≡ with_description xs d

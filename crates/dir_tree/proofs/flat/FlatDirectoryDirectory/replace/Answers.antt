@@ -5,7 +5,7 @@ use Rattle.dir_names.specs.Orders.{dn_key_cmp, dn_key_cmp_total, dn_key_cmp_exac
 use Rattle.dir_names.proofs.Maps.{get_entries}
 use Rattle.dir_tree.specs.Dir.{Dir, IsClosed, entry_at, put_entry, dir_over}
 use Rattle.dir_tree.proofs.DirLemmas.{closed_put}
-use Rattle.dir_tree.proofs.Written.{one_written, lent}
+use Rattle.dir_tree.proofs.MapWrites.{one_written, lent}
 use Rattle.dir_tree.proofs.flat.FlatDirectoryDirectory.replace.Goals as goal
 use Rattle.dir_tree.proofs.flat.FlatDirectoryDirectory.replace.Goals.{After-get_mut, After-replace}
 
