@@ -1,4 +1,4 @@
--- A text cut at its first separator, and the parts that this leaves.
+-- A text split at its first separator, and the parts that this leaves.
 use Rattle.std.proofs.Common.{◌≡◌, ℕ, ◌+◌, ◌≤◌, Bool, true, false, cond, List, [], ◌∷◌, length, take, drop, Some, None, refl, ap, sym, ◌∙◌, arith}
 use Rattle.std.specs.Prelude.{◌==◌, nat_lt}
 use Rattle.std.specs.List.{position, position_or_len, before_first, after_first}
@@ -10,7 +10,7 @@ use Rattle.std.proofs.lemmas.Bool.{ltb-true, ltb-false}
 use Rattle.dir_names.specs.Cut.{parts_at, after_first_separator}
 use Rattle.dir_names.specs.Inside.Left.{parts_left}
 
--- the parts are the one before the first separator, and those of what stands behind it
+-- the parts are the one before the first separator, and those of what follows it
 pub parts-cut : (separator : ℕ) (text : List ℕ) → parts_at separator text ≡ before_first (λ b. b == separator) text ∷ parts_left separator (after_first_separator separator text)
 parts-cut separator text = by (nat_lt at (length text)) refl
   where

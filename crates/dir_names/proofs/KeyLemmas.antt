@@ -26,7 +26,7 @@ use Rattle.std.specs.Result.{result_ok}
 abbrev pub is_free : RdnKeys → Attr × List ℕ → Bool
 is_free set k = not (is_some (find attr_cmp k.0 set))
 
--- the set with more pairs, if no attribute stands twice
+-- the set with more pairs, if no attribute occurs twice
 abbrev pub set_onto : RdnKeys → List (Attr × List ℕ) → Option RdnKeys
 set_onto set ks = cond (list_all (is_free set) ks && have_distinct_types ks) (Some (fold (λ s p. with_member pair_cmp p s) set ks)) None
 
@@ -70,7 +70,7 @@ regroup a true true d e = ap (λ t. (t && true) && false) e
 regroup a true false d e = ap (λ t. (t && true) && d) e
 regroup a false c d e = ap (λ t. (t && false) && (not c && d)) e
 
--- what is free once k stands in the set
+-- what is free once k is in the set
 free_put : (set : RdnKeys) (k j : Attr × List ℕ) → is_free (put attr_cmp k.0 k.1 set) j ≡ (not (attr_eq j.0 k.0) && is_free set j)
 free_put set k j =
     ap (λ o. not (is_some o)) (find-put attr_cmp attr_cmp_total j.0 k.0 k.1 set) ∙ not_some (eq_by_cmp attr_cmp j.0 k.0) k.1 (find attr_cmp j.0 set)
@@ -145,7 +145,7 @@ module _ (rows : List TypeRow) where
   pub key_done : (whole : Option RdnKeys) (set : RdnKeys) → whole ≡ key_from set [] → whole ≡ Some set
   key_done whole set e = e
 
--- a pair that stands twice is a fault of the RDN
+-- a type that occurs twice is a fault of the RDN
 no_other : {A : Type 0} (b : Bool) (x : A) (e : NameFault) → (BadDn ≡ e → ⊥) → cond b (Err BadDn) (Ok x) ≡ Err e → ⊥
 no_other true x e apart_from f = apart_from (cc)
 no_other false x e apart_from f = cc

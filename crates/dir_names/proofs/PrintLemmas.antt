@@ -15,7 +15,7 @@ rest-snoc (b ∷ []) last = ap (λ l. l ++ cond (last == 32) (escape_of last) (p
 rest-snoc (b ∷ c ∷ bs) last =
     ap (λ l. printed_byte b ++ l) (rest-snoc (c ∷ bs) last) ∙ sym (append_assoc (printed_byte b) (flat_map printed_byte (c ∷ bs)) (cond (last == 32) (escape_of last) (printed_byte last)))
 
--- a list of pieces behind what was there
+-- a list of pieces after what was there
 pub written : {A : Type 0} (f : A → List ℕ) (separator : ℕ) (x : A) (xs : List A) (old mid new : List ℕ) → mid ≡ old ++ f x → new ≡ mid ++ flat_map (λ y. separator ∷ f y) xs → old ++ join_with_byte separator (map f (x ∷ xs)) ≡ new
 written f separator x xs old mid new e g =
     ap (λ l. old ++ l) (joined-flat f separator x xs) ∙ sym (append_assoc old (f x) (flat_map (λ y. separator ∷ f y) xs))

@@ -1,4 +1,4 @@
--- A printed name reads back: no separator stands in a printed part, so that cutting at separators gives the parts.
+-- A printed name reads back: a printed part has no separator, so that splitting at separators gives the parts.
 use Rattle.std.proofs.Common.{◌≡◌, ℕ, suc, ◌+◌, ◌/◌, ◌%◌, ◌<◌, Bool, true, false, cond, not, List, [], ◌∷◌, ◌++◌, map, length, take, drop, Option, Some, None, Ok, Err, refl, ap, sym, ◌∙◌, arith}
 use Rattle.std.specs.Prelude.{◌==◌, ◌&&◌, ◌||◌, nat_lt}
 use Rattle.std.specs.List.{list_all, join_with_byte, onto_first, before_first, after_first, position_or_len}
@@ -26,7 +26,7 @@ use Rattle.dir_names.proofs.Tidy.{front_other}
 
 -- ---- a text without separators of its own
 
--- how the text leaves the cut behind it, if no separator stands in it
+-- whether the byte after the text is escaped, if the text has no separator
 abbrev pub passes : ℕ → Bool → List ℕ → Option Bool
 passes separator e [] = Some e
 passes separator e (b ∷ bs) = cond (not e && b == separator) None (passes separator (not e && b == 92) bs)
@@ -69,7 +69,7 @@ module _ (separator : ℕ) where
   pub passes_escape : (c d : ℕ) (bs : List ℕ) → (92 == separator) ≡ false → (d == separator) ≡ false → (d == 92) ≡ false → passes separator false (92 ∷ c ∷ d ∷ bs) ≡ passes separator false bs
   passes_escape c d bs s e f = ap (λ t. cond t None (passes separator false (d ∷ bs))) s ∙ passes_plain d bs e f
 
-  -- each text leaves the cut as it was
+  -- no text has a separator, nor escapes the byte after it
   abbrev pub AllPassing : List (List ℕ) → Type 0
   AllPassing [] = Unit {0}
   AllPassing (x ∷ xs) = (passes separator false x ≡ Some false) × AllPassing xs

@@ -12,7 +12,7 @@ use Rattle.dir_names.specs.Keys.{DnKeys}
 use Rattle.dir_names.specs.Orders.{bytes_cmp, bytes_eq, bytes_cmp_ties, texts_cmp, pair_cmp, rdn_key_cmp, dn_key_cmp, dn_key_eq, dn_key_cmp_ties}
 use Rattle.dir_names.specs.Inside.SortTexts.{marked_byte, text_sort, list_sort, pair_sort, rdn_sort, name_sort}
 
--- what stands behind two texts counts where they tie
+-- what follows two texts counts only if they tie
 abbrev Sorts : {A : Type 0} → (A → List ℕ) → (A → A → Ordering) → Type 0
 Sorts {A} f R = (x y : A) (s t : List ℕ) → bytes_cmp (f x ++ s) (f y ++ t) ≡ ordering_then (R x y) (bytes_cmp s t)
 

@@ -46,7 +46,7 @@ bytes_read text value (byte x b more v s r) = byte_read x b more s ∙ ap (optio
 bytes_read text value (inner_space more b v r) = read_space 32 more refl ∙ ap (option_map with_space) (bytes_read more (b ∷ v) r)
 bytes_read text value (trailing_space more r) = read_space 32 more refl ∙ ap (option_map with_space) (bytes_read more [] r)
 
--- ---- no separator stands in them
+-- ---- they have no separator
 
 module _ (separator : ℕ) (escape : (92 == separator) ≡ false) (spaced : (32 == separator) ≡ false) (hex : (b : ℕ) → is_hex b ≡ true → (b == separator) ≡ false) (legal : (b : ℕ) → is_refused b ≡ false → (b == separator) ≡ false) where
   byte_passes : (text : List ℕ) (b : ℕ) (t : List ℕ) → SpellsByte text b → passes separator false (text ++ t) ≡ passes separator false t

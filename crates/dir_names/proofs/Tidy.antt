@@ -1,7 +1,7 @@
--- Tidying a text in one pass.
---     tail waiting bs      what is written of bs, with a space waiting or none, behind a byte that is no space
---     tidied-tail          so a text is tidied from its first byte on that is no space
---     stays after bs       whether no space stands at the end or beside another one, where `after` says that one stands before
+-- A text without extra spaces, written in one pass.
+--     tail waiting bs      what is written of bs, if a space is waiting or not, after a byte other than a space
+--     tidied-tail          so a text is written from its first byte on that is not a space
+--     stays after bs       whether no space is at the end or beside another one, where `after` says whether one comes before
 use Rattle.std.proofs.Common.{◌≡◌, ℕ, ◌+◌, ◌-◌, ◌<◌, ◌≤◌, Bool, true, false, cond, not, List, [], ◌∷◌, ◌++◌, length, take, get_or, refl, sym, ap, ◌∙◌, arith}
 use Rattle.std.specs.Prelude.{◌==◌, ◌&&◌}
 use lib.Dec.{eqb-suc-zero}

@@ -10,7 +10,7 @@ use Rattle.dir_names.specs.declared.name.reading.Step.TheVariants.{Space, Byte, 
 use Rattle.dir_names.specs.Inside.Steps.{step_of, with_space, value_after_step, value_from, has_digit, keeps_digit, is_outside}
 use Rattle.dir_names.specs.Names.Escapes.{is_hex, hex_of, is_escapable}
 
--- the value behind what was kept and the spaces that wait
+-- the value after what was kept and the spaces that wait
 abbrev pub behind : List ℕ → List ℕ → Option (List ℕ) → Option (List ℕ)
 behind kept waiting None = None
 behind kept waiting (Some []) = Some kept

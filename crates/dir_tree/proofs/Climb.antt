@@ -17,7 +17,7 @@ abbrev pub left_above : Dir → Option DnKeys → SpelledName
 left_above d None = []
 left_above d (Some k) = spelled_name d k
 
--- the key that the climb stands at: an entry's, or above the suffix
+-- the key that the climb has reached: an entry's, or above the suffix
 abbrev pub IsOnPath : Dir → Option DnKeys → Type 0
 IsOnPath d None = Unit {0}
 IsOnPath d (Some k) = (is_some (entry_at d k) ≡ true) ⊎ (length k < length d.suffix)
@@ -61,7 +61,7 @@ module _ (d : Dir) (closed : IsClosed d) where
       (λ t. inl (sym (ap (is_there d) e) ∙ t))
       (closed k there)
 
-  -- where no entry stands, nothing is left to be spelled
+  -- if there is no entry, nothing is left to be spelled
   pub climbed_past : (k : DnKeys) → IsOnPath d (Some k) → entry_at d k ≡ None → spelled_name d k ≡ []
   climbed_past k (inl there) none = absurd (true≢false (sym there ∙ ap is_some none))
   climbed_past k (inr short) none = spelled_above d closed k short

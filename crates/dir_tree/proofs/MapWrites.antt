@@ -15,7 +15,7 @@ pub one_written : {K X : Type 0} {R : K → K → Ordering} (o : IsTotalOrder R)
 one_written o exact old new k v updates = same_map o exact _ _ (λ q.
     sym (get_entries o new q) ∙ updates q ∙ (λ i. cond ((eq_by_cmp_equiv o).symm k q i) (Some v) (get_entries o old q i)) ∙ sym (get-insert o (fin.from_entries old) k v q))
 
--- a reference is lent where a value stands
+-- a reference is lent if there is a value
 pub lent : {X : Type 0} (o : Option (MutBor X)) → is_some o ≡ is_some (option_copied_mut o)
 lent None = refl
 lent (Some r) = refl

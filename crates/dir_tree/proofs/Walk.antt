@@ -79,7 +79,7 @@ find_here e es = ap (λ o. cond (is_eq o) (Some e.1) (find dn_key_cmp e.0 es)) (
 pub find_later : (e : DnKeys × Content) (es : Entries) (q : DnKeys) → dn_key_cmp e.0 q ≡ Less → find dn_key_cmp q (e ∷ es) ≡ find dn_key_cmp q es
 find_later e es q l = ap (λ o. cond (is_eq o) (Some e.1) (find dn_key_cmp q es)) (dn_key_cmp_total.antisymm q e.0 ∙ ap ordering_reverse l)
 
--- the second key stands directly below a prefix of the first, which is no shorter than the suffix
+-- the second key is directly below a prefix of the first, which is no shorter than the suffix
 pub record Steps (suffix k next : DnKeys) : Type 0 where
   pub above : DnKeys
   pub part : RdnKeys

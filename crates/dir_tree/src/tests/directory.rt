@@ -272,3 +272,22 @@ fn a_leaf_is_taken_out(rt: HostRuntime) -> Result<(), Fail> {
     assert!(rt; !is_inner);
     Ok(())
 }
+
+/// The example of the crate's README.
+#[test]
+fn an_entry_is_put_into_a_directory(rt: HostRuntime) -> Result<(), Fail> {
+    let alloc = rt.alloc();
+    let schema = Schema::builtin(alloc)?;
+    let suffix = Dn::read(alloc, b"DC=com")?;
+    let key = suffix.key(alloc, &schema)?;
+    let mut directory = FlatDirectory::new(alloc, key.try_clone(alloc)?);
+    let own = own_rdns(suffix, true);
+    let entry = Entry::make(alloc, &schema, own, Lines::new(Vec::new(alloc)))?;
+    if directory.get(&key).is_none() && may_stand(alloc, &directory, &key)? {
+        assert!(rt; directory.insert(&key, entry).is_ok());
+    }
+    let walk = directory.walk()?;
+    assert_eq!(rt; walk.len(), 1);
+    assert_eq!(rt; walk[0].0.print(alloc)?.as_slice(), b"DC=com".as_slice());
+    Ok(())
+}

@@ -9,7 +9,7 @@ use Rattle.dir_tree.specs.NewEntry.{with_description}
 use Rattle.dir_tree.proofs.SortedVecs.{got, missing, put, still_rises, keys_in}
 use Rattle.dir_tree.proofs.attributes.AttributeMap.add_description.Goals as goal
 
--- a description that is new stands without values, and one that is there stays
+-- a new description has no values, and one that is there stays
 new_description : (xs : StoredAttributes) (d : Described) → fin.get xs d.key ≡ None → fin.insert xs d.key (record { spelling = d.spelling; values = fin.empty }) ≡ with_description xs d
 new_description xs d there = ap (λ o. cond (is_some o) xs (fin.insert xs d.key (record { spelling = d.spelling; values = fin.empty }))) (sym there)
 

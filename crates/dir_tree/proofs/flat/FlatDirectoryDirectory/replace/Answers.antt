@@ -16,7 +16,7 @@ found c = c.get_mut.ensures.value ∙ get_entries dn_key_cmp_total c.self.inside
 pub unwrap-requires : goal.unwrap-requires
 unwrap-requires c = lent c.get_mut.result ∙ ap is_some (found (goal.at.unwrap-requires c).After-get_mut) ∙ c.requires
 
--- what the map is once the entry stands there
+-- the map with the entry there
 put : (c : After-replace) → dir_over c.self.inside.suffix (c.get_mut.follows.lender c.replace.new.dest).entries ≡ put_entry (dir_over c.self.inside.suffix c.self.inside.entries.entries) c.args.key.now c.args.entry
 put c =
     let d : Dir = dir_over c.self.inside.suffix c.self.inside.entries.entries in
