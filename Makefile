@@ -25,5 +25,5 @@ bugs:
 install: $(PROGRAM)
 	install -D $(PROGRAM) $(DESTDIR)$(PREFIX)/bin/slapkit
 
-$(PROGRAM): crates.txt $(wildcard crates/*/src/*.rt crates/*/src/*/*.rt crates/*/specs/*.antt crates/*/proofs/*.antt)
+$(PROGRAM): crates.txt $(wildcard crates/*/src/*.rt crates/*/src/*/*.rt crates/*/specs/*.antt crates/*/specs/*/*.antt crates/*/proofs/*.antt)
 	cd crates/slapkit && rt run -- --help > /dev/null

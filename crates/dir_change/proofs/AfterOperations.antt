@@ -4,18 +4,19 @@ use Rattle.std.proofs.lemmas.List.{append-nil, reverse-append, length-reverse}
 use Rattle.std.specs.FinMap.{same_map}
 use Rattle.std.specs.Ordering.{eq_by_cmp, is_eq}
 use Rattle.std.specs.Cmp.{tied_itself}
+use Rattle.std.specs.Option.{ok_or}
 use Rattle.dir_names.specs.declared.schema.TypeRow.{TypeRow}
 use Rattle.dir_names.specs.Keys.{DnKeys, RdnKeys, IsAtOrBelow, parent_of}
 use Rattle.dir_names.specs.Names.{SpelledName, SpelledRdn}
 use Rattle.dir_names.specs.NameKeys.{name_key, rdn_key}
 use Rattle.dir_names.specs.Orders.{dn_key_cmp, dn_key_cmp_total, dn_key_cmp_exact, dn_key_eq, dn_key_eq_decides}
-use Rattle.dir_names.specs.Reading.{all_of, and_all}
+use Rattle.dir_names.specs.Results.{option_collect, option_cons, and_then}
 use Rattle.dir_names.specs.Described.{Described}
 use Rattle.dir_tree.specs.Content.{Content, StoredAttributes}
-use Rattle.dir_tree.specs.Dir.{Dir, HasChild, IsClosed, entry_at, has_parent, is_there, put_entry, without}
-use Rattle.dir_tree.specs.Spelled as spelled
-use Rattle.dir_tree.specs.Spelled.{own_at, spelled_name}
-use Rattle.dir_tree.specs.Made.{attributes_of, gained_by, is_crowded, leaf_key, leaf_lines, made, or_else_fault, then, unless_crowded}
+use Rattle.dir_tree.specs.Dir.{Dir, HasChild, IsClosed, entry_at, has_parent, is_there, put_entry, remove_entry}
+use Rattle.dir_tree.specs.SpelledNames as spelled
+use Rattle.dir_tree.specs.SpelledNames.{own_name_at, spelled_name}
+use Rattle.dir_tree.specs.NewEntry.{attributes_of, exceeds_single_value, leaf_key, leaf_lines, new_entry, ok_unless_exceeding, with_missing_of}
 use Rattle.dir_tree.specs.WellFormed.{IsWellFormed, all_lines, own_part}
 use Rattle.dir_tree.specs.declared.fault.EntryFault.{EntryFault}
 use Rattle.dir_tree.specs.declared.fault.EntryFault.TheVariants.{NotNamed, Single}
@@ -26,7 +27,6 @@ use Rattle.dir_tree.proofs.DirLemmas.{closed_put, get_put, get_without, parent_c
 use Rattle.dir_tree.proofs.SpelledLemmas.{by_last, spelled_below, spelled_child, spelled_put_apart, spelled_suffix}
 use Rattle.dir_change.specs.declared.result_code.ResultCode.TheVariants.{NoSuchObject, NotAllowedOnNonLeaf, EntryAlreadyExists}
 use Rattle.dir_change.specs.Operation.{directory_after, directory_after_add, directory_after_delete, has_child, is_at_or_below, own_rdns, step, step_at, unless, with_new_entry}
-use Rattle.dir_names.specs.Results.{and_then}
 use Rattle.dir_change.specs.Undo.{TakesBack, lines_of_entry, name_of_parent, spelled_name_or_empty, undo_of}
 use Rattle.dir_change.proofs.Conditions.{add_placed, below_is, below_true, child_false, delete_leaf, parent_snoc}
 
@@ -37,7 +37,7 @@ pub itself : (k : DnKeys) → eq_by_cmp dn_key_cmp k k ≡ true
 itself k = ap is_eq (tied_itself dn_key_cmp_total k)
 
 -- what is put at a free key and taken out again was never there
-pub put_out : (d : Dir) (k : DnKeys) (e : Content) → entry_at d k ≡ None → without (put_entry d k e) k ≡ d
+pub put_out : (d : Dir) (k : DnKeys) (e : Content) → entry_at d k ≡ None → remove_entry (put_entry d k e) k ≡ d
 put_out d k e free = same_dir _ d refl (λ q. get_without (put_entry d k e) k q ∙ ap (cond (eq_by_cmp dn_key_cmp q k) None) (get_put d k e q) ∙ by q (eq_by_cmp dn_key_cmp q k) refl)
   where
     by : (q : DnKeys) (b : Bool) → eq_by_cmp dn_key_cmp q k ≡ b → cond b None (cond b (Some e) (entry_at d q)) ≡ entry_at d q
@@ -45,8 +45,8 @@ put_out d k e free = same_dir _ d refl (λ q. get_without (put_entry d k e) k q 
     by q true t = sym (ap (entry_at d) (same_key q k t) ∙ free)
 
 -- what is taken out and put back is as it was
-pub out_put : (d : Dir) (k : DnKeys) (e : Content) → entry_at d k ≡ Some e → put_entry (without d k) k e ≡ d
-out_put d k e there = same_dir _ d refl (λ q. get_put (without d k) k e q ∙ ap (cond (eq_by_cmp dn_key_cmp q k) (Some e)) (get_without d k q) ∙ by q (eq_by_cmp dn_key_cmp q k) refl)
+pub out_put : (d : Dir) (k : DnKeys) (e : Content) → entry_at d k ≡ Some e → put_entry (remove_entry d k) k e ≡ d
+out_put d k e there = same_dir _ d refl (λ q. get_put (remove_entry d k) k e q ∙ ap (cond (eq_by_cmp dn_key_cmp q k) (Some e)) (get_without d k q) ∙ by q (eq_by_cmp dn_key_cmp q k) refl)
   where
     by : (q : DnKeys) (b : Bool) → eq_by_cmp dn_key_cmp q k ≡ b → cond b (Some e) (cond b None (entry_at d q)) ≡ entry_at d q
     by q false t = refl
@@ -55,22 +55,22 @@ out_put d k e there = same_dir _ d refl (λ q. get_put (without d k) k e q ∙ a
 -- ---- names and their keys
 
 module _ {A B : Type 0} (f : A → Option B) where
-  pub all_append : (xs ys : List A) (us vs : List B) → all_of f xs ≡ Some us → all_of f ys ≡ Some vs → all_of f (xs ++ ys) ≡ Some (us ++ vs)
+  pub all_append : (xs ys : List A) (us vs : List B) → option_collect f xs ≡ Some us → option_collect f ys ≡ Some vs → option_collect f (xs ++ ys) ≡ Some (us ++ vs)
   all_append [] ys us vs e h = let none : [] ≡ us = cc in h ∙ ap (λ z. Some (z ++ vs)) none
-  all_append (x ∷ xs) ys us vs e h = by (f x) (all_of f xs) refl e (all_append xs ys)
+  all_append (x ∷ xs) ys us vs e h = by (f x) (option_collect f xs) refl e (all_append xs ys)
     where
-      by : (o : Option B) (p : Option (List B)) → all_of f xs ≡ p → and_all o p ≡ Some us → ((us vs : List B) → all_of f xs ≡ Some us → all_of f ys ≡ Some vs → all_of f (xs ++ ys) ≡ Some (us ++ vs)) → and_all o (all_of f (xs ++ ys)) ≡ Some (us ++ vs)
+      by : (o : Option B) (p : Option (List B)) → option_collect f xs ≡ p → option_cons o p ≡ Some us → ((us vs : List B) → option_collect f xs ≡ Some us → option_collect f ys ≡ Some vs → option_collect f (xs ++ ys) ≡ Some (us ++ vs)) → option_cons o (option_collect f (xs ++ ys)) ≡ Some (us ++ vs)
       by None p t e rest = absurd (cc)
       by (Some u) None t e rest = absurd (cc)
       by (Some u) (Some ws) t e rest =
           let same : u ∷ ws ≡ us = cc in
-          ap (and_all (Some u)) (rest ws vs t h) ∙ ap (λ z. Some (z ++ vs)) same
+          ap (option_cons (Some u)) (rest ws vs t h) ∙ ap (λ z. Some (z ++ vs)) same
 
-  pub all_length : (xs : List A) (us : List B) → all_of f xs ≡ Some us → length xs ≡ length us
+  pub all_length : (xs : List A) (us : List B) → option_collect f xs ≡ Some us → length xs ≡ length us
   all_length [] us e = let none : [] ≡ us = cc in ap length none
-  all_length (x ∷ xs) us e = by (f x) (all_of f xs) refl e (all_length xs)
+  all_length (x ∷ xs) us e = by (f x) (option_collect f xs) refl e (all_length xs)
     where
-      by : (o : Option B) (p : Option (List B)) → all_of f xs ≡ p → and_all o p ≡ Some us → ((us : List B) → all_of f xs ≡ Some us → length xs ≡ length us) → suc (length xs) ≡ length us
+      by : (o : Option B) (p : Option (List B)) → option_collect f xs ≡ p → option_cons o p ≡ Some us → ((us : List B) → option_collect f xs ≡ Some us → length xs ≡ length us) → suc (length xs) ≡ length us
       by None p t e rest = absurd (cc)
       by (Some u) None t e rest = absurd (cc)
       by (Some u) (Some ws) t e rest = let same : u ∷ ws ≡ us = cc in ap suc (rest ws t) ∙ ap length same
@@ -78,7 +78,7 @@ module _ {A B : Type 0} (f : A → Option B) where
 module _ (rows : List TypeRow) where
   -- the key of a name that is two joined
   pub joined_key : (xs ys : SpelledName) (below above : DnKeys) → name_key rows xs ≡ Some below → name_key rows ys ≡ Some above → name_key rows (xs ++ ys) ≡ Some (above ++ below)
-  joined_key xs ys below above e h = ap (all_of (rdn_key rows)) (reverse-append xs ys) ∙ all_append (rdn_key rows) (reverse ys) (reverse xs) above below h e
+  joined_key xs ys below above e h = ap (option_collect (rdn_key rows)) (reverse-append xs ys) ∙ all_append (rdn_key rows) (reverse ys) (reverse xs) above below h e
 
   pub key_length : (name : SpelledName) (k : DnKeys) → name_key rows name ≡ Some k → length name ≡ length k
   key_length name k e = sym (length-reverse name) ∙ all_length (rdn_key rows) (reverse name) k e
@@ -93,10 +93,10 @@ HasOwnNames rows d = (k : DnKeys) (e : Content) → entry_at d k ≡ Some e → 
 pub spelled_key : (rows : List TypeRow) (d : Dir) → IsClosed d → HasOwnNames rows d → (k : DnKeys) → is_some (entry_at d k) ≡ true → name_key rows (spelled_name d k) ≡ Some k
 spelled_key rows d closed names = by_last (λ k. is_some (entry_at d k) ≡ true → name_key rows (spelled_name d k) ≡ Some k) root below
   where
-    own : (k : DnKeys) → is_some (entry_at d k) ≡ true → name_key rows (own_at d k) ≡ Some (own_part d.suffix k)
+    own : (k : DnKeys) → is_some (entry_at d k) ≡ true → name_key rows (own_name_at d k) ≡ Some (own_part d.suffix k)
     own k there = by (entry_at d k) refl there
       where
-        by : (o : Option Content) → entry_at d k ≡ o → is_some o ≡ true → name_key rows (spelled.own_of o) ≡ Some (own_part d.suffix k)
+        by : (o : Option Content) → entry_at d k ≡ o → is_some o ≡ true → name_key rows (spelled.own_name_of o) ≡ Some (own_part d.suffix k)
         by None t h = absurd (true≢false (sym h))
         by (Some e) t h = names k e t
 
@@ -120,8 +120,8 @@ spelled_key rows d closed names = by_last (λ k. is_some (entry_at d k) ≡ true
         by true t h = at_suffix (p ++ part ∷ []) t there
         by false t h =
             let above : is_some (entry_at d p) ≡ true = sym (ap (is_there d) (parent_snoc p part)) ∙ h in
-            let one : name_key rows (own_at d (p ++ part ∷ [])) ≡ Some (part ∷ []) = own (p ++ part ∷ []) there ∙ ap (λ b. Some (cond b (p ++ part ∷ []) (take 1 (reverse (p ++ part ∷ []))))) t ∙ ap Some (last_of p part) in
-            ap (name_key rows) (spelled_child d p part) ∙ joined_key rows (own_at d (p ++ part ∷ [])) (spelled_name d p) (part ∷ []) p one (rest above)
+            let one : name_key rows (own_name_at d (p ++ part ∷ [])) ≡ Some (part ∷ []) = own (p ++ part ∷ []) there ∙ ap (λ b. Some (cond b (p ++ part ∷ []) (take 1 (reverse (p ++ part ∷ []))))) t ∙ ap Some (last_of p part) in
+            ap (name_key rows) (spelled_child d p part) ∙ joined_key rows (own_name_at d (p ++ part ∷ [])) (spelled_name d p) (part ∷ []) p one (rest above)
 
 -- each entry is at or below the suffix
 pub stands_below : (d : Dir) → IsClosed d → (k : DnKeys) → is_some (entry_at d k) ≡ true → is_at_or_below k d.suffix ≡ true
@@ -149,11 +149,11 @@ stands_below d closed k there = below_true k d.suffix (by_last (λ k. is_some (e
 -- ---- the own name in a name
 
 module _ {A B : Type 0} (f : A → Option B) where
-  all_split : (xs ys : List A) (k : List B) → all_of f (xs ++ ys) ≡ Some k → (us : List B) × (vs : List B) × (all_of f ys ≡ Some vs) × (k ≡ us ++ vs)
+  all_split : (xs ys : List A) (k : List B) → option_collect f (xs ++ ys) ≡ Some k → (us : List B) × (vs : List B) × (option_collect f ys ≡ Some vs) × (k ≡ us ++ vs)
   all_split [] ys k e = ([], k, e, refl)
-  all_split (x ∷ xs) ys k e = by (f x) (all_of f (xs ++ ys)) refl e (all_split xs ys)
+  all_split (x ∷ xs) ys k e = by (f x) (option_collect f (xs ++ ys)) refl e (all_split xs ys)
     where
-      by : (o : Option B) (p : Option (List B)) → all_of f (xs ++ ys) ≡ p → and_all o p ≡ Some k → ((k : List B) → all_of f (xs ++ ys) ≡ Some k → (us : List B) × (vs : List B) × (all_of f ys ≡ Some vs) × (k ≡ us ++ vs)) → (us : List B) × (vs : List B) × (all_of f ys ≡ Some vs) × (k ≡ us ++ vs)
+      by : (o : Option B) (p : Option (List B)) → option_collect f (xs ++ ys) ≡ p → option_cons o p ≡ Some k → ((k : List B) → option_collect f (xs ++ ys) ≡ Some k → (us : List B) × (vs : List B) × (option_collect f ys ≡ Some vs) × (k ≡ us ++ vs)) → (us : List B) × (vs : List B) × (option_collect f ys ≡ Some vs) × (k ≡ us ++ vs)
       by None p t e rest = absurd (cc)
       by (Some u) None t e rest = absurd (cc)
       by (Some u) (Some ws) t e rest =
@@ -161,10 +161,10 @@ module _ {A B : Type 0} (f : A → Option B) where
           let found = rest ws t in
           (u ∷ found.0, found.1, found.2, sym same ∙ ap (λ z. u ∷ z) found.3)
 
-  one_of : (x : A) (vs : List B) → all_of f (x ∷ []) ≡ Some vs → (u : B) × (vs ≡ u ∷ [])
+  one_of : (x : A) (vs : List B) → option_collect f (x ∷ []) ≡ Some vs → (u : B) × (vs ≡ u ∷ [])
   one_of x vs e = by (f x) e
     where
-      by : (o : Option B) → and_all o (Some []) ≡ Some vs → (u : B) × (vs ≡ u ∷ [])
+      by : (o : Option B) → option_cons o (Some []) ≡ Some vs → (u : B) × (vs ≡ u ∷ [])
       by None e = absurd (cc)
       by (Some u) e = let same : u ∷ [] ≡ vs = cc in (u, sym same)
 
@@ -174,7 +174,7 @@ reversed_cons x xs = reverse-append (x ∷ []) xs
 leaf_named : (rows : List TypeRow) (name : SpelledName) (k : DnKeys) → name_key rows name ≡ Some k → name_key rows (take 1 name) ≡ Some (take 1 (reverse k))
 leaf_named rows [] k e = let none : [] ≡ k = cc in e ∙ ap Some (sym none ∙ ap (λ z. take 1 (reverse z)) none)
 leaf_named rows (x ∷ xs) k e =
-    let split = all_split (rdn_key rows) (reverse xs) (x ∷ []) k (ap (all_of (rdn_key rows)) (sym (reversed_cons x xs)) ∙ e) in
+    let split = all_split (rdn_key rows) (reverse xs) (x ∷ []) k (ap (option_collect (rdn_key rows)) (sym (reversed_cons x xs)) ∙ e) in
     let one = one_of (rdn_key rows) x split.1 split.2 in
     split.2 ∙ ap Some (one.1 ∙ sym (last_of split.0 one.0) ∙ ap (λ z. take 1 (reverse z)) (sym (split.3 ∙ ap (λ z. split.0 ++ z) one.1)))
 
@@ -196,13 +196,13 @@ front_own rows own above part e = by own (key_length rows own (part ∷ []) e)
 
 -- ---- the parent's part of an entry's name
 
-pub spelled_here : (d : Dir) → IsClosed d → (k : DnKeys) → is_some (entry_at d k) ≡ true → spelled_name d k ≡ own_at d k ++ name_of_parent d k
+pub spelled_here : (d : Dir) → IsClosed d → (k : DnKeys) → is_some (entry_at d k) ≡ true → spelled_name d k ≡ own_name_at d k ++ name_of_parent d k
 spelled_here d closed k there = by (dn_key_eq k d.suffix) refl (parent_of k) refl (closed k there)
   where
-    by : (b : Bool) → dn_key_eq k d.suffix ≡ b → (o : Option DnKeys) → parent_of k ≡ o → (b || is_there d o) ≡ true → spelled_name d k ≡ own_at d k ++ cond b [] (spelled_name_or_empty d (parent_of k))
-    by true t o p h = spelled_suffix d closed k ((dn_key_eq_decides k d.suffix).0 t) ∙ sym (append-nil (own_at d k))
+    by : (b : Bool) → dn_key_eq k d.suffix ≡ b → (o : Option DnKeys) → parent_of k ≡ o → (b || is_there d o) ≡ true → spelled_name d k ≡ own_name_at d k ++ cond b [] (spelled_name_or_empty d (parent_of k))
+    by true t o p h = spelled_suffix d closed k ((dn_key_eq_decides k d.suffix).0 t) ∙ sym (append-nil (own_name_at d k))
     by false t None p h = absurd (true≢false (sym h))
-    by false t (Some above) p h = spelled_below d k above p ∙ ap (λ o. own_at d k ++ spelled_name_or_empty d o) (sym p)
+    by false t (Some above) p h = spelled_below d k above p ∙ ap (λ o. own_name_at d k ++ spelled_name_or_empty d o) (sym p)
 
 parent_shorter : (k p : DnKeys) → parent_of k ≡ Some p → length k ≡ length p + 1
 parent_shorter k p e = let child = parent_child k p e in ap length child.1 ∙ length-append p (child.0 ∷ [])
@@ -222,20 +222,20 @@ above_put d k e = by (parent_of k) refl
 
 -- ---- what is known where an operation is accepted
 
-pub made_own : (rows : List TypeRow) (own : SpelledName) (lines : List (Described × List ℕ)) (e : Content) → made rows own lines ≡ Ok e → e.own ≡ own
+pub made_own : (rows : List TypeRow) (own : SpelledName) (lines : List (Described × List ℕ)) (e : Content) → new_entry rows own lines ≡ Ok e → e.own ≡ own
 made_own rows own lines e is = by (leaf_key rows own) (attributes_of rows lines) is
   where
-    last : (key : RdnKeys) (xs : StoredAttributes) (b : Bool) → cond b (Err Single) (Ok (record { own = own; key = key; attributes = gained_by xs (leaf_lines rows own) })) ≡ Ok e → e.own ≡ own
+    last : (key : RdnKeys) (xs : StoredAttributes) (b : Bool) → cond b (Err Single) (Ok (record { own = own; key = key; attributes = with_missing_of xs (leaf_lines rows own) })) ≡ Ok e → e.own ≡ own
     last key xs true h = absurd (cc)
     last key xs false h =
-        let whole : Content = record { own = own; key = key; attributes = gained_by xs (leaf_lines rows own) } in
+        let whole : Content = record { own = own; key = key; attributes = with_missing_of xs (leaf_lines rows own) } in
         let same : whole ≡ e = cc in
         ap (λ (c : Content). c.own) (sym same)
 
-    by : (o : Option RdnKeys) (r : Result StoredAttributes EntryFault) → then (or_else_fault NotNamed o) (λ key. then r (λ xs. unless_crowded rows (record { own = own; key = key; attributes = gained_by xs (leaf_lines rows own) }))) ≡ Ok e → e.own ≡ own
+    by : (o : Option RdnKeys) (r : Result StoredAttributes EntryFault) → and_then (ok_or o NotNamed) (λ key. and_then r (λ xs. ok_unless_exceeding rows (record { own = own; key = key; attributes = with_missing_of xs (leaf_lines rows own) }))) ≡ Ok e → e.own ≡ own
     by None r h = absurd (cc)
     by (Some key) (Err fault) h = absurd (cc)
-    by (Some key) (Ok xs) h = last key xs (is_crowded rows (gained_by xs (leaf_lines rows own))) h
+    by (Some key) (Ok xs) h = last key xs (exceeds_single_value rows (with_missing_of xs (leaf_lines rows own))) h
 
 none_is : (d : Dir) (k : DnKeys) → is_some (entry_at d k) ≡ false → entry_at d k ≡ None
 none_is d k e = by (entry_at d k) e
@@ -245,28 +245,28 @@ none_is d k e = by (entry_at d k) e
     by (Some x) h = absurd (true≢false h)
 
 pub added_is : (rows : List TypeRow) (d : Dir) (k : DnKeys) (name : SpelledName) (lines : List (Described × List ℕ)) (new : Dir) → directory_after_add rows d k name lines ≡ Ok new →
-    (is_at_or_below k d.suffix ≡ true) × (entry_at d k ≡ None) × (has_parent d k ≡ true) × (e : Content) × (made rows (own_rdns d.suffix k name) lines ≡ Ok e) × (new ≡ put_entry d k e)
+    (is_at_or_below k d.suffix ≡ true) × (entry_at d k ≡ None) × (has_parent d k ≡ true) × (e : Content) × (new_entry rows (own_rdns d.suffix k name) lines ≡ Ok e) × (new ≡ put_entry d k e)
 added_is rows d k name lines new is = by (is_at_or_below k d.suffix) refl (is_some (entry_at d k)) refl (has_parent d k) refl is
   where
-    put : (r : Result Content EntryFault) → made rows (own_rdns d.suffix k name) lines ≡ r → with_new_entry d k r ≡ Ok new → (e : Content) × (made rows (own_rdns d.suffix k name) lines ≡ Ok e) × (new ≡ put_entry d k e)
+    put : (r : Result Content EntryFault) → new_entry rows (own_rdns d.suffix k name) lines ≡ r → with_new_entry d k r ≡ Ok new → (e : Content) × (new_entry rows (own_rdns d.suffix k name) lines ≡ Ok e) × (new ≡ put_entry d k e)
     put (Ok e) t h = let same : put_entry d k e ≡ new = cc in (e, t, sym same)
     put (Err fault) t h = absurd (cc)
 
     by : (a : Bool) → is_at_or_below k d.suffix ≡ a → (b : Bool) → is_some (entry_at d k) ≡ b → (c : Bool) → has_parent d k ≡ c →
-        unless (not a) NoSuchObject (unless b EntryAlreadyExists (unless (not c) NoSuchObject (with_new_entry d k (made rows (own_rdns d.suffix k name) lines)))) ≡ Ok new →
-        (is_at_or_below k d.suffix ≡ true) × (entry_at d k ≡ None) × (has_parent d k ≡ true) × (e : Content) × (made rows (own_rdns d.suffix k name) lines ≡ Ok e) × (new ≡ put_entry d k e)
+        unless (not a) NoSuchObject (unless b EntryAlreadyExists (unless (not c) NoSuchObject (with_new_entry d k (new_entry rows (own_rdns d.suffix k name) lines)))) ≡ Ok new →
+        (is_at_or_below k d.suffix ≡ true) × (entry_at d k ≡ None) × (has_parent d k ≡ true) × (e : Content) × (new_entry rows (own_rdns d.suffix k name) lines ≡ Ok e) × (new ≡ put_entry d k e)
     by false s b t c u h = absurd (cc)
     by true s true t c u h = absurd (cc)
     by true s false t false u h = absurd (cc)
-    by true s false t true u h = let there = put (made rows (own_rdns d.suffix k name) lines) refl h in (s, none_is d k t, u, there.0, there.1, there.2)
+    by true s false t true u h = let there = put (new_entry rows (own_rdns d.suffix k name) lines) refl h in (s, none_is d k t, u, there.0, there.1, there.2)
 
-pub deleted_is : (d : Dir) (k : DnKeys) (new : Dir) → directory_after_delete d k ≡ Ok new → (e : Content) × (entry_at d k ≡ Some e) × (has_child d k ≡ false) × (new ≡ without d k)
+pub deleted_is : (d : Dir) (k : DnKeys) (new : Dir) → directory_after_delete d k ≡ Ok new → (e : Content) × (entry_at d k ≡ Some e) × (has_child d k ≡ false) × (new ≡ remove_entry d k)
 deleted_is d k new is = by (entry_at d k) refl (has_child d k) refl is
   where
-    by : (o : Option Content) → entry_at d k ≡ o → (b : Bool) → has_child d k ≡ b → unless (not (is_some o)) NoSuchObject (unless b NotAllowedOnNonLeaf (Ok (without d k))) ≡ Ok new → (e : Content) × (entry_at d k ≡ Some e) × (has_child d k ≡ false) × (new ≡ without d k)
+    by : (o : Option Content) → entry_at d k ≡ o → (b : Bool) → has_child d k ≡ b → unless (not (is_some o)) NoSuchObject (unless b NotAllowedOnNonLeaf (Ok (remove_entry d k))) ≡ Ok new → (e : Content) × (entry_at d k ≡ Some e) × (has_child d k ≡ false) × (new ≡ remove_entry d k)
     by None t b u h = absurd (cc)
     by (Some e) t true u h = absurd (cc)
-    by (Some e) t false u h = let same : without d k ≡ new = cc in (e, t, u, sym same)
+    by (Some e) t false u h = let same : remove_entry d k ≡ new = cc in (e, t, u, sym same)
 
 -- ---- taken back
 
@@ -313,7 +313,7 @@ pub add_taken_back : (rows : List TypeRow) (d : Dir) → IsClosed d → HasOwnNa
 add_taken_back rows d closed names k name lines named new is =
     ap (λ r. and_then r (λ e. Ok e)) (step_at_key rows new (record { dn = spelled_name new k; kind = kind.Delete }) k key ∙ delete_leaf new k there leaf ∙ ap Ok back)
   where
-    known : (is_at_or_below k d.suffix ≡ true) × (entry_at d k ≡ None) × (has_parent d k ≡ true) × (e : Content) × (made rows (own_rdns d.suffix k name) lines ≡ Ok e) × (new ≡ put_entry d k e)
+    known : (is_at_or_below k d.suffix ≡ true) × (entry_at d k ≡ None) × (has_parent d k ≡ true) × (e : Content) × (new_entry rows (own_rdns d.suffix k name) lines ≡ Ok e) × (new ≡ put_entry d k e)
     known = added_is rows d k name lines new is
 
     e : Content
@@ -334,15 +334,15 @@ add_taken_back rows d closed names k name lines named new is =
     leaf : has_child new k ≡ false
     leaf = ap (λ z. has_child z k) known.5 ∙ leaf_put d k e closed known.1 known.0
 
-    back : without new k ≡ d
-    back = ap (λ z. without z k) known.5 ∙ put_out d k e known.1
+    back : remove_entry new k ≡ d
+    back = ap (λ z. remove_entry z k) known.5 ∙ put_out d k e known.1
 
 -- an add of the name as spelled has the own name of the entry
 pub own_spelled : (rows : List TypeRow) (d : Dir) → IsWellFormed rows d → (k : DnKeys) (e : Content) → entry_at d k ≡ Some e → own_rdns d.suffix k (spelled_name d k) ≡ e.own
 own_spelled rows d well k e known = by (dn_key_eq k d.suffix) refl
   where
-    here : own_at d k ≡ e.own
-    here = ap spelled.own_of known
+    here : own_name_at d k ≡ e.own
+    here = ap spelled.own_name_of known
 
     by : (b : Bool) → dn_key_eq k d.suffix ≡ b → cond b (spelled_name d k) (take 1 (spelled_name d k)) ≡ e.own
     by true t = spelled_suffix d well.1 k ((dn_key_eq_decides k d.suffix).0 t) ∙ here
@@ -361,11 +361,11 @@ delete_taken_back rows d well k new is =
     (step_at_key rows new again k key
     ∙ ap (λ ls. directory_after_add rows new k (spelled_name d k) ls) (ap lines_of_entry known.1)
     ∙ ap (λ z. directory_after_add rows z k (spelled_name d k) (all_lines e.attributes)) known.3
-    ∙ add_placed (without d k) k rows (spelled_name d k) (all_lines e.attributes) below free parent
-    ∙ ap (with_new_entry (without d k) k) (ap (λ own. made rows own (all_lines e.attributes)) own ∙ made_again rows e (well.2 k e known.1).0)
+    ∙ add_placed (remove_entry d k) k rows (spelled_name d k) (all_lines e.attributes) below free parent
+    ∙ ap (with_new_entry (remove_entry d k) k) (ap (λ own. new_entry rows own (all_lines e.attributes)) own ∙ made_again rows e (well.2 k e known.1).0)
     ∙ ap Ok (out_put d k e known.1))
   where
-    known : (e : Content) × (entry_at d k ≡ Some e) × (has_child d k ≡ false) × (new ≡ without d k)
+    known : (e : Content) × (entry_at d k ≡ Some e) × (has_child d k ≡ false) × (new ≡ remove_entry d k)
     known = deleted_is d k new is
 
     e : Content
@@ -383,17 +383,17 @@ delete_taken_back rows d well k new is =
     below : is_at_or_below k d.suffix ≡ true
     below = stands_below d well.1 k there
 
-    free : is_some (entry_at (without d k) k) ≡ false
+    free : is_some (entry_at (remove_entry d k) k) ≡ false
     free = ap is_some (get_without d k k) ∙ ap (λ b. is_some (cond b None (entry_at d k))) (itself k)
 
-    parent : has_parent (without d k) k ≡ true
+    parent : has_parent (remove_entry d k) k ≡ true
     parent = by (dn_key_eq k d.suffix) (parent_of k) refl (well.1 k there)
       where
-        by : (b : Bool) (o : Option DnKeys) → parent_of k ≡ o → (b || is_there d (parent_of k)) ≡ true → (b || is_there (without d k) (parent_of k)) ≡ true
+        by : (b : Bool) (o : Option DnKeys) → parent_of k ≡ o → (b || is_there d (parent_of k)) ≡ true → (b || is_there (remove_entry d k) (parent_of k)) ≡ true
         by true o p h = refl
         by false None p h = absurd (true≢false (sym (sym (ap (is_there d) p) ∙ h)))
         by false (Some above) p h =
-            ap (is_there (without d k)) p ∙ ap is_some (get_without d k above) ∙ ap (λ b. is_some (cond b None (entry_at d above))) (apart (eq_by_cmp dn_key_cmp above k) refl) ∙ sym (ap (is_there d) p) ∙ h
+            ap (is_there (remove_entry d k)) p ∙ ap is_some (get_without d k above) ∙ ap (λ b. is_some (cond b None (entry_at d above))) (apart (eq_by_cmp dn_key_cmp above k) refl) ∙ sym (ap (is_there d) p) ∙ h
           where
             apart : (b : Bool) → eq_by_cmp dn_key_cmp above k ≡ b → b ≡ false
             apart false t = refl
@@ -412,9 +412,9 @@ added_key rows d closed names k name lines named new is =
     ap (λ z. name_key rows (spelled_name z k)) known.5 ∙ spelled_key rows (put_entry d k e) (closed_put d k e closed known.2) (names_put rows d k e names own) k there
 
 -- the name of an added entry: its own RDNs, and its parent's name
-pub add_spelled : (rows : List TypeRow) (d : Dir) → IsClosed d → (k : DnKeys) (own : SpelledName) (lines : List (Described × List ℕ)) (e : Content) → has_parent d k ≡ true → made rows own lines ≡ Ok e → spelled_name (put_entry d k e) k ≡ own ++ name_of_parent d k
+pub add_spelled : (rows : List TypeRow) (d : Dir) → IsClosed d → (k : DnKeys) (own : SpelledName) (lines : List (Described × List ℕ)) (e : Content) → has_parent d k ≡ true → new_entry rows own lines ≡ Ok e → spelled_name (put_entry d k e) k ≡ own ++ name_of_parent d k
 add_spelled rows d closed k own lines e parent is =
     let there : is_some (entry_at (put_entry d k e) k) ≡ true = ap is_some (get_put d k e k) ∙ ap (λ b. is_some (cond b (Some e) (entry_at d k))) (itself k) in
     let stands : entry_at (put_entry d k e) k ≡ Some e = get_put d k e k ∙ ap (λ b. cond b (Some e) (entry_at d k)) (itself k) in
     spelled_here (put_entry d k e) (closed_put d k e closed parent) k there
-    ∙ (λ i. (ap spelled.own_of stands ∙ made_own rows own lines e is) i ++ above_put d k e i)
+    ∙ (λ i. (ap spelled.own_name_of stands ∙ made_own rows own lines e is) i ++ above_put d k e i)

@@ -12,8 +12,8 @@ use Rattle.dir_names.specs.Orders.{dn_key_cmp, dn_key_cmp_total, dn_key_eq_decid
 use Rattle.dir_names.specs.declared.schema.TypeRow.{TypeRow}
 use Rattle.dir_names.specs.Described.{Described}
 use Rattle.dir_names.specs.Names.{SpelledName}
-use Rattle.dir_tree.specs.Dir.{Dir, HasChild, entry_at, has_parent, without}
-use Rattle.dir_tree.specs.Made.{made}
+use Rattle.dir_tree.specs.Dir.{Dir, HasChild, entry_at, has_parent, remove_entry}
+use Rattle.dir_tree.specs.NewEntry.{new_entry}
 use Rattle.dir_tree.proofs.DirLemmas.{parent_child, same_key}
 use Rattle.dir_change.specs.Operation.{directory_after_add, directory_after_delete, has_child, is_at_or_below, is_key, own_rdns, unless, with_new_entry}
 use Rattle.dir_change.specs.declared.result_code.ResultCode.TheVariants.{NoSuchObject, NotAllowedOnNonLeaf, EntryAlreadyExists}
@@ -93,20 +93,20 @@ child_false d k h = by (has_child d k) refl
 
 module _ (d : Dir) (k : DnKeys) where
   pub delete_inner : is_some (entry_at d k) ≡ true → has_child d k ≡ true → directory_after_delete d k ≡ Err NotAllowedOnNonLeaf
-  delete_inner there child = λ i. unless (not (there i)) NoSuchObject (unless (child i) NotAllowedOnNonLeaf (Ok (without d k)))
+  delete_inner there child = λ i. unless (not (there i)) NoSuchObject (unless (child i) NotAllowedOnNonLeaf (Ok (remove_entry d k)))
 
-  pub delete_leaf : is_some (entry_at d k) ≡ true → has_child d k ≡ false → directory_after_delete d k ≡ Ok (without d k)
-  delete_leaf there leaf = λ i. unless (not (there i)) NoSuchObject (unless (leaf i) NotAllowedOnNonLeaf (Ok (without d k)))
+  pub delete_leaf : is_some (entry_at d k) ≡ true → has_child d k ≡ false → directory_after_delete d k ≡ Ok (remove_entry d k)
+  delete_leaf there leaf = λ i. unless (not (there i)) NoSuchObject (unless (leaf i) NotAllowedOnNonLeaf (Ok (remove_entry d k)))
 
   module _ (rows : List TypeRow) (name : SpelledName) (lines : List (Described × List ℕ)) where
     pub add_outside : is_at_or_below k d.suffix ≡ false → directory_after_add rows d k name lines ≡ Err NoSuchObject
-    add_outside e = ap (λ b. unless (not b) NoSuchObject (unless (is_some (entry_at d k)) EntryAlreadyExists (unless (not (has_parent d k)) NoSuchObject (with_new_entry d k (made rows (own_rdns d.suffix k name) lines))))) e
+    add_outside e = ap (λ b. unless (not b) NoSuchObject (unless (is_some (entry_at d k)) EntryAlreadyExists (unless (not (has_parent d k)) NoSuchObject (with_new_entry d k (new_entry rows (own_rdns d.suffix k name) lines))))) e
 
     pub add_taken : is_at_or_below k d.suffix ≡ true → is_some (entry_at d k) ≡ true → directory_after_add rows d k name lines ≡ Err EntryAlreadyExists
-    add_taken e f = λ i. unless (not (e i)) NoSuchObject (unless (f i) EntryAlreadyExists (unless (not (has_parent d k)) NoSuchObject (with_new_entry d k (made rows (own_rdns d.suffix k name) lines))))
+    add_taken e f = λ i. unless (not (e i)) NoSuchObject (unless (f i) EntryAlreadyExists (unless (not (has_parent d k)) NoSuchObject (with_new_entry d k (new_entry rows (own_rdns d.suffix k name) lines))))
 
     pub add_orphan : is_at_or_below k d.suffix ≡ true → is_some (entry_at d k) ≡ false → has_parent d k ≡ false → directory_after_add rows d k name lines ≡ Err NoSuchObject
-    add_orphan e f g = λ i. unless (not (e i)) NoSuchObject (unless (f i) EntryAlreadyExists (unless (not (g i)) NoSuchObject (with_new_entry d k (made rows (own_rdns d.suffix k name) lines))))
+    add_orphan e f g = λ i. unless (not (e i)) NoSuchObject (unless (f i) EntryAlreadyExists (unless (not (g i)) NoSuchObject (with_new_entry d k (new_entry rows (own_rdns d.suffix k name) lines))))
 
-    pub add_placed : is_at_or_below k d.suffix ≡ true → is_some (entry_at d k) ≡ false → has_parent d k ≡ true → directory_after_add rows d k name lines ≡ with_new_entry d k (made rows (own_rdns d.suffix k name) lines)
-    add_placed e f g = λ i. unless (not (e i)) NoSuchObject (unless (f i) EntryAlreadyExists (unless (not (g i)) NoSuchObject (with_new_entry d k (made rows (own_rdns d.suffix k name) lines))))
+    pub add_placed : is_at_or_below k d.suffix ≡ true → is_some (entry_at d k) ≡ false → has_parent d k ≡ true → directory_after_add rows d k name lines ≡ with_new_entry d k (new_entry rows (own_rdns d.suffix k name) lines)
+    add_placed e f g = λ i. unless (not (e i)) NoSuchObject (unless (f i) EntryAlreadyExists (unless (not (g i)) NoSuchObject (with_new_entry d k (new_entry rows (own_rdns d.suffix k name) lines))))

@@ -15,17 +15,17 @@ use Rattle.dir_names.specs.Keys.{DnKeys}
 use Rattle.dir_names.specs.Names.{SpelledName, SpelledPair, SpelledRdn}
 use Rattle.dir_names.specs.NameKeys.{name_key}
 use Rattle.dir_names.specs.Orders.{attr_eq_decides, dn_key_cmp, dn_key_eq}
-use Rattle.dir_names.specs.Printing.{escaped, is_special, pair_printed, rdn_printed, rest_printed, shown, value_printed}
-use Rattle.dir_names.specs.Reading.{is_small, is_within_limits}
-use Rattle.dir_names.specs.Sound.{is_name, is_pair, is_rdn}
+use Rattle.dir_names.specs.Names.Printing.{escape_of, is_special, printed_byte, printed_pair, printed_rdn, printed_rest, printed_value}
+use Rattle.dir_names.specs.Names.Limits.{is_rdn_within_limit, is_within_limits}
+use Rattle.dir_names.specs.Names.Sound.{is_sound_name, is_sound_pair, is_sound_rdn}
 use Rattle.dir_ldif.specs.declared.records.Change.{Change}
 use Rattle.dir_ldif.specs.declared.records.ChangeKind.{ChangeKind}
 use Rattle.dir_ldif.specs.declared.records.ChangeKind.TheVariants as kind
 use Rattle.dir_ldif.specs.SoundRecords.{IsSoundKind, ValuesAreBytes}
 use Rattle.dir_ldif.specs.LegalRecords.{has_this_key, is_legal_kind, is_legal_line, is_read_under, is_short}
 use Rattle.dir_tree.specs.Content.{Content}
-use Rattle.dir_tree.specs.Dir.{Dir, entry_at, has_parent, put_entry, without}
-use Rattle.dir_tree.specs.Made.{leaf_of}
+use Rattle.dir_tree.specs.Dir.{Dir, entry_at, has_parent, put_entry, remove_entry}
+use Rattle.dir_tree.specs.NewEntry.{leaf_of}
 use Rattle.dir_tree.specs.WellFormed.{Each, are_bytes, IsLegalLine, IsLegalPair, IsSoundEntry, IsWellFormed, own_part}
 use Rattle.dir_tree.proofs.DirLemmas.{closed_put, closed_without, get_put, get_without, same_key}
 use Rattle.dir_tree.proofs.SoundMade.{made_sound}
@@ -86,64 +86,64 @@ legal_lines rows (line ∷ lines) e bytes =
 
 -- ---- pairs
 
-three : (b : ℕ) → length (escaped b) ≡ 3
+three : (b : ℕ) → length (escape_of b) ≡ 3
 three b = refl
 
-shown_long : (b : ℕ) → 1 ≤ length (shown b)
+shown_long : (b : ℕ) → 1 ≤ length (printed_byte b)
 shown_long b = by (is_special b)
   where
-    by : (t : Bool) → 1 ≤ length (cond t (escaped b) (b ∷ []))
+    by : (t : Bool) → 1 ≤ length (cond t (escape_of b) (b ∷ []))
     by true = omega arith
     by false = omega arith
 
-rest_long : (bs : List ℕ) → length bs ≤ length (rest_printed bs)
+rest_long : (bs : List ℕ) → length bs ≤ length (printed_rest bs)
 rest_long [] = omega arith
 rest_long (b ∷ []) = by (b == 32)
   where
-    by : (t : Bool) → 1 ≤ length (cond t (escaped b) (shown b))
+    by : (t : Bool) → 1 ≤ length (cond t (escape_of b) (printed_byte b))
     by true = omega arith
     by false = shown_long b
 rest_long (b ∷ c ∷ bs) =
     let first = shown_long b in
     let rest = rest_long (c ∷ bs) in
-    let whole = length-append (shown b) (rest_printed (c ∷ bs)) in
+    let whole = length-append (printed_byte b) (printed_rest (c ∷ bs)) in
     omega (arith, first, rest, whole)
 
-value_long : (bs : List ℕ) → length bs ≤ length (value_printed bs)
+value_long : (bs : List ℕ) → length bs ≤ length (printed_value bs)
 value_long [] = omega arith
 value_long (b ∷ bs) = by (b == 32 || b == 35)
   where
-    by : (t : Bool) → suc (length bs) ≤ length (cond t (escaped b) (shown b) ++ rest_printed bs)
+    by : (t : Bool) → suc (length bs) ≤ length (cond t (escape_of b) (printed_byte b) ++ printed_rest bs)
     by true = let rest = rest_long bs in omega (arith, rest)
     by false =
         let first = shown_long b in
         let rest = rest_long bs in
-        let whole = length-append (shown b) (rest_printed bs) in
+        let whole = length-append (printed_byte b) (printed_rest bs) in
         omega (arith, first, rest, whole)
 
-pair_long : (p : SpelledPair) → length p.1 ≤ length (pair_printed p)
+pair_long : (p : SpelledPair) → length p.1 ≤ length (printed_pair p)
 pair_long p =
     let value = value_long p.1 in
-    let whole = length-append p.0 (61 ∷ value_printed p.1) in
+    let whole = length-append p.0 (61 ∷ printed_value p.1) in
     omega (arith, value, whole)
 
-small_pairs : (n : ℕ) (rdn : SpelledRdn) → length (rdn_printed rdn) ≤ n → Each (λ (p : SpelledPair). length p.1 ≤ n) rdn
+small_pairs : (n : ℕ) (rdn : SpelledRdn) → length (printed_rdn rdn) ≤ n → Each (λ (p : SpelledPair). length p.1 ≤ n) rdn
 small_pairs n [] h = tt
 small_pairs n (p ∷ []) h = let long = pair_long p in (omega (arith, long, h), tt)
 small_pairs n (p ∷ q ∷ ps) h =
     let long = pair_long p in
-    let whole = length-append (pair_printed p) (43 ∷ rdn_printed (q ∷ ps)) in
+    let whole = length-append (printed_pair p) (43 ∷ printed_rdn (q ∷ ps)) in
     (omega (arith, long, whole, h), small_pairs n (q ∷ ps) (omega (arith, whole, h)))
 
-legal_pairs : (rdn : SpelledRdn) → list_all is_pair rdn ≡ true → Each (λ (p : SpelledPair). length p.1 ≤ 4096) rdn → Each IsLegalPair rdn
+legal_pairs : (rdn : SpelledRdn) → list_all is_sound_pair rdn ≡ true → Each (λ (p : SpelledPair). length p.1 ≤ 4096) rdn → Each IsLegalPair rdn
 legal_pairs [] e h = tt
-legal_pairs (p ∷ ps) e h = let short = h.0 in ((left (is_pair p) _ e, omega (arith, short)), legal_pairs ps (right (is_pair p) _ e) h.1)
+legal_pairs (p ∷ ps) e h = let short = h.0 in ((left (is_sound_pair p) _ e, omega (arith, short)), legal_pairs ps (right (is_sound_pair p) _ e) h.1)
 
-legal_rdn : (rdn : SpelledRdn) → is_rdn rdn ≡ true → is_small rdn ≡ true → Each IsLegalPair rdn
+legal_rdn : (rdn : SpelledRdn) → is_sound_rdn rdn ≡ true → is_rdn_within_limit rdn ≡ true → Each IsLegalPair rdn
 legal_rdn rdn sound small = legal_pairs rdn (right (not (length rdn == 0)) _ sound) (small_pairs 4096 rdn (grind (arith, nat_tests)))
 
 -- the own RDN of a name within the limits
-pub legal_leaf : (suffix k : DnKeys) (name : SpelledName) → is_name name ≡ true → is_within_limits name ≡ true → (leaf : SpelledRdn) → leaf_of (own_rdns suffix k name) ≡ Some leaf → Each IsLegalPair leaf
+pub legal_leaf : (suffix k : DnKeys) (name : SpelledName) → is_sound_name name ≡ true → is_within_limits name ≡ true → (leaf : SpelledRdn) → leaf_of (own_rdns suffix k name) ≡ Some leaf → Each IsLegalPair leaf
 legal_leaf suffix k [] sound small leaf e = by (dn_key_eq k suffix) e
   where
     by : (b : Bool) → leaf_of (cond b [] []) ≡ Some leaf → Each IsLegalPair leaf
@@ -152,7 +152,7 @@ legal_leaf suffix k [] sound small leaf e = by (dn_key_eq k suffix) e
 legal_leaf suffix k (rdn ∷ rdns) sound small leaf e = by (dn_key_eq k suffix) e
   where
     here : rdn ≡ leaf → Each IsLegalPair leaf
-    here same = subst (Each IsLegalPair) same (legal_rdn rdn (left (is_rdn rdn) _ sound) (left (is_small rdn) _ (right (nat_le (length (rdn ∷ rdns)) 64) _ small)))
+    here same = subst (Each IsLegalPair) same (legal_rdn rdn (left (is_sound_rdn rdn) _ sound) (left (is_rdn_within_limit rdn) _ (right (nat_le (length (rdn ∷ rdns)) 64) _ small)))
 
     by : (b : Bool) → leaf_of (cond b (rdn ∷ rdns) (rdn ∷ [])) ≡ Some leaf → Each IsLegalPair leaf
     by true h = here (cc)
@@ -160,7 +160,7 @@ legal_leaf suffix k (rdn ∷ rdns) sound small leaf e = by (dn_key_eq k suffix) 
 
 -- ---- the directory
 
-keeps_without : (rows : List TypeRow) (d : Dir) (k : DnKeys) → IsWellFormed rows d → has_child d k ≡ false → IsWellFormed rows (without d k)
+keeps_without : (rows : List TypeRow) (d : Dir) (k : DnKeys) → IsWellFormed rows d → has_child d k ≡ false → IsWellFormed rows (remove_entry d k)
 keeps_without rows d k well leaf =
     (well.0, closed_without d k well.1 (λ child. true≢false (sym (child_true d k child) ∙ leaf)), λ q e there. by q e (eq_by_cmp dn_key_cmp q k) (sym (get_without d k q) ∙ there))
   where
@@ -181,7 +181,7 @@ keeps_put rows d k x well parent sound named =
 pub step_keeps : (rows : List TypeRow) (d : Dir) (change : Change) → IsWellFormed rows d → IsSoundChange rows change → (new : Dir) → step rows d change ≡ Ok new → IsWellFormed rows new
 step_keeps rows d change well sound new is = by (name_key rows change.dn) refl is
   where
-    name_sound : (is_name change.dn ≡ true) × (is_within_limits change.dn ≡ true)
+    name_sound : (is_sound_name change.dn ≡ true) × (is_within_limits change.dn ≡ true)
     name_sound = sound.1.0
 
     done : (k : DnKeys) → name_key rows change.dn ≡ Some k → (c : ChangeKind) → is_legal_kind rows c ≡ true → IsSoundKind c → directory_after rows d k change.dn c ≡ Ok new → IsWellFormed rows new

@@ -13,16 +13,16 @@ use Rattle.dir_names.specs.Keys.{DnKeys}
 use Rattle.dir_names.specs.Names.{SpelledName, SpelledRdn}
 use Rattle.dir_names.specs.NameKeys.{name_key}
 use Rattle.dir_names.specs.Orders.{dn_key_cmp, dn_key_eq}
-use Rattle.dir_names.specs.Reading.{is_small, is_within_limits}
-use Rattle.dir_names.specs.Sound.{is_name, is_rdn}
+use Rattle.dir_names.specs.Names.Limits.{is_rdn_within_limit, is_within_limits}
+use Rattle.dir_names.specs.Names.Sound.{is_sound_name, is_sound_rdn}
 use Rattle.dir_ldif.specs.declared.records.Change.{Change}
 use Rattle.dir_ldif.specs.declared.records.ChangeKind.{ChangeKind}
 use Rattle.dir_ldif.specs.declared.records.ChangeKind.TheVariants as kind
 use Rattle.dir_ldif.specs.SoundRecords.{IsSoundName, ValuesAreBytes}
 use Rattle.dir_tree.specs.Content.{Content, Stored}
 use Rattle.dir_tree.specs.Dir.{Dir, entry_at, put_entry}
-use Rattle.dir_tree.specs.Spelled as spelled
-use Rattle.dir_tree.specs.Spelled.{own_at, prefixes, spelled_name}
+use Rattle.dir_tree.specs.SpelledNames as spelled
+use Rattle.dir_tree.specs.SpelledNames.{own_name_at, prefixes, spelled_name}
 use Rattle.dir_tree.specs.WellFormed.{Each, IsSoundAttribute, IsSoundValue, IsWellFormed, IsWithinLimits, are_bytes, attribute_lines}
 use Rattle.dir_ldif.specs.LegalRecords.{is_legal}
 use Rattle.dir_tree.proofs.DirLemmas.{get_put, get_without, same_key}
@@ -52,19 +52,19 @@ all_joined : {A B : Type 0} (p : B → Bool) (f : A → List B) → ((x : A) →
 all_joined p f h [] = refl
 all_joined p f h (x ∷ xs) = all_append p (f x) (flat_map f xs) (h x) (all_joined p f h xs)
 
-all_own : (d : Dir) (p : SpelledRdn → Bool) → ((k : DnKeys) (e : Content) → entry_at d k ≡ Some e → list_all p e.own ≡ true) → (k : DnKeys) → list_all p (own_at d k) ≡ true
+all_own : (d : Dir) (p : SpelledRdn → Bool) → ((k : DnKeys) (e : Content) → entry_at d k ≡ Some e → list_all p e.own ≡ true) → (k : DnKeys) → list_all p (own_name_at d k) ≡ true
 all_own d p h k = by (entry_at d k) refl
   where
-    by : (o : Option Content) → entry_at d k ≡ o → list_all p (spelled.own_of o) ≡ true
+    by : (o : Option Content) → entry_at d k ≡ o → list_all p (spelled.own_name_of o) ≡ true
     by None t = refl
     by (Some e) t = h k e t
 
 pub name_sound : (rows : List TypeRow) (d : Dir) → IsWellFormed rows d → IsWithinLimits d → (k : DnKeys) (e : Content) → entry_at d k ≡ Some e → IsSoundName (spelled_name d k)
 name_sound rows d well within k e there =
-    (all_joined is_rdn (own_at d) (all_own d is_rdn (λ q x h. (within q x h).1)) (prefixes k), λ i. short i && small i)
+    (all_joined is_sound_rdn (own_name_at d) (all_own d is_sound_rdn (λ q x h. (within q x h).1)) (prefixes k), λ i. short i && small i)
   where
-    small : list_all is_small (spelled_name d k) ≡ true
-    small = all_joined is_small (own_at d) (all_own d is_small (λ q x h. (within q x h).2)) (prefixes k)
+    small : list_all is_rdn_within_limit (spelled_name d k) ≡ true
+    small = all_joined is_rdn_within_limit (own_name_at d) (all_own d is_rdn_within_limit (λ q x h. (within q x h).2)) (prefixes k)
 
     short : nat_le (length (spelled_name d k)) 64 ≡ true
     short =
@@ -86,7 +86,7 @@ all_own_of p suffix k name e = by (dn_key_eq k suffix)
 pub step_within : (rows : List TypeRow) (d : Dir) (change : Change) → IsWithinLimits d → IsSoundChange rows change → (new : Dir) → step rows d change ≡ Ok new → IsWithinLimits new
 step_within rows d change within sound new is = by (name_key rows change.dn) refl is
   where
-    name : (is_name change.dn ≡ true) × (is_within_limits change.dn ≡ true)
+    name : (is_sound_name change.dn ≡ true) × (is_within_limits change.dn ≡ true)
     name = sound.1.0
 
     done : (k : DnKeys) → name_key rows change.dn ≡ Some k → (c : ChangeKind) → directory_after rows d k change.dn c ≡ Ok new → IsWithinLimits new
@@ -97,27 +97,27 @@ step_within rows d change within sound new is = by (name_key rows change.dn) ref
         let long : length change.dn ≡ length k = key_length rows change.dn k t in
         let bound : nat_le (length change.dn) 64 ≡ true = left (nat_le (length change.dn) 64) _ name.1 in
         let low : length k ≤ 64 = grind (arith, nat_tests) in
-        let one : (length k ≤ 64) × (is_name e.own ≡ true) × (list_all is_small e.own ≡ true) = (
+        let one : (length k ≤ 64) × (is_sound_name e.own ≡ true) × (list_all is_rdn_within_limit e.own ≡ true) = (
           low,
-          ap is_name own ∙ all_own_of is_rdn d.suffix k change.dn name.0,
-          ap (list_all is_small) own ∙ all_own_of is_small d.suffix k change.dn (right (nat_le (length change.dn) 64) _ name.1),
+          ap is_sound_name own ∙ all_own_of is_sound_rdn d.suffix k change.dn name.0,
+          ap (list_all is_rdn_within_limit) own ∙ all_own_of is_rdn_within_limit d.suffix k change.dn (right (nat_le (length change.dn) 64) _ name.1),
         ) in
         subst IsWithinLimits (sym known.5) (put_within k e one)
       where
-        put_within : (k : DnKeys) (e : Content) → (length k ≤ 64) × (is_name e.own ≡ true) × (list_all is_small e.own ≡ true) → IsWithinLimits (put_entry d k e)
+        put_within : (k : DnKeys) (e : Content) → (length k ≤ 64) × (is_sound_name e.own ≡ true) × (list_all is_rdn_within_limit e.own ≡ true) → IsWithinLimits (put_entry d k e)
         put_within k e one q x there = by (eq_by_cmp dn_key_cmp q k) refl (sym (get_put d k e q) ∙ there)
           where
-            by : (b : Bool) → eq_by_cmp dn_key_cmp q k ≡ b → cond b (Some e) (entry_at d q) ≡ Some x → (length q ≤ 64) × (is_name x.own ≡ true) × (list_all is_small x.own ≡ true)
+            by : (b : Bool) → eq_by_cmp dn_key_cmp q k ≡ b → cond b (Some e) (entry_at d q) ≡ Some x → (length q ≤ 64) × (is_sound_name x.own ≡ true) × (list_all is_rdn_within_limit x.own ≡ true)
             by false t h = within q x h
             by true t h =
                 let same : e ≡ x = cc in
                 let here : q ≡ k = same_key q k t in
-                (subst (λ z. length z ≤ 64) (sym here) one.0, ap (λ (c : Content). is_name c.own) (sym same) ∙ one.1, ap (λ (c : Content). list_all is_small c.own) (sym same) ∙ one.2)
+                (subst (λ z. length z ≤ 64) (sym here) one.0, ap (λ (c : Content). is_sound_name c.own) (sym same) ∙ one.1, ap (λ (c : Content). list_all is_rdn_within_limit c.own) (sym same) ∙ one.2)
     done k t kind.Delete h =
         let known = deleted_is d k new h in
         subst IsWithinLimits (sym known.3) (λ q x there. by q x (eq_by_cmp dn_key_cmp q k) (sym (get_without d k q) ∙ there))
       where
-        by : (q : DnKeys) (x : Content) (b : Bool) → cond b None (entry_at d q) ≡ Some x → (length q ≤ 64) × (is_name x.own ≡ true) × (list_all is_small x.own ≡ true)
+        by : (q : DnKeys) (x : Content) (b : Bool) → cond b None (entry_at d q) ≡ Some x → (length q ≤ 64) × (is_sound_name x.own ≡ true) × (list_all is_rdn_within_limit x.own ≡ true)
         by q x true h = absurd (cc)
         by q x false h = within q x h
     done k t (kind.Modify mods) h = absurd (cc)

@@ -12,8 +12,8 @@ use Rattle.dir_ldif.specs.declared.records.Change.{Change}
 use Rattle.dir_ldif.specs.declared.records.ChangeKind.{ChangeKind}
 use Rattle.dir_ldif.specs.declared.records.ChangeKind.TheVariants as kind
 use Rattle.dir_tree.specs.Content.{Content}
-use Rattle.dir_tree.specs.Dir.{Dir, entry_at, has_parent, put_entry, without}
-use Rattle.dir_tree.specs.Made.{made}
+use Rattle.dir_tree.specs.Dir.{Dir, entry_at, has_parent, put_entry, remove_entry}
+use Rattle.dir_tree.specs.NewEntry.{new_entry}
 use Rattle.dir_tree.specs.declared.fault.EntryFault.{EntryFault}
 use Rattle.dir_tree.specs.declared.fault.EntryFault.TheVariants as entry
 use Rattle.dir_change.specs.declared.operation.Refusal.{Refusal}
@@ -64,14 +64,14 @@ directory_after_add rows d k name lines =
     unless (not (is_at_or_below k d.suffix)) NoSuchObject
     (unless (is_some (entry_at d k)) EntryAlreadyExists
     (unless (not (has_parent d k)) NoSuchObject
-    (with_new_entry d k (made rows (own_rdns d.suffix k name) lines))))
+    (with_new_entry d k (new_entry rows (own_rdns d.suffix k name) lines))))
 
 -- delete (RFC 4511, section 4.8): the entry is there, and has no child
 abbrev pub directory_after_delete : Dir → DnKeys → Result Dir ResultCode
 directory_after_delete d k =
     unless (not (is_some (entry_at d k))) NoSuchObject
     (unless (has_child d k) NotAllowedOnNonLeaf
-    (Ok (without d k)))
+    (Ok (remove_entry d k)))
 
 abbrev pub directory_after : List TypeRow → Dir → DnKeys → SpelledName → ChangeKind → Result Dir ResultCode
 directory_after rows d k name (kind.Add lines) = directory_after_add rows d k name lines

@@ -1,5 +1,5 @@
 -- What takes a change back: a group of changes that leads from the directory after it to the directory before it.
-use Rattle.std.specs.Prelude.{◌≡◌, ℕ, Bool, true, false, cond, List, [], ◌∷◌, Option, None, Some, Result, Ok, Err}
+use Rattle.std.specs.Prelude.{◌≡◌, ℕ, Bool, true, false, cond, List, [], ◌∷◌, Option, None, Some, Result, Ok}
 use Rattle.dir_names.specs.declared.schema.TypeRow.{TypeRow}
 use Rattle.dir_names.specs.Described.{Described}
 use Rattle.dir_names.specs.Keys.{DnKeys, parent_of}
@@ -12,7 +12,7 @@ use Rattle.dir_ldif.specs.declared.records.ChangeKind.TheVariants as kind
 use Rattle.dir_ldif.specs.LegalRecords.{is_legal}
 use Rattle.dir_tree.specs.Content.{Content}
 use Rattle.dir_tree.specs.Dir.{Dir, entry_at}
-use Rattle.dir_tree.specs.Spelled.{spelled_name}
+use Rattle.dir_tree.specs.SpelledNames.{spelled_name}
 use Rattle.dir_tree.specs.WellFormed.{Each, all_lines}
 use Rattle.dir_names.specs.Results.{and_then}
 use Rattle.dir_change.specs.Operation.{step}

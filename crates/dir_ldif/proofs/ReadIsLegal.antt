@@ -10,7 +10,8 @@ use Rattle.dir_names.specs.Descriptions.{description_of, description_from, is_ty
 use Rattle.dir_names.specs.Names.{SpelledName, SpelledRdn}
 use Rattle.dir_names.specs.NameKeys.{name_key, rdn_key}
 use Rattle.dir_names.specs.Orders.{attr_eq, attr_eq_decides}
-use Rattle.dir_names.specs.Reading.{name_read, rdn_read, or_bad_dn}
+use Rattle.dir_names.specs.Names.Reading.{name_within_limits, rdn_within_limit}
+use Rattle.dir_names.specs.Outcome.{ok_or_bad_dn}
 use Rattle.dir_ldif.specs.declared.faults.RecordFault.{RecordFault}
 use Rattle.dir_ldif.specs.declared.records.Record.{Record}
 use Rattle.dir_ldif.specs.declared.records.ChangeKind.{ChangeKind}
@@ -60,19 +61,19 @@ as_record_fault-ok : {A : Type 0} (r : Result A NameFault) (x : A) → as_record
 as_record_fault-ok (Ok y) x e = cc
 as_record_fault-ok (Err f) x e = cc
 
-key-some : {A : Type 0} (o : Option A) (x : A) → as_record_fault (or_bad_dn o) ≡ Ok x → is_some o ≡ true
+key-some : {A : Type 0} (o : Option A) (x : A) → as_record_fault (ok_or_bad_dn o) ≡ Ok x → is_some o ≡ true
 key-some None x e = cc
 key-some (Some y) x e = refl
 
 legal_dn-key : (rows : List TypeRow) (text : List ℕ) → IfOk (legal_dn rows text) (λ name. has_key rows name ≡ true)
 legal_dn-key rows text =
-    after (as_record_fault (name_read text)) _ (λ name. has_key rows name ≡ true)
-    (λ name _. after (as_record_fault (or_bad_dn (name_key rows name))) _ (λ name. has_key rows name ≡ true) (λ key e. key-some (name_key rows name) key e))
+    after (as_record_fault (name_within_limits text)) _ (λ name. has_key rows name ≡ true)
+    (λ name _. after (as_record_fault (ok_or_bad_dn (name_key rows name))) _ (λ name. has_key rows name ≡ true) (λ key e. key-some (name_key rows name) key e))
 
 legal_rdn-key : (rows : List TypeRow) (text : List ℕ) → IfOk (legal_rdn rows text) (λ rdn. rdn_has_key rows rdn ≡ true)
 legal_rdn-key rows text =
-    after (as_record_fault (rdn_read text)) _ (λ rdn. rdn_has_key rows rdn ≡ true)
-    (λ rdn _. after (as_record_fault (or_bad_dn (rdn_key rows rdn))) _ (λ rdn. rdn_has_key rows rdn ≡ true) (λ key e. key-some (rdn_key rows rdn) key e))
+    after (as_record_fault (rdn_within_limit text)) _ (λ rdn. rdn_has_key rows rdn ≡ true)
+    (λ rdn _. after (as_record_fault (ok_or_bad_dn (rdn_key rows rdn))) _ (λ rdn. rdn_has_key rows rdn ≡ true) (λ key e. key-some (rdn_key rows rdn) key e))
 
 -- ---- descriptions
 

@@ -4,8 +4,10 @@ use Rattle.base64.specs.GeneralPurpose.{IsBytes}
 use Rattle.dir_names.specs.declared.fault.NameFault.TheVariants.{NameLimit}
 use Rattle.dir_names.specs.Described.{Described}
 use Rattle.dir_names.specs.Names.{SpelledName, SpelledRdn}
-use Rattle.dir_names.specs.Reading.{all_of, is_small, is_within_limits, limited, name_of, name_read, only_rdn, only_rdn_of, pieces, rdn_of, rdn_read}
-use Rattle.dir_names.specs.Sound.{is_rdn}
+use Rattle.dir_names.specs.Names.Reading.{name_of, name_within_limits, only_rdn, only_rdn_of, pieces, rdn_of, rdn_within_limit}
+use Rattle.dir_names.specs.Results.{option_collect}
+use Rattle.dir_names.specs.Names.Limits.{is_rdn_within_limit, is_within_limits, ok_if_within}
+use Rattle.dir_names.specs.Names.Sound.{is_sound_rdn}
 use Rattle.dir_names.proofs.SoundLemmas.{bytes_from_fits, sound_name}
 use Rattle.dir_ldif.specs.declared.records.Mod.{Mod}
 use Rattle.dir_ldif.specs.SoundRecords.{AreBytes, IsSoundName, IsSoundRdn, ModsAreBytes, ValuesAreBytes}
@@ -13,7 +15,7 @@ use Rattle.dir_ldif.proofs.WrittenLines.{and_first}
 
 -- ---- names
 
-within : {A : Type 0} (test : A → Bool) (o : Option A) (x : A) → limited test o ≡ Ok x → (o ≡ Some x) × (test x ≡ true)
+within : {A : Type 0} (test : A → Bool) (o : Option A) (x : A) → ok_if_within test o ≡ Ok x → (o ≡ Some x) × (test x ≡ true)
 within test None x e = absurd (cc)
 within {A} test (Some y) x e = by (test y) refl e
   where
@@ -21,13 +23,13 @@ within {A} test (Some y) x e = by (test y) refl e
     by true f g = let same : y ≡ x = cc in (ap Some same, ap test (sym same) ∙ f)
     by false f g = absurd (cc)
 
-pub read_name_sound : (text : List ℕ) (name : SpelledName) → ((i : ℕ) → get_or text i 0 < 256) → name_read text ≡ Ok name → IsSoundName name
+pub read_name_sound : (text : List ℕ) (name : SpelledName) → ((i : ℕ) → get_or text i 0 < 256) → name_within_limits text ≡ Ok name → IsSoundName name
 read_name_sound text name small e =
     let read = within is_within_limits (name_of text) name e in
     (sound_name text name (bytes_from_fits text small) read.0, read.1)
 
 -- the only RDN is a name of one
-only_name : (pieces : List (List ℕ)) (rdn : SpelledRdn) → only_rdn pieces ≡ Some rdn → all_of rdn_of pieces ≡ Some (rdn ∷ [])
+only_name : (pieces : List (List ℕ)) (rdn : SpelledRdn) → only_rdn pieces ≡ Some rdn → option_collect rdn_of pieces ≡ Some (rdn ∷ [])
 only_name [] rdn e = absurd (cc)
 only_name (piece ∷ []) rdn e = rw e refl
 only_name (piece ∷ other ∷ more) rdn e = absurd (cc)
@@ -36,10 +38,10 @@ one_rdn : (text : List ℕ) (rdn : SpelledRdn) → only_rdn_of text ≡ Some rdn
 one_rdn [] rdn e = absurd (cc)
 one_rdn (b ∷ bs) rdn e = only_name (pieces 44 false (b ∷ bs)) rdn e
 
-pub read_rdn_sound : (text : List ℕ) (rdn : SpelledRdn) → ((i : ℕ) → get_or text i 0 < 256) → rdn_read text ≡ Ok rdn → IsSoundRdn rdn
+pub read_rdn_sound : (text : List ℕ) (rdn : SpelledRdn) → ((i : ℕ) → get_or text i 0 < 256) → rdn_within_limit text ≡ Ok rdn → IsSoundRdn rdn
 read_rdn_sound text rdn small e =
-    let read = within is_small (only_rdn_of text) rdn e in
-    (and_first (is_rdn rdn) true (sound_name text (rdn ∷ []) (bytes_from_fits text small) (one_rdn text rdn read.0)), read.1)
+    let read = within is_rdn_within_limit (only_rdn_of text) rdn e in
+    (and_first (is_sound_rdn rdn) true (sound_name text (rdn ∷ []) (bytes_from_fits text small) (one_rdn text rdn read.0)), read.1)
 
 -- ---- one more value
 

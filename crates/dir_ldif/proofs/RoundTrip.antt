@@ -10,7 +10,7 @@ use Rattle.base64.proofs.RoundTrip.{length-encode_symbols}
 use Rattle.dir_names.specs.declared.schema.TypeRow.{TypeRow}
 use Rattle.dir_names.specs.Described.{Described}
 use Rattle.dir_names.specs.Names.{SpelledName}
-use Rattle.dir_names.specs.Printing.{name_printed, rdn_printed}
+use Rattle.dir_names.specs.Names.Printing.{printed_name, printed_rdn}
 use Rattle.dir_ldif.specs.declared.records.Record.{Record}
 use Rattle.dir_ldif.specs.declared.records.Record.TheVariants as form
 use Rattle.dir_ldif.specs.declared.records.ChangeKind.{ChangeKind}
@@ -54,22 +54,22 @@ mods-text (m ∷ mods) =
 
 superior-text : (superior : Option SpelledName) → superior_text superior ≡ flat_map folded_line (superior_lines superior)
 superior-text None = refl
-superior-text (Some name) = sym (append-nil (written_line (codes "newsuperior") (name_printed name)))
+superior-text (Some name) = sym (append-nil (written_line (codes "newsuperior") (printed_name name)))
 
 kind-text : (k : ChangeKind) → kind_text k ≡ flat_map folded_line (kind_lines k)
 kind-text (kind.Add lines) = sym (flat_map-map folded_line value_line_of lines)
 kind-text kind.Delete = refl
 kind-text (kind.Modify mods) = mods-text mods
 kind-text (kind.Rename rdn flag superior) =
-    let a = written_line (codes "newrdn") (rdn_printed rdn) in
+    let a = written_line (codes "newrdn") (printed_rdn rdn) in
     let b = written_line (codes "deleteoldrdn") (flag_text flag) in
     append_assoc a b (superior_text superior) ∙ ap (λ t. a ++ (b ++ t)) (superior-text superior)
 
 record-text : (r : Record) → record_text_of r ≡ block_text (record_lines r)
 record-text (form.Content name lines) =
-    ap (λ t. (written_line (codes "dn") (name_printed name) ++ t) ++ 10 ∷ []) (sym (flat_map-map folded_line value_line_of lines))
+    ap (λ t. (written_line (codes "dn") (printed_name name) ++ t) ++ 10 ∷ []) (sym (flat_map-map folded_line value_line_of lines))
 record-text (form.Change change) =
-    let a = written_line (codes "dn") (name_printed change.dn) in
+    let a = written_line (codes "dn") (printed_name change.dn) in
     let b = written_line (codes "changetype") (change_word change.kind) in
     ap (λ t. t ++ 10 ∷ []) (append_assoc a b (kind_text change.kind) ∙ ap (λ t. a ++ (b ++ t)) (kind-text change.kind))
 
@@ -152,7 +152,7 @@ good_mods rows (m ∷ mods) e =
 
 good_superior : (superior : Option SpelledName) → IsSoundSuperior superior → AllGood (superior_lines superior)
 good_superior None back = tt
-good_superior (Some name) back = (good_line 110 (101 ∷ 119 ∷ 115 ∷ 117 ∷ 112 ∷ 101 ∷ 114 ∷ 105 ∷ 111 ∷ 114 ∷ []) (name_printed name) refl refl refl (omega arith) (name_short name back), tt)
+good_superior (Some name) back = (good_line 110 (101 ∷ 119 ∷ 115 ∷ 117 ∷ 112 ∷ 101 ∷ 114 ∷ 105 ∷ 111 ∷ 114 ∷ []) (printed_name name) refl refl refl (omega arith) (name_short name back), tt)
 
 flag-short : (flag : Bool) → length (flag_text flag) ≤ 1048576
 flag-short true = omega arith
@@ -163,7 +163,7 @@ good_kind rows (kind.Add lines) legal back = good_values rows lines legal
 good_kind rows kind.Delete legal back = tt
 good_kind rows (kind.Modify mods) legal back = good_mods rows mods legal
 good_kind rows (kind.Rename rdn flag superior) legal back = (
-  good_line 110 (101 ∷ 119 ∷ 114 ∷ 100 ∷ 110 ∷ []) (rdn_printed rdn) refl refl refl (omega arith) (rdn_short rdn back.0),
+  good_line 110 (101 ∷ 119 ∷ 114 ∷ 100 ∷ 110 ∷ []) (printed_rdn rdn) refl refl refl (omega arith) (rdn_short rdn back.0),
   (
     good_line 100 (101 ∷ 108 ∷ 101 ∷ 116 ∷ 101 ∷ 111 ∷ 108 ∷ 100 ∷ 114 ∷ 100 ∷ 110 ∷ []) (flag_text flag) refl refl refl (omega arith) (flag-short flag),
     good_superior superior back.1,
@@ -176,8 +176,8 @@ word-short kind.Delete = omega arith
 word-short (kind.Modify mods) = omega arith
 word-short (kind.Rename rdn flag superior) = omega arith
 
-good_dn : (name : SpelledName) → IsSoundName name → Good (line_of (codes "dn") (name_printed name))
-good_dn name back = good_line 100 (110 ∷ []) (name_printed name) refl refl refl (omega arith) (name_short name back)
+good_dn : (name : SpelledName) → IsSoundName name → Good (line_of (codes "dn") (printed_name name))
+good_dn name back = good_line 100 (110 ∷ []) (printed_name name) refl refl refl (omega arith) (name_short name back)
 
 good_record : (rows : List TypeRow) (r : Record) → is_legal_record rows r ≡ true → IsSoundRecord r → AllGood (record_lines r)
 good_record rows (form.Content name lines) legal back = (good_dn name back.0, good_values rows lines (and_second (has_key rows name) (list_all (is_legal_line rows) lines) legal))
@@ -206,12 +206,12 @@ first_block : (r : Record) (block : List Line) (n : ℕ) (rest : List Line) → 
     → blocks_from false [] (block ++ (n, []) ∷ rest) ≡ Ok block ∷ blocks_from true [] rest
 first_block (form.Content name lines) [] n rest e g = cc
 first_block (form.Content name lines) (x ∷ xs) n rest e g =
-    let here : x.1 ≡ line_of (codes "dn") (name_printed name) = cc in
-    first_parts x xs n rest (subst AllGood (sym e) g) (ap version_of here ∙ version-plain_value (name_printed name))
+    let here : x.1 ≡ line_of (codes "dn") (printed_name name) = cc in
+    first_parts x xs n rest (subst AllGood (sym e) g) (ap version_of here ∙ version-plain_value (printed_name name))
 first_block (form.Change change) [] n rest e g = cc
 first_block (form.Change change) (x ∷ xs) n rest e g =
-    let here : x.1 ≡ line_of (codes "dn") (name_printed change.dn) = cc in
-    first_parts x xs n rest (subst AllGood (sym e) g) (ap version_of here ∙ version-plain_value (name_printed change.dn))
+    let here : x.1 ≡ line_of (codes "dn") (printed_name change.dn) = cc in
+    first_parts x xs n rest (subst AllGood (sym e) g) (ap version_of here ∙ version-plain_value (printed_name change.dn))
 
 answers-back : (rows : List TypeRow) (records : List Record) (blocks : List (List Line)) → map texts blocks ≡ map record_lines records → AreLegalAndSound rows records
     → map without_line (answers_on rows (map (λ (b : List Line). Ok b) blocks)) ≡ map (λ (r : Record). Ok (Ok r)) records

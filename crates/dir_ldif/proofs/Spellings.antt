@@ -6,7 +6,7 @@ use Rattle.std.proofs.lemmas.Bool.Decides.{nat_tests}
 use Rattle.dir_names.specs.declared.schema.TypeRow.{TypeRow}
 use Rattle.dir_names.specs.Cut.{parts_at}
 use Rattle.dir_names.specs.Described.{Described}
-use Rattle.dir_names.specs.Descriptions.{is_letter, is_digit, is_keychar, is_name, is_decimal, is_number, is_type, is_option, is_reserved, description_from, description_of}
+use Rattle.dir_names.specs.Descriptions.{description_from, description_of, is_descr, is_digit, is_keychar, is_letter, is_number, is_numericoid, is_option, is_reserved, is_type}
 use Rattle.dir_ldif.specs.RoundTrip.{ends_name}
 use Rattle.dir_ldif.proofs.BytesLemmas.{true_or_false}
 use Rattle.dir_ldif.proofs.WrittenLines.{and_first, and_second, both}
@@ -56,29 +56,29 @@ all_digits : (xs : List ℕ) → list_all is_digit xs ≡ true → list_all is_k
 all_digits [] e = refl
 all_digits (x ∷ xs) e = both _ _ (digit_key x (and_first (is_digit x) (list_all is_digit xs) e)) (all_digits xs (and_second (is_digit x) (list_all is_digit xs) e))
 
-name_all : (xs : List ℕ) → is_name xs ≡ true → list_all is_keychar xs ≡ true
+name_all : (xs : List ℕ) → is_descr xs ≡ true → list_all is_keychar xs ≡ true
 name_all [] e = cc
 name_all (x ∷ xs) e = both _ _ (letter_key x (and_first (is_letter x) (list_all is_keychar xs) e)) (and_second (is_letter x) (list_all is_keychar xs) e)
 
-digits_all : (xs : List ℕ) → is_decimal xs ≡ true → list_all is_keychar xs ≡ true
+digits_all : (xs : List ℕ) → is_number xs ≡ true → list_all is_keychar xs ≡ true
 digits_all [] e = cc
 digits_all (x ∷ xs) e =
     let ends = and_first (is_digit x && (not (eqb x 48) || eqb (length xs) 0)) (list_all is_digit xs) e in
     both _ _ (digit_key x (and_first (is_digit x) (not (eqb x 48) || eqb (length xs) 0) ends)) (all_digits xs (and_second (is_digit x && (not (eqb x 48) || eqb (length xs) 0)) (list_all is_digit xs) e))
 
-decimals_all : (parts : List (List ℕ)) → list_all is_decimal parts ≡ true → list_all (list_all is_keychar) parts ≡ true
+decimals_all : (parts : List (List ℕ)) → list_all is_number parts ≡ true → list_all (list_all is_keychar) parts ≡ true
 decimals_all [] e = refl
-decimals_all (part ∷ parts) e = both _ _ (digits_all part (and_first (is_decimal part) (list_all is_decimal parts) e)) (decimals_all parts (and_second (is_decimal part) (list_all is_decimal parts) e))
+decimals_all (part ∷ parts) e = both _ _ (digits_all part (and_first (is_number part) (list_all is_number parts) e)) (decimals_all parts (and_second (is_number part) (list_all is_number parts) e))
 
 -- a type: keychars and dots
 type_all : (kind : List ℕ) → is_type kind ≡ true → list_all (λ b. eqb b 46 || is_keychar b) kind ≡ true
 type_all kind e =
     ⊎_elim
-    (λ (yes : is_name kind ≡ true). letters_all kind (name_all kind yes))
-    (λ (other : is_name kind ≡ false).
-    let number : is_number kind ≡ true = rw other at (and_first (is_name kind || is_number kind) (nat_le (length kind) 512) e) in
-    split_all (λ b. eqb b 46) is_keychar kind (decimals_all (parts_at 46 kind) (and_second (list_any (λ b. eqb b 46) kind) (list_all is_decimal (parts_at 46 kind)) number)))
-    (true_or_false (is_name kind))
+    (λ (yes : is_descr kind ≡ true). letters_all kind (name_all kind yes))
+    (λ (other : is_descr kind ≡ false).
+    let number : is_numericoid kind ≡ true = rw other at (and_first (is_descr kind || is_numericoid kind) (nat_le (length kind) 512) e) in
+    split_all (λ b. eqb b 46) is_keychar kind (decimals_all (parts_at 46 kind) (and_second (list_any (λ b. eqb b 46) kind) (list_all is_number (parts_at 46 kind)) number)))
+    (true_or_false (is_descr kind))
 
 options_all : (options : List (List ℕ)) → list_all is_option options ≡ true → list_all (list_all (λ b. eqb b 46 || is_keychar b)) options ≡ true
 options_all [] e = refl

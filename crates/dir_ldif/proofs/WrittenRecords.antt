@@ -12,8 +12,8 @@ use Rattle.dir_names.specs.Descriptions.{description_of}
 use Rattle.dir_names.specs.Names.{SpelledName, SpelledRdn}
 use Rattle.dir_names.specs.NameKeys.{name_key, rdn_key}
 use Rattle.dir_names.specs.Orders.{attr_eq, attr_eq_decides}
-use Rattle.dir_names.specs.Printing.{name_printed, rdn_printed}
-use Rattle.dir_names.specs.Reading.{or_bad_dn}
+use Rattle.dir_names.specs.Names.Printing.{printed_name, printed_rdn}
+use Rattle.dir_names.specs.Outcome.{ok_or_bad_dn}
 use Rattle.dir_ldif.specs.declared.faults.RecordFault.TheVariants.{Control}
 use Rattle.dir_ldif.specs.declared.records.Record.{Record}
 use Rattle.dir_ldif.specs.declared.records.Record.TheVariants as form
@@ -91,19 +91,19 @@ value_lines-back rows (l ∷ ls) (x ∷ xs) e legal bytes =
 
 -- ---- names
 
-key-known : {A : Type 0} (o : Option A) → is_some o ≡ true → (k : A) × (as_record_fault (or_bad_dn o) ≡ Ok k)
+key-known : {A : Type 0} (o : Option A) → is_some o ≡ true → (k : A) × (as_record_fault (ok_or_bad_dn o) ≡ Ok k)
 key-known None e = cc
 key-known (Some k) e = (k, refl)
 
-legal_dn-back : (rows : List TypeRow) (name : SpelledName) → IsSoundName name → has_key rows name ≡ true → legal_dn rows (name_printed name) ≡ Ok name
+legal_dn-back : (rows : List TypeRow) (name : SpelledName) → IsSoundName name → has_key rows name ≡ true → legal_dn rows (printed_name name) ≡ Ok name
 legal_dn-back rows name back key = let k = key-known (name_key rows name) key in let read = name_back name back in rw (read, k.1) refl
 
-legal_rdn-back : (rows : List TypeRow) (rdn : SpelledRdn) → IsSoundRdn rdn → rdn_has_key rows rdn ≡ true → legal_rdn rows (rdn_printed rdn) ≡ Ok rdn
+legal_rdn-back : (rows : List TypeRow) (rdn : SpelledRdn) → IsSoundRdn rdn → rdn_has_key rows rdn ≡ true → legal_rdn rows (printed_rdn rdn) ≡ Ok rdn
 legal_rdn-back rows rdn back key = let k = key-known (rdn_key rows rdn) key in let read = rdn_back rdn back in rw (read, k.1) refl
 
-dn_line-back : (rows : List TypeRow) (name : SpelledName) (line : Line) → line.1 ≡ line_of (codes "dn") (name_printed name) → IsSoundName name → has_key rows name ≡ true → dn_line rows line ≡ Ok name
+dn_line-back : (rows : List TypeRow) (name : SpelledName) (line : Line) → line.1 ≡ line_of (codes "dn") (printed_name name) → IsSoundName name → has_key rows name ≡ true → dn_line rows line ≡ Ok name
 dn_line-back rows name line e back key =
-    let part : attrval_of line.1 ≡ Ok (codes "dn", name_printed name) = ap attrval_of e ∙ attrval_of-line 100 (110 ∷ []) (name_printed name) refl (name_bytes name back) (name_short name back) in
+    let part : attrval_of line.1 ≡ Ok (codes "dn", printed_name name) = ap attrval_of e ∙ attrval_of-line 100 (110 ∷ []) (printed_name name) refl (name_bytes name back) (name_short name back) in
     rw (part, legal_dn-back rows name back key) refl
 
 -- ---- modifications
@@ -246,7 +246,7 @@ mods_of-back rows (m ∷ mods) block e legal bytes =
 
 abbrev pub superior_lines : Option SpelledName → List (List ℕ)
 superior_lines None = []
-superior_lines (Some name) = line_of (codes "newsuperior") (name_printed name) ∷ []
+superior_lines (Some name) = line_of (codes "newsuperior") (printed_name name) ∷ []
 
 superior-back : (rows : List TypeRow) (superior : Option SpelledName) (block : List Line) → texts block ≡ superior_lines superior → superior_has_key rows superior ≡ true → IsSoundSuperior superior
     → superior_of rows block ≡ Ok superior
@@ -255,9 +255,9 @@ superior-back rows None (x ∷ xs) e key back = cc
 superior-back rows (Some name) [] e key back = cc
 superior-back rows (Some name) (x ∷ y ∷ ys) e key back = cc
 superior-back rows (Some name) (x ∷ []) e key back =
-    let here : x.1 ≡ line_of (codes "newsuperior") (name_printed name) = cc in
-    let part : attrval_of x.1 ≡ Ok (codes "newsuperior", name_printed name) =
-    ap attrval_of here ∙ attrval_of-line 110 (101 ∷ 119 ∷ 115 ∷ 117 ∷ 112 ∷ 101 ∷ 114 ∷ 105 ∷ 111 ∷ 114 ∷ []) (name_printed name) refl (name_bytes name back) (name_short name back) in
+    let here : x.1 ≡ line_of (codes "newsuperior") (printed_name name) = cc in
+    let part : attrval_of x.1 ≡ Ok (codes "newsuperior", printed_name name) =
+    ap attrval_of here ∙ attrval_of-line 110 (101 ∷ 119 ∷ 115 ∷ 117 ∷ 112 ∷ 101 ∷ 114 ∷ 105 ∷ 111 ∷ 114 ∷ []) (printed_name name) refl (name_bytes name back) (name_short name back) in
     rw (part, legal_dn-back rows name back key) refl
 
 few_bytes : (xs : List ℕ) → list_all (λ b. nat_lt b 256) xs ≡ true → IsBytes xs
@@ -269,13 +269,13 @@ flag-bytes : (flag : Bool) → IsBytes (flag_text flag) × (length (flag_text fl
 flag-bytes true = (few_bytes (codes "1") refl, omega arith, refl)
 flag-bytes false = (few_bytes (codes "0") refl, omega arith, refl)
 
-rename-back : (rows : List TypeRow) (rdn : SpelledRdn) (flag : Bool) (superior : Option SpelledName) (x y : Line) (ys : List Line) → x.1 ≡ line_of (codes "newrdn") (rdn_printed rdn)
+rename-back : (rows : List TypeRow) (rdn : SpelledRdn) (flag : Bool) (superior : Option SpelledName) (x y : Line) (ys : List Line) → x.1 ≡ line_of (codes "newrdn") (printed_rdn rdn)
     → y.1 ≡ line_of (codes "deleteoldrdn") (flag_text flag) → texts ys ≡ superior_lines superior → rdn_has_key rows rdn ≡ true → superior_has_key rows superior ≡ true → IsSoundRdn rdn
     → IsSoundSuperior superior → rename_of rows (x ∷ y ∷ ys) ≡ Ok (kind.Rename rdn flag superior)
 rename-back rows rdn flag superior x y ys ex ey es key key' back back' =
     let f = flag-bytes flag in
-    let first : attrval_of x.1 ≡ Ok (codes "newrdn", rdn_printed rdn) =
-    ap attrval_of ex ∙ attrval_of-line 110 (101 ∷ 119 ∷ 114 ∷ 100 ∷ 110 ∷ []) (rdn_printed rdn) refl (rdn_bytes rdn back) (rdn_short rdn back) in
+    let first : attrval_of x.1 ≡ Ok (codes "newrdn", printed_rdn rdn) =
+    ap attrval_of ex ∙ attrval_of-line 110 (101 ∷ 119 ∷ 114 ∷ 100 ∷ 110 ∷ []) (printed_rdn rdn) refl (rdn_bytes rdn back) (rdn_short rdn back) in
     let second : attrval_of y.1 ≡ Ok (codes "deleteoldrdn", flag_text flag) =
     ap attrval_of ey ∙ attrval_of-line 100 (101 ∷ 108 ∷ 101 ∷ 116 ∷ 101 ∷ 111 ∷ 108 ∷ 100 ∷ 114 ∷ 100 ∷ 110 ∷ []) (flag_text flag) refl f.0 f.1 in
     rw (first, legal_rdn-back rows rdn back key, second, f.2, superior-back rows superior ys es key' back') refl
@@ -287,7 +287,7 @@ kind_lines (kind.Add lines) = map value_line_of lines
 kind_lines kind.Delete = []
 kind_lines (kind.Modify mods) = flat_map mod_lines mods
 kind_lines (kind.Rename rdn flag superior) =
-    line_of (codes "newrdn") (rdn_printed rdn) ∷ line_of (codes "deleteoldrdn") (flag_text flag) ∷ superior_lines superior
+    line_of (codes "newrdn") (printed_rdn rdn) ∷ line_of (codes "deleteoldrdn") (flag_text flag) ∷ superior_lines superior
 
 two_lines : (block : List Line) (a b : List ℕ) (ts : List (List ℕ)) → texts block ≡ a ∷ b ∷ ts
     → (x : Line) × (y : Line) × (ys : List Line) × (block ≡ x ∷ y ∷ ys) × (x.1 ≡ a) × (y.1 ≡ b) × (texts ys ≡ ts)
@@ -301,7 +301,7 @@ change_of-back rows kind.Delete [] e legal back = refl
 change_of-back rows kind.Delete (x ∷ xs) e legal back = cc
 change_of-back rows (kind.Modify mods) block e legal back = let ms = mods_of-back rows mods block e legal back in rw ms refl
 change_of-back rows (kind.Rename rdn flag superior) block e legal back =
-    let b = two_lines block (line_of (codes "newrdn") (rdn_printed rdn)) (line_of (codes "deleteoldrdn") (flag_text flag)) (superior_lines superior) e in
+    let b = two_lines block (line_of (codes "newrdn") (printed_rdn rdn)) (line_of (codes "deleteoldrdn") (flag_text flag)) (superior_lines superior) e in
     ap (rename_of rows) b.3
     ∙ rename-back rows rdn flag superior b.0 b.1 b.2 b.4 b.5 b.6 (and_first (rdn_has_key rows rdn) (superior_has_key rows superior) legal)
     (and_second (rdn_has_key rows rdn) (superior_has_key rows superior) legal) back.0 back.1
@@ -309,9 +309,9 @@ change_of-back rows (kind.Rename rdn flag superior) block e legal back =
 -- ---- records
 
 abbrev pub record_lines : Record → List (List ℕ)
-record_lines (form.Content name lines) = line_of (codes "dn") (name_printed name) ∷ map value_line_of lines
+record_lines (form.Content name lines) = line_of (codes "dn") (printed_name name) ∷ map value_line_of lines
 record_lines (form.Change change) =
-    line_of (codes "dn") (name_printed change.dn) ∷ line_of (codes "changetype") (change_word change.kind) ∷ kind_lines change.kind
+    line_of (codes "dn") (printed_name change.dn) ∷ line_of (codes "changetype") (change_word change.kind) ∷ kind_lines change.kind
 
 word-bytes : (k : ChangeKind) → IsBytes (change_word k) × (length (change_word k) ≤ 1048576)
 word-bytes (kind.Add lines) = (few_bytes (change_word (kind.Add lines)) refl, omega arith)
@@ -356,14 +356,14 @@ pub record_of-back : (rows : List TypeRow) (r : Record) (block : List Line) → 
 unfolding record_of
 record_of-back rows (form.Content name lines) [] e legal back = cc
 record_of-back rows (form.Content name lines) (x ∷ xs) e legal back =
-    let here : x.1 ≡ line_of (codes "dn") (name_printed name) = cc in
+    let here : x.1 ≡ line_of (codes "dn") (printed_name name) = cc in
     let rest : texts xs ≡ map value_line_of lines = cc in
     let dn = dn_line-back rows name x here back.0 (and_first (has_key rows name) (list_all (is_legal_line rows) lines) legal) in
     let body = content-back rows name lines xs rest (and_second (has_key rows name) (list_all (is_legal_line rows) lines) legal) back.1 in
     ap (λ r. and_then r (λ n. body_of rows n xs)) dn ∙ body
 record_of-back rows (form.Change change) [] e legal back = cc
 record_of-back rows (form.Change change) (x ∷ xs) e legal back =
-    let here : x.1 ≡ line_of (codes "dn") (name_printed change.dn) = cc in
+    let here : x.1 ≡ line_of (codes "dn") (printed_name change.dn) = cc in
     let rest : texts xs ≡ line_of (codes "changetype") (change_word change.kind) ∷ kind_lines change.kind = cc in
     let dn = dn_line-back rows change.dn x here back.0 (and_first (has_key rows change.dn) (is_legal_kind rows change.kind) legal) in
     let body = change-back rows change.dn change.kind xs rest (and_second (has_key rows change.dn) (is_legal_kind rows change.kind) legal) back.1 in

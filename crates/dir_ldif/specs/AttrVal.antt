@@ -8,7 +8,7 @@ use Rattle.dir_ldif.specs.declared.faults.RecordFault.{RecordFault}
 use Rattle.dir_ldif.specs.declared.faults.RecordFault.TheVariants.{BadLine, BadBase64, UrlValue, ValueTooLong}
 use Rattle.dir_ldif.specs.Bytes.{cut_at, without_leading}
 use Rattle.dir_names.specs.Results.{and_then}
-use Rattle.dir_ldif.specs.Ascii.{carriage_return, colon, less_than, nul, space}
+use Rattle.dir_names.specs.Ascii.{carriage_return, colon, less_than, nul, space}
 
 -- any fault of decoding is `BadBase64`
 abbrev pub or_bad_base64 : {E : Type 0} → Result (List ℕ) E → Result (List ℕ) RecordFault

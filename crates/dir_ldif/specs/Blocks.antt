@@ -7,7 +7,7 @@ use Rattle.dir_ldif.specs.declared.reader.version.Version.{Version}
 use Rattle.dir_ldif.specs.declared.reader.version.Version.TheVariants.{Absent, One, Other}
 use Rattle.dir_ldif.specs.Bytes.{is_empty, cut_at, without_leading}
 use Rattle.dir_ldif.specs.LogicalLines.{Line, lines_of, is_comment, is_long}
-use Rattle.dir_ldif.specs.Ascii.{colon, space}
+use Rattle.dir_names.specs.Ascii.{colon, space}
 
 -- a block of lines, or the fault in which the text ends
 abbrev pub BlockResult : Type 0

@@ -2,7 +2,7 @@
 use Rattle.std.specs.Prelude.{ℕ, Bool, true, false, if◌then◌else◌, ◌==◌, List, [], ◌∷◌, Option, None, Some}
 use Rattle.std.specs.Option.{option_map}
 use Rattle.std.specs.Prelude.{◌||◌}
-use Rattle.dir_ldif.specs.Ascii.{line_feed, carriage_return}
+use Rattle.dir_names.specs.Ascii.{line_feed, carriage_return}
 
 -- the list has no element
 abbrev pub is_empty : {A : Type 0} → List A → Bool

@@ -4,7 +4,7 @@ use Rattle.std.specs.List.{list_all}
 use Rattle.base64.specs.Engines.{standard}
 use Rattle.base64.specs.GeneralPurpose.{encode_of}
 use Rattle.dir_ldif.specs.Bytes.{ends_in}
-use Rattle.dir_ldif.specs.Ascii.{carriage_return, colon, less_than, line_feed, nul, space}
+use Rattle.dir_names.specs.Ascii.{carriage_return, colon, less_than, line_feed, nul, space}
 
 -- SAFE-CHAR: ASCII without NUL, LF and CR
 abbrev pub is_safe : ℕ → Bool

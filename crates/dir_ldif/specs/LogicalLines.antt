@@ -2,7 +2,7 @@
 use Rattle.std.specs.Prelude.{ℕ, ◌+◌, Bool, not, ◌&&◌, if◌then◌else◌, ◌==◌, nat_lt, List, [], ◌∷◌, ◌++◌, length, drop}
 use Rattle.std.specs.List.{onto_first}
 use Rattle.dir_ldif.specs.Bytes.{is_empty, begins_with, without_last}
-use Rattle.dir_ldif.specs.Ascii.{carriage_return, line_feed, sharp, space}
+use Rattle.dir_names.specs.Ascii.{carriage_return, line_feed, sharp, space}
 
 -- a line: the number of its first physical line, from 1, and its text
 abbrev pub Line : Type 0

@@ -9,7 +9,8 @@ use Rattle.dir_names.specs.Descriptions.{description_of}
 use Rattle.dir_names.specs.Names.{SpelledRdn, SpelledName}
 use Rattle.dir_names.specs.NameKeys.{rdn_key, name_key}
 use Rattle.dir_names.specs.Orders.{attr_eq}
-use Rattle.dir_names.specs.Reading.{name_read, rdn_read, or_bad_dn}
+use Rattle.dir_names.specs.Names.Reading.{name_within_limits, rdn_within_limit}
+use Rattle.dir_names.specs.Outcome.{ok_or_bad_dn}
 use Rattle.dir_ldif.specs.declared.faults.RecordFault.{RecordFault}
 use Rattle.dir_ldif.specs.declared.faults.RecordFault.TheVariants.{BadLine, Control, BadChangetype, BadModify, BadRename, Name}
 use Rattle.dir_ldif.specs.declared.records.Record.{Record}
@@ -41,11 +42,11 @@ try_map f (x ∷ xs) = and_then (f x) (λ y. and_then (try_map f xs) (λ ys. Ok 
 
 -- a name that has a key
 abbrev pub legal_dn : List TypeRow → List ℕ → Result SpelledName RecordFault
-legal_dn rows text = and_then (as_record_fault (name_read text)) (λ name. and_then (as_record_fault (or_bad_dn (name_key rows name))) (λ _. Ok name))
+legal_dn rows text = and_then (as_record_fault (name_within_limits text)) (λ name. and_then (as_record_fault (ok_or_bad_dn (name_key rows name))) (λ _. Ok name))
 
 -- an RDN that has a key
 abbrev pub legal_rdn : List TypeRow → List ℕ → Result SpelledRdn RecordFault
-legal_rdn rows text = and_then (as_record_fault (rdn_read text)) (λ rdn. and_then (as_record_fault (or_bad_dn (rdn_key rows rdn))) (λ _. Ok rdn))
+legal_rdn rows text = and_then (as_record_fault (rdn_within_limit text)) (λ rdn. and_then (as_record_fault (ok_or_bad_dn (rdn_key rows rdn))) (λ _. Ok rdn))
 
 -- the name of the line that begins a record: `dn` and a name
 abbrev pub dn_line : List TypeRow → Line → Result SpelledName RecordFault

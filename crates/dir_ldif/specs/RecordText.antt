@@ -3,7 +3,7 @@ use Rattle.std.specs.Prelude.{ℕ, Bool, true, false, List, [], ◌∷◌, ◌++
 use Rattle.std.specs.List.{flat_map}
 use Rattle.dir_names.specs.Described.{Described}
 use Rattle.dir_names.specs.Names.{SpelledName}
-use Rattle.dir_names.specs.Printing.{rdn_printed, name_printed}
+use Rattle.dir_names.specs.Names.Printing.{printed_name, printed_rdn}
 use Rattle.dir_ldif.specs.declared.records.Record.{Record}
 use Rattle.dir_ldif.specs.declared.records.Record.TheVariants as form
 use Rattle.dir_ldif.specs.declared.records.Change.{Change}
@@ -13,11 +13,11 @@ use Rattle.dir_ldif.specs.declared.records.Mod.{Mod}
 use Rattle.dir_ldif.specs.declared.records.ModOp.{ModOp}
 use Rattle.dir_ldif.specs.declared.records.ModOp.TheVariants as op
 use Rattle.dir_ldif.specs.LineText.{written_line}
-use Rattle.dir_ldif.specs.Ascii.{line_feed}
+use Rattle.dir_names.specs.Ascii.{line_feed}
 
 -- a line of a keyword and a name
 abbrev pub name_line : List ℕ → SpelledName → List ℕ
-name_line word name = written_line word (name_printed name)
+name_line word name = written_line word (printed_name name)
 
 -- a line of a description, as spelled, and a value
 abbrev pub value_text : Described × List ℕ → List ℕ
@@ -53,7 +53,7 @@ kind_text (kind.Add lines) = flat_map value_text lines
 kind_text kind.Delete = []
 kind_text (kind.Modify mods) = flat_map mod_text mods
 kind_text (kind.Rename rdn flag superior) =
-    written_line (codes "newrdn") (rdn_printed rdn) ++ written_line (codes "deleteoldrdn") (flag_text flag) ++ superior_text superior
+    written_line (codes "newrdn") (printed_rdn rdn) ++ written_line (codes "deleteoldrdn") (flag_text flag) ++ superior_text superior
 
 abbrev pub change_text : Change → List ℕ
 change_text c = name_line (codes "dn") c.dn ++ written_line (codes "changetype") (change_word c.kind) ++ kind_text c.kind ++ line_feed ∷ []

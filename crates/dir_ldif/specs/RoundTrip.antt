@@ -13,7 +13,7 @@ use Rattle.dir_ldif.specs.Records.{Answer, records_of}
 use Rattle.dir_ldif.specs.RecordText.{record_text_of}
 use Rattle.dir_ldif.specs.LineText.{line_of, written_line}
 use Rattle.dir_ldif.specs.SoundRecords.{AreLegalAndSound}
-use Rattle.dir_ldif.specs.Ascii.{colon}
+use Rattle.dir_names.specs.Ascii.{colon}
 
 -- what the name of a line may not contain, since it would end there: a colon, LF and CR
 abbrev pub ends_name : ℕ → Bool

@@ -5,8 +5,8 @@ use Rattle.base64.specs.GeneralPurpose.{IsBytes}
 use Rattle.dir_names.specs.declared.schema.TypeRow.{TypeRow}
 use Rattle.dir_names.specs.Described.{Described}
 use Rattle.dir_names.specs.Names.{SpelledName, SpelledRdn}
-use Rattle.dir_names.specs.Reading.{is_small, is_within_limits}
-use Rattle.dir_names.specs.Sound.{is_name, is_rdn}
+use Rattle.dir_names.specs.Names.Limits.{is_rdn_within_limit, is_within_limits}
+use Rattle.dir_names.specs.Names.Sound.{is_sound_name, is_sound_rdn}
 use Rattle.dir_ldif.specs.declared.records.Record.{Record}
 use Rattle.dir_ldif.specs.declared.records.Record.TheVariants as form
 use Rattle.dir_ldif.specs.declared.records.ChangeKind.{ChangeKind}
@@ -17,10 +17,10 @@ use Rattle.dir_ldif.specs.Records.{Found}
 
 -- a name that is sound and within the limits, as each name that was read is
 abbrev pub IsSoundName : SpelledName → Type 0
-IsSoundName name = (is_name name ≡ true) × (is_within_limits name ≡ true)
+IsSoundName name = (is_sound_name name ≡ true) × (is_within_limits name ≡ true)
 
 abbrev pub IsSoundRdn : SpelledRdn → Type 0
-IsSoundRdn rdn = (is_rdn rdn ≡ true) × (is_small rdn ≡ true)
+IsSoundRdn rdn = (is_sound_rdn rdn ≡ true) × (is_rdn_within_limit rdn ≡ true)
 
 -- each value of the lines is a list of bytes
 abbrev pub ValuesAreBytes : List (Described × List ℕ) → Type 0

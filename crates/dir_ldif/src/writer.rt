@@ -2,11 +2,11 @@
 
 ghost use Rattle.std.specs.Prelude.{◌≡◌, ◌++◌, ◌∷◌, ◌≤◌, ℕ, List, [], IfOk, OnOk, codes};
 ghost use Rattle.std.specs.List.{flat_map, list_all};
-ghost use Rattle.dir_names.specs.Printing.{rdn_printed};
+ghost use Rattle.dir_names.specs.Names.Printing.{printed_rdn};
 ghost use Rattle.dir_ldif.specs.Bytes.{ends_in};
 ghost use Rattle.dir_ldif.specs.RecordText.{change_text, change_word, flag_text, kind_text, mod_text, name_line, op_word, record_text_of, superior_text, value_text};
 ghost use Rattle.dir_ldif.specs.LineText.{base64_of, fold_from, is_plain, is_safe, is_safe_first, value_spec, written_line};
-ghost use Rattle.dir_ldif.specs.Ascii.{line_feed, space};
+ghost use Rattle.dir_names.specs.Ascii.{line_feed, space};
 
 use crate::records::{Change, ChangeKind, Mod, ModOp, Record};
 use base64::engine::general_purpose::STANDARD;
@@ -167,7 +167,7 @@ pub fn push_name(out: &mut Vec<u8>, word: &[u8], dn: &Dn) -> Result<(), Memory>
 }
 
 fn push_rdn(out: &mut Vec<u8>, rdn: &Rdn) -> Result<(), Memory>
-    ensures { OnOk result (out.new.items ≡ out.old.items ++ written_line (codes "newrdn") (rdn_printed rdn.now)) }
+    ensures { OnOk result (out.new.items ≡ out.old.items ++ written_line (codes "newrdn") (printed_rdn rdn.now)) }
 {
     match rdn.print(*out.allocator()) {
         Ok(text) => push_line(out, b"newrdn", text.as_slice()),

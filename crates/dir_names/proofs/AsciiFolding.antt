@@ -13,7 +13,7 @@ use Rattle.unicode_normalization.specs.declared.Form.TheVariants.{Nfkc}
 use Rattle.unicode_normalization.specs.Forms.{nfkc}
 use Rattle.unicode_normalization.proofs.FormsLemmas.{normalize-ascii}
 use Rattle.dir_names.specs.declared.fault.NameFault.TheVariants.{BadValue}
-use Rattle.dir_names.specs.ValueKeys.{folded, is_ascii, key_if}
+use Rattle.dir_names.specs.ValueKeys.{folded_text, is_ascii, key_if}
 
 pub is_ascii_decides : (text : List ℕ) → Decides (is_ascii text) (All (λ b. b < 128) text)
 is_ascii_decides text = Decides-by_and (λ b. nat_lt b 128) (λ b. b < 128) is_ascii (λ b. Decides-ltb b 128) refl (λ _ _. refl) text
@@ -33,8 +33,8 @@ same_test text false h = by (is_ascii text) refl
 pub ascii_utf8 : (text : List ℕ) → IsAscii text → is_utf8 text ≡ true
 ascii_utf8 text a = is_utf8-from_IsUtf8 text (IsUtf8-from_ascii text a)
 
-pub folded-ascii : (text : List ℕ) → IsAscii text → folded text ≡ str_to_ascii_lowercase text
-folded-ascii text a =
+pub folded_text-ascii : (text : List ℕ) → IsAscii text → folded_text text ≡ str_to_ascii_lowercase text
+folded_text-ascii text a =
     let small = IsAscii-map to_ascii_lowercase text lowercase_ascii a in
     ap (λ cs. encode_utf8_all (nfkc (default_case_fold cs))) (chars-IsAscii text a)
     ∙ ap (λ cs. encode_utf8_all (nfkc cs)) (default_case_fold-ascii text (All-from_ascii text a))
@@ -42,21 +42,21 @@ folded-ascii text a =
     ∙ encodes-IsAscii (str_to_ascii_lowercase text) small
 
 -- what the two calls give, one after the other
-pub folded_by : (text small whole : List ℕ) → IsUtf8 small → small ≡ encode_utf8_all (default_case_fold (chars text)) → whole ≡ encode_utf8_all (nfkc (chars small)) → whole ≡ folded text
+pub folded_by : (text small whole : List ℕ) → IsUtf8 small → small ≡ encode_utf8_all (default_case_fold (chars text)) → whole ≡ encode_utf8_all (nfkc (chars small)) → whole ≡ folded_text text
 folded_by text small whole u e f = f ∙ ap (λ cs. encode_utf8_all (nfkc cs)) (sym (chars_from_encodes (default_case_fold (chars text)) small u (sym e)))
 
-pub ascii_key : (text : List ℕ) → is_ascii text ≡ true → Ok (str_to_ascii_lowercase text) ≡ key_if (is_utf8 text) (folded text)
+pub ascii_key : (text : List ℕ) → is_ascii text ≡ true → Ok (str_to_ascii_lowercase text) ≡ key_if (is_utf8 text) (folded_text text)
 ascii_key text e =
     let a = ascii_from_test text e in
-    ap Ok (sym (folded-ascii text a)) ∙ ap (λ b. key_if b (folded text)) (sym (ascii_utf8 text a))
+    ap Ok (sym (folded_text-ascii text a)) ∙ ap (λ b. key_if b (folded_text text)) (sym (ascii_utf8 text a))
 
-pub utf8_key : (text : List ℕ) → IsUtf8 text → Ok (folded text) ≡ key_if (is_utf8 text) (folded text)
-utf8_key text u = ap (λ b. key_if b (folded text)) (sym (is_utf8-from_IsUtf8 text u))
+pub utf8_key : (text : List ℕ) → IsUtf8 text → Ok (folded_text text) ≡ key_if (is_utf8 text) (folded_text text)
+utf8_key text u = ap (λ b. key_if b (folded_text text)) (sym (is_utf8-from_IsUtf8 text u))
 
-pub no_key : (text : List ℕ) → ¬ (IsUtf8 text) → key_if (is_utf8 text) (folded text) ≡ Err BadValue
+pub no_key : (text : List ℕ) → ¬ (IsUtf8 text) → key_if (is_utf8 text) (folded_text text) ≡ Err BadValue
 no_key text n = by (is_utf8 text) refl
   where
-    by : (b : Bool) → is_utf8 text ≡ b → key_if b (folded text) ≡ Err BadValue
+    by : (b : Bool) → is_utf8 text ≡ b → key_if b (folded_text text) ≡ Err BadValue
     by true e = absurd (n (IsUtf8-from_is_utf8 text e))
     by false e = refl
 

@@ -3,10 +3,10 @@ use Rattle.std.proofs.Common.{◌≡◌, ℕ, ◌+◌, ◌*◌, ◌/◌, ◌%◌
 use Rattle.std.specs.Prelude.{◌==◌, ◌||◌, nat_lt}
 use Rattle.std.proofs.lemmas.Bool.Decides.{nat_tests}
 use Rattle.dir_names.specs.Descriptions.{is_letter, is_digit, is_keychar}
-use Rattle.dir_names.specs.Printing.{upper_digit, is_special}
-use Rattle.dir_names.specs.Reading.{is_hex, hex_of, is_refused, is_escapable}
+use Rattle.dir_names.specs.Names.Printing.{upper_digit, is_special}
+use Rattle.dir_names.specs.Names.Escapes.{is_hex, hex_of, is_refused, is_escapable}
 
--- what may stand in a type
+-- the bytes that a type may have
 abbrev pub is_type_char : ℕ → Bool
 is_type_char b = is_keychar b || b == 46
 

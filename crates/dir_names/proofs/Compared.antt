@@ -12,7 +12,7 @@ use Rattle.dir_names.specs.Orders.{bytes_eq, bytes_eq_decides, rdn_key_eq, rdn_k
 
 pub covers_decides : (a b : Attr) → Decides (covers a b) (Covers a b)
 covers_decides a b =
-    Decides-and _ _ (bytes_eq_decides a.kind b.kind)
+    Decides-and _ _ (bytes_eq_decides a.attr_type b.attr_type)
     (Decides-by_and (λ option. list_any (λ other. bytes_eq other option) b.options) (Contains b.options) (list_all (λ option. list_any (λ other. bytes_eq other option) b.options))
     (λ option. Decides-contains b.options option _ (Decides-by_or (λ other. bytes_eq other option) (λ other. other ≡ option) (list_any (λ other. bytes_eq other option)) (λ other. bytes_eq_decides other option) refl (λ _ _. refl) b.options))
     refl (λ _ _. refl) a.options)

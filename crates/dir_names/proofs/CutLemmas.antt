@@ -1,4 +1,4 @@
--- A text cut at its first separator, and the parts that this leaves.
+-- A text split at its first separator, and the parts that this leaves.
 use Rattle.std.proofs.Common.{◌≡◌, ℕ, ◌+◌, ◌≤◌, Bool, true, false, cond, List, [], ◌∷◌, length, take, drop, Some, None, refl, ap, sym, ◌∙◌, arith}
 use Rattle.std.specs.Prelude.{◌==◌, nat_lt}
 use Rattle.std.specs.List.{position, position_or_len, before_first, after_first}
@@ -7,10 +7,11 @@ use Rattle.std.proofs.lemmas.List.Sums.{fails_before_first, prefix_len-le-length
 use Rattle.std.proofs.Math.Seq.{take-length}
 use Rattle.std.proofs.lemmas.List.{take_all}
 use Rattle.std.proofs.lemmas.Bool.{ltb-true, ltb-false}
-use Rattle.dir_names.specs.Cut.{parts_at, behind_first, parts_left}
+use Rattle.dir_names.specs.Cut.{parts_at, after_first_separator}
+use Rattle.dir_names.specs.Inside.Left.{parts_left}
 
--- the parts are the one before the first separator, and those of what stands behind it
-pub parts-cut : (separator : ℕ) (text : List ℕ) → parts_at separator text ≡ before_first (λ b. b == separator) text ∷ parts_left separator (behind_first separator text)
+-- the parts are the one before the first separator, and those of what follows it
+pub parts-cut : (separator : ℕ) (text : List ℕ) → parts_at separator text ≡ before_first (λ b. b == separator) text ∷ parts_left separator (after_first_separator separator text)
 parts-cut separator text = by (nat_lt at (length text)) refl
   where
     at : ℕ
@@ -40,12 +41,12 @@ module _ (separator : ℕ) (text : List ℕ) where
   pub before_found : (i : ℕ) → Some i ≡ position (λ b. b == separator) text → take i text ≡ before_first (λ b. b == separator) text
   before_found i e = ap (λ n. take n text) (sym (at_first i e).1)
 
-  pub behind_found : (i : ℕ) → Some i ≡ position (λ b. b == separator) text → Some (drop (i + 1) text) ≡ behind_first separator text
+  pub behind_found : (i : ℕ) → Some i ≡ position (λ b. b == separator) text → Some (drop (i + 1) text) ≡ after_first_separator separator text
   behind_found i e =
       ap (λ n. Some (drop (n + 1) text)) (sym (at_first i e).1)
       ∙ ap (λ b. cond b (Some (after_first (λ b. b == separator) text)) None) (sym (at_first i e).0)
 
-  pub behind_none : None ≡ position (λ b. b == separator) text → None ≡ behind_first separator text
+  pub behind_none : None ≡ position (λ b. b == separator) text → None ≡ after_first_separator separator text
   behind_none e = ap (λ b. cond b (Some (after_first (λ b. b == separator) text)) None) (sym (outside _ (position_or_len (λ b. b == separator) text) (sym e)))
 
   pub before_none : None ≡ position (λ b. b == separator) text → text ≡ before_first (λ b. b == separator) text

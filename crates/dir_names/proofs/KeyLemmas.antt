@@ -11,22 +11,24 @@ use Rattle.dir_names.specs.declared.fault.NameFault.TheVariants.{BadDescription,
 use Rattle.dir_names.specs.declared.schema.TypeRow.{TypeRow}
 use Rattle.dir_names.specs.Attr.{Attr}
 use Rattle.dir_names.specs.Keys.{RdnKeys, with_pair}
-use Rattle.dir_names.specs.NameKeys.{attr_of, pair_key, apart, set_if_apart, and_then, rdn_key, found}
+use Rattle.dir_names.specs.NameKeys.{attr_of, have_distinct_types, pair_key, rdn_key, set_if_distinct}
 use Rattle.dir_names.specs.Names.{SpelledPair, SpelledRdn}
 use Rattle.dir_names.specs.Orders.{attr_cmp, attr_eq, attr_cmp_total, attr_cmp_ties, bytes_cmp, pair_cmp}
-use Rattle.dir_names.specs.Outcome.{Fails, as_bad_dn}
-use Rattle.dir_names.specs.Reading.{all_of, and_all, or_bad_dn}
+use Rattle.dir_names.specs.Outcome.{IsNameFaultOf, as_bad_dn}
+use Rattle.dir_names.specs.Outcome.{ok_or_bad_dn}
+use Rattle.dir_names.specs.Results.{option_collect, option_cons}
 use Rattle.dir_names.specs.Sorted.{with_member, set_of}
 use Rattle.dir_names.specs.Table.{rule_of}
 use Rattle.dir_names.specs.ValueKeys.{text_key_of}
-use Rattle.std.specs.Option.{option_map}
+use Rattle.std.specs.Option.{option_and_then, option_map}
+use Rattle.std.specs.Result.{result_ok}
 
 abbrev pub is_free : RdnKeys → Attr × List ℕ → Bool
 is_free set k = not (is_some (find attr_cmp k.0 set))
 
--- the set with more pairs, if no attribute stands twice
+-- the set with more pairs, if no attribute occurs twice
 abbrev pub set_onto : RdnKeys → List (Attr × List ℕ) → Option RdnKeys
-set_onto set ks = cond (list_all (is_free set) ks && apart ks) (Some (fold (λ s p. with_member pair_cmp p s) set ks)) None
+set_onto set ks = cond (list_all (is_free set) ks && have_distinct_types ks) (Some (fold (λ s p. with_member pair_cmp p s) set ks)) None
 
 -- a new attribute goes to the place that its pair has
 member-put : (k : Attr × List ℕ) (set : RdnKeys) → find attr_cmp k.0 set ≡ None → with_member pair_cmp k set ≡ put attr_cmp k.0 k.1 set
@@ -68,7 +70,7 @@ regroup a true true d e = ap (λ t. (t && true) && false) e
 regroup a true false d e = ap (λ t. (t && true) && d) e
 regroup a false c d e = ap (λ t. (t && false) && (not c && d)) e
 
--- what is free once k stands in the set
+-- what is free once k is in the set
 free_put : (set : RdnKeys) (k j : Attr × List ℕ) → is_free (put attr_cmp k.0 k.1 set) j ≡ (not (attr_eq j.0 k.0) && is_free set j)
 free_put set k j =
     ap (λ o. not (is_some o)) (find-put attr_cmp attr_cmp_total j.0 k.0 k.1 set) ∙ not_some (eq_by_cmp attr_cmp j.0 k.0) k.1 (find attr_cmp j.0 set)
@@ -77,15 +79,15 @@ free_put set k j =
 pub onto_more : (set : RdnKeys) (k : Attr × List ℕ) (ks : List (Attr × List ℕ)) → find attr_cmp k.0 set ≡ None → set_onto set (k ∷ ks) ≡ set_onto (put attr_cmp k.0 k.1 set) ks
 onto_more set k ks e =
     let free : is_free set k ≡ true = ap (λ o. not (is_some o)) e in
-    let tests = regroup (is_free set k) (list_all (is_free set) ks) (list_any (λ q. attr_eq q.0 k.0) ks) (apart ks) free
-    ∙ ap (λ b. b && apart ks) (sym (split_all (λ j. attr_eq j.0 k.0) (is_free set) ks) ∙ sym (same_all (is_free (put attr_cmp k.0 k.1 set)) (λ j. not (attr_eq j.0 k.0) && is_free set j) (free_put set k) ks)) in
+    let tests = regroup (is_free set k) (list_all (is_free set) ks) (list_any (λ q. attr_eq q.0 k.0) ks) (have_distinct_types ks) free
+    ∙ ap (λ b. b && have_distinct_types ks) (sym (split_all (λ j. attr_eq j.0 k.0) (is_free set) ks) ∙ sym (same_all (is_free (put attr_cmp k.0 k.1 set)) (λ j. not (attr_eq j.0 k.0) && is_free set j) (free_put set k) ks)) in
     λ i. cond (tests i) (Some (fold (λ s p. with_member pair_cmp p s) (member-put k set e i) ks)) None
 
 pub onto_twice : (set : RdnKeys) (k : Attr × List ℕ) (ks : List (Attr × List ℕ)) → is_some (find attr_cmp k.0 set) ≡ true → set_onto set (k ∷ ks) ≡ None
-onto_twice set k ks e = ap (λ b. cond ((not b && list_all (is_free set) ks) && (not (list_any (λ q. attr_eq q.0 k.0) ks) && apart ks)) (Some (fold (λ s p. with_member pair_cmp p s) (with_member pair_cmp k set) ks)) None) e
+onto_twice set k ks e = ap (λ b. cond ((not b && list_all (is_free set) ks) && (not (list_any (λ q. attr_eq q.0 k.0) ks) && have_distinct_types ks)) (Some (fold (λ s p. with_member pair_cmp p s) (with_member pair_cmp k set) ks)) None) e
 
-onto_none : (ks : List (Attr × List ℕ)) → set_if_apart ks ≡ set_onto [] ks
-onto_none ks = ap (λ b. cond (b && apart ks) (Some (set_of pair_cmp ks)) None) (sym (free ks))
+onto_none : (ks : List (Attr × List ℕ)) → set_if_distinct ks ≡ set_onto [] ks
+onto_none ks = ap (λ b. cond (b && have_distinct_types ks) (Some (set_of pair_cmp ks)) None) (sym (free ks))
   where
     free : (ks : List (Attr × List ℕ)) → list_all (is_free []) ks ≡ true
     free [] = refl
@@ -96,12 +98,12 @@ onto_none ks = ap (λ b. cond (b && apart ks) (Some (set_of pair_cmp ks)) None) 
 module _ (rows : List TypeRow) where
   -- the key that the set and the rest of the pairs give
   abbrev pub key_from : RdnKeys → SpelledRdn → Option RdnKeys
-  key_from set rest = and_then (all_of (pair_key rows) rest) (set_onto set)
+  key_from set rest = option_and_then (set_onto set) (option_collect (pair_key rows) rest)
 
   pub key_none : (rdn : SpelledRdn) → rdn_key rows rdn ≡ key_from [] rdn
-  key_none rdn = by (all_of (pair_key rows) rdn)
+  key_none rdn = by (option_collect (pair_key rows) rdn)
     where
-      by : (ks : Option (List (Attr × List ℕ))) → and_then ks set_if_apart ≡ and_then ks (set_onto [])
+      by : (ks : Option (List (Attr × List ℕ))) → option_and_then set_if_distinct ks ≡ option_and_then (set_onto []) ks
       by None = refl
       by (Some ks) = onto_none ks
 
@@ -123,49 +125,49 @@ module _ (rows : List TypeRow) where
     pub key_more : (k : Attr × List ℕ) (new : RdnKeys) → pair_key rows p ≡ Some k → with_pair k.0 k.1 set ≡ Ok new → whole ≡ key_from new rest
     key_more k new e g =
         let put = put_found k.0 k.1 set new g in
-        so_far ∙ ap (λ o. and_then (and_all o (all_of (pair_key rows) rest)) (set_onto set)) e ∙ by (all_of (pair_key rows) rest) put.0 ∙ ap (λ s. key_from s rest) (sym put.1)
+        so_far ∙ ap (λ o. option_and_then (set_onto set) (option_cons o (option_collect (pair_key rows) rest))) e ∙ by (option_collect (pair_key rows) rest) put.0 ∙ ap (λ s. key_from s rest) (sym put.1)
       where
-        by : (ks : Option (List (Attr × List ℕ))) → find attr_cmp k.0 set ≡ None → and_then (and_all (Some k) ks) (set_onto set) ≡ and_then ks (set_onto (put attr_cmp k.0 k.1 set))
+        by : (ks : Option (List (Attr × List ℕ))) → find attr_cmp k.0 set ≡ None → option_and_then (set_onto set) (option_cons (Some k) ks) ≡ option_and_then (set_onto (put attr_cmp k.0 k.1 set)) ks
         by None f = refl
         by (Some ks) f = onto_more set k ks f
 
     pub key_twice : (k : Attr × List ℕ) → pair_key rows p ≡ Some k → with_pair k.0 k.1 set ≡ Err BadDn → whole ≡ None
     key_twice k e g =
-        so_far ∙ ap (λ o. and_then (and_all o (all_of (pair_key rows) rest)) (set_onto set)) e ∙ by (all_of (pair_key rows) rest)
+        so_far ∙ ap (λ o. option_and_then (set_onto set) (option_cons o (option_collect (pair_key rows) rest))) e ∙ by (option_collect (pair_key rows) rest)
       where
-        by : (ks : Option (List (Attr × List ℕ))) → and_then (and_all (Some k) ks) (set_onto set) ≡ None
+        by : (ks : Option (List (Attr × List ℕ))) → option_and_then (set_onto set) (option_cons (Some k) ks) ≡ None
         by None = refl
         by (Some ks) = onto_twice set k ks (put_twice k.0 k.1 set g)
 
     pub key_fails : pair_key rows p ≡ None → whole ≡ None
-    key_fails e = so_far ∙ ap (λ o. and_then (and_all o (all_of (pair_key rows) rest)) (set_onto set)) e
+    key_fails e = so_far ∙ ap (λ o. option_and_then (set_onto set) (option_cons o (option_collect (pair_key rows) rest))) e
 
   pub key_done : (whole : Option RdnKeys) (set : RdnKeys) → whole ≡ key_from set [] → whole ≡ Some set
   key_done whole set e = e
 
--- a pair that stands twice is a fault of the RDN
+-- a type that occurs twice is a fault of the RDN
 no_other : {A : Type 0} (b : Bool) (x : A) (e : NameFault) → (BadDn ≡ e → ⊥) → cond b (Err BadDn) (Ok x) ≡ Err e → ⊥
 no_other true x e apart_from f = apart_from (cc)
 no_other false x e apart_from f = cc
 
-pub twice_through : (e : NameFault) (attr : Attr) (value : List ℕ) (set : RdnKeys) (whole : Option RdnKeys) → (with_pair attr value set ≡ Err BadDn → whole ≡ None) → Fails e (with_pair attr value set) → Fails e (or_bad_dn whole)
+pub twice_through : (e : NameFault) (attr : Attr) (value : List ℕ) (set : RdnKeys) (whole : Option RdnKeys) → (with_pair attr value set ≡ Err BadDn → whole ≡ None) → IsNameFaultOf e (with_pair attr value set) → IsNameFaultOf e (ok_or_bad_dn whole)
 twice_through BadDescription attr value set whole through f = absurd (no_other _ _ BadDescription (λ k. cc) f)
 twice_through ReservedName attr value set whole through f = absurd (no_other _ _ ReservedName (λ k. cc) f)
 twice_through BadValue attr value set whole through f = absurd (no_other _ _ BadValue (λ k. cc) f)
-twice_through BadDn attr value set whole through f = ap or_bad_dn (through f)
+twice_through BadDn attr value set whole through f = ap ok_or_bad_dn (through f)
 twice_through NameLimit attr value set whole through f = absurd (no_other _ _ NameLimit (λ k. cc) f)
 twice_through Memory attr value set whole through f = tt
 
 -- a pair's key is that of its value
-pub pair_is : (rows : List TypeRow) (p : SpelledPair) (value : List ℕ) → text_key_of (rule_of rows (attr_of rows p.0)) p.1 ≡ Ok value → or_bad_dn (pair_key rows p) ≡ Ok (attr_of rows p.0, value)
-pair_is rows p value e = ap (λ r. or_bad_dn (option_map (λ v. (attr_of rows p.0, v)) (found r))) e
+pub pair_is : (rows : List TypeRow) (p : SpelledPair) (value : List ℕ) → text_key_of (rule_of rows (attr_of rows p.0)) p.1 ≡ Ok value → ok_or_bad_dn (pair_key rows p) ≡ Ok (attr_of rows p.0, value)
+pair_is rows p value e = ap (λ r. ok_or_bad_dn (option_map (λ v. (attr_of rows p.0, v)) (result_ok r))) e
 
-pub pair_fails : (rows : List TypeRow) (p : SpelledPair) (e : NameFault) → Fails e (text_key_of (rule_of rows (attr_of rows p.0)) p.1) → Fails (as_bad_dn e) (or_bad_dn (pair_key rows p))
-pair_fails rows p BadDescription f = ap (λ r. or_bad_dn (option_map (λ v. (attr_of rows p.0, v)) (found r))) f
-pair_fails rows p ReservedName f = ap (λ r. or_bad_dn (option_map (λ v. (attr_of rows p.0, v)) (found r))) f
-pair_fails rows p BadValue f = ap (λ r. or_bad_dn (option_map (λ v. (attr_of rows p.0, v)) (found r))) f
-pair_fails rows p BadDn f = ap (λ r. or_bad_dn (option_map (λ v. (attr_of rows p.0, v)) (found r))) f
-pair_fails rows p NameLimit f = ap (λ r. or_bad_dn (option_map (λ v. (attr_of rows p.0, v)) (found r))) f
+pub pair_fails : (rows : List TypeRow) (p : SpelledPair) (e : NameFault) → IsNameFaultOf e (text_key_of (rule_of rows (attr_of rows p.0)) p.1) → IsNameFaultOf (as_bad_dn e) (ok_or_bad_dn (pair_key rows p))
+pair_fails rows p BadDescription f = ap (λ r. ok_or_bad_dn (option_map (λ v. (attr_of rows p.0, v)) (result_ok r))) f
+pair_fails rows p ReservedName f = ap (λ r. ok_or_bad_dn (option_map (λ v. (attr_of rows p.0, v)) (result_ok r))) f
+pair_fails rows p BadValue f = ap (λ r. ok_or_bad_dn (option_map (λ v. (attr_of rows p.0, v)) (result_ok r))) f
+pair_fails rows p BadDn f = ap (λ r. ok_or_bad_dn (option_map (λ v. (attr_of rows p.0, v)) (result_ok r))) f
+pair_fails rows p NameLimit f = ap (λ r. ok_or_bad_dn (option_map (λ v. (attr_of rows p.0, v)) (result_ok r))) f
 pair_fails rows p Memory f = tt
 
 -- the next pair of the RDN

@@ -16,6 +16,7 @@ pub mod PrintedLengths
 pub mod ReadNames
 pub mod ReadValues
 pub mod ReadsSpells
+pub mod Rfc4514
 pub mod SoundLemmas
 pub mod SortOrder
 pub mod SpellsReads

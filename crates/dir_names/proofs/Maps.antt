@@ -153,7 +153,7 @@ module _ {I K X : Type 0} {R : K → K → Ordering} (o : IsTotalOrder R) (pair 
         insert_place o (map pair items) k (pair item).1 rises_map ∙ ap (λ r. from_sorted (put_at R r k (pair item).1 (map pair items))) (at_keys _ e)
         ∙ ap (λ q. from_sorted (insert (map pair items) i (q, (pair item).1))) (sym same) ∙ ap from_sorted (sym (map_insert items i item))
 
-    -- an item with the key that stands, and a new value
+    -- an item with the key that is there, and a new value
     pub put_ok : (i : ℕ) (item : I) → place R k (item_keys items) ≡ Ok i → (pair item).0 ≡ (pair (get_or items i item)).0 → map_of.insert (view items) k (pair item).1 ≡ view (set items i item)
     put_ok i item e same =
         insert_place o (map pair items) k (pair item).1 rises_map ∙ ap (λ r. from_sorted (put_at R r k (pair item).1 (map pair items))) (at_keys _ e)

@@ -10,7 +10,7 @@ use Rattle.dir_names.specs.Orders.{attr_cmp, attr_cmp_total}
 use Rattle.dir_names.specs.Sorted.{place, rises}
 use Rattle.dir_names.proofs.Placed.{so, keys_of, value_at, put_at, find-place, put-place, rises-put_at, place_from_search}
 
--- where a binary search over the pairs says that an attribute stands
+-- what a binary search over the pairs answers is the place of the attribute
 pub pair_place : (pairs : RdnKeys) (attr : Attr) (r : Result ℕ ℕ) → is_rdn_key pairs ≡ true → IsSearchInRange r (length pairs) → IsBinarySearchResult (λ p. attr_cmp p.0 attr) pairs r → r ≡ place attr_cmp attr (keys_of attr_cmp pairs)
 pair_place pairs attr r sound bound found = place_from_search attr_cmp_total (λ p. p.0) attr pairs r (so _ sound) bound found
 

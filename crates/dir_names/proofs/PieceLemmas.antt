@@ -1,10 +1,10 @@
--- A text cut at its first separator that no `\` escapes.
+-- A text split at its first separator that no backslash escapes.
 use Rattle.std.proofs.Common.{◌≡◌, ℕ, ◌+◌, ◌<◌, ◌≤◌, Bool, true, false, cond, not, ◌&&◌, List, [], ◌∷◌, ◌++◌, take, drop, length, get_or, None, refl, sym, ap, ◌∙◌, append_assoc}
 use Rattle.std.specs.Prelude.{◌==◌}
 use Rattle.std.specs.List.{onto_first}
 use Rattle.std.proofs.lemmas.List.{append-nil, drop_more, take_more, take_all}
 use Rattle.std.proofs.Math.ListN.{drop_of_length-le}
-use Rattle.dir_names.specs.Reading.{pieces, only_rdn}
+use Rattle.dir_names.specs.Names.Reading.{pieces, only_rdn}
 
 -- a text before the first piece
 abbrev pub onto : List ℕ → List (List ℕ) → List (List ℕ)

@@ -1,4 +1,4 @@
--- What stands at a key's place in a list that rises, for a set or a map kept in a sorted `Vec`.
+-- What is at a key's place in a list in rising order: the lemmas for a set or a map in a sorted `Vec`.
 --     place_from_search      what `binary_search_by` says, as `place`
 --     find-place, put-place, gone-place      the entries of a map: what is found, and what a write and a removal leave
 --     member-place           the members of a set
@@ -116,12 +116,12 @@ module _ {K X : Type 0} (R : K → K → Ordering) where
   value_at (Ok i) es d = Some (get_or es i d).1
   value_at (Err i) es d = None
 
-  -- the entries with a value at a place: at a key that stands, the key stays
+  -- the entries with a value at a place: a key that is there stays
   abbrev pub put_at : Result ℕ ℕ → K → X → List (K × X) → List (K × X)
   put_at (Ok i) k v es = set es i ((get_or es i (k, v)).0, v)
   put_at (Err i) k v es = insert es i (k, v)
 
-  -- the entries without what stands at a place
+  -- the entries without the one at a place
   abbrev pub gone_at : Result ℕ ℕ → List (K × X) → List (K × X)
   gone_at (Ok i) es = remove es i
   gone_at (Err i) es = es

@@ -10,9 +10,9 @@ use Rattle.std.specs.Cmp.Lexicographic.{slice_cmp}
 use Rattle.dir_names.specs.Attr.{Attr}
 use Rattle.dir_names.specs.Keys.{DnKeys}
 use Rattle.dir_names.specs.Orders.{bytes_cmp, bytes_eq, bytes_cmp_ties, texts_cmp, pair_cmp, rdn_key_cmp, dn_key_cmp, dn_key_eq, dn_key_cmp_ties}
-use Rattle.dir_names.specs.SortTexts.{marked, text_sort, list_sort, pair_sort, rdn_sort, name_sort}
+use Rattle.dir_names.specs.Inside.SortTexts.{marked_byte, text_sort, list_sort, pair_sort, rdn_sort, name_sort}
 
--- what stands behind two texts counts where they tie
+-- what follows two texts counts only if they tie
 abbrev Sorts : {A : Type 0} → (A → List ℕ) → (A → A → Ordering) → Type 0
 Sorts {A} f R = (x y : A) (s t : List ℕ) → bytes_cmp (f x ++ s) (f y ++ t) ≡ ordering_then (R x y) (bytes_cmp s t)
 
@@ -28,7 +28,7 @@ above : (x y : ℕ) → y < x → nat_cmp x y ≡ Greater
 above x y lt = sym (nat_cmp_is x y Greater lt)
 
 abbrev marks : Bool → ℕ → List ℕ
-marks is_small b = cond is_small (1 ∷ b ∷ []) (b ∷ [])
+marks is_rdn_within_limit b = cond is_rdn_within_limit (1 ∷ b ∷ []) (b ∷ [])
 
 heads : (p q : Bool) (a b : ℕ) → nat_lt a 2 ≡ p → nat_lt b 2 ≡ q → (s t : List ℕ) → bytes_cmp (marks p a ++ s) (marks q b ++ t) ≡ ordering_then (nat_cmp a b) (bytes_cmp s t)
 heads true true a b e f s t = refl
@@ -61,8 +61,8 @@ end_last false a e s t =
     let lt : 0 < a = omega arith in
     λ i. ordering_then (above a 0 lt i) (bytes_cmp s t)
 
-text_front : (b : ℕ) (bs s : List ℕ) → text_sort (b ∷ bs) ++ s ≡ marked b ++ (text_sort bs ++ s)
-text_front b bs s = ap (λ l. l ++ s) (append_assoc (marked b) (flat_map marked bs) (0 ∷ [])) ∙ append_assoc (marked b) (text_sort bs) s
+text_front : (b : ℕ) (bs s : List ℕ) → text_sort (b ∷ bs) ++ s ≡ marked_byte b ++ (text_sort bs ++ s)
+text_front b bs s = ap (λ l. l ++ s) (append_assoc (marked_byte b) (flat_map marked_byte bs) (0 ∷ [])) ∙ append_assoc (marked_byte b) (text_sort bs) s
 
 text_sorts : Sorts text_sort bytes_cmp
 text_sorts [] [] s t = refl
@@ -92,17 +92,17 @@ module _ {A : Type 0} (f : A → List ℕ) (R : A → A → Ordering) (sorts : S
   open_sorts (x ∷ xs) (y ∷ ys) =
       sorts x y (flat_map (λ z. 1 ∷ f z) xs) (flat_map (λ z. 1 ∷ f z) ys) ∙ ap (ordering_then (R x y)) (open_sorts xs ys)
 
-pair_front : (p : Attr × List ℕ) (s : List ℕ) → pair_sort p ++ s ≡ text_sort p.0.kind ++ (list_sort text_sort p.0.options ++ (text_sort p.1 ++ s))
+pair_front : (p : Attr × List ℕ) (s : List ℕ) → pair_sort p ++ s ≡ text_sort p.0.attr_type ++ (list_sort text_sort p.0.options ++ (text_sort p.1 ++ s))
 pair_front p s =
-    append_assoc (text_sort p.0.kind) (list_sort text_sort p.0.options ++ text_sort p.1) s
-    ∙ ap (λ l. text_sort p.0.kind ++ l) (append_assoc (list_sort text_sort p.0.options) (text_sort p.1) s)
+    append_assoc (text_sort p.0.attr_type) (list_sort text_sort p.0.options ++ text_sort p.1) s
+    ∙ ap (λ l. text_sort p.0.attr_type ++ l) (append_assoc (list_sort text_sort p.0.options) (text_sort p.1) s)
 
 pair_sorts : Sorts pair_sort pair_cmp
 pair_sorts p q s t =
-    let kinds = bytes_cmp p.0.kind q.0.kind in
+    let kinds = bytes_cmp p.0.attr_type q.0.attr_type in
     let options = texts_cmp p.0.options q.0.options in
     (λ i. bytes_cmp (pair_front p s i) (pair_front q t i))
-    ∙ text_sorts p.0.kind q.0.kind (list_sort text_sort p.0.options ++ (text_sort p.1 ++ s)) (list_sort text_sort q.0.options ++ (text_sort q.1 ++ t))
+    ∙ text_sorts p.0.attr_type q.0.attr_type (list_sort text_sort p.0.options ++ (text_sort p.1 ++ s)) (list_sort text_sort q.0.options ++ (text_sort q.1 ++ t))
     ∙ ap (ordering_then kinds) (list_sorts text_sort bytes_cmp text_sorts p.0.options q.0.options (text_sort p.1 ++ s) (text_sort q.1 ++ t) ∙ ap (ordering_then options) (text_sorts p.1 q.1 s t))
     ∙ then_assoc kinds options (ordering_then (bytes_cmp p.1 q.1) (bytes_cmp s t))
     ∙ then_assoc (ordering_then kinds options) (bytes_cmp p.1 q.1) (bytes_cmp s t)
@@ -114,13 +114,13 @@ pub name_sorts_eq : (x y : DnKeys) → bytes_eq (name_sort x) (name_sort y) ≡ 
 name_sorts_eq x y = bytes_cmp_ties (name_sort x) (name_sort y) ∙ ap is_eq (name_sorts x y) ∙ sym (dn_key_cmp_ties x y)
 
 -- a text without 0 and 1 is written as it is
-pub marked_plain : (text : List ℕ) → list_all (λ b. nat_lt 1 b) text ≡ true → flat_map marked text ≡ text
+pub marked_plain : (text : List ℕ) → list_all (λ b. nat_lt 1 b) text ≡ true → flat_map marked_byte text ≡ text
 marked_plain [] e = refl
 marked_plain (b ∷ bs) e = by (nat_lt 1 b) refl e (marked_plain bs)
   where
-    by : (p : Bool) → nat_lt 1 b ≡ p → p && list_all (λ b. nat_lt 1 b) bs ≡ true → (list_all (λ b. nat_lt 1 b) bs ≡ true → flat_map marked bs ≡ bs) → marked b ++ flat_map marked bs ≡ b ∷ bs
+    by : (p : Bool) → nat_lt 1 b ≡ p → p && list_all (λ b. nat_lt 1 b) bs ≡ true → (list_all (λ b. nat_lt 1 b) bs ≡ true → flat_map marked_byte bs ≡ bs) → marked_byte b ++ flat_map marked_byte bs ≡ b ∷ bs
     by true f g rest =
         let lt : 1 < b = ltb-true 1 b f in
         let large : 2 ≤ b = omega arith in
-        ap (λ p. marks p b ++ flat_map marked bs) (le-ltb b 2 large) ∙ ap (λ l. b ∷ l) (rest g)
+        ap (λ p. marks p b ++ flat_map marked_byte bs) (le-ltb b 2 large) ∙ ap (λ l. b ∷ l) (rest g)
     by false f g rest = absurd (cc)

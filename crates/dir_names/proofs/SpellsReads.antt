@@ -7,18 +7,21 @@ use Rattle.std.proofs.lemmas.List.{append-nil, length-append}
 use Rattle.std.proofs.lemmas.List.Folds.{list_all-append}
 use Rattle.std.proofs.Math.Seq.{take-append_seam}
 use Rattle.std.proofs.lemmas.Bool.{lt-ltb, eq-eqb, ne_eqb, and_parts}
-use Rattle.dir_names.specs.declared.reading.Place.TheVariants.{Outside, Second}
-use Rattle.dir_names.specs.declared.reading.Step.TheVariants.{Byte, Inside, Refused}
+use Rattle.dir_names.specs.declared.name.reading.Place.TheVariants.{Outside, AfterDigit}
+use Rattle.dir_names.specs.declared.name.reading.Step.TheVariants.{Byte, Inside, Refused}
 use lib.Dec.{eqb-suc-zero}
-use Rattle.dir_names.specs.Cut.{behind_first}
+use Rattle.dir_names.specs.Cut.{after_first_separator}
 use Rattle.dir_names.specs.Descriptions.{is_type}
 use Rattle.dir_names.specs.Names.{SpelledPair, SpelledRdn, SpelledName}
-use Rattle.dir_names.specs.Reading.{is_hex, hex_of, is_refused, is_escapable, with_space, added, value_from, value_of, begins_with_hash, and_all, all_of, pieces, pair_from, pair_of, rdn_of, name_of, only_rdn, only_rdn_of}
-use Rattle.dir_names.specs.Spaces.{trimmed_front, trimmed_end}
-use Rattle.dir_names.specs.Spells.{SpellsByte, SpellsBytes, BeginsValue, SpellsPair, SpellsRdn, SpellsRdns, Spells}
-use Rattle.dir_names.specs.Spells.{digits, sign, plain}
-use Rattle.dir_names.specs.Spells.{none, byte, space, trailing}
-use Rattle.dir_names.specs.Spells.{empty, begins, pair, last_pair, pair_before, last_rdn, rdn_before, nothing, rdns}
+use Rattle.dir_names.specs.Names.Reading.{value_of, begins_with_hash, pieces, pair_from, pair_of, rdn_of, name_of, only_rdn, only_rdn_of}
+use Rattle.dir_names.specs.Inside.Steps.{with_space, value_after_step, value_from}
+use Rattle.dir_names.specs.Results.{option_collect, option_cons}
+use Rattle.dir_names.specs.Names.Escapes.{is_hex, hex_of, is_refused, is_escapable}
+use Rattle.dir_names.specs.ValueKeys.Spaces.{without_leading_spaces, without_trailing_spaces}
+use Rattle.dir_names.specs.Names.Spells.{SpellsByte, SpellsBytes, BeginsValue, SpellsPair, SpellsRdn, SpellsRdns, Spells}
+use Rattle.dir_names.specs.Names.Spells.{digits, sign, plain}
+use Rattle.dir_names.specs.Names.Spells.{none, byte, inner_space, trailing_space}
+use Rattle.dir_names.specs.Names.Spells.{empty, begins, pair, last_pair, pair_before, last_rdn, rdn_before, nothing, rdns}
 use Rattle.dir_names.proofs.ByteFacts.{is_type_char, sign_not_hex, hex_not_plus, hex_not_comma, hex_not_escape, legal_not_plus, legal_not_comma, legal_not_escape, type_not_space, type_not_plus, type_not_comma, type_no_equals}
 use Rattle.dir_names.proofs.PieceLemmas.{onto}
 use Rattle.dir_names.proofs.ReadNames.{passes, pieces_pass, passes-append, passes_plain, passes_escape, type_chars, kind_passes, untouched, some_text}
@@ -29,8 +32,8 @@ use Rattle.dir_names.proofs.Tidy.{front_other, end_space}
 
 sign_read : (b : ℕ) (t : List ℕ) → is_escapable b ≡ true → value_from Outside (92 ∷ b ∷ t) ≡ option_map (λ bs. b ∷ bs) (value_from Outside t)
 sign_read b t e =
-    ap (λ x. added (cond x (Inside (Second (hex_of b))) (cond (is_escapable b) (Byte b) Refused)) (λ next. value_from next t)) (sign_not_hex b e)
-    ∙ ap (λ x. added (cond x (Byte b) Refused) (λ next. value_from next t)) e
+    ap (λ x. value_after_step (cond x (Inside (AfterDigit (hex_of b))) (cond (is_escapable b) (Byte b) Refused)) (λ next. value_from next t)) (sign_not_hex b e)
+    ∙ ap (λ x. value_after_step (cond x (Byte b) Refused) (λ next. value_from next t)) e
 
 byte_read : (text : List ℕ) (b : ℕ) (t : List ℕ) → SpellsByte text b → value_from Outside (text ++ t) ≡ option_map (λ bs. b ∷ bs) (value_from Outside t)
 byte_read text b t (digits h l e f) = read_digits h l t e f
@@ -40,10 +43,10 @@ byte_read text b t (plain c e n) = read_plain c t (ne_eqb c 32 n) (legal_not_esc
 pub bytes_read : (text value : List ℕ) → SpellsBytes text value → value_from Outside text ≡ Some value
 bytes_read text value none = refl
 bytes_read text value (byte x b more v s r) = byte_read x b more s ∙ ap (option_map (λ bs. b ∷ bs)) (bytes_read more v r)
-bytes_read text value (space more b v r) = read_space 32 more refl ∙ ap (option_map with_space) (bytes_read more (b ∷ v) r)
-bytes_read text value (trailing more r) = read_space 32 more refl ∙ ap (option_map with_space) (bytes_read more [] r)
+bytes_read text value (inner_space more b v r) = read_space 32 more refl ∙ ap (option_map with_space) (bytes_read more (b ∷ v) r)
+bytes_read text value (trailing_space more r) = read_space 32 more refl ∙ ap (option_map with_space) (bytes_read more [] r)
 
--- ---- no separator stands in them
+-- ---- they have no separator
 
 module _ (separator : ℕ) (escape : (92 == separator) ≡ false) (spaced : (32 == separator) ≡ false) (hex : (b : ℕ) → is_hex b ≡ true → (b == separator) ≡ false) (legal : (b : ℕ) → is_refused b ≡ false → (b == separator) ≡ false) where
   byte_passes : (text : List ℕ) (b : ℕ) (t : List ℕ) → SpellsByte text b → passes separator false (text ++ t) ≡ passes separator false t
@@ -54,17 +57,17 @@ module _ (separator : ℕ) (escape : (92 == separator) ≡ false) (spaced : (32 
   bytes_pass : (text value : List ℕ) → SpellsBytes text value → passes separator false text ≡ Some false
   bytes_pass text value none = refl
   bytes_pass text value (byte x b more v s r) = byte_passes x b more s ∙ bytes_pass more v r
-  bytes_pass text value (space more b v r) = passes_plain separator 32 more spaced refl ∙ bytes_pass more (b ∷ v) r
-  bytes_pass text value (trailing more r) = passes_plain separator 32 more spaced refl ∙ bytes_pass more [] r
+  bytes_pass text value (inner_space more b v r) = passes_plain separator 32 more spaced refl ∙ bytes_pass more (b ∷ v) r
+  bytes_pass text value (trailing_space more r) = passes_plain separator 32 more spaced refl ∙ bytes_pass more [] r
 
   spaces_pass : (n : ℕ) (t : List ℕ) → passes separator false (replicate n 32 ++ t) ≡ passes separator false t
   spaces_pass zero t = refl
   spaces_pass (suc n) t = passes_plain separator 32 (replicate n 32 ++ t) spaced refl ∙ spaces_pass n t
 
   pub pair_passes : (61 == separator) ≡ false → ((b : ℕ) → is_type_char b ≡ true → (b == separator) ≡ false) → (text : List ℕ) (p : SpelledPair) → SpellsPair text p → passes separator false text ≡ Some false
-  pair_passes equals apart text p (pair before after behind kind t value typed free start s) =
-      spaces_pass before (kind ++ (replicate after 32 ++ 61 ∷ (replicate behind 32 ++ t)))
-      ∙ passes-append separator false false kind (replicate after 32 ++ 61 ∷ (replicate behind 32 ++ t)) (kind_passes separator apart kind (type_chars kind typed))
+  pair_passes equals apart text p (pair before after behind attr_type t value typed free start s) =
+      spaces_pass before (attr_type ++ (replicate after 32 ++ 61 ∷ (replicate behind 32 ++ t)))
+      ∙ passes-append separator false false attr_type (replicate after 32 ++ 61 ∷ (replicate behind 32 ++ t)) (kind_passes separator apart attr_type (type_chars attr_type typed))
       ∙ spaces_pass after (61 ∷ (replicate behind 32 ++ t)) ∙ passes_plain separator 61 (replicate behind 32 ++ t) equals refl
       ∙ spaces_pass behind t ∙ bytes_pass t value s
 
@@ -76,7 +79,7 @@ pair_no_comma = pair_passes 44 refl refl hex_not_comma legal_not_comma refl type
 
 -- ---- pairs
 
-cut_front : (front value : List ℕ) → list_all (λ b. not (b == 61)) front ≡ true → (before_first (λ b. b == 61) (front ++ 61 ∷ value) ≡ front) × (behind_first 61 (front ++ 61 ∷ value) ≡ Some value)
+cut_front : (front value : List ℕ) → list_all (λ b. not (b == 61)) front ≡ true → (before_first (λ b. b == 61) (front ++ 61 ∷ value) ≡ front) × (after_first_separator 61 (front ++ 61 ∷ value) ≡ Some value)
 cut_front front value e =
     let at : position_or_len (λ b. b == 61) (front ++ 61 ∷ value) ≡ length front = place front e in
     let inside : length front < length (front ++ 61 ∷ value) = omega (arith, length-append front (61 ∷ value)) in (
@@ -100,57 +103,57 @@ spaces_no_equals : (n : ℕ) → list_all (λ b. not (b == 61)) (replicate n 32)
 spaces_no_equals zero = refl
 spaces_no_equals (suc n) = spaces_no_equals n
 
-kind_no_equals : (kind : List ℕ) → list_all is_type_char kind ≡ true → list_all (λ b. not (b == 61)) kind ≡ true
+kind_no_equals : (attr_type : List ℕ) → list_all is_type_char attr_type ≡ true → list_all (λ b. not (b == 61)) attr_type ≡ true
 kind_no_equals [] e = refl
 kind_no_equals (b ∷ bs) e = let parts = and_parts _ _ e in λ i. type_no_equals b parts.0 i && kind_no_equals bs parts.1 i
 
-pub front_spaces : (n : ℕ) (t : List ℕ) → trimmed_front (replicate n 32 ++ t) ≡ trimmed_front t
+pub front_spaces : (n : ℕ) (t : List ℕ) → without_leading_spaces (replicate n 32 ++ t) ≡ without_leading_spaces t
 front_spaces zero t = refl
 front_spaces (suc n) t = front_spaces n t
 
-pub end_spaces : (n : ℕ) (t : List ℕ) → trimmed_end (t ++ replicate n 32) ≡ trimmed_end t
-end_spaces zero t = ap trimmed_end (append-nil t)
-end_spaces (suc n) t = ap trimmed_end (sym (append_assoc t (32 ∷ []) (replicate n 32))) ∙ end_spaces n (t ++ 32 ∷ []) ∙ end_space t
+pub end_spaces : (n : ℕ) (t : List ℕ) → without_trailing_spaces (t ++ replicate n 32) ≡ without_trailing_spaces t
+end_spaces zero t = ap without_trailing_spaces (append-nil t)
+end_spaces (suc n) t = ap without_trailing_spaces (sym (append_assoc t (32 ∷ []) (replicate n 32))) ∙ end_spaces n (t ++ 32 ∷ []) ∙ end_space t
 
 -- a type before spaces
-front_kind : (kind after : List ℕ) → list_all is_type_char kind ≡ true → (length kind == 0) ≡ false → trimmed_front (kind ++ after) ≡ kind ++ after
+front_kind : (attr_type after : List ℕ) → list_all is_type_char attr_type ≡ true → (length attr_type == 0) ≡ false → without_leading_spaces (attr_type ++ after) ≡ attr_type ++ after
 front_kind [] after e n = absurd (cc)
 front_kind (b ∷ bs) after e n = front_other b (bs ++ after) (type_not_space b (and_parts _ _ e).0)
 
-type_not_empty : (kind : List ℕ) → is_type kind ≡ true → (length kind == 0) ≡ false
+type_not_empty : (attr_type : List ℕ) → is_type attr_type ≡ true → (length attr_type == 0) ≡ false
 type_not_empty [] e = absurd (cc)
 type_not_empty (b ∷ bs) e = eqb-suc-zero (length bs)
 
-kind_trimmed : (before after : ℕ) (kind : List ℕ) → is_type kind ≡ true → trimmed_end (trimmed_front (replicate before 32 ++ (kind ++ replicate after 32))) ≡ kind
-kind_trimmed before after kind e =
-    let chars = type_chars kind e in
-    ap trimmed_end (front_spaces before (kind ++ replicate after 32) ∙ front_kind kind (replicate after 32) chars (type_not_empty kind e))
-    ∙ end_spaces after kind ∙ ap trimmed_end (sym (whole kind chars (type_not_empty kind e))) ∙ untouched kind chars
+kind_trimmed : (before after : ℕ) (attr_type : List ℕ) → is_type attr_type ≡ true → without_trailing_spaces (without_leading_spaces (replicate before 32 ++ (attr_type ++ replicate after 32))) ≡ attr_type
+kind_trimmed before after attr_type e =
+    let chars = type_chars attr_type e in
+    ap without_trailing_spaces (front_spaces before (attr_type ++ replicate after 32) ∙ front_kind attr_type (replicate after 32) chars (type_not_empty attr_type e))
+    ∙ end_spaces after attr_type ∙ ap without_trailing_spaces (sym (whole attr_type chars (type_not_empty attr_type e))) ∙ untouched attr_type chars
   where
-    whole : (kind : List ℕ) → list_all is_type_char kind ≡ true → (length kind == 0) ≡ false → trimmed_front kind ≡ kind
+    whole : (attr_type : List ℕ) → list_all is_type_char attr_type ≡ true → (length attr_type == 0) ≡ false → without_leading_spaces attr_type ≡ attr_type
     whole [] e n = absurd (cc)
     whole (b ∷ bs) e n = front_other b bs (type_not_space b (and_parts _ _ e).0)
 
-value_begins : (text : List ℕ) → BeginsValue text → (trimmed_front text ≡ text) × (begins_with_hash text ≡ false)
+value_begins : (text : List ℕ) → BeginsValue text → (without_leading_spaces text ≡ text) × (begins_with_hash text ≡ false)
 value_begins text empty = (refl, refl)
 value_begins text (begins b more n m) = (front_other b more (ne_eqb b 32 n), ne_eqb b 35 m)
 
 pub pair_read : (text : List ℕ) (p : SpelledPair) → SpellsPair text p → pair_of text ≡ Some p
-pair_read text p (pair before after behind kind t value typed free start s) =
-    let chars = type_chars kind typed in
-    let front = replicate before 32 ++ (kind ++ replicate after 32) in
+pair_read text p (pair before after behind attr_type t value typed free start s) =
+    let chars = type_chars attr_type typed in
+    let front = replicate before 32 ++ (attr_type ++ replicate after 32) in
     let rest = replicate behind 32 ++ t in
-    let parted : replicate before 32 ++ (kind ++ (replicate after 32 ++ 61 ∷ rest)) ≡ front ++ 61 ∷ rest =
-    ap (λ l. replicate before 32 ++ l) (sym (append_assoc kind (replicate after 32) (61 ∷ rest))) ∙ sym (append_assoc (replicate before 32) (kind ++ replicate after 32) (61 ∷ rest)) in
-    let quiet = list_all-append (λ b. not (b == 61)) (replicate before 32) (kind ++ replicate after 32)
-    ∙ (λ i. spaces_no_equals before i && (list_all-append (λ b. not (b == 61)) kind (replicate after 32) ∙ (λ j. kind_no_equals kind chars j && spaces_no_equals after j)) i) in
+    let parted : replicate before 32 ++ (attr_type ++ (replicate after 32 ++ 61 ∷ rest)) ≡ front ++ 61 ∷ rest =
+    ap (λ l. replicate before 32 ++ l) (sym (append_assoc attr_type (replicate after 32) (61 ∷ rest))) ∙ sym (append_assoc (replicate before 32) (attr_type ++ replicate after 32) (61 ∷ rest)) in
+    let quiet = list_all-append (λ b. not (b == 61)) (replicate before 32) (attr_type ++ replicate after 32)
+    ∙ (λ i. spaces_no_equals before i && (list_all-append (λ b. not (b == 61)) attr_type (replicate after 32) ∙ (λ j. kind_no_equals attr_type chars j && spaces_no_equals after j)) i) in
     let cut = cut_front front rest quiet in
     let at = value_begins t start in
-    ap pair_of parted ∙ (λ i. pair_from (trimmed_end (trimmed_front (cut.0 i))) (cut.1 i))
-    ∙ ap (λ k. pair_from k (Some rest)) (kind_trimmed before after kind typed)
-    ∙ (λ i. cond (typed i && not (free i)) (option_map (λ bytes. (kind, bytes)) (value_of ((front_spaces behind t ∙ at.0) i))) None)
-    ∙ ap (λ x. option_map (λ bytes. (kind, bytes)) (cond x None (value_from Outside t))) at.1
-    ∙ ap (option_map (λ bytes. (kind, bytes))) (bytes_read t value s)
+    ap pair_of parted ∙ (λ i. pair_from (without_trailing_spaces (without_leading_spaces (cut.0 i))) (cut.1 i))
+    ∙ ap (λ k. pair_from k (Some rest)) (kind_trimmed before after attr_type typed)
+    ∙ (λ i. cond (typed i && not (free i)) (option_map (λ bytes. (attr_type, bytes)) (value_of ((front_spaces behind t ∙ at.0) i))) None)
+    ∙ ap (λ x. option_map (λ bytes. (attr_type, bytes)) (cond x None (value_from Outside t))) at.1
+    ∙ ap (option_map (λ bytes. (attr_type, bytes))) (bytes_read t value s)
 
 -- ---- RDNs and names
 
@@ -164,19 +167,19 @@ more_pieces separator text rest e =
     ∙ ap (λ t. t ∷ pieces separator false rest) (append-nil text)
 
 pub rdn_reads : (text : List ℕ) (ps : SpelledRdn) → SpellsRdn text ps → rdn_of text ≡ Some ps
-rdn_reads text ps (last_pair t p s) = ap (all_of pair_of) (one_piece 43 t (pair_no_plus t p s)) ∙ ap (λ o. and_all o (Some [])) (pair_read t p s)
+rdn_reads text ps (last_pair t p s) = ap (option_collect pair_of) (one_piece 43 t (pair_no_plus t p s)) ∙ ap (λ o. option_cons o (Some [])) (pair_read t p s)
 rdn_reads text ps (pair_before t p rest qs s r) =
-    ap (all_of pair_of) (more_pieces 43 t rest (pair_no_plus t p s)) ∙ (λ i. and_all (pair_read t p s i) (rdn_reads rest qs r i))
+    ap (option_collect pair_of) (more_pieces 43 t rest (pair_no_plus t p s)) ∙ (λ i. option_cons (pair_read t p s i) (rdn_reads rest qs r i))
 
 rdn_no_comma : (text : List ℕ) (ps : SpelledRdn) → SpellsRdn text ps → passes 44 false text ≡ Some false
 rdn_no_comma text ps (last_pair t p s) = pair_no_comma t p s
 rdn_no_comma text ps (pair_before t p rest qs s r) =
     passes-append 44 false false t (43 ∷ rest) (pair_no_comma t p s) ∙ rdn_no_comma rest qs r
 
-rdns_read : (text : List ℕ) (name : SpelledName) → SpellsRdns text name → all_of rdn_of (pieces 44 false text) ≡ Some name
-rdns_read text name (last_rdn t x s) = ap (all_of rdn_of) (one_piece 44 t (rdn_no_comma t x s)) ∙ ap (λ o. and_all o (Some [])) (rdn_reads t x s)
+rdns_read : (text : List ℕ) (name : SpelledName) → SpellsRdns text name → option_collect rdn_of (pieces 44 false text) ≡ Some name
+rdns_read text name (last_rdn t x s) = ap (option_collect rdn_of) (one_piece 44 t (rdn_no_comma t x s)) ∙ ap (λ o. option_cons o (Some [])) (rdn_reads t x s)
 rdns_read text name (rdn_before t x rest xs s r) =
-    ap (all_of rdn_of) (more_pieces 44 t rest (rdn_no_comma t x s)) ∙ (λ i. and_all (rdn_reads t x s i) (rdns_read rest xs r i))
+    ap (option_collect rdn_of) (more_pieces 44 t rest (rdn_no_comma t x s)) ∙ (λ i. option_cons (rdn_reads t x s i) (rdns_read rest xs r i))
 
 pub spells_reads : (text : List ℕ) (name : SpelledName) → Spells text name → name_of text ≡ Some name
 spells_reads text name nothing = refl

@@ -1,13 +1,13 @@
--- Tidying a text in one pass.
---     tail waiting bs      what is written of bs, with a space waiting or none, behind a byte that is no space
---     tidied-tail          so a text is tidied from its first byte on that is no space
---     stays after bs       whether no space stands at the end or beside another one, where `after` says that one stands before
+-- A text without extra spaces, written in one pass.
+--     tail waiting bs      what is written of bs, if a space is waiting or not, after a byte other than a space
+--     tidied-tail          so a text is written from its first byte on that is not a space
+--     stays after bs       whether no space is at the end or beside another one, where `after` says whether one comes before
 use Rattle.std.proofs.Common.{◌≡◌, ℕ, ◌+◌, ◌-◌, ◌<◌, ◌≤◌, Bool, true, false, cond, not, List, [], ◌∷◌, ◌++◌, length, take, get_or, refl, sym, ap, ◌∙◌, arith}
 use Rattle.std.specs.Prelude.{◌==◌, ◌&&◌}
 use lib.Dec.{eqb-suc-zero}
 use Rattle.std.proofs.lemmas.Bool.{eqb-true, ne_eqb}
 use Rattle.std.proofs.lemmas.List.{take_more}
-use Rattle.dir_names.specs.Spaces.{trimmed_front, trimmed_end, begins_with_space, squeezed, tidied}
+use Rattle.dir_names.specs.ValueKeys.Spaces.{without_leading_spaces, without_trailing_spaces, begins_with_space, with_single_spaces, without_extra_spaces}
 
 abbrev pub tail : Bool → List ℕ → List ℕ
 tail waiting [] = []
@@ -18,50 +18,50 @@ stays after [] = not after
 stays after (b ∷ bs) = cond (b == 32) (cond after false (stays true bs)) (stays false bs)
 
 -- a byte that is no space stays as it is
-kept : (b : ℕ) (bs : List ℕ) → (b == 32) ≡ false → trimmed_end (squeezed (b ∷ bs)) ≡ b ∷ trimmed_end (squeezed bs)
+kept : (b : ℕ) (bs : List ℕ) → (b == 32) ≡ false → without_trailing_spaces (with_single_spaces (b ∷ bs)) ≡ b ∷ without_trailing_spaces (with_single_spaces bs)
 kept b bs e =
-    ap (λ t. trimmed_end (cond (t && begins_with_space bs) (squeezed bs) (b ∷ squeezed bs))) e
-    ∙ ap (λ t. cond (t && length (trimmed_end (squeezed bs)) == 0) [] (b ∷ trimmed_end (squeezed bs))) e
+    ap (λ t. without_trailing_spaces (cond (t && begins_with_space bs) (with_single_spaces bs) (b ∷ with_single_spaces bs))) e
+    ∙ ap (λ t. cond (t && length (without_trailing_spaces (with_single_spaces bs)) == 0) [] (b ∷ without_trailing_spaces (with_single_spaces bs))) e
 
 -- a space before a space goes
-joined : (b : ℕ) (bs : List ℕ) → (b == 32) ≡ true → trimmed_end (squeezed (32 ∷ b ∷ bs)) ≡ trimmed_end (squeezed (b ∷ bs))
-joined b bs e = ap (λ t. trimmed_end (cond t (squeezed (b ∷ bs)) (32 ∷ squeezed (b ∷ bs)))) e
+joined : (b : ℕ) (bs : List ℕ) → (b == 32) ≡ true → without_trailing_spaces (with_single_spaces (32 ∷ b ∷ bs)) ≡ without_trailing_spaces (with_single_spaces (b ∷ bs))
+joined b bs e = ap (λ t. without_trailing_spaces (cond t (with_single_spaces (b ∷ bs)) (32 ∷ with_single_spaces (b ∷ bs)))) e
 
 behind_space : List ℕ → List ℕ
 behind_space l = cond (length l == 0) [] (32 ∷ l)
 
 -- a space before another byte stays
-between : (b : ℕ) (bs : List ℕ) → (b == 32) ≡ false → trimmed_end (squeezed (32 ∷ b ∷ bs)) ≡ 32 ∷ b ∷ trimmed_end (squeezed bs)
+between : (b : ℕ) (bs : List ℕ) → (b == 32) ≡ false → without_trailing_spaces (with_single_spaces (32 ∷ b ∷ bs)) ≡ 32 ∷ b ∷ without_trailing_spaces (with_single_spaces bs)
 unfolding behind_space
 between b bs e =
-    let apart : trimmed_end (squeezed (32 ∷ b ∷ bs)) ≡ trimmed_end (32 ∷ squeezed (b ∷ bs)) = ap (λ t. trimmed_end (cond t (squeezed (b ∷ bs)) (32 ∷ squeezed (b ∷ bs)))) e in
-    let read : trimmed_end (32 ∷ squeezed (b ∷ bs)) ≡ behind_space (b ∷ trimmed_end (squeezed bs)) = ap behind_space (kept b bs e) in
-    apart ∙ read ∙ ap (λ t. cond t [] (32 ∷ b ∷ trimmed_end (squeezed bs))) (eqb-suc-zero (length (trimmed_end (squeezed bs))))
+    let apart : without_trailing_spaces (with_single_spaces (32 ∷ b ∷ bs)) ≡ without_trailing_spaces (32 ∷ with_single_spaces (b ∷ bs)) = ap (λ t. without_trailing_spaces (cond t (with_single_spaces (b ∷ bs)) (32 ∷ with_single_spaces (b ∷ bs)))) e in
+    let read : without_trailing_spaces (32 ∷ with_single_spaces (b ∷ bs)) ≡ behind_space (b ∷ without_trailing_spaces (with_single_spaces bs)) = ap behind_space (kept b bs e) in
+    apart ∙ read ∙ ap (λ t. cond t [] (32 ∷ b ∷ without_trailing_spaces (with_single_spaces bs))) (eqb-suc-zero (length (without_trailing_spaces (with_single_spaces bs))))
 
-tails : (bs : List ℕ) → (tail false bs ≡ trimmed_end (squeezed bs)) × (tail true bs ≡ trimmed_end (squeezed (32 ∷ bs)))
+tails : (bs : List ℕ) → (tail false bs ≡ without_trailing_spaces (with_single_spaces bs)) × (tail true bs ≡ without_trailing_spaces (with_single_spaces (32 ∷ bs)))
 tails [] = (refl, refl)
 tails (b ∷ bs) =
     let rest = tails bs in
-    elim (b == 32) as (λ t. (b == 32) ≡ t → (cond t (tail true bs) (b ∷ tail false bs) ≡ trimmed_end (squeezed (b ∷ bs))) × (cond t (tail true bs) (32 ∷ b ∷ tail false bs) ≡ trimmed_end (squeezed (32 ∷ b ∷ bs)))) [
+    elim (b == 32) as (λ t. (b == 32) ≡ t → (cond t (tail true bs) (b ∷ tail false bs) ≡ without_trailing_spaces (with_single_spaces (b ∷ bs))) × (cond t (tail true bs) (32 ∷ b ∷ tail false bs) ≡ without_trailing_spaces (with_single_spaces (32 ∷ b ∷ bs)))) [
       | true ↦ λ e.
-          let space = rest.1 ∙ ap (λ c. trimmed_end (squeezed (c ∷ bs))) (sym (eqb-true b 32 e)) in
+          let space = rest.1 ∙ ap (λ c. without_trailing_spaces (with_single_spaces (c ∷ bs))) (sym (eqb-true b 32 e)) in
           (space, space ∙ sym (joined b bs e))
       | false ↦ λ e. (ap (λ l. b ∷ l) rest.0 ∙ sym (kept b bs e), ap (λ l. 32 ∷ b ∷ l) rest.0 ∙ sym (between b bs e))
     ] refl
 
-front-squeezed : (bs : List ℕ) → trimmed_front (squeezed bs) ≡ squeezed (trimmed_front bs)
-front-squeezed [] = refl
-front-squeezed (b ∷ bs) =
-    elim (b == 32) as (λ t. (b == 32) ≡ t → trimmed_front (cond (t && begins_with_space bs) (squeezed bs) (b ∷ squeezed bs)) ≡ squeezed (cond t (trimmed_front bs) (b ∷ bs))) [
-      | true ↦ λ e. elim (begins_with_space bs) as (λ t. trimmed_front (cond t (squeezed bs) (b ∷ squeezed bs)) ≡ squeezed (trimmed_front bs)) [
-        | true ↦ front-squeezed bs
-        | false ↦ ap (λ t. cond t (trimmed_front (squeezed bs)) (b ∷ squeezed bs)) e ∙ front-squeezed bs
+front-with_single_spaces : (bs : List ℕ) → without_leading_spaces (with_single_spaces bs) ≡ with_single_spaces (without_leading_spaces bs)
+front-with_single_spaces [] = refl
+front-with_single_spaces (b ∷ bs) =
+    elim (b == 32) as (λ t. (b == 32) ≡ t → without_leading_spaces (cond (t && begins_with_space bs) (with_single_spaces bs) (b ∷ with_single_spaces bs)) ≡ with_single_spaces (cond t (without_leading_spaces bs) (b ∷ bs))) [
+      | true ↦ λ e. elim (begins_with_space bs) as (λ t. without_leading_spaces (cond t (with_single_spaces bs) (b ∷ with_single_spaces bs)) ≡ with_single_spaces (without_leading_spaces bs)) [
+        | true ↦ front-with_single_spaces bs
+        | false ↦ ap (λ t. cond t (without_leading_spaces (with_single_spaces bs)) (b ∷ with_single_spaces bs)) e ∙ front-with_single_spaces bs
       ]
-      | false ↦ λ e. ap (λ t. cond t (trimmed_front (squeezed bs)) (b ∷ squeezed bs)) e ∙ ap (λ t. cond (t && begins_with_space bs) (squeezed bs) (b ∷ squeezed bs)) (sym e)
+      | false ↦ λ e. ap (λ t. cond t (without_leading_spaces (with_single_spaces bs)) (b ∷ with_single_spaces bs)) e ∙ ap (λ t. cond (t && begins_with_space bs) (with_single_spaces bs) (b ∷ with_single_spaces bs)) (sym e)
     ] refl
 
-pub tidied-tail : (bs : List ℕ) → tidied bs ≡ tail false (trimmed_front bs)
-tidied-tail bs = ap trimmed_end (front-squeezed bs) ∙ sym (tails (trimmed_front bs)).0
+pub without_extra_spaces-tail : (bs : List ℕ) → without_extra_spaces bs ≡ tail false (without_leading_spaces bs)
+without_extra_spaces-tail bs = ap without_trailing_spaces (front-with_single_spaces bs) ∙ sym (tails (without_leading_spaces bs)).0
 
 -- ---- a text that is tidy already
 
@@ -74,23 +74,23 @@ tail_stays (b ∷ bs) =
       | false ↦ λ e. (λ h. ap (λ l. b ∷ l) (rest.0 h), λ h. ap (λ l. 32 ∷ b ∷ l) (rest.0 h))
     ] refl
 
-pub tidied_stays : (bs : List ℕ) → stays true bs ≡ true → tidied bs ≡ bs
+pub tidied_stays : (bs : List ℕ) → stays true bs ≡ true → without_extra_spaces bs ≡ bs
 tidied_stays [] e = absurd (cc)
-tidied_stays (b ∷ bs) e = tidied-tail (b ∷ bs) ∙ by (b == 32) refl e
+tidied_stays (b ∷ bs) e = without_extra_spaces-tail (b ∷ bs) ∙ by (b == 32) refl e
   where
-    by : (t : Bool) → (b == 32) ≡ t → cond t false (stays false bs) ≡ true → tail false (cond t (trimmed_front bs) (b ∷ bs)) ≡ b ∷ bs
+    by : (t : Bool) → (b == 32) ≡ t → cond t false (stays false bs) ≡ true → tail false (cond t (without_leading_spaces bs) (b ∷ bs)) ≡ b ∷ bs
     by true q h = absurd (cc)
     by false q h = (tail_stays (b ∷ bs)).0 (ap (λ t. cond t (stays true bs) (stays false bs)) q ∙ h)
 
 -- ---- the ends
 
-pub front_space : (b : ℕ) (bs : List ℕ) → b ≡ 32 → trimmed_front (b ∷ bs) ≡ trimmed_front bs
-front_space b bs e = ap (λ c. trimmed_front (c ∷ bs)) e
+pub front_space : (b : ℕ) (bs : List ℕ) → b ≡ 32 → without_leading_spaces (b ∷ bs) ≡ without_leading_spaces bs
+front_space b bs e = ap (λ c. without_leading_spaces (c ∷ bs)) e
 
-pub front_other : (b : ℕ) (bs : List ℕ) → (b == 32) ≡ false → trimmed_front (b ∷ bs) ≡ b ∷ bs
-front_other b bs e = ap (λ t. cond t (trimmed_front bs) (b ∷ bs)) e
+pub front_other : (b : ℕ) (bs : List ℕ) → (b == 32) ≡ false → without_leading_spaces (b ∷ bs) ≡ b ∷ bs
+front_other b bs e = ap (λ t. cond t (without_leading_spaces bs) (b ∷ bs)) e
 
-pub end_space : (bs : List ℕ) → trimmed_end (bs ++ 32 ∷ []) ≡ trimmed_end bs
+pub end_space : (bs : List ℕ) → without_trailing_spaces (bs ++ 32 ∷ []) ≡ without_trailing_spaces bs
 end_space [] = refl
 end_space (b ∷ bs) = ap (λ l. cond (b == 32 && length l == 0) [] (b ∷ l)) (end_space bs)
 
@@ -102,7 +102,7 @@ never : (t : Bool) → (t && false) ≡ false
 never true = refl
 never false = refl
 
-pub end_other : (bs : List ℕ) (c : ℕ) → (c == 32) ≡ false → trimmed_end (bs ++ c ∷ []) ≡ bs ++ c ∷ []
+pub end_other : (bs : List ℕ) (c : ℕ) → (c == 32) ≡ false → without_trailing_spaces (bs ++ c ∷ []) ≡ bs ++ c ∷ []
 end_other [] c e = ap (λ t. cond (t && true) [] (c ∷ [])) e
 end_other (b ∷ bs) c e =
     ap (λ l. cond (b == 32 && length l == 0) [] (b ∷ l)) (end_other bs c e)
@@ -113,9 +113,9 @@ last : (text : List ℕ) (end : ℕ) → 0 < end → end ≤ length text → tak
 last text end p h = let one : (end - 1) + 1 ≡ end = omega arith in ap (λ n. take n text) (sym one) ∙ take_more text (end - 1) 0 (omega arith)
 
 -- a step of a loop from the end
-pub end_falls : (text : List ℕ) (end : ℕ) → 0 < end → end ≤ length text → get_or text (end - 1) 0 ≡ 32 → trimmed_end (take end text) ≡ trimmed_end (take (end - 1) text)
-end_falls text end p h e = ap trimmed_end (last text end p h ∙ ap (λ c. take (end - 1) text ++ c ∷ []) e) ∙ end_space (take (end - 1) text)
+pub end_falls : (text : List ℕ) (end : ℕ) → 0 < end → end ≤ length text → get_or text (end - 1) 0 ≡ 32 → without_trailing_spaces (take end text) ≡ without_trailing_spaces (take (end - 1) text)
+end_falls text end p h e = ap without_trailing_spaces (last text end p h ∙ ap (λ c. take (end - 1) text ++ c ∷ []) e) ∙ end_space (take (end - 1) text)
 
-pub end_stays : (text : List ℕ) (end : ℕ) → 0 < end → end ≤ length text → (get_or text (end - 1) 0 ≡ 32 → ⊥) → trimmed_end (take end text) ≡ take end text
+pub end_stays : (text : List ℕ) (end : ℕ) → 0 < end → end ≤ length text → (get_or text (end - 1) 0 ≡ 32 → ⊥) → without_trailing_spaces (take end text) ≡ take end text
 end_stays text end p h e =
-    ap trimmed_end (last text end p h) ∙ end_other (take (end - 1) text) (get_or text (end - 1) 0) (ne_eqb (get_or text (end - 1) 0) 32 e) ∙ sym (last text end p h)
+    ap without_trailing_spaces (last text end p h) ∙ end_other (take (end - 1) text) (get_or text (end - 1) 0) (ne_eqb (get_or text (end - 1) 0) 32 e) ∙ sym (last text end p h)

@@ -3,13 +3,14 @@ use Rattle.std.proofs.Common.{◌≡◌, ℕ, ◌<◌, ◌≤◌, ◌+◌, ◌*�
 use Rattle.std.specs.Option.{option_map}
 use Rattle.std.proofs.Math.Seq.{take-length, drop-length}
 use Rattle.std.proofs.lemmas.List.{take-append-drop, take-append-le, drop-append-le, length-append, drop_more}
-use Rattle.dir_names.specs.declared.reading.Place.{Place}
-use Rattle.dir_names.specs.declared.reading.Place.TheVariants.{Outside, Behind, Second}
-use Rattle.dir_names.specs.declared.reading.Step.{Step}
-use Rattle.dir_names.specs.declared.reading.Step.TheVariants.{Space, Byte, Inside, Refused}
-use Rattle.dir_names.specs.Reading.{is_hex, hex_of, is_escapable, step_of, with_space, added, value_from, has_digit, keeps_digit, is_outside}
+use Rattle.dir_names.specs.declared.name.reading.Place.{Place}
+use Rattle.dir_names.specs.declared.name.reading.Place.TheVariants.{Outside, AfterBackslash, AfterDigit}
+use Rattle.dir_names.specs.declared.name.reading.Step.{Step}
+use Rattle.dir_names.specs.declared.name.reading.Step.TheVariants.{Space, Byte, Inside, Refused}
+use Rattle.dir_names.specs.Inside.Steps.{step_of, with_space, value_after_step, value_from, has_digit, keeps_digit, is_outside}
+use Rattle.dir_names.specs.Names.Escapes.{is_hex, hex_of, is_escapable}
 
--- the value behind what was kept and the spaces that wait
+-- the value after what was kept and the spaces that wait
 abbrev pub behind : List ℕ → List ℕ → Option (List ℕ) → Option (List ℕ)
 behind kept waiting None = None
 behind kept waiting (Some []) = Some kept
@@ -51,16 +52,16 @@ no_space_second false c e = cc
 -- a space leaves the place, which is Outside
 outside_at_space : (place : Place) (b : ℕ) → step_of place b ≡ Space → place ≡ Outside
 outside_at_space Outside b e = refl
-outside_at_space Behind b e = absurd (no_space_behind (is_hex b) (is_escapable b) (Second (hex_of b)) b e)
-outside_at_space (Second high) b e = absurd (no_space_second (is_hex b) (high * 16 + hex_of b) e)
+outside_at_space AfterBackslash b e = absurd (no_space_behind (is_hex b) (is_escapable b) (AfterDigit (hex_of b)) b e)
+outside_at_space (AfterDigit high) b e = absurd (no_space_second (is_hex b) (high * 16 + hex_of b) e)
 
 -- the next byte of the text
 pub reads_at : (text out : List ℕ) (kept : ℕ) (place : Place) (i : ℕ) → i < length text → Reads text out kept place (drop i text) → Reads text out kept place (get_or text i 0 ∷ drop (i + 1) text)
 reads_at text out kept place i inside r = subst (Reads text out kept place) (drop_more text i 0 inside) r
 
 module _ (text out : List ℕ) (kept : ℕ) (place : Place) (b : ℕ) (rest : List ℕ) (r : Reads text out kept place (b ∷ rest)) where
-  step_is : (s : Step) → step_of place b ≡ s → value_from Outside text ≡ behind (take kept out) (drop kept out) (added s (λ next. value_from next rest))
-  step_is s e = r.so_far ∙ ap (λ z. behind (take kept out) (drop kept out) (added z (λ next. value_from next rest))) e
+  step_is : (s : Step) → step_of place b ≡ s → value_from Outside text ≡ behind (take kept out) (drop kept out) (value_after_step s (λ next. value_from next rest))
+  step_is s e = r.so_far ∙ ap (λ z. behind (take kept out) (drop kept out) (value_after_step z (λ next. value_from next rest))) e
 
   pub reads_space : step_of place b ≡ Space → (new : List ℕ) → new ≡ out ++ 32 ∷ [] → Reads text new kept place rest
   reads_space e new n = record {
@@ -97,10 +98,10 @@ module _ (text out : List ℕ) (kept : ℕ) (place : Place) (b : ℕ) (rest : Li
 
 pub reads_all : (text out : List ℕ) (kept : ℕ) (place : Place) → Reads text out kept place [] → is_outside place ≡ true → value_from Outside text ≡ Some (take kept out)
 reads_all text out kept Outside r e = r.so_far
-reads_all text out kept Behind r e = absurd (cc)
-reads_all text out kept (Second high) r e = absurd (cc)
+reads_all text out kept AfterBackslash r e = absurd (cc)
+reads_all text out kept (AfterDigit high) r e = absurd (cc)
 
 pub reads_open : (text out : List ℕ) (kept : ℕ) (place : Place) → Reads text out kept place [] → is_outside place ≡ false → value_from Outside text ≡ None
 reads_open text out kept Outside r e = absurd (cc)
-reads_open text out kept Behind r e = r.so_far
-reads_open text out kept (Second high) r e = r.so_far
+reads_open text out kept AfterBackslash r e = r.so_far
+reads_open text out kept (AfterDigit high) r e = r.so_far

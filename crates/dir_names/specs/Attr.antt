@@ -2,5 +2,5 @@
 use Rattle.std.specs.Prelude.{ℕ, List}
 
 pub record Attr : Type 0 where
-  pub kind : List ℕ
+  pub attr_type : List ℕ
   pub options : List (List ℕ)

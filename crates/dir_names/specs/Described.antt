@@ -20,7 +20,7 @@ described_eq_laws = and_equiv (on_equiv (λ (d : Described). d.spelling) (lists_
 pub partial_described_eq_laws : IsPartialEquivalence described_eq
 partial_described_eq_laws = partial_equiv_from_equiv described_eq_laws
 
--- lines of a description and a value
+-- lists of lines, each a description and a value
 abbrev pub line_eq : Described × List ℕ → Described × List ℕ → Bool
 line_eq a b = described_eq a.0 b.0 && bytes_eq a.1 b.1
 
@@ -33,7 +33,7 @@ lines_eq_laws = lists_equiv (and_equiv (on_equiv (λ (l : Described × List ℕ)
 pub partial_lines_eq_laws : IsPartialEquivalence lines_eq
 partial_lines_eq_laws = partial_equiv_from_equiv lines_eq_laws
 
--- what the tests find equal is equal
+-- `==` decides equality
 pub described_eq_decides : (a b : Described) → Decides (described_eq a b) (a ≡ b)
 described_eq_decides a b = (
   λ e i. record { spelling = (bytes_eq_decides a.spelling b.spelling).0 (first_so _ (attr_eq a.key b.key) e) i; key = (attr_eq_decides a.key b.key).0 (second_so (bytes_eq a.spelling b.spelling) _ e) i },

@@ -1,10 +1,11 @@
--- Attribute descriptions (RFC 4512, sections 1.4 and 2.5): a type, followed by options.
+-- Attribute descriptions (RFC 4512, sections 1.4 and 2.5): a type, followed by options. The definitions are in the order of that grammar, and have its names.
 use Rattle.std.specs.Prelude.{ℕ, Bool, false, cond, not, ◌&&◌, ◌||◌, ◌==◌, nat_le, List, [], ◌∷◌, map, length, codes, Result, Ok, Err}
 use Rattle.std.specs.List.{list_all, list_any}
 use Rattle.std.specs.Str.{str_to_ascii_lowercase, str_eq_ignore_ascii_case}
 use Rattle.dir_names.specs.declared.fault.NameFault.{NameFault}
 use Rattle.dir_names.specs.declared.fault.NameFault.TheVariants.{BadDescription, ReservedName}
 use Rattle.dir_names.specs.declared.schema.TypeRow.{TypeRow}
+use Rattle.dir_names.specs.Ascii.{digit_zero, hyphen, dot, semicolon}
 use Rattle.dir_names.specs.Cut.{parts_at}
 use Rattle.dir_names.specs.Described.{Described}
 use Rattle.dir_names.specs.Orders.{bytes_cmp}
@@ -20,46 +21,46 @@ is_digit b = nat_le 48 b && nat_le b 57
 
 -- keychar: a letter, a digit or a hyphen
 abbrev pub is_keychar : ℕ → Bool
-is_keychar b = (is_letter b || is_digit b) || b == 45
+is_keychar b = (is_letter b || is_digit b) || b == hyphen
 
--- keystring: a letter, followed by keychars
-abbrev pub is_name : List ℕ → Bool
-is_name [] = false
-is_name (b ∷ bs) = is_letter b && list_all is_keychar bs
+-- descr, a keystring: a letter, followed by keychars
+abbrev pub is_descr : List ℕ → Bool
+is_descr [] = false
+is_descr (b ∷ bs) = is_letter b && list_all is_keychar bs
 
--- number: digits that don't begin with 0, or 0 alone
-abbrev pub is_decimal : List ℕ → Bool
-is_decimal [] = false
-is_decimal (b ∷ bs) = (is_digit b && (not (b == 48) || length bs == 0)) && list_all is_digit bs
+-- number: 0, or digits that don't begin with 0
+abbrev pub is_number : List ℕ → Bool
+is_number [] = false
+is_number (b ∷ bs) = (is_digit b && (not (b == digit_zero) || length bs == 0)) && list_all is_digit bs
 
 -- numericoid: two or more numbers, joined by dots
-abbrev pub is_number : List ℕ → Bool
-is_number text = list_any (λ b. b == 46) text && list_all is_decimal (parts_at 46 text)
+abbrev pub is_numericoid : List ℕ → Bool
+is_numericoid text = list_any (λ b. b == dot) text && list_all is_number (parts_at dot text)
 
--- a type: its name or its number, of at most 512 bytes
+-- oid: a type's name or number, here of at most 512 bytes
 abbrev pub is_type : List ℕ → Bool
-is_type text = (is_name text || is_number text) && nat_le (length text) 512
+is_type text = (is_descr text || is_numericoid text) && nat_le (length text) 512
 
 -- option: one or more keychars
 abbrev pub is_option : List ℕ → Bool
 is_option text = not (length text == 0) && list_all is_keychar text
 
--- the types that LDIF keeps for its own lines
+-- the words that LDIF uses for its own lines, in any ASCII case
 abbrev pub is_reserved : List ℕ → Bool
-is_reserved kind = (str_eq_ignore_ascii_case kind (codes "dn") || str_eq_ignore_ascii_case kind (codes "changetype")) || str_eq_ignore_ascii_case kind (codes "control")
+is_reserved attr_type = (str_eq_ignore_ascii_case attr_type (codes "dn") || str_eq_ignore_ascii_case attr_type (codes "changetype")) || str_eq_ignore_ascii_case attr_type (codes "control")
 
--- the set of options, in lower case
-abbrev pub options_read : List (List ℕ) → Result (List (List ℕ)) NameFault
-options_read options = cond (list_all is_option options) (Ok (set_of bytes_cmp (map str_to_ascii_lowercase options))) (Err BadDescription)
+-- the options as a set, in lower case
+abbrev pub option_set : List (List ℕ) → Result (List (List ℕ)) NameFault
+option_set options = cond (list_all is_option options) (Ok (set_of bytes_cmp (map str_to_ascii_lowercase options))) (Err BadDescription)
 
--- a description, by its type and its options. A text that is none comes before a type that is reserved
+-- the description of this type and these options. BadDescription comes before ReservedName
 abbrev pub description_from : List TypeRow → List ℕ → List (List ℕ) → Result Described NameFault
 description_from rows text [] = Err BadDescription
-description_from rows text (kind ∷ options) =
-    cond (is_type kind && list_all is_option options)
-    (cond (is_reserved kind) (Err ReservedName) (Ok (record { spelling = text; key = record { kind = type_key_of rows kind; options = set_of bytes_cmp (map str_to_ascii_lowercase options) } })))
+description_from rows text (attr_type ∷ options) =
+    cond (is_type attr_type && list_all is_option options)
+    (cond (is_reserved attr_type) (Err ReservedName) (Ok (record { spelling = text; key = record { attr_type = type_key_of rows attr_type; options = set_of bytes_cmp (map str_to_ascii_lowercase options) } })))
     (Err BadDescription)
 
--- the description that a text of at most 512 bytes spells
+-- the description that a text spells; BadDescription, too, for a text of more than 512 bytes
 abbrev pub description_of : List TypeRow → List ℕ → Result Described NameFault
-description_of rows text = cond (nat_le (length text) 512) (description_from rows text (parts_at 59 text)) (Err BadDescription)
+description_of rows text = cond (nat_le (length text) 512) (description_from rows text (parts_at semicolon text)) (Err BadDescription)

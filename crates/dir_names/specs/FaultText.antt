@@ -1,4 +1,4 @@
--- The number and the name by which a fault of a name is told.
+-- What a `NameFault` shows: its number and its name.
 use Rattle.std.specs.Prelude.{ℕ, List, codes}
 use Rattle.dir_names.specs.declared.fault.NameFault.{NameFault}
 use Rattle.dir_names.specs.declared.fault.NameFault.TheVariants.{BadDescription, ReservedName, BadValue, BadDn, NameLimit, Memory}

@@ -7,15 +7,15 @@ use Rattle.dir_names.specs.Attr.{Attr}
 use Rattle.dir_names.specs.Orders.{attr_cmp}
 use Rattle.dir_names.specs.Sorted.{rises}
 
--- what an RDN is compared by: its pairs of attribute and value key, in order, as a set of them
+-- what an RDN is compared by: the set of its pairs of attribute and value key
 abbrev pub RdnKeys : Type 0
 RdnKeys = List (Attr × List ℕ)
 
--- the pairs stand in the order of their attributes, and no attribute stands twice
+-- the pairs are in the order of their attributes, and no attribute occurs twice
 abbrev pub is_rdn_key : RdnKeys → Bool
 is_rdn_key pairs = rises attr_cmp (map (λ p. p.0) pairs)
 
--- the set with one pair more, unless its attribute is there (RFC 4512, section 2.3.1: no type stands twice in an RDN)
+-- the set with one pair more, unless its attribute is there already (RFC 4512, section 2.3.1: no two values of an RDN have the same type)
 abbrev pub with_pair : Attr → List ℕ → RdnKeys → Result RdnKeys NameFault
 with_pair attr value pairs = cond (is_some (find attr_cmp attr pairs)) (Err BadDn) (Ok (put attr_cmp attr value pairs))
 
@@ -23,15 +23,15 @@ with_pair attr value pairs = cond (is_some (find attr_cmp attr pairs)) (Err BadD
 abbrev pub DnKeys : Type 0
 DnKeys = List RdnKeys
 
--- the name is `above`, or stands below it
+-- the name is `above`, or an entry of this name would be below it
 abbrev pub IsAtOrBelow : DnKeys → DnKeys → Type 0
 IsAtOrBelow key above = (rest : DnKeys) × (key ≡ above ++ rest)
 
--- the second name stands directly below the first
+-- the first name is that of the parent of the second
 abbrev pub IsParent : DnKeys → DnKeys → Type 0
 IsParent above key = (part : RdnKeys) × (key ≡ above ++ part ∷ [])
 
--- the name above, if there is one
+-- the name of the parent, if there is one
 abbrev pub parent_of : DnKeys → Option DnKeys
 parent_of [] = None
 parent_of (part ∷ parts) = Some (take (length parts) (part ∷ parts))

@@ -1,4 +1,15 @@
--- Names as they are spelled (RFC 4514, section 2): lists of RDNs, leaf first, each a list of pairs of type and value.
+-- Names as spelled (RFC 4514, section 2): lists of RDNs, leaf first, each a list of pairs of type and value.
+--     Spells      which name a text spells, as the grammar; Escapes has its characters
+--     Reading     the same as a computation
+--     Printing    the text of a name
+--     Limits      how long a name may be
+--     Sound       what holds of every `Rdn` and `Dn`
+pub mod Escapes
+pub mod Limits
+pub mod Printing
+pub mod Reading
+pub mod Sound
+pub mod Spells
 use Rattle.std.specs.Prelude.{◌≡◌, ℕ, Bool, ◌&&◌, List, Decides}
 use Rattle.std.specs.Cmp.{IsEquivalence, IsPartialEquivalence, partial_equiv_from_equiv, and_equiv, on_equiv, nat_eq_equiv}
 use Rattle.std.specs.Cmp.Lexicographic.{pointwise, lists_equiv, pointwise_decides}
@@ -46,7 +57,7 @@ spelled_pair_eq_decides p q = (
   λ e i. (bytes_eq_decides p.0 q.0).1 (ap (λ u. u.0) e) i && (bytes_eq_decides p.1 q.1).1 (ap (λ u. u.1) e) i,
 )
 
--- names that the test finds equal are spelled alike
+-- names that `==` finds equal are spelled alike
 pub rdn_eq_decides : (x y : SpelledRdn) → Decides (rdn_eq x y) (x ≡ y)
 rdn_eq_decides = pointwise_decides spelled_pair_eq_decides
 

@@ -1,8 +1,8 @@
 -- The orders of texts, of the keys of attributes, of RDNs, of names and of values, each with its laws:
 --     _total      a total order
---     _eq, _ties  the test for equality, which holds exactly where the order answers `Equal`
---     _exact      only equal values tie
---     _decides    the test for equality decides it
+--     _eq, _ties  `==`, which holds exactly where the order answers `Equal`
+--     _exact      the order answers `Equal` for equal values only
+--     _decides    `==` decides equality
 -- Texts are ordered by their bytes, and lists by their elements, a prefix first.
 use Rattle.std.specs.Prelude.{◌≡◌, ℕ, Bool, ◌&&◌, List, nat_eq, Decides}
 use Rattle.std.proofs.Common.{sym, ap, subst, ◌∙◌}
@@ -52,21 +52,21 @@ texts_cmp_exact = slice_cmp-IsAntisymmetric bytes_cmp_exact
 -- ---- keys of attribute descriptions: by type, then by options
 
 abbrev pub attr_cmp : Attr → Attr → Ordering
-attr_cmp a b = ordering_then (bytes_cmp a.kind b.kind) (texts_cmp a.options b.options)
+attr_cmp a b = ordering_then (bytes_cmp a.attr_type b.attr_type) (texts_cmp a.options b.options)
 
 abbrev pub attr_eq : Attr → Attr → Bool
-attr_eq a b = bytes_eq a.kind b.kind && texts_eq a.options b.options
+attr_eq a b = bytes_eq a.attr_type b.attr_type && texts_eq a.options b.options
 
 pub attr_cmp_total : IsTotalOrder attr_cmp
-attr_cmp_total = then_total (on_total (λ (a : Attr). a.kind) bytes_cmp_total) (on_total (λ (a : Attr). a.options) texts_cmp_total)
+attr_cmp_total = then_total (on_total (λ (a : Attr). a.attr_type) bytes_cmp_total) (on_total (λ (a : Attr). a.options) texts_cmp_total)
 
 pub attr_cmp_ties : (a b : Attr) → attr_eq a b ≡ eq_by_cmp attr_cmp a b
-attr_cmp_ties a b = both_tied _ _ (bytes_cmp a.kind b.kind) (texts_cmp a.options b.options) (bytes_cmp_ties a.kind b.kind) (texts_cmp_ties a.options b.options)
+attr_cmp_ties a b = both_tied _ _ (bytes_cmp a.attr_type b.attr_type) (texts_cmp a.options b.options) (bytes_cmp_ties a.attr_type b.attr_type) (texts_cmp_ties a.options b.options)
 
 pub attr_cmp_exact : IsAntisymmetric attr_cmp
 attr_cmp_exact a b e =
-    let same : ◌≡◌ {A = List ℕ × List (List ℕ)} (a.kind, a.options) (b.kind, b.options) = exact_pairs bytes_cmp texts_cmp bytes_cmp_exact texts_cmp_exact (a.kind, a.options) (b.kind, b.options) e in
-    λ i. record { kind = (same i).0; options = (same i).1 }
+    let same : ◌≡◌ {A = List ℕ × List (List ℕ)} (a.attr_type, a.options) (b.attr_type, b.options) = exact_pairs bytes_cmp texts_cmp bytes_cmp_exact texts_cmp_exact (a.attr_type, a.options) (b.attr_type, b.options) e in
+    λ i. record { attr_type = (same i).0; options = (same i).1 }
 
 -- ---- keys of RDNs: lists of pairs of attribute and value, in order
 
@@ -100,7 +100,7 @@ rdn_key_cmp_ties = lists_ties pair_cmp pair_cmp_ties
 pub rdn_key_cmp_exact : IsAntisymmetric rdn_key_cmp
 rdn_key_cmp_exact = slice_cmp-IsAntisymmetric pair_cmp_exact
 
--- ---- keys of names: lists of keys of RDNs, root first, so that a name comes before what is below it
+-- ---- keys of names: lists of keys of RDNs, root first, so that a name comes before all names below it
 
 abbrev pub dn_key_cmp : List (List (Attr × List ℕ)) → List (List (Attr × List ℕ)) → Ordering
 dn_key_cmp = slice_cmp rdn_key_cmp
@@ -117,7 +117,7 @@ dn_key_cmp_ties = lists_ties rdn_key_cmp rdn_key_cmp_ties
 pub dn_key_cmp_exact : IsAntisymmetric dn_key_cmp
 dn_key_cmp_exact = slice_cmp-IsAntisymmetric rdn_key_cmp_exact
 
--- ---- the tests for equality decide it
+-- ---- `==` decides equality
 
 pub exact_decides : {K : Type 0} {E : K → K → Bool} (R : K → K → Ordering) → IsTotalOrder R → ((x y : K) → E x y ≡ eq_by_cmp R x y) → IsAntisymmetric R → (x y : K) → Decides (E x y) (x ≡ y)
 exact_decides R o t same x y =

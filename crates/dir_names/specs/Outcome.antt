@@ -1,24 +1,30 @@
--- What a call that may run out of memory answers, beside what a definition says.
-use Rattle.std.specs.Prelude.{◌≡◌, Result, Ok, Err}
+-- What a call that may answer a `NameFault` meets.
+use Rattle.std.specs.Prelude.{◌≡◌, Option, ok_or, Result, Err}
 use Rattle.dir_names.specs.declared.fault.NameFault.{NameFault}
 use Rattle.dir_names.specs.declared.fault.NameFault.TheVariants.{BadDescription, ReservedName, BadValue, BadDn, NameLimit, Memory}
+use Rattle.dir_names.specs.Results.{Meets}
 
 module _ {A : Type 0} where
-  -- a fault is the definition's, unless it is want of memory
-  abbrev pub Fails : NameFault → Result A NameFault → Type 0
-  Fails BadDescription wanted = wanted ≡ Err BadDescription
-  Fails ReservedName wanted = wanted ≡ Err ReservedName
-  Fails BadValue wanted = wanted ≡ Err BadValue
-  Fails BadDn wanted = wanted ≡ Err BadDn
-  Fails NameLimit wanted = wanted ≡ Err NameLimit
-  Fails Memory wanted = Unit {0}
+  -- the fault is the definition's, or memory ran out
+  abbrev pub IsNameFaultOf : NameFault → Result A NameFault → Type 0
+  IsNameFaultOf BadDescription wanted = wanted ≡ Err BadDescription
+  IsNameFaultOf ReservedName wanted = wanted ≡ Err ReservedName
+  IsNameFaultOf BadValue wanted = wanted ≡ Err BadValue
+  IsNameFaultOf BadDn wanted = wanted ≡ Err BadDn
+  IsNameFaultOf NameLimit wanted = wanted ≡ Err NameLimit
+  IsNameFaultOf Memory wanted = Unit {0}
 
-  -- the answer of a call, seen by `view`, is the definition's, unless memory ran out
+  -- the answer of a call, seen by `view`, is the definition's, value or fault, unless memory ran out
   abbrev pub Gives : {T : Type 0} → (T → A) → Result T NameFault → Result A NameFault → Type 0
-  Gives view (Ok x) wanted = wanted ≡ Ok (view x)
-  Gives view (Err e) wanted = Fails e wanted
+  Gives view result wanted = Meets IsNameFaultOf view result wanted
 
--- any fault but want of memory, as one of names
+abbrev pub ok_or_bad_dn : {A : Type 0} → Option A → Result A NameFault
+ok_or_bad_dn o = ok_or o BadDn
+
+abbrev pub ok_or_bad_value : {A : Type 0} → Option A → Result A NameFault
+ok_or_bad_value o = ok_or o BadValue
+
+-- a fault of a part of a name, as one of the name: only running out of memory stays what it is
 abbrev pub as_bad_dn : NameFault → NameFault
 as_bad_dn BadDescription = BadDn
 as_bad_dn ReservedName = BadDn

@@ -1,13 +1,13 @@
 -- Lists in strictly rising order of their keys, as sets and as maps.
 --     rises R ks        whether each key is below those after it
---     place R k ks      `Ok` of where the key stands, or `Err` of where it would
+--     place R k ks      `Ok` with the index of the key, or `Err` with the index at which it would be put in
 --     with_member, set_of      a set as the list of its members in order
 use Rattle.std.specs.Prelude.{ℕ, suc, Bool, true, ◌&&◌, List, [], ◌∷◌, Result, Ok, Err}
 use Rattle.std.specs.declared.cmp.Ordering.{Ordering}
 use Rattle.std.specs.Ordering.{is_lt, match_ordering}
 use Rattle.std.specs.List.{list_all, fold}
 
--- one place later
+-- an index, one later
 abbrev pub later : Result ℕ ℕ → Result ℕ ℕ
 later (Ok i) = Ok (suc i)
 later (Err i) = Err (suc i)

@@ -1,4 +1,5 @@
--- What a table of attribute types says of a type.
+-- What a table of attribute types says of a type. `Builtin` has the table itself.
+pub mod Builtin
 use Rattle.std.specs.Prelude.{ℕ, Bool, false, List, Option, Some, None, find}
 use Rattle.std.specs.List.{list_any}
 use Rattle.std.specs.Str.{str_to_ascii_lowercase, str_eq_ignore_ascii_case}
@@ -8,23 +9,23 @@ use Rattle.dir_names.specs.declared.schema.TypeRow.{TypeRow}
 use Rattle.dir_names.specs.Attr.{Attr}
 use Rattle.dir_names.specs.Orders.{bytes_eq}
 
--- the row that a name or a number names, without regard to ASCII case (RFC 4512, section 2.5)
+-- the row that a name or a number names, in any ASCII case (RFC 4512, section 2.5)
 abbrev pub row_named : List TypeRow → List ℕ → Option TypeRow
-row_named rows kind = find (λ row. list_any (λ name. str_eq_ignore_ascii_case name kind) row.names) rows
+row_named rows attr_type = find (λ row. list_any (λ name. str_eq_ignore_ascii_case name attr_type) row.names) rows
 
--- the key of a type: the primary name of its row in lower case, or the text itself in lower case for a type of its own
+-- the key of a type: the primary name of its row in lower case, or, for a type without a row, the text itself in lower case
 abbrev pub key_in : Option TypeRow → List ℕ → List ℕ
-key_in (Some row) kind = row.key
-key_in None kind = str_to_ascii_lowercase kind
+key_in (Some row) attr_type = row.key
+key_in None attr_type = str_to_ascii_lowercase attr_type
 
 abbrev pub type_key_of : List TypeRow → List ℕ → List ℕ
-type_key_of rows kind = key_in (row_named rows kind) kind
+type_key_of rows attr_type = key_in (row_named rows attr_type) attr_type
 
 -- the row of an attribute's type
 abbrev pub row_of : List TypeRow → Attr → Option TypeRow
-row_of rows attr = find (λ row. bytes_eq row.key attr.kind) rows
+row_of rows attr = find (λ row. bytes_eq row.key attr.attr_type) rows
 
--- a type that is not in the table compares its values byte by byte, and takes any number of them
+-- values of a type without a row are compared byte by byte, and an attribute of it takes any number of them
 abbrev pub rule_in : Option TypeRow → Rule
 rule_in (Some row) = row.rule
 rule_in None = Octet

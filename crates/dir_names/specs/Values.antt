@@ -1,4 +1,4 @@
--- The order of the keys of values: texts by their bytes, then names, each with its laws as in `Orders`.
+-- The order of the keys of values, with its laws as in `Orders`: texts by their bytes, then names.
 use Rattle.std.specs.Prelude.{◌≡◌, ℕ, Bool, false, List, refl, Option, Some, None, Decides}
 use Rattle.std.proofs.Common.{ap, true≢false}
 use Rattle.std.specs.declared.cmp.Ordering.{Ordering}

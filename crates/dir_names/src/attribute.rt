@@ -1,17 +1,22 @@
+//! Attribute descriptions as they are spelled, and what they mean (RFC 4512, section 2.5).
+
 ghost use Rattle.std.specs.Cmp.{partial_order_from_agreeing_total};
 ghost use Rattle.std.specs.List.{before_first, list_all, list_any};
 ghost use Rattle.std.specs.Ordering.{as_partial_cmp};
 ghost use Rattle.std.specs.Prelude.{◌≡◌, ◌↔◌, IsTrue, Ok, refl, ◌==◌, [], ◌∷◌, option_copied, position};
 ghost use Rattle.std.specs.Str.{str_to_ascii_lowercase};
+ghost use Rattle.dir_names.specs.Ascii.{dot, semicolon};
 ghost use Rattle.dir_names.specs.Covers.{Covers, covers};
-ghost use Rattle.dir_names.specs.Cut.{behind_first, parts_at, parts_left};
+ghost use Rattle.dir_names.specs.Cut.{after_first_separator, parts_at};
+ghost use Rattle.dir_names.specs.Inside.Left.{parts_left};
 ghost use Rattle.dir_names.specs.Described.{described_eq, described_eq_laws, partial_described_eq_laws};
-ghost use Rattle.dir_names.specs.Descriptions.{is_digit, is_keychar, is_name, is_decimal, is_number, is_type, is_option, is_reserved, options_read, description_of};
+ghost use Rattle.dir_names.specs.Descriptions.{description_of, is_descr, is_digit, is_keychar, is_number, is_numericoid, is_option, is_reserved, is_type, option_set};
 ghost use Rattle.dir_names.specs.Orders.{bytes_cmp, bytes_eq, attr_cmp, attr_eq, attr_cmp_total, attr_cmp_ties, tied_equiv, tied_per};
 ghost use Rattle.dir_names.specs.Outcome.{Gives};
 ghost use Rattle.dir_names.specs.Sorted.{rises, with_member};
 
 use crate::limits::MAX_DESCRIPTION;
+use crate::value::folding::lowercase_copy;
 use crate::{Bytes, NameFault, Schema, Texts};
 use std::alloc::Global;
 use std::cmp::Ordering;
@@ -27,7 +32,7 @@ pub struct AttrKey {
 
 #[derive(Debug, Drop)]
 struct AttrParts {
-    kind: Bytes,
+    attr_type: Bytes,
     options: Texts,
 }
 
@@ -36,21 +41,21 @@ impl Model for AttrKey {
 
     ghost Value = { Attr };
 
-    ghost view = { λ a. record { kind = a.shared.value.kind; options = a.shared.value.options } };
+    ghost view = { λ a. record { attr_type = a.shared.value.attr_type; options = a.shared.value.options } };
 }
 
 impl AttrKey {
-    /// Whether each attribute of key `other` is one of this key too: the types are the same, and
-    /// all options of this key are among those of `other` (RFC 4512, section 2.5.2.1).
+    /// Whether an attribute described by `other` is described by this key too: the types are the same,
+    /// and all options of this key are among those of `other` (RFC 4512, section 2.5.2.1).
     pub fn covers(&self, other: &AttrKey) -> bool
         ensures value { result ≡ covers self.now other.now }
         ensures meaning { IsTrue result ↔ Covers self.now other.now }
     {
-        self.shared.kind == other.shared.kind && is_subset(self.options(), other.options())
+        self.shared.attr_type == other.shared.attr_type
+            && is_subset(self.options(), other.options())
     }
 
-    /// The same key, in the same memory. The one fault is `Memory`, where it has no count for one copy
-    /// more.
+    /// The same key, in the same memory. The one fault is `Memory`, if no more copies can be counted.
     pub fn try_clone(&self, _alloc: Global) -> Result<AttrKey, NameFault>
         ensures { Gives (λ key. key) result (Ok self.now) }
     {
@@ -60,24 +65,24 @@ impl AttrKey {
     }
 
     /// The key of a type without options.
-    pub(crate) fn of_type(alloc: Global, kind: Bytes) -> Result<AttrKey, NameFault>
-        ensures { Gives (λ key. key) result (Ok (record { kind = kind; options = [] })) }
+    pub(crate) fn of_type(alloc: Global, attr_type: Bytes) -> Result<AttrKey, NameFault>
+        ensures { Gives (λ key. key) result (Ok (record { attr_type = attr_type; options = [] })) }
     {
-        AttrKey::of(alloc, kind, Texts::new(Vec::new(alloc)))
+        AttrKey::of(alloc, attr_type, Texts::new(Vec::new(alloc)))
     }
 
-    fn of(alloc: Global, kind: Bytes, options: Texts) -> Result<AttrKey, NameFault>
-        ensures { Gives (λ key. key) result (Ok (record { kind = kind; options = options })) }
+    fn of(alloc: Global, attr_type: Bytes, options: Texts) -> Result<AttrKey, NameFault>
+        ensures { Gives (λ key. key) result (Ok (record { attr_type = attr_type; options = options })) }
     {
         Ok(AttrKey {
-            shared: Rc::new(alloc, AttrParts { kind, options })?,
+            shared: Rc::new(alloc, AttrParts { attr_type, options })?,
         })
     }
 
-    pub(crate) fn kind(&self) -> &[u8]
-        ensures { result.now ≡ self.now.kind }
+    pub(crate) fn attr_type(&self) -> &[u8]
+        ensures { result.now ≡ self.now.attr_type }
     {
-        self.shared.kind.as_slice()
+        self.shared.attr_type.as_slice()
     }
 
     pub(crate) fn options(&self) -> &[Bytes]
@@ -93,7 +98,8 @@ impl PartialEq for AttrKey {
     ghost laws = { tied_per attr_cmp attr_cmp_total attr_cmp_ties };
 
     fn eq(&self, other: &AttrKey) -> bool {
-        self.shared.kind == other.shared.kind && self.shared.options == other.shared.options
+        self.shared.attr_type == other.shared.attr_type
+            && self.shared.options == other.shared.options
     }
 }
 
@@ -122,8 +128,8 @@ impl Ord for AttrKey {
 
     fn cmp(&self, other: &AttrKey) -> Ordering {
         self.shared
-            .kind
-            .cmp(&other.shared.kind)
+            .attr_type
+            .cmp(&other.shared.attr_type)
             .then_with(|| self.shared.options.cmp(&other.shared.options))
     }
 }
@@ -139,14 +145,14 @@ fn is_subset(some: &[Bytes], all: &[Bytes]) -> bool
     true
 }
 
-/// An attribute description as it was spelled, with its key. Copies share its memory.
+/// An attribute description as spelled, with its key. Copies share its memory.
 #[derive(Debug, Drop)]
 pub struct Description {
-    shared: Rc<Spelled>,
+    shared: Rc<DescriptionParts>,
 }
 
 #[derive(Debug, Drop)]
-struct Spelled {
+struct DescriptionParts {
     spelling: Bytes,
     key: AttrKey,
 }
@@ -164,28 +170,29 @@ impl Description {
     ///
     /// # Errors
     ///
-    /// `BadDescription` where the text is none, `ReservedName` for `dn`, `changetype` and `control`.
+    /// `BadDescription` if the text is not a description; else `ReservedName` if its type is `dn`,
+    /// `changetype` or `control`.
     pub fn read(alloc: Global, schema: &Schema, text: &[u8]) -> Result<Description, NameFault>
         ensures { Gives (λ description. description) result (description_of schema.now text.now) }
     {
-        if let Some(ready) = schema.ready(text) {
-            return ready.try_clone(alloc);
+        if let Some(frequent) = schema.frequent(text) {
+            return frequent.try_clone(alloc);
         }
         if text.len() > MAX_DESCRIPTION {
             return Err(NameFault::BadDescription);
         }
-        let (kind, more) = cut(text, b';');
-        if !is_type(kind) {
+        let (attr_type, more) = split_once(text, b';');
+        if !is_type(attr_type) {
             return Err(NameFault::BadDescription);
         }
         let options = options_of(alloc, more)?;
-        if is_reserved(kind) {
+        if is_reserved(attr_type) {
             return Err(NameFault::ReservedName);
         }
         let spelling = Bytes::copy_of(alloc, text)?;
-        let key = AttrKey::of(alloc, schema.type_key(alloc, kind)?, options)?;
+        let key = AttrKey::of(alloc, schema.type_key(alloc, attr_type)?, options)?;
         Ok(Description {
-            shared: Rc::new(alloc, Spelled { spelling, key })?,
+            shared: Rc::new(alloc, DescriptionParts { spelling, key })?,
         })
     }
 
@@ -229,46 +236,46 @@ impl Eq for Description {
 fn is_option(text: &[u8]) -> bool
     ensures { result ≡ is_option text.now }
 {
-    !text.is_empty() && is_keychars(text)
+    !text.is_empty() && are_keychars(text)
 }
 
-/// Whether the text is an attribute type: a name or a number, without options.
+/// `oid`: a `descr` or a `numericoid`, without options (RFC 4512, section 1.4).
 pub(crate) fn is_type(text: &[u8]) -> bool
     ensures { result ≡ is_type text.now }
 {
-    (is_name(text) || is_number(text)) && text.len() <= MAX_DESCRIPTION
+    (is_descr(text) || is_numericoid(text)) && text.len() <= MAX_DESCRIPTION
 }
 
 /// `descr`: a letter followed by letters, digits and hyphens (RFC 4512, section 1.4).
-fn is_name(text: &[u8]) -> bool
-    ensures { result ≡ is_name text.now }
+fn is_descr(text: &[u8]) -> bool
+    ensures { result ≡ is_descr text.now }
 {
     let Some((first, rest)) = text.split_first() else {
         return false;
     };
-    first.is_ascii_alphabetic() && is_keychars(rest)
+    first.is_ascii_alphabetic() && are_keychars(rest)
 }
 
-fn is_keychars(text: &[u8]) -> bool
+fn are_keychars(text: &[u8]) -> bool
     ensures { result ≡ list_all is_keychar text.now }
 {
     text.iter().all(|b| b.is_ascii_alphanumeric() || *b == b'-')
 }
 
-/// `numericoid`: two or more decimal numbers without leading zeros, joined by dots.
-fn is_number(text: &[u8]) -> bool
-    ensures { result ≡ is_number text.now }
+/// `numericoid`: two or more numbers, joined by dots.
+fn is_numericoid(text: &[u8]) -> bool
+    ensures { result ≡ is_numericoid text.now }
 {
-    text.contains(&b'.') && are_decimals(Some(text))
+    text.contains(&b'.') && are_numbers(Some(text))
 }
 
-fn are_decimals(text: Option<&[u8]>) -> bool
-    ensures { result ≡ list_all is_decimal (parts_left 46 (option_copied text.entry)) }
+fn are_numbers(text: Option<&[u8]>) -> bool
+    ensures { result ≡ list_all is_number (parts_left dot (option_copied text.entry)) }
 {
     let mut rest = text;
     while let Some(more) = rest {
-        let (part, after) = cut(more, b'.');
-        if !is_decimal(part) {
+        let (part, after) = split_once(more, b'.');
+        if !is_number(part) {
             return false;
         }
         rest = after;
@@ -276,8 +283,9 @@ fn are_decimals(text: Option<&[u8]>) -> bool
     true
 }
 
-fn is_decimal(text: &[u8]) -> bool
-    ensures { result ≡ is_decimal text.now }
+/// `number`: `0`, or digits that don't begin with 0.
+fn is_number(text: &[u8]) -> bool
+    ensures { result ≡ is_number text.now }
 {
     let Some((first, rest)) = text.split_first() else {
         return false;
@@ -291,60 +299,58 @@ pub(crate) fn are_digits(text: &[u8]) -> bool
     text.iter().all(|b| b.is_ascii_digit())
 }
 
-/// The types that LDIF keeps for its own lines.
-pub(crate) fn is_reserved(kind: &[u8]) -> bool
-    ensures { result ≡ is_reserved kind.now }
+/// The words that LDIF uses for its own lines.
+pub(crate) fn is_reserved(attr_type: &[u8]) -> bool
+    ensures { result ≡ is_reserved attr_type.now }
 {
-    kind.eq_ignore_ascii_case(b"dn")
-        || kind.eq_ignore_ascii_case(b"changetype")
-        || kind.eq_ignore_ascii_case(b"control")
+    attr_type.eq_ignore_ascii_case(b"dn")
+        || attr_type.eq_ignore_ascii_case(b"changetype")
+        || attr_type.eq_ignore_ascii_case(b"control")
 }
 
-pub(crate) fn lower(alloc: Global, text: &[u8]) -> Result<Bytes, NameFault>
+pub(crate) fn lowercase_bytes(alloc: Global, text: &[u8]) -> Result<Bytes, NameFault>
     ensures { Gives (λ copy. copy) result (Ok (str_to_ascii_lowercase text.now)) }
 {
-    let mut copy = text.to_vec(alloc)?;
-    copy.as_mut_slice().make_ascii_lowercase();
-    Ok(Bytes::new(copy))
+    Ok(Bytes::new(lowercase_copy(alloc, text)?))
 }
 
-/// The set of the options that stand behind a type, in lower case.
+/// The set of the options after a type, in lower case.
 fn options_of(alloc: Global, text: Option<&[u8]>) -> Result<Texts, NameFault>
-    ensures { Gives (λ options. options) result (options_read (parts_left 59 (option_copied text.entry))) }
+    ensures { Gives (λ options. options) result (option_set (parts_left semicolon (option_copied text.entry))) }
 {
     let mut options = Vec::new(alloc);
     let mut rest = text;
     while let Some(more) = rest {
-        let (option, after) = cut(more, b';');
+        let (option, after) = split_once(more, b';');
         if !is_option(option) {
             return Err(NameFault::BadDescription);
         }
-        put_option(&mut options, lower(alloc, option)?)?;
+        insert_option(&mut options, lowercase_bytes(alloc, option)?)?;
         rest = after;
     }
     Ok(Texts::new(options))
 }
 
 /// The text before the first separator, and the text after it if there is one.
-pub(crate) fn cut(text: &[u8], separator: u8) -> (&[u8], Option<&[u8]>)
+pub(crate) fn split_once(text: &[u8], separator: u8) -> (&[u8], Option<&[u8]>)
     ensures before { result.0.now ≡ before_first (λ b. b == separator) text.now }
-    ensures after { option_copied result.1 ≡ behind_first separator text.now }
+    ensures after { option_copied result.1 ≡ after_first_separator separator text.now }
     ensures parts { parts_at separator text.now ≡ result.0.now ∷ parts_left separator (option_copied result.1) }
 {
-    match first_at(text, separator) {
+    match position_of(text, separator) {
         Some(at) => (&text[..at], Some(&text[at + 1..])),
         None => (text, None),
     }
 }
 
-fn first_at(text: &[u8], separator: u8) -> Option<usize>
+fn position_of(text: &[u8], separator: u8) -> Option<usize>
     ensures { result ≡ position (λ b. b == separator) text.now }
 {
     text.iter().position(|b| *b == separator)
 }
 
-/// Puts an option into a set.
-fn put_option(options: &mut Vec<Bytes>, option: Bytes) -> Result<(), NameFault>
+/// Inserts an option into a set.
+fn insert_option(options: &mut Vec<Bytes>, option: Bytes) -> Result<(), NameFault>
     requires { IsTrue (rises bytes_cmp options.old.items) }
     ensures { Gives (λ _. options.new.items) result (Ok (with_member bytes_cmp option options.old.items)) }
 {

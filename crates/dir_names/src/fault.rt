@@ -1,27 +1,31 @@
+//! The faults of this crate.
+
 ghost use Rattle.std.specs.Prelude.{◌≡◌};
 ghost use Rattle.dir_names.specs.Outcome.{as_bad_dn};
 ghost use Rattle.dir_names.specs.declared.fault.NameFault.TheVariants.{Memory};
 ghost use Rattle.dir_names.specs.FaultText.{name_fault_text};
 ghost use Rattle.std.specs.Prelude.{Some};
 
+pub(crate) mod memory;
+
 use std::alloc::{AllocError, AllocFailed};
 use std::error::Error;
 use std::fmt;
 
-/// Why a text is no description, value or name.
+/// Why a text is not a description, a value or a name.
 #[derive(Clone, Copy, PartialEq, Eq, Debug)]
 pub enum NameFault {
-    /// The text is no attribute description (RFC 4512, section 2.5), or is longer than 512 bytes.
+    /// The text is not an attribute description (RFC 4512, section 2.5), or is longer than 512 bytes.
     BadDescription,
     /// The description is of a type that LDIF reserves: `dn`, `changetype` or `control`.
     ReservedName,
     /// The value has no comparison key under the rule of its type.
     BadValue,
-    /// The text is no distinguished name (RFC 4514), or the name has no key.
+    /// The text is not a distinguished name (RFC 4514), or the name has no key.
     BadDn,
     /// The name has more than 64 RDNs, or one that prints to more than 4,096 bytes.
     NameLimit,
-    /// No memory is left.
+    /// Memory ran out.
     Memory,
 }
 
@@ -58,7 +62,7 @@ impl<T: Drop> From<AllocFailed<T>> for NameFault {
     }
 }
 
-/// The fault of a name in which a part has a fault.
+/// The fault of a name that has a part with this fault.
 pub(crate) fn as_bad_dn(fault: NameFault) -> NameFault
     ensures { result ≡ as_bad_dn fault }
 {

@@ -1,3 +1,5 @@
+//! What names and RDNs are compared by. `sorting` has the texts that make a comparison one pass over bytes.
+
 ghost use Rattle.std.specs.Cmp.{partial_order_from_agreeing_total};
 ghost use Rattle.std.specs.Ordering.{as_partial_cmp};
 ghost use Rattle.std.specs.Prelude.{◌≡◌, ◌↔◌, [], ◌∷◌, ◌++◌, IsTrue, Ok, refl, length};
@@ -5,15 +7,17 @@ ghost use Rattle.dir_names.specs.Keys.{is_rdn_key, with_pair, IsAtOrBelow, IsPar
 ghost use Rattle.dir_names.specs.Orders.{rdn_key_cmp, rdn_key_eq, rdn_key_cmp_total, rdn_key_cmp_ties, dn_key_cmp, dn_key_eq, dn_key_cmp_total, dn_key_cmp_ties, tied_equiv, tied_per};
 ghost use Rattle.dir_names.specs.Outcome.{Gives};
 
-use crate::few::Few;
-use crate::sorting::{put_name, put_part};
+pub(crate) mod sorting;
+
+use crate::key::sorting::{put_name, put_part};
+use crate::list::few::Few;
 use crate::{AttrKey, Bytes, NameFault};
 use std::alloc::Global;
 use std::cmp::Ordering;
 use std::marker::Model;
 use std::rc::Rc;
 
-/// The pairs of type key and value key of an RDN, in order.
+/// The pairs of attribute and value key of an RDN, in order.
 #[derive(Debug, Drop)]
 pub(crate) struct PairSet {
     pairs: Few<(AttrKey, Bytes)>,
@@ -26,12 +30,12 @@ impl Model for PairSet {
     ghost Value = { List (Attr × List ℕ) };
 
     ghost use Rattle.std.specs.Prelude.{IsTrue};
-    ghost use Rattle.dir_names.specs.Few.{listed};
+    ghost use Rattle.dir_names.specs.Inside.Few.{few_items};
     ghost use Rattle.dir_names.specs.Keys.{is_rdn_key};
 
-    ghost view = { λ set. listed set.pairs };
+    ghost view = { λ set. few_items set.pairs };
 
-    ghost invariant = { λ set. IsTrue (is_rdn_key (listed set.pairs)) };
+    ghost invariant = { λ set. IsTrue (is_rdn_key (few_items set.pairs)) };
 }
 
 impl PairSet {
@@ -41,7 +45,7 @@ impl PairSet {
         PairSet { pairs: Few::None }
     }
 
-    /// The set with one pair more, unless its type is there.
+    /// The set with one pair more, or `BadDn` if its type is there already.
     pub(crate) fn with(
         self,
         alloc: Global,
@@ -67,8 +71,8 @@ impl PairSet {
     }
 }
 
-/// What an RDN is compared by: the set of its pairs of type key and value key, in order. Copies share
-/// its memory.
+/// What an RDN is compared by: the set of its pairs of attribute and value key, in order. Copies
+/// share its memory.
 #[derive(Debug, Drop)]
 pub struct RdnKey {
     set: Rc<PairSet>,
@@ -84,7 +88,7 @@ impl Model for RdnKey {
 }
 
 impl RdnKey {
-    /// The pairs in order of their keys. No type stands twice.
+    /// The pairs in order of their keys. No type occurs twice.
     pub fn pairs(&self) -> &[(AttrKey, Bytes)]
         ensures value { result.now ≡ self.now }
         ensures set { IsTrue (is_rdn_key self.now) }
@@ -148,7 +152,7 @@ impl Ord for RdnKey {
     }
 }
 
-/// The keys of the RDNs of a name, root first, and a text that is ordered as they are.
+/// The keys of the RDNs of a name, root first, and the text that the name is ordered by.
 #[derive(Debug, Drop)]
 struct NameKey {
     parts: Vec<RdnKey>,
@@ -164,7 +168,7 @@ impl Model for NameKey {
     ghost view = { λ key. key.parts.items };
 
     ghost use Rattle.std.specs.Prelude.{◌≡◌};
-    ghost use Rattle.dir_names.specs.SortTexts.{name_sort};
+    ghost use Rattle.dir_names.specs.Inside.SortTexts.{name_sort};
 
     ghost invariant = { λ key. key.sort.items ≡ name_sort key.parts.items };
 }
@@ -208,7 +212,7 @@ impl NameKey {
     }
 }
 
-/// What a name is compared by: the keys of its RDNs, root first, so that a name comes before what is
+/// What a name is compared by: the keys of its RDNs, root first, so that a name comes before all names
 /// below it. Copies share its memory.
 #[derive(Debug, Drop)]
 pub struct DnKey {
@@ -225,14 +229,14 @@ impl Model for DnKey {
 }
 
 impl DnKey {
-    /// Whether this name is `other` or stands below it.
+    /// Whether this name is `other` or is below it.
     pub fn at_or_below(&self, other: &DnKey) -> bool
         ensures { IsTrue result ↔ IsAtOrBelow self.now other.now }
     {
         self.parts().starts_with(other.parts())
     }
 
-    /// Whether `other` stands directly below this name.
+    /// Whether this name is that of the parent of `other`.
     pub fn is_parent_of(&self, other: &DnKey) -> bool
         ensures { IsTrue result ↔ IsParent self.now other.now }
     {
@@ -259,7 +263,7 @@ impl DnKey {
         })
     }
 
-    /// The key of the name without its leaf, or none for the name without RDNs.
+    /// The key of the name without its leaf, or `None` for the name without RDNs.
     pub fn parent(&self, alloc: Global) -> Result<Option<DnKey>, NameFault>
         ensures { Gives (λ key. key) result (Ok (parent_of self.now)) }
     {

@@ -4,32 +4,20 @@
 
 mod attribute;
 mod fault;
-mod few;
-mod folding;
 mod key;
 mod limits;
-mod lines;
-mod lists;
-mod memory;
+mod list;
 mod name;
-mod printing;
-mod reading;
 mod schema;
-mod sorting;
-mod spaces;
-mod table;
 mod value;
 
 pub use attribute::{AttrKey, Description};
 pub use fault::NameFault;
+pub use fault::memory::Memory;
 pub use key::{DnKey, RdnKey};
 pub use limits::{MAX_DESCRIPTION, MAX_RDN_TEXT, MAX_RDNS};
-pub use lines::Lines;
-pub use lists::{Bytes, Texts};
-pub use memory::Memory;
+pub use list::lines::Lines;
+pub use list::{Bytes, Texts};
 pub use name::{Dn, Rdn};
 pub use schema::{Rule, Schema};
 pub use value::ValueKey;
-
-#[cfg(test)]
-mod tests;

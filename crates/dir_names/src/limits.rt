@@ -1,3 +1,5 @@
+//! The limits of names and descriptions.
+
 /// The greatest length of an attribute description, in bytes.
 pub const MAX_DESCRIPTION: usize = 512;
 

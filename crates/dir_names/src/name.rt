@@ -1,22 +1,29 @@
+//! Names and RDNs as they are spelled (RFC 4514): read, printed, and turned into keys.
+
 ghost use Rattle.std.specs.Prelude.{◌≡◌, cond, is_some, length, nat_le, Ok, Err, Some, IsTrue, IsFalse, IfOk, IsErrOf};
-ghost use Rattle.dir_names.specs.Few.{listed};
+ghost use Rattle.dir_names.specs.Inside.Few.{few_items};
 ghost use Rattle.dir_names.specs.NameKeys.{pair_key, rdn_key, name_key};
 ghost use Rattle.dir_names.specs.Names.{name_eq, rdn_eq, name_eq_laws, rdn_eq_laws, partial_name_eq_laws, partial_rdn_eq_laws, SpelledRdn, SpelledName};
 ghost use Rattle.dir_names.specs.Outcome.{Gives};
-ghost use Rattle.dir_names.specs.Printing.{rdn_printed, name_printed};
-ghost use Rattle.dir_names.specs.Reading.{or_bad_dn, only_rdn_of, name_of, name_read, rdn_read, is_small, is_within_limits};
-ghost use Rattle.dir_names.specs.Sound.{is_rdn, is_name};
-ghost use Rattle.dir_names.specs.Spells.{Spells, SpellsRdn};
+ghost use Rattle.dir_names.specs.Names.Printing.{printed_name, printed_rdn};
+ghost use Rattle.dir_names.specs.Names.Reading.{name_of, name_within_limits, only_rdn_of, rdn_within_limit};
+ghost use Rattle.dir_names.specs.Outcome.{ok_or_bad_dn};
+ghost use Rattle.dir_names.specs.Names.Limits.{is_rdn_within_limit, is_within_limits};
+ghost use Rattle.dir_names.specs.Names.Sound.{is_sound_name, is_sound_rdn};
+ghost use Rattle.dir_names.specs.Names.Spells.{Spells, SpellsRdn};
 ghost use Rattle.dir_names.specs.ValueKeys.{is_ascii};
 ghost use Rattle.dir_names.specs.declared.fault.NameFault.TheVariants.{BadDn, NameLimit};
 
+pub(crate) mod printing;
+pub(crate) mod reading;
+
 use crate::attribute::AttrKey;
 use crate::fault::as_bad_dn;
-use crate::few::Few;
 use crate::key::PairSet;
 use crate::limits::MAX_RDNS;
-use crate::printing::{print_name, print_rdn};
-use crate::reading::{read_name, read_one_rdn};
+use crate::list::few::Few;
+use crate::name::printing::{print_name, print_rdn};
+use crate::name::reading::{read_name, read_one_rdn};
 use crate::value::{has_text_key, text_key};
 use crate::{Bytes, DnKey, NameFault, RdnKey, Schema};
 use std::alloc::Global;
@@ -36,12 +43,12 @@ impl Model for Rdn {
     ghost Value = { List (List ℕ × List ℕ) };
 
     ghost use Rattle.std.specs.Prelude.{IsTrue};
-    ghost use Rattle.dir_names.specs.Few.{listed};
-    ghost use Rattle.dir_names.specs.Sound.{is_rdn};
+    ghost use Rattle.dir_names.specs.Inside.Few.{few_items};
+    ghost use Rattle.dir_names.specs.Names.Sound.{is_sound_rdn};
 
-    ghost view = { λ rdn. listed rdn.pairs.value };
+    ghost view = { λ rdn. few_items rdn.pairs.value };
 
-    ghost invariant = { λ rdn. IsTrue (is_rdn (listed rdn.pairs.value)) };
+    ghost invariant = { λ rdn. IsTrue (is_sound_rdn (few_items rdn.pairs.value)) };
 }
 
 impl Rdn {
@@ -49,36 +56,36 @@ impl Rdn {
     ///
     /// # Errors
     ///
-    /// `BadDn` where the text is none, `NameLimit` where it prints to more than 4,096 bytes.
+    /// `BadDn` if the text is not an RDN; else `NameLimit` if the RDN prints to more than 4,096 bytes.
     pub fn read(alloc: Global, text: &[u8]) -> Result<Rdn, NameFault>
-        ensures read { Gives (λ rdn. rdn) result (rdn_read text.now) }
-        ensures spelled { IfOk result (λ rdn. SpellsRdn text.now rdn × IsTrue (is_small rdn)) }
-        ensures exact { (rdn : SpelledRdn) → SpellsRdn text.now rdn → IsTrue (is_small rdn) → Gives (λ r. r) result (Ok rdn) }
+        ensures read { Gives (λ rdn. rdn) result (rdn_within_limit text.now) }
+        ensures spelled { IfOk result (λ rdn. SpellsRdn text.now rdn × IsTrue (is_rdn_within_limit rdn)) }
+        ensures exact { (rdn : SpelledRdn) → SpellsRdn text.now rdn → IsTrue (is_rdn_within_limit rdn) → Gives (λ r. r) result (Ok rdn) }
         ensures no_name { IsErrOf result BadDn → (rdn : SpelledRdn) → SpellsRdn text.now rdn → ⊥ }
-        ensures past_limits { IsErrOf result NameLimit → (rdn : SpelledRdn) × SpellsRdn text.now rdn × IsFalse (is_small rdn) }
+        ensures past_limits { IsErrOf result NameLimit → (rdn : SpelledRdn) × SpellsRdn text.now rdn × IsFalse (is_rdn_within_limit rdn) }
     {
         read_one_rdn(alloc, text)
     }
 
     /// The text of the RDN, in ASCII (RFC 4514, section 2).
     pub fn print(&self, alloc: Global) -> Result<Vec<u8>, NameFault>
-        ensures text { Gives (λ text. text.items) result (Ok (rdn_printed self.now)) }
-        ensures ascii { IsTrue (is_ascii (rdn_printed self.now)) }
-        ensures back { only_rdn_of (rdn_printed self.now) ≡ Some self.now }
-        ensures spells { SpellsRdn (rdn_printed self.now) self.now }
+        ensures text { Gives (λ text. text.items) result (Ok (printed_rdn self.now)) }
+        ensures ascii { IsTrue (is_ascii (printed_rdn self.now)) }
+        ensures back { only_rdn_of (printed_rdn self.now) ≡ Some self.now }
+        ensures spells { SpellsRdn (printed_rdn self.now) self.now }
     {
         let mut out = Vec::new(alloc);
         print_rdn(self, &mut out)?;
         Ok(out)
     }
 
-    /// The key of the RDN: the set of its pairs of type key and value key.
+    /// The key of the RDN: the set of its pairs of attribute and value key.
     ///
     /// # Errors
     ///
-    /// `BadDn` where a type stands twice, has the rule `Name`, or a value has no key.
+    /// `BadDn` if a type occurs twice or has the rule `Name`, or if a value has no key.
     pub fn key(&self, alloc: Global, schema: &Schema) -> Result<RdnKey, NameFault>
-        ensures { Gives (λ key. key) result (or_bad_dn (rdn_key schema.now self.now)) }
+        ensures { Gives (λ key. key) result (ok_or_bad_dn (rdn_key schema.now self.now)) }
     {
         let mut key = PairSet::empty();
         for pair in self.pairs.as_slice() {
@@ -88,8 +95,8 @@ impl Rdn {
         RdnKey::of(alloc, key)
     }
 
-    /// Whether the RDN has a key. It takes memory where it has more than one pair, or a type that isn't
-    /// frequent.
+    /// Whether the RDN has a key. The call allocates if the RDN has more than one pair, or a type other
+    /// than the frequent ones.
     pub fn has_key(&self, alloc: Global, schema: &Schema) -> Result<bool, NameFault>
         ensures { Gives (λ has. has) result (Ok (is_some (rdn_key schema.now self.now))) }
     {
@@ -109,7 +116,7 @@ impl Rdn {
     /// The pairs of type and value, as spelled.
     pub fn pairs(&self) -> &[(Bytes, Bytes)]
         ensures value { result.now ≡ self.now }
-        ensures sound { IsTrue (is_rdn self.now) }
+        ensures sound { IsTrue (is_sound_rdn self.now) }
     {
         self.pairs.as_slice()
     }
@@ -124,8 +131,8 @@ impl Rdn {
     }
 
     pub(crate) fn from_pairs(alloc: Global, pairs: Few<(Bytes, Bytes)>) -> Result<Rdn, NameFault>
-        requires { IsTrue (is_rdn (listed pairs)) }
-        ensures { Gives (λ rdn. rdn) result (Ok (listed pairs)) }
+        requires { IsTrue (is_sound_rdn (few_items pairs)) }
+        ensures { Gives (λ rdn. rdn) result (Ok (few_items pairs)) }
     {
         Ok(Rdn {
             pairs: Rc::new(alloc, pairs)?,
@@ -147,13 +154,13 @@ impl Eq for Rdn {
     ghost laws = { rdn_eq_laws };
 }
 
-/// The keys of a type and its value.
+/// The attribute of a type, and the key of its value.
 fn pair_key(
     alloc: Global,
     schema: &Schema,
     pair: &(Bytes, Bytes),
 ) -> Result<(AttrKey, Bytes), NameFault>
-    ensures { Gives (λ key. key) result (or_bad_dn (pair_key schema.now pair.now)) }
+    ensures { Gives (λ key. key) result (ok_or_bad_dn (pair_key schema.now pair.now)) }
 {
     let attr = schema.attr_of(alloc, pair.0.as_slice())?;
     match text_key(alloc, schema.rule(&attr), pair.1.as_slice()) {
@@ -162,8 +169,8 @@ fn pair_key(
     }
 }
 
-/// A distinguished name as spelled: its RDNs, leaf first. Spaces around separators and the choice of
-/// escapes are no part of it.
+/// A distinguished name as spelled: its RDNs, leaf first. It keeps neither the spaces around separators
+/// nor the choice of escapes.
 #[derive(Debug, Drop)]
 pub struct Dn {
     rdns: Vec<Rdn>,
@@ -177,9 +184,9 @@ impl Model for Dn {
     ghost view = { λ name. name.rdns.items };
 
     ghost use Rattle.std.specs.Prelude.{IsTrue};
-    ghost use Rattle.dir_names.specs.Sound.{is_name};
+    ghost use Rattle.dir_names.specs.Names.Sound.{is_sound_name};
 
-    ghost invariant = { λ name. IsTrue (is_name name.rdns.items) };
+    ghost invariant = { λ name. IsTrue (is_sound_name name.rdns.items) };
 }
 
 impl Dn {
@@ -187,10 +194,10 @@ impl Dn {
     ///
     /// # Errors
     ///
-    /// `BadDn` where the text is no name; then `NameLimit` where it has more than 64 RDNs or one that
+    /// `BadDn` if the text is not a name; else `NameLimit` if the name has more than 64 RDNs, or one that
     /// prints to more than 4,096 bytes.
     pub fn read(alloc: Global, text: &[u8]) -> Result<Dn, NameFault>
-        ensures read { Gives (λ name. name) result (name_read text.now) }
+        ensures read { Gives (λ name. name) result (name_within_limits text.now) }
         ensures spelled { IfOk result (λ name. Spells text.now name × IsTrue (is_within_limits name)) }
         ensures exact { (name : SpelledName) → Spells text.now name → IsTrue (is_within_limits name) → Gives (λ n. n) result (Ok name) }
         ensures no_name { IsErrOf result BadDn → (name : SpelledName) → Spells text.now name → ⊥ }
@@ -201,7 +208,7 @@ impl Dn {
 
     /// The same as `read`, for stored values.
     pub fn read_text(alloc: Global, text: &[u8]) -> Result<Dn, NameFault>
-        ensures read { Gives (λ name. name) result (name_read text.now) }
+        ensures read { Gives (λ name. name) result (name_within_limits text.now) }
         ensures spelled { IfOk result (λ name. Spells text.now name × IsTrue (is_within_limits name)) }
         ensures exact { (name : SpelledName) → Spells text.now name → IsTrue (is_within_limits name) → Gives (λ n. n) result (Ok name) }
         ensures no_name { IsErrOf result BadDn → (name : SpelledName) → Spells text.now name → ⊥ }
@@ -212,10 +219,10 @@ impl Dn {
 
     /// The text of the name, in ASCII (RFC 4514, section 2).
     pub fn print(&self, alloc: Global) -> Result<Vec<u8>, NameFault>
-        ensures text { Gives (λ text. text.items) result (Ok (name_printed self.now)) }
-        ensures ascii { IsTrue (is_ascii (name_printed self.now)) }
-        ensures back { name_of (name_printed self.now) ≡ Some self.now }
-        ensures spells { Spells (name_printed self.now) self.now }
+        ensures text { Gives (λ text. text.items) result (Ok (printed_name self.now)) }
+        ensures ascii { IsTrue (is_ascii (printed_name self.now)) }
+        ensures back { name_of (printed_name self.now) ≡ Some self.now }
+        ensures spells { Spells (printed_name self.now) self.now }
     {
         let mut out = Vec::new(alloc);
         print_name(self.rdns.as_slice(), &mut out)?;
@@ -226,9 +233,9 @@ impl Dn {
     ///
     /// # Errors
     ///
-    /// `BadDn` where an RDN has no key.
+    /// `BadDn` if an RDN has no key.
     pub fn key(&self, alloc: Global, schema: &Schema) -> Result<DnKey, NameFault>
-        ensures { Gives (λ key. key) result (or_bad_dn (name_key schema.now self.now)) }
+        ensures { Gives (λ key. key) result (ok_or_bad_dn (name_key schema.now self.now)) }
     {
         let mut parts = Vec::with_capacity(alloc, self.rdns.len())?;
         let mut at = self.rdns.len();
@@ -239,7 +246,7 @@ impl Dn {
         DnKey::from_parts(alloc, parts)
     }
 
-    /// Whether the name has a key: whether each of its RDNs has one.
+    /// Whether the name has a key, that is, whether each of its RDNs has one.
     pub fn has_key(&self, alloc: Global, schema: &Schema) -> Result<bool, NameFault>
         ensures { Gives (λ has. has) result (Ok (is_some (name_key schema.now self.now))) }
     {
@@ -254,7 +261,7 @@ impl Dn {
     /// The RDNs, leaf first.
     pub fn rdns(&self) -> &[Rdn]
         ensures value { result.now ≡ self.now }
-        ensures sound { IsTrue (is_name self.now) }
+        ensures sound { IsTrue (is_sound_name self.now) }
     {
         self.rdns.as_slice()
     }
@@ -270,22 +277,22 @@ impl Dn {
     ///
     /// # Errors
     ///
-    /// `NameLimit` where there are more than 64; the list is dropped.
+    /// `NameLimit` if there are more than 64. The list is dropped.
     pub fn from_rdns(rdns: Vec<Rdn>) -> Result<Dn, NameFault>
         ensures { result ≡ cond (nat_le (length rdns.items) 64) (Ok rdns.items) (Err NameLimit) }
     {
         if rdns.len() > MAX_RDNS {
             return Err(NameFault::NameLimit);
         }
-        // Each RDN is opened once, so that the proof sees it to be sound.
+        // Each RDN is opened once, so that its invariant is known to the proof.
         for rdn in rdns.as_slice() {
             let _pairs = &rdn.pairs;
         }
         Ok(Dn { rdns })
     }
 
-    /// A copy whose list has memory of its own, and whose RDNs share that of these. The one fault is
-    /// want of memory.
+    /// A copy: its list has memory of its own, and its RDNs share the memory of these. The one fault is
+    /// `Memory`.
     pub fn try_clone(&self, alloc: Global) -> Result<Dn, NameFault>
         ensures { Gives (λ name. name) result (Ok self.now) }
     {

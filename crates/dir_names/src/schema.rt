@@ -1,13 +1,18 @@
+//! Attribute types, their names and their matching rules. `table` has those of the standards.
+
 ghost use Rattle.std.specs.Prelude.{◌≡◌, ◌<◌, ◌∷◌, All, IfErr, IfOk, IfSome, Ok, find, map, option_copied};
-ghost use Rattle.dir_names.specs.NameKeys.{AreReady, IsReady, IsReadyType, attr_of};
-ghost use Rattle.dir_names.specs.Rows.{type_row};
+ghost use Rattle.dir_names.specs.NameKeys.{attr_of};
+ghost use Rattle.dir_names.specs.Inside.Frequent.{IsFrequentSlot, IsFrequentDescription, IsFrequentType};
+ghost use Rattle.dir_names.specs.Inside.Rows.{type_row};
 ghost use Rattle.std.specs.List.{list_any};
 ghost use Rattle.std.specs.Str.{str_eq_ignore_ascii_case};
 ghost use Rattle.dir_names.specs.Orders.{bytes_eq};
 ghost use Rattle.dir_names.specs.Outcome.{Gives};
 
-use crate::attribute::lower;
-use crate::table::{FREQUENT, ROWS, Row};
+pub(crate) mod table;
+
+use crate::attribute::lowercase_bytes;
+use crate::schema::table::{FREQUENT, ROWS, Row};
 use crate::{AttrKey, Bytes, Description, NameFault, Texts};
 use std::alloc::Global;
 use std::marker::Model;
@@ -17,11 +22,11 @@ use std::marker::Model;
 pub enum Rule {
     /// Byte by byte.
     Octet,
-    /// Without regard to case and to how many spaces stand together.
+    /// Without regard to case, to spaces at the ends, and to how many spaces are in a row.
     CaseIgnore,
-    /// As `CaseIgnore`, over ASCII.
+    /// As `CaseIgnore`, for ASCII values.
     Ia5CaseIgnore,
-    /// Over ASCII, without regard to how many spaces stand together.
+    /// For ASCII values, without regard to spaces at the ends and to how many spaces are in a row.
     Ia5CaseExact,
     /// Without regard to case, spaces and hyphens.
     Telephone,
@@ -29,7 +34,7 @@ pub enum Rule {
     Integer,
     /// By the key of the name.
     Name,
-    /// Without regard to ASCII case.
+    /// Without regard to case, for ASCII values without spaces.
     ObjectId,
 }
 
@@ -43,21 +48,21 @@ pub struct TypeRow {
     pub single: bool,
 }
 
-/// The attribute types that are known. Any other type compares its values byte by byte and takes
-/// any number of them.
+/// The attribute types that are known. Values of any other type are compared byte by byte, and an
+/// attribute of it takes any number of them.
 #[derive(Debug, Drop)]
 pub struct Schema {
     rows: Vec<TypeRow>,
-    /// The types that copies have most, each in the slot of its text.
-    ready: Vec<Option<Ready>>,
+    /// The types that copies of directories use most, each in the slot of its text.
+    frequent: Vec<Option<FrequentType>>,
 }
 
-/// How many slots there are for types that copies have most.
+/// The number of slots for frequent types.
 const SLOTS: usize = 256;
 
-/// What is kept of a type without options, so that it need not be looked up in the table.
+/// What is known of a frequent type, so that it isn't looked up in the table.
 #[derive(Debug, Drop)]
-struct Ready {
+struct FrequentType {
     text: Bytes,
     description: Description,
     rule: Rule,
@@ -72,46 +77,46 @@ impl Model for Schema {
     ghost view = { λ schema. schema.rows.items };
 
     ghost use Rattle.std.specs.Prelude.{All};
-    ghost use Rattle.dir_names.specs.NameKeys.{AreReady};
+    ghost use Rattle.dir_names.specs.Inside.Frequent.{IsFrequentSlot};
 
-    ghost invariant = { λ schema. All (AreReady schema.rows.items) schema.ready.items };
+    ghost invariant = { λ schema. All (IsFrequentSlot schema.rows.items) schema.frequent.items };
 }
 
 impl Schema {
-    ghost use Rattle.dir_names.specs.Builtin.{builtin_rows};
+    ghost use Rattle.dir_names.specs.Table.Builtin.{builtin_rows};
     ghost use Rattle.dir_names.specs.Table.{type_key_of, row_of, rule_of, single_of};
 
-    /// The types of RFC 4519, 4524, 2798 and 2307 that this kit knows from the start, and `objectClass`
-    /// (RFC 4512, section 3.3).
+    /// The types of RFC 4519, 4524, 2798 and 2307 that this kit knows, and `objectClass` (RFC 4512,
+    /// section 3.3).
     pub fn builtin(alloc: Global) -> Result<Schema, NameFault>
         ensures { Gives (λ schema. schema) result (Ok builtin_rows) }
     {
         let bare = Schema {
             rows: type_rows(alloc, &ROWS)?,
-            ready: Vec::new(alloc),
+            frequent: Vec::new(alloc),
         };
-        let ready = frequent_types(alloc, &bare)?;
-        let Schema { rows, ready: _ } = bare;
-        Ok(Schema { rows, ready })
+        let frequent = frequent_types(alloc, &bare)?;
+        let Schema { rows, frequent: _ } = bare;
+        Ok(Schema { rows, frequent })
     }
 
-    /// What is kept of the type in the slot of this text.
-    fn slot(&self, text: &[u8]) -> Option<&Ready>
-        ensures { IfSome result (λ ready. IsReadyType self.now ready.now) }
+    /// The frequent type in the slot of this text.
+    fn slot(&self, text: &[u8]) -> Option<&FrequentType>
+        ensures { IfSome result (λ frequent. IsFrequentType self.now frequent.now) }
     {
-        match self.ready.get(slot_of(text)) {
-            Some(Some(ready)) => Some(ready),
+        match self.frequent.get(slot_of(text)) {
+            Some(Some(frequent)) => Some(frequent),
             _ => None,
         }
     }
 
-    /// The description of a text, where it need not be read again.
-    pub(crate) fn ready(&self, text: &[u8]) -> Option<&Description>
-        ensures { IfSome result (λ d. IsReady self.now (text.now, d.now)) }
+    /// The description of this text, if it is a frequent type.
+    pub(crate) fn frequent(&self, text: &[u8]) -> Option<&Description>
+        ensures { IfSome result (λ d. IsFrequentDescription self.now (text.now, d.now)) }
     {
-        let ready = self.slot(text)?;
-        if ready.text.as_slice() == text {
-            Some(&ready.description)
+        let frequent = self.slot(text)?;
+        if frequent.text.as_slice() == text {
+            Some(&frequent.description)
         } else {
             None
         }
@@ -121,8 +126,9 @@ impl Schema {
     pub fn rule(&self, attr: &AttrKey) -> Rule
         ensures { result ≡ rule_of self.now attr.now }
     {
-        match self.slot(attr.kind()) {
-            Some(ready) if ready.description.key().kind() == attr.kind() => ready.rule,
+        match self.slot(attr.attr_type()) {
+            Some(frequent) if frequent.description.key().attr_type() == attr.attr_type() =>
+                frequent.rule,
             _ => self.rule_in_table(attr),
         }
     }
@@ -130,7 +136,7 @@ impl Schema {
     fn rule_in_table(&self, attr: &AttrKey) -> Rule
         ensures { result ≡ rule_of self.now attr.now }
     {
-        match row_of(self.rows.as_slice(), attr.kind()) {
+        match row_of(self.rows.as_slice(), attr.attr_type()) {
             Some(row) => row.rule,
             None => Rule::Octet,
         }
@@ -140,48 +146,48 @@ impl Schema {
     pub fn single(&self, attr: &AttrKey) -> bool
         ensures { result ≡ single_of self.now attr.now }
     {
-        match row_of(self.rows.as_slice(), attr.kind()) {
+        match row_of(self.rows.as_slice(), attr.attr_type()) {
             Some(row) => row.single,
             None => false,
         }
     }
 
     /// The attribute of a type without options.
-    pub(crate) fn attr_of(&self, alloc: Global, kind: &[u8]) -> Result<AttrKey, NameFault>
-        ensures { Gives (λ attr. attr) result (Ok (attr_of self.now kind.now)) }
+    pub(crate) fn attr_of(&self, alloc: Global, attr_type: &[u8]) -> Result<AttrKey, NameFault>
+        ensures { Gives (λ attr. attr) result (Ok (attr_of self.now attr_type.now)) }
     {
-        match self.ready(kind) {
+        match self.frequent(attr_type) {
             Some(description) => description.key().try_clone(alloc),
-            None => AttrKey::of_type(alloc, self.type_key(alloc, kind)?),
+            None => AttrKey::of_type(alloc, self.type_key(alloc, attr_type)?),
         }
     }
 
     /// The rule of a type without options.
-    pub(crate) fn rule_of(&self, alloc: Global, kind: &[u8]) -> Result<Rule, NameFault>
-        ensures { Gives (λ rule. rule) result (Ok (rule_of self.now (attr_of self.now kind.now))) }
+    pub(crate) fn rule_of(&self, alloc: Global, attr_type: &[u8]) -> Result<Rule, NameFault>
+        ensures { Gives (λ rule. rule) result (Ok (rule_of self.now (attr_of self.now attr_type.now))) }
     {
-        match self.ready(kind) {
+        match self.frequent(attr_type) {
             Some(description) => Ok(self.rule(description.key())),
             None => {
-                let attr = self.attr_of(alloc, kind)?;
+                let attr = self.attr_of(alloc, attr_type)?;
                 Ok(self.rule(&attr))
             }
         }
     }
 
-    /// The key of the type that a name or a number names: its primary name in lower case, or for a
-    /// type that isn't known the text itself in lower case.
-    pub(crate) fn type_key(&self, alloc: Global, kind: &[u8]) -> Result<Bytes, NameFault>
-        ensures { Gives (λ key. key) result (Ok (type_key_of self.now kind.now)) }
+    /// The key of the type that a name or a number names: its primary name in lower case, or, for a type
+    /// that isn't known, the text itself in lower case.
+    pub(crate) fn type_key(&self, alloc: Global, attr_type: &[u8]) -> Result<Bytes, NameFault>
+        ensures { Gives (λ key. key) result (Ok (type_key_of self.now attr_type.now)) }
     {
-        match row_named(self.rows.as_slice(), kind) {
+        match row_named(self.rows.as_slice(), attr_type) {
             Some(row) => row.key.try_clone(alloc),
-            None => lower(alloc, kind),
+            None => lowercase_bytes(alloc, attr_type),
         }
     }
 }
 
-/// Where a type that is frequent is looked up, in any ASCII case. No two of `FREQUENT` share a slot.
+/// The slot of a frequent type, in any ASCII case. No two of `FREQUENT` share a slot.
 fn slot_of(text: &[u8]) -> usize {
     let (Some(first), Some(last), Some(middle)) = (
         text.first(),
@@ -190,20 +196,20 @@ fn slot_of(text: &[u8]) -> usize {
     ) else {
         return 0;
     };
-    let letters = (small(*first) * 23 + small(*last)) * 23 + small(*middle);
+    let letters = (letter_number(*first) * 23 + letter_number(*last)) * 23 + letter_number(*middle);
     (letters * 23 + text.len() % SLOTS) % SLOTS
 }
 
-/// A letter's number, in any ASCII case.
-fn small(b: u8) -> usize
+/// The number of a letter, the same in any ASCII case.
+fn letter_number(b: u8) -> usize
     ensures { result < 256 }
 {
     usize::from(b | 32)
 }
 
-/// The types that copies have most, each in its slot.
-fn frequent_types(alloc: Global, schema: &Schema) -> Result<Vec<Option<Ready>>, NameFault>
-    ensures ready { IfOk result (λ slots. All (AreReady schema.now) slots.items) }
+/// The frequent types, each in its slot.
+fn frequent_types(alloc: Global, schema: &Schema) -> Result<Vec<Option<FrequentType>>, NameFault>
+    ensures frequent { IfOk result (λ slots. All (IsFrequentSlot schema.now) slots.items) }
     ensures memory { IfErr result (λ e. e ≡ NameFault.Memory) }
 {
     let mut slots = Vec::with_capacity(alloc, SLOTS)?;
@@ -213,26 +219,34 @@ fn frequent_types(alloc: Global, schema: &Schema) -> Result<Vec<Option<Ready>>, 
     Ok(slots)
 }
 
-fn frequent_type_at(alloc: Global, schema: &Schema, slot: usize) -> Result<Option<Ready>, NameFault>
-    ensures ready { IfOk result (AreReady schema.now) }
+fn frequent_type_at(
+    alloc: Global,
+    schema: &Schema,
+    slot: usize,
+) -> Result<Option<FrequentType>, NameFault>
+    ensures frequent { IfOk result (IsFrequentSlot schema.now) }
     ensures memory { IfErr result (λ e. e ≡ NameFault.Memory) }
 {
     for name in &FREQUENT {
         if slot_of(name.as_bytes()) == slot {
-            return ready_type(alloc, schema, name.as_bytes());
+            return frequent_type(alloc, schema, name.as_bytes());
         }
     }
     Ok(None)
 }
 
-/// What is kept of a type without options, or none where the text is no such type.
-fn ready_type(alloc: Global, schema: &Schema, text: &[u8]) -> Result<Option<Ready>, NameFault>
-    ensures ready { IfOk result (AreReady schema.now) }
+/// The frequent type of this text, or `None` if the text is not a type without options.
+fn frequent_type(
+    alloc: Global,
+    schema: &Schema,
+    text: &[u8],
+) -> Result<Option<FrequentType>, NameFault>
+    ensures frequent { IfOk result (IsFrequentSlot schema.now) }
     ensures memory { IfErr result (λ e. e ≡ NameFault.Memory) }
 {
     let attr = AttrKey::of_type(alloc, schema.type_key(alloc, text)?)?;
     match Description::read(alloc, schema, text) {
-        Ok(description) if *description.key() == attr => Ok(Some(Ready {
+        Ok(description) if *description.key() == attr => Ok(Some(FrequentType {
             text: Bytes::copy_of(alloc, text)?,
             rule: schema.rule(description.key()),
             description,
@@ -253,10 +267,10 @@ fn type_rows(alloc: Global, rows: &[Row]) -> Result<Vec<TypeRow>, NameFault>
 }
 
 fn type_row(alloc: Global, row: &Row) -> Result<TypeRow, NameFault>
-    ensures { Gives (λ kind. kind) result (Ok (type_row row.now)) }
+    ensures { Gives (λ attr_type. attr_type) result (Ok (type_row row.now)) }
 {
     Ok(TypeRow {
-        key: lower(alloc, row.name.as_bytes())?,
+        key: lowercase_bytes(alloc, row.name.as_bytes())?,
         names: Texts::new(names_of(alloc, row.name, row.others)?),
         rule: row.rule,
         single: row.single,
@@ -285,22 +299,22 @@ fn row_of<'a>(rows: &'a [TypeRow], key: &[u8]) -> Option<&'a TypeRow>
     None
 }
 
-fn row_named<'a>(rows: &'a [TypeRow], kind: &[u8]) -> Option<&'a TypeRow>
-    ensures { option_copied result ≡ find (λ row. list_any (λ name. str_eq_ignore_ascii_case name kind.now) row.names) rows.now }
+fn row_named<'a>(rows: &'a [TypeRow], attr_type: &[u8]) -> Option<&'a TypeRow>
+    ensures { option_copied result ≡ find (λ row. list_any (λ name. str_eq_ignore_ascii_case name attr_type.now) row.names) rows.now }
 {
     for row in rows {
-        if is_named(row.names.as_slice(), kind) {
+        if is_named(row.names.as_slice(), attr_type) {
             return Some(row);
         }
     }
     None
 }
 
-fn is_named(names: &[Bytes], kind: &[u8]) -> bool
-    ensures { result ≡ list_any (λ name. str_eq_ignore_ascii_case name kind.now) names.now }
+fn is_named(names: &[Bytes], attr_type: &[u8]) -> bool
+    ensures { result ≡ list_any (λ name. str_eq_ignore_ascii_case name attr_type.now) names.now }
 {
     for name in names {
-        if is_same(name.as_slice(), kind) {
+        if is_same(name.as_slice(), attr_type) {
             return true;
         }
     }

@@ -1,18 +1,23 @@
+//! What a value is compared by, under the matching rule of its type (RFC 4517, section 4.2).
+
 ghost use Rattle.std.specs.Cmp.{partial_order_from_agreeing_total};
 ghost use Rattle.std.specs.List.{list_all};
 ghost use Rattle.std.specs.Ordering.{as_partial_cmp};
-ghost use Rattle.dir_names.specs.NameKeys.{found};
+ghost use Rattle.std.specs.Result.{result_ok};
 ghost use Rattle.std.specs.Prelude.{◌≡◌, ◌&&◌, is_some, nat_lt, Ok, refl, option_copied};
 ghost use Rattle.std.specs.Str.{str_to_ascii_lowercase};
 ghost use Rattle.dir_names.specs.Orders.{tied_equiv, tied_per};
 ghost use Rattle.dir_names.specs.Outcome.{Gives};
-ghost use Rattle.dir_names.specs.Spaces.{tidied, without_spaces_and_hyphens};
-ghost use Rattle.dir_names.specs.ValueKeys.{folded, is_ascii, is_positive, is_integer, is_object_id, is_text, key_if, text_key_of};
+ghost use Rattle.dir_names.specs.ValueKeys.Spaces.{without_extra_spaces, without_spaces_and_hyphens};
+ghost use Rattle.dir_names.specs.ValueKeys.{folded_text, is_ascii, is_positive, is_integer, is_object_id, is_text, key_if, text_key_of};
 ghost use Rattle.dir_names.specs.Values.{value_key_cmp, value_key_eq, value_key_cmp_total, value_key_cmp_ties, text_of, name_of_key};
 
-use crate::attribute::{are_digits, lower};
-use crate::folding::{folded, is_ascii, lowered};
-use crate::spaces::{tidied, without_spaces_and_hyphens};
+pub(crate) mod folding;
+pub(crate) mod spaces;
+
+use crate::attribute::{are_digits, lowercase_bytes};
+use crate::value::folding::{folded_text, is_ascii, lowercase_copy};
+use crate::value::spaces::{without_extra_spaces, without_spaces_and_hyphens};
 use crate::{AttrKey, Bytes, Dn, DnKey, NameFault, Rule, Schema};
 use std::alloc::Global;
 use std::cmp::Ordering;
@@ -21,9 +26,9 @@ use std::str;
 /// What a value is compared by: two values with the same key are the same value.
 #[derive(Debug, Drop)]
 pub enum ValueKey {
-    /// The key under every rule but `Name`.
+    /// The key under every rule but `Name`: bytes.
     Text(Bytes),
-    /// The key of the name under the rule `Name`.
+    /// The key under the rule `Name`: that of a name.
     Name(DnKey),
 }
 
@@ -46,8 +51,8 @@ impl ValueKey {
         }
     }
 
-    /// A copy: of a text in memory of its own, of a name in the memory of this one. The one fault is
-    /// want of memory.
+    /// A copy. A text has memory of its own, and a name shares the memory of this one. The one fault is
+    /// `Memory`.
     pub fn try_clone(&self, alloc: Global) -> Result<ValueKey, NameFault>
         ensures { Gives (λ key. key) result (Ok self.now) }
     {
@@ -106,13 +111,14 @@ impl Ord for ValueKey {
 }
 
 impl Schema {
-    ghost use Rattle.dir_names.specs.NameKeys.{name_value_key, or_bad_value, value_key_of};
+    ghost use Rattle.dir_names.specs.NameKeys.{name_value_key, value_key_of};
+    ghost use Rattle.dir_names.specs.Outcome.{ok_or_bad_value};
 
     /// The key of a value of this type.
     ///
     /// # Errors
     ///
-    /// `BadValue` where the value has none under the type's rule.
+    /// `BadValue` if the value has no key under the rule of its type.
     pub fn value_key(
         &self,
         alloc: Global,
@@ -128,7 +134,7 @@ impl Schema {
     }
 
     fn name_value_key(&self, alloc: Global, bytes: &[u8]) -> Result<DnKey, NameFault>
-        ensures { Gives (λ key. key) result (or_bad_value (name_value_key self.now bytes.now)) }
+        ensures { Gives (λ key. key) result (ok_or_bad_value (name_value_key self.now bytes.now)) }
     {
         match Dn::read(alloc, bytes) {
             Ok(name) => match name.key(alloc, self) {
@@ -142,7 +148,7 @@ impl Schema {
     }
 }
 
-/// The key of a value under a rule other than `Name`, which gives none here.
+/// The key of a value under a rule other than `Name`.
 pub(crate) fn text_key(alloc: Global, rule: Rule, value: &[u8]) -> Result<Bytes, NameFault>
     ensures { Gives (λ key. key) result (text_key_of rule value.now) }
 {
@@ -158,9 +164,9 @@ pub(crate) fn text_key(alloc: Global, rule: Rule, value: &[u8]) -> Result<Bytes,
     }
 }
 
-/// Whether a value has a key under a rule other than `Name`, which gives none here.
+/// Whether a value has a key under a rule other than `Name`.
 pub(crate) fn has_text_key(rule: Rule, value: &[u8]) -> bool
-    ensures { result ≡ is_some (found (text_key_of rule value.now)) }
+    ensures { result ≡ is_some (result_ok (text_key_of rule value.now)) }
 {
     match rule {
         Rule::Octet => true,
@@ -172,7 +178,7 @@ pub(crate) fn has_text_key(rule: Rule, value: &[u8]) -> bool
     }
 }
 
-/// Whether a value is a text in UTF-8 that isn't empty.
+/// Whether a value is UTF-8 and not empty.
 fn is_text(value: &[u8]) -> bool
     ensures { result ≡ is_text value.now }
 {
@@ -183,43 +189,43 @@ fn is_text(value: &[u8]) -> bool
 }
 
 fn case_ignore_key(alloc: Global, value: &[u8]) -> Result<Bytes, NameFault>
-    ensures { Gives (λ key. key) result (key_if (is_text value.now) (tidied (folded value.now))) }
+    ensures { Gives (λ key. key) result (key_if (is_text value.now) (without_extra_spaces (folded_text value.now))) }
 {
     if value.is_empty() {
         return Err(NameFault::BadValue);
     }
-    let text = folded(alloc, value)?;
-    Ok(Bytes::new(tidied(alloc, text)?))
+    let text = folded_text(alloc, value)?;
+    Ok(Bytes::new(without_extra_spaces(alloc, text)?))
 }
 
 fn telephone_key(alloc: Global, value: &[u8]) -> Result<Bytes, NameFault>
-    ensures { Gives (λ key. key) result (key_if (is_text value.now) (without_spaces_and_hyphens (folded value.now))) }
+    ensures { Gives (λ key. key) result (key_if (is_text value.now) (without_spaces_and_hyphens (folded_text value.now))) }
 {
     if value.is_empty() {
         return Err(NameFault::BadValue);
     }
-    let text = folded(alloc, value)?;
+    let text = folded_text(alloc, value)?;
     Ok(Bytes::new(without_spaces_and_hyphens(text)))
 }
 
 fn ia5_case_ignore_key(alloc: Global, value: &[u8]) -> Result<Bytes, NameFault>
-    ensures { Gives (λ key. key) result (key_if (is_ascii value.now) (tidied (str_to_ascii_lowercase value.now))) }
+    ensures { Gives (λ key. key) result (key_if (is_ascii value.now) (without_extra_spaces (str_to_ascii_lowercase value.now))) }
 {
     if !is_ascii(value) {
         return Err(NameFault::BadValue);
     }
-    let text = lowered(alloc, value)?;
-    Ok(Bytes::new(tidied(alloc, text)?))
+    let text = lowercase_copy(alloc, value)?;
+    Ok(Bytes::new(without_extra_spaces(alloc, text)?))
 }
 
 fn ia5_case_exact_key(alloc: Global, value: &[u8]) -> Result<Bytes, NameFault>
-    ensures { Gives (λ key. key) result (key_if (is_ascii value.now) (tidied value.now)) }
+    ensures { Gives (λ key. key) result (key_if (is_ascii value.now) (without_extra_spaces value.now)) }
 {
     if !is_ascii(value) {
         return Err(NameFault::BadValue);
     }
     let text = value.to_vec(alloc)?;
-    Ok(Bytes::new(tidied(alloc, text)?))
+    Ok(Bytes::new(without_extra_spaces(alloc, text)?))
 }
 
 fn integer_key(alloc: Global, value: &[u8]) -> Result<Bytes, NameFault>
@@ -236,7 +242,7 @@ fn object_id_key(alloc: Global, value: &[u8]) -> Result<Bytes, NameFault>
     ensures { Gives (λ key. key) result (key_if (is_object_id value.now) (str_to_ascii_lowercase value.now)) }
 {
     if is_object_id(value) {
-        lower(alloc, value)
+        lowercase_bytes(alloc, value)
     } else {
         Err(NameFault::BadValue)
     }
@@ -268,10 +274,10 @@ fn is_positive(digits: &[u8]) -> bool
 fn is_object_id(value: &[u8]) -> bool
     ensures { result ≡ is_object_id value.now }
 {
-    !value.is_empty() && are_seen(value)
+    !value.is_empty() && are_visible(value)
 }
 
-fn are_seen(value: &[u8]) -> bool
+fn are_visible(value: &[u8]) -> bool
     ensures { result ≡ list_all (λ b. nat_lt 32 b && nat_lt b 127) value.now }
 {
     value.iter().all(|b| *b > 32 && *b < 127)

@@ -1,4 +1,4 @@
-//! The tests of the libraries, through their public calls. They stand in a crate of their own, so that the libraries are
+//! The tests of the libraries, through their public calls. They are a crate of their own, so that the libraries are
 //! proved once.
 #![tactic(auto)]
 
@@ -7,4 +7,8 @@ mod change;
 #[cfg(test)]
 mod ldif;
 #[cfg(test)]
+mod names;
+#[cfg(test)]
 mod tools;
+#[cfg(test)]
+mod tree;

@@ -18,8 +18,8 @@ use Rattle.dir_ldif.specs.RecordText.{record_text_of}
 use Rattle.dir_ldif.specs.Records.{Answer, records_of}
 use Rattle.dir_tree.specs.Content.{Content}
 use Rattle.dir_tree.specs.Dir.{Dir, entry_at, has_parent}
-use Rattle.dir_tree.specs.Made.{made}
-use Rattle.dir_tree.specs.Spelled.{spelled_name}
+use Rattle.dir_tree.specs.NewEntry.{new_entry}
+use Rattle.dir_tree.specs.SpelledNames.{spelled_name}
 use Rattle.dir_tree.specs.WellFormed.{Each, IsWellFormed, IsWithinLimits, all_lines}
 use Rattle.dir_tree.proofs.MadeAgain.{made_again}
 use Rattle.dir_tree.proofs.Relisted.{are_new, inserted, inserted_whole, new_whole}
@@ -94,8 +94,8 @@ module _ (rows : List TypeRow) (d : Dir) (well : IsWellFormed rows d) (within : 
     taken p line there free =
         let below = stands_below d well.1 p.0 (ap is_some there) in
         ap (λ o. with_content rows so_far line (spelled_name d p.0) (all_lines p.1.attributes) o) (key_at p there)
-        ∙ (λ i. refused_if (not (below i)) line NoSuchObject (refused_if (free i) line EntryAlreadyExists (with_entry so_far line p.0 (made rows (own_rdns d.suffix p.0 (spelled_name d p.0)) (all_lines p.1.attributes)))))
-        ∙ ap (λ own. with_entry so_far line p.0 (made rows own (all_lines p.1.attributes))) (own_spelled rows d well p.0 p.1 there)
+        ∙ (λ i. refused_if (not (below i)) line NoSuchObject (refused_if (free i) line EntryAlreadyExists (with_entry so_far line p.0 (new_entry rows (own_rdns d.suffix p.0 (spelled_name d p.0)) (all_lines p.1.attributes)))))
+        ∙ ap (λ own. with_entry so_far line p.0 (new_entry rows own (all_lines p.1.attributes))) (own_spelled rows d well p.0 p.1 there)
         ∙ ap (with_entry so_far line p.0) (made_again rows p.1 (well.2 p.0 p.1 there).0)
 
   -- ---- all of them

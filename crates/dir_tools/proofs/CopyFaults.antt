@@ -14,7 +14,7 @@ use Rattle.dir_ldif.specs.Reader.{IsEnded, SpendsTurns, StopsFor, answers_to_com
 use Rattle.dir_ldif.specs.Records.{Answer, Found, records_of}
 use Rattle.dir_tree.specs.Content.{Content}
 use Rattle.dir_tree.specs.Dir.{Dir, entry_at}
-use Rattle.dir_tree.specs.Made.{Fails as FailsToMake, made}
+use Rattle.dir_tree.specs.NewEntry.{IsEntryFaultOf as FailsToMake, new_entry}
 use Rattle.dir_tree.specs.declared.fault.EntryFault.{EntryFault}
 use Rattle.dir_tree.specs.declared.fault.EntryFault.TheVariants as entry
 use Rattle.dir_change.specs.declared.operation.Refusal.TheVariants as refusal
@@ -43,16 +43,16 @@ module _ (rows : List TypeRow) (m : LoadedCopy) (line : ℕ) (name : SpelledName
   pub outside : (key : Option DnKeys) (k : DnKeys) → key ≡ Some k → is_at_or_below k m.entries.suffix ≡ false → with_content rows m line name lines key ≡ Err (line, cause.Code NoSuchObject)
   outside key k named out =
       ap (with_content rows m line name lines) named
-      ∙ ap (λ b. refused_if (not b) line NoSuchObject (refused_if (is_some (entry_at m.entries k)) line EntryAlreadyExists (with_entry m line k (made rows (own_rdns m.entries.suffix k name) lines)))) out
+      ∙ ap (λ b. refused_if (not b) line NoSuchObject (refused_if (is_some (entry_at m.entries k)) line EntryAlreadyExists (with_entry m line k (new_entry rows (own_rdns m.entries.suffix k name) lines)))) out
 
   pub taken_place : (key : Option DnKeys) (k : DnKeys) → key ≡ Some k → is_at_or_below k m.entries.suffix ≡ true → is_some (entry_at m.entries k) ≡ true
       → with_content rows m line name lines key ≡ Err (line, cause.Code EntryAlreadyExists)
   taken_place key k named inside there =
       ap (with_content rows m line name lines) named
-      ∙ (λ i. refused_if (not (inside i)) line NoSuchObject (refused_if (there i) line EntryAlreadyExists (with_entry m line k (made rows (own_rdns m.entries.suffix k name) lines))))
+      ∙ (λ i. refused_if (not (inside i)) line NoSuchObject (refused_if (there i) line EntryAlreadyExists (with_entry m line k (new_entry rows (own_rdns m.entries.suffix k name) lines))))
 
   pub unmade : (key : Option DnKeys) (k : DnKeys) (fault : EntryFault) (code : ResultCode) → key ≡ Some k → is_at_or_below k m.entries.suffix ≡ true → entry_at m.entries k ≡ None
-      → made rows (own_rdns m.entries.suffix k name) lines ≡ Err fault → entry_refusal fault ≡ refusal.Code code → with_content rows m line name lines key ≡ Err (line, cause.Code code)
+      → new_entry rows (own_rdns m.entries.suffix k name) lines ≡ Err fault → entry_refusal fault ≡ refusal.Code code → with_content rows m line name lines key ≡ Err (line, cause.Code code)
   unmade key k fault code named inside free makes is =
       ap (with_content rows m line name lines) named
       ∙ (λ i. refused_if (not (inside i)) line NoSuchObject (refused_if (is_some (free i)) line EntryAlreadyExists (with_entry m line k (makes i))))
@@ -64,10 +64,10 @@ some_or (Some w) there h = refl
 
 -- a place is taken where an entry is, and where one waits
 pub some_there : (m : LoadedCopy) (standing : Dir) (waiting : DnKeys → Option Waiting) (k : DnKeys) → IsMadeOf m.entries waiting standing → is_some (entry_at standing k) ≡ true → is_some (entry_at m.entries k) ≡ true
-some_there m standing waiting k made there = ap is_some (made.2 k) ∙ some_or (waiting k) (entry_at standing k) there
+some_there m standing waiting k new_entry there = ap is_some (new_entry.2 k) ∙ some_or (waiting k) (entry_at standing k) there
 
 pub waits_there : (m : LoadedCopy) (standing : Dir) (waiting : DnKeys → Option Waiting) (k : DnKeys) → IsMadeOf m.entries waiting standing → is_some (waiting k) ≡ true → is_some (entry_at m.entries k) ≡ true
-waits_there m standing waiting k made there = ap is_some (made.2 k) ∙ by (waiting k) there
+waits_there m standing waiting k new_entry there = ap is_some (new_entry.2 k) ∙ by (waiting k) there
   where
     by : (o : Option Waiting) → is_some o ≡ true → is_some (waiting_or o (entry_at standing k)) ≡ true
     by None h = absurd (cc)

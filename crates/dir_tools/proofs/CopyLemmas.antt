@@ -10,13 +10,13 @@ use Rattle.dir_names.specs.declared.schema.TypeRow.{TypeRow}
 use Rattle.dir_names.specs.Described.{Described}
 use Rattle.dir_names.specs.Keys.{DnKeys}
 use Rattle.dir_names.specs.Names.{SpelledName}
-use Rattle.dir_names.specs.Reading.{or_bad_dn}
+use Rattle.dir_names.specs.Outcome.{ok_or_bad_dn}
 use Rattle.dir_names.specs.Orders.{dn_key_cmp, dn_key_cmp_total}
 use Rattle.dir_ldif.specs.Reader.Answers.{GivesFirst, GivesNone}
 use Rattle.dir_ldif.specs.Records.{Answer, Found, records_of}
 use Rattle.dir_tree.specs.Content.{Content}
 use Rattle.dir_tree.specs.Dir.{Dir, IsClosed, entry_at, has_parent, put_entry}
-use Rattle.dir_tree.specs.Made.{made}
+use Rattle.dir_tree.specs.NewEntry.{new_entry}
 use Rattle.dir_tree.proofs.DirLemmas.{closed_empty, closed_put, get_put, same_key}
 use Rattle.dir_change.specs.declared.result_code.ResultCode.TheVariants.{NoSuchObject, EntryAlreadyExists}
 use Rattle.dir_change.specs.Operation.{is_at_or_below, own_rdns}
@@ -89,7 +89,7 @@ all_waiting m standing waiting waiting' k w updates free was q x there = by (eq_
 -- ---- a record
 
 pub placed_ok : (rows : List TypeRow) (m : LoadedCopy) (line : ℕ) (name : SpelledName) (lines : List (Described × List ℕ)) (key : Option DnKeys) (k : DnKeys) (e : Content)
-    → key ≡ Some k → is_at_or_below k m.entries.suffix ≡ true → entry_at m.entries k ≡ None → made rows (own_rdns m.entries.suffix k name) lines ≡ Ok e
+    → key ≡ Some k → is_at_or_below k m.entries.suffix ≡ true → entry_at m.entries k ≡ None → new_entry rows (own_rdns m.entries.suffix k name) lines ≡ Ok e
     → with_content rows m line name lines key ≡ Ok (record { entries = put_entry m.entries k e; lines = fin.insert m.lines k line })
 placed_ok rows m line name lines key k e named below free makes =
     ap (with_content rows m line name lines) named
@@ -190,7 +190,7 @@ pub none_copied : {A : Type 0} (o : Option (Bor A)) → is_some o ≡ false → 
 none_copied None e = refl
 none_copied (Some x) e = absurd (cc)
 
-pub key_named : (key : Option DnKeys) (k : DnKeys) → or_bad_dn key ≡ Ok k → key ≡ Some k
+pub key_named : (key : Option DnKeys) (k : DnKeys) → ok_or_bad_dn key ≡ Ok k → key ≡ Some k
 key_named None k e = absurd (cc)
 key_named (Some q) k e = let same : q ≡ k = cc in ap Some same
 

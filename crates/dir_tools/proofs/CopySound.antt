@@ -9,17 +9,16 @@ use Rattle.dir_names.specs.Keys.{DnKeys}
 use Rattle.dir_names.specs.Names.{SpelledName, SpelledRdn}
 use Rattle.dir_names.specs.NameKeys.{name_key}
 use Rattle.dir_names.specs.Orders.{dn_key_cmp, dn_key_eq}
-use Rattle.dir_names.specs.Reading.{is_small}
-use Rattle.dir_names.specs.Sound.{is_rdn}
+use Rattle.dir_names.specs.Names.Limits.{is_rdn_within_limit}
+use Rattle.dir_names.specs.Names.Sound.{is_sound_rdn}
 use Rattle.dir_ldif.specs.declared.faults.RecordFault.{RecordFault}
 use Rattle.dir_ldif.specs.declared.records.Record.{Record}
 use Rattle.dir_ldif.specs.declared.records.Record.TheVariants as form
-use Rattle.dir_ldif.specs.SoundRecords.{IsSoundName, ValuesAreBytes}
+use Rattle.dir_ldif.specs.SoundRecords.{IsSoundName, ValuesAreBytes, IsSoundFound}
 use Rattle.dir_ldif.specs.LegalRecords.{has_key, is_legal_line}
-use Rattle.dir_ldif.specs.SoundRecords.{IsSoundFound}
 use Rattle.dir_tree.specs.Content.{Content}
 use Rattle.dir_tree.specs.Dir.{Dir, IsClosed, entry_at, put_entry}
-use Rattle.dir_tree.specs.Made.{made}
+use Rattle.dir_tree.specs.NewEntry.{new_entry}
 use Rattle.dir_tree.specs.WellFormed.{IsWellFormed, IsWithinLimits}
 use Rattle.dir_tree.specs.declared.fault.EntryFault.{EntryFault}
 use Rattle.dir_tree.proofs.DirLemmas.{get_put, same_key}
@@ -44,7 +43,7 @@ all_own_of p suffix k name e = by (dn_key_eq k suffix)
     by false = first name e
 
 order_one : (rows : List TypeRow) (suffix k : DnKeys) (name : SpelledName) (lines : List (Described × List ℕ)) (e : Content)
-    → name_key rows name ≡ Some k → IsSoundName name → list_all (is_legal_line rows) lines ≡ true → ValuesAreBytes lines → made rows (own_rdns suffix k name) lines ≡ Ok e → IsSoundAt rows suffix k e
+    → name_key rows name ≡ Some k → IsSoundName name → list_all (is_legal_line rows) lines ≡ true → ValuesAreBytes lines → new_entry rows (own_rdns suffix k name) lines ≡ Ok e → IsSoundAt rows suffix k e
 order_one rows suffix k name lines e named sound legal bytes makes =
     let own = made_own rows (own_rdns suffix k name) lines e makes in
     let long : length name ≡ length k = key_length rows name k named in
@@ -53,8 +52,8 @@ order_one rows suffix k name lines e named sound legal bytes makes =
       made_sound rows (own_rdns suffix k name) lines e (legal_leaf suffix k name sound.0 sound.1) (legal_lines rows lines legal bytes) makes,
       ap (name_key rows) own ∙ own_named rows suffix k name named,
       low,
-      ap (list_all is_rdn) own ∙ all_own_of is_rdn suffix k name sound.0,
-      ap (list_all is_small) own ∙ all_own_of is_small suffix k name (right (nat_le (length name) 64) _ sound.1),
+      ap (list_all is_sound_rdn) own ∙ all_own_of is_sound_rdn suffix k name sound.0,
+      ap (list_all is_rdn_within_limit) own ∙ all_own_of is_rdn_within_limit suffix k name (right (nat_le (length name) 64) _ sound.1),
     )
 
 order_put : (rows : List TypeRow) (d : Dir) (k : DnKeys) (x : Content) → AreSoundInPlace rows d → IsSoundAt rows d.suffix k x → AreSoundInPlace rows (put_entry d k x)
@@ -71,7 +70,7 @@ order_taken rows m n line (Err fault) sound is order = absurd (cc)
 order_taken rows m n line (Ok (form.Change change)) sound is order = absurd (cc)
 order_taken rows m n line (Ok (form.Content name lines)) sound is order = by (name_key rows name) refl is
   where
-    tests : (k : DnKeys) → name_key rows name ≡ Some k → (a b : Bool) (r : Result Content EntryFault) → made rows (own_rdns m.entries.suffix k name) lines ≡ r
+    tests : (k : DnKeys) → name_key rows name ≡ Some k → (a b : Bool) (r : Result Content EntryFault) → new_entry rows (own_rdns m.entries.suffix k name) lines ≡ r
         → refused_if a line NoSuchObject (refused_if b line EntryAlreadyExists (with_entry m line k r)) ≡ Ok n → AreSoundInPlace rows n.entries
     tests k t true b r u h = absurd (cc)
     tests k t false true r u h = absurd (cc)
@@ -83,7 +82,7 @@ order_taken rows m n line (Ok (form.Content name lines)) sound is order = by (na
 
     by : (o : Option DnKeys) → name_key rows name ≡ o → with_content rows m line name lines o ≡ Ok n → AreSoundInPlace rows n.entries
     by None t h = absurd (cc)
-    by (Some k) t h = tests k t (not (is_at_or_below k m.entries.suffix)) (is_some (entry_at m.entries k)) (made rows (own_rdns m.entries.suffix k name) lines) refl h
+    by (Some k) t h = tests k t (not (is_at_or_below k m.entries.suffix)) (is_some (entry_at m.entries k)) (new_entry rows (own_rdns m.entries.suffix k name) lines) refl h
 
 -- a closed directory of such entries is well formed
 pub order_whole : (rows : List TypeRow) (d e : Dir) → d ≡ e → IsClosed e → (e.suffix ≡ [] → ⊥) → AreSoundInPlace rows d → IsWellFormed rows e × IsWithinLimits e

@@ -27,7 +27,7 @@ use Rattle.dir_names.specs.declared.fault.NameFault.{NameFault}
 use Rattle.dir_names.specs.Keys.{DnKeys}
 use Rattle.dir_names.specs.Names.{SpelledName}
 use Rattle.dir_names.specs.NameKeys.{name_key}
-use Rattle.dir_names.specs.Reading.{name_read}
+use Rattle.dir_names.specs.Names.Reading.{name_within_limits}
 use Rattle.dir_tools.specs.RunOf.{RunEnd, causes_in, groups_in, run_of}
 use Rattle.dir_tools.specs.Report.{numbers_line, outcome_line}
 use Rattle.dir_tools.specs.Inside.RunTexts.{AreFiles, AreTexts, is_dry, texts_of}
@@ -54,7 +54,7 @@ has_part (Some (part ∷ parts)) k h none = cc
 
 -- a suffix has an RDN
 pub named_suffix : (rows : List TypeRow) (text : List ℕ) (k : DnKeys) → suffix_of rows text ≡ Some k → HasRdn k
-named_suffix rows text k = by (name_read text)
+named_suffix rows text k = by (name_within_limits text)
   where
     by : (r : Result SpelledName NameFault) → suffix_key rows r ≡ Some k → HasRdn k
     by (Ok name) h = has_part (name_key rows name) k h

@@ -6,11 +6,11 @@ use Rattle.dir_ldif.specs.declared.records.Record.TheVariants as form
 use Rattle.dir_ldif.specs.RecordText.{record_text_of}
 use Rattle.dir_tree.specs.Content.{Content}
 use Rattle.dir_tree.specs.Dir.{Dir}
-use Rattle.dir_tree.specs.Spelled.{walked}
+use Rattle.dir_tree.specs.SpelledNames.{named_entries}
 use Rattle.dir_tree.specs.WellFormed.{all_lines}
 
 abbrev pub entry_text : SpelledName × Content → List ℕ
 entry_text entry = record_text_of (form.Content entry.0 (all_lines entry.1.attributes))
 
 abbrev pub canonical_of : Dir → List ℕ
-canonical_of d = flat_map entry_text (walked d)
+canonical_of d = flat_map entry_text (named_entries d)

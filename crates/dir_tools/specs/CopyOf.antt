@@ -16,7 +16,7 @@ use Rattle.dir_ldif.specs.declared.records.Record.TheVariants as form
 use Rattle.dir_ldif.specs.Records.{Answer, records_of}
 use Rattle.dir_tree.specs.Content.{Content}
 use Rattle.dir_tree.specs.Dir.{Dir, entry_at, has_parent, put_entry}
-use Rattle.dir_tree.specs.Made.{made}
+use Rattle.dir_tree.specs.NewEntry.{new_entry}
 use Rattle.dir_tree.specs.declared.fault.EntryFault.{EntryFault}
 use Rattle.dir_change.specs.declared.result_code.ResultCode.{ResultCode}
 use Rattle.dir_change.specs.declared.result_code.ResultCode.TheVariants.{NoSuchObject, EntryAlreadyExists}
@@ -46,7 +46,7 @@ with_content rows l line name lines None = Err (line, cause.Code NoSuchObject)
 with_content rows l line name lines (Some k) =
     refused_if (not (is_at_or_below k l.entries.suffix)) line NoSuchObject
     (refused_if (is_some (entry_at l.entries k)) line EntryAlreadyExists
-    (with_entry l line k (made rows (own_rdns l.entries.suffix k name) lines)))
+    (with_entry l line k (new_entry rows (own_rdns l.entries.suffix k name) lines)))
 
 -- all records of a copy are content
 abbrev pub with_record : List TypeRow → LoadedCopy → ℕ → Result Record RecordFault → Result LoadedCopy CopyFault

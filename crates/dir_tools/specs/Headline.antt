@@ -6,7 +6,7 @@ use Rattle.dir_names.specs.Keys.{DnKeys}
 use Rattle.dir_names.specs.declared.fault.NameFault.{NameFault}
 use Rattle.dir_names.specs.Names.{SpelledName}
 use Rattle.dir_names.specs.NameKeys.{name_key}
-use Rattle.dir_names.specs.Reading.{name_read}
+use Rattle.dir_names.specs.Names.Reading.{name_within_limits}
 use Rattle.dir_ldif.specs.declared.faults.StreamFault.{StreamFault}
 use Rattle.dir_ldif.specs.declared.faults.StreamFault.TheVariants as stream
 use Rattle.dir_ldif.specs.declared.records.Change.{Change}
@@ -44,7 +44,7 @@ suffix_key rows (Ok name) = nonempty_key (name_key rows name)
 suffix_key rows (Err fault) = None
 
 abbrev pub suffix_of : List TypeRow → List ℕ → Option DnKeys
-suffix_of rows text = suffix_key rows (name_read text)
+suffix_of rows text = suffix_key rows (name_within_limits text)
 
 -- the texts and the numbers of a run that has ended
 abbrev pub texts_of_run : Bool → RunEnd → Texts

@@ -7,7 +7,7 @@ use Rattle.dir_names.specs.Names.{SpelledName}
 use Rattle.dir_names.specs.Orders.{dn_key_eq, dn_key_eq_decides}
 use Rattle.dir_tree.specs.Content.{Content}
 use Rattle.dir_tree.specs.Dir.{Dir, entry_at, is_there, IsClosed}
-use Rattle.dir_tree.specs.Spelled.{own_of, own_at, spelled_name}
+use Rattle.dir_tree.specs.SpelledNames.{own_name_at, own_name_of, spelled_name}
 use Rattle.dir_tree.proofs.DirLemmas.{parent_child}
 use Rattle.dir_tree.proofs.NextKey.{or_cases}
 use Rattle.dir_tree.proofs.SpelledLemmas.{spelled_below, spelled_root, spelled_above}
@@ -17,7 +17,7 @@ abbrev pub left_above : Dir → Option DnKeys → SpelledName
 left_above d None = []
 left_above d (Some k) = spelled_name d k
 
--- the key that the climb stands at: an entry's, or above the suffix
+-- the key that the climb has reached: an entry's, or above the suffix
 abbrev pub IsOnPath : Dir → Option DnKeys → Type 0
 IsOnPath d None = Unit {0}
 IsOnPath d (Some k) = (is_some (entry_at d k) ≡ true) ⊎ (length k < length d.suffix)
@@ -42,12 +42,12 @@ module _ (d : Dir) (closed : IsClosed d) where
   pub climbed : (done : SpelledName) (k : DnKeys) (e : Content) (o : Option DnKeys) → entry_at d k ≡ Some e → parent_of k ≡ o → done ++ spelled_name d k ≡ (done ++ e.own) ++ left_above d o
   climbed done k e None at top =
       let root : k ≡ [] = only_root k top in
-      ap (λ z. done ++ spelled_name d z) root ∙ ap (λ names. done ++ names) (spelled_root d ∙ sym (ap (own_at d) root) ∙ ap own_of at) ∙ sym (append-nil (done ++ e.own))
+      ap (λ z. done ++ spelled_name d z) root ∙ ap (λ names. done ++ names) (spelled_root d ∙ sym (ap (own_name_at d) root) ∙ ap own_name_of at) ∙ sym (append-nil (done ++ e.own))
     where
       only_root : (k : DnKeys) → parent_of k ≡ None → k ≡ []
       only_root [] t = refl
       only_root (x ∷ xs) t = absurd (cc)
-  climbed done k e (Some p) at above = ap (λ names. done ++ names) (spelled_below d k p above ∙ ap (λ o. own_of o ++ spelled_name d p) at) ∙ sym (append_assoc done e.own (spelled_name d p))
+  climbed done k e (Some p) at above = ap (λ names. done ++ names) (spelled_below d k p above ∙ ap (λ o. own_name_of o ++ spelled_name d p) at) ∙ sym (append_assoc done e.own (spelled_name d p))
 
   pub still_on_path : (k : DnKeys) (o : Option DnKeys) → is_some (entry_at d k) ≡ true → parent_of k ≡ o → IsOnPath d o
   still_on_path k None there e = tt
@@ -61,7 +61,7 @@ module _ (d : Dir) (closed : IsClosed d) where
       (λ t. inl (sym (ap (is_there d) e) ∙ t))
       (closed k there)
 
-  -- where no entry stands, nothing is left to be spelled
+  -- if there is no entry, nothing is left to be spelled
   pub climbed_past : (k : DnKeys) → IsOnPath d (Some k) → entry_at d k ≡ None → spelled_name d k ≡ []
   climbed_past k (inl there) none = absurd (true≢false (sym there ∙ ap is_some none))
   climbed_past k (inr short) none = spelled_above d closed k short

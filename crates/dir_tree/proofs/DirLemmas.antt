@@ -1,4 +1,4 @@
--- Laws of a directory: what stands where after a write, and that it stays closed.
+-- Laws of a directory: the entry at each key after a write, and that each entry still has its parent.
 use Rattle.std.proofs.Common.{◌≡◌, Bool, true, false, cond, ◌||◌, [], ◌∷◌, ◌++◌, length, take, Option, Some, None, is_some, refl, sym, ap, subst, ◌∙◌}
 use Rattle.std.specs.FinMap as fin
 use Rattle.std.specs.FinMap.{get-insert, get-remove, get-empty}
@@ -7,7 +7,7 @@ use Rattle.std.specs.Ordering.{eq_by_cmp}
 use Rattle.dir_names.specs.Keys.{DnKeys, RdnKeys, parent_of}
 use Rattle.dir_names.specs.Orders.{dn_key_cmp, dn_key_cmp_total, dn_key_cmp_exact, dn_key_eq}
 use Rattle.dir_tree.specs.Content.{Content}
-use Rattle.dir_tree.specs.Dir.{Dir, entry_at, put_entry, without, is_there, has_parent, IsClosed, HasChild}
+use Rattle.dir_tree.specs.Dir.{Dir, HasChild, IsClosed, entry_at, has_parent, is_there, put_entry, remove_entry}
 
 pub same_key : (x y : DnKeys) → eq_by_cmp dn_key_cmp x y ≡ true → x ≡ y
 same_key x y t = dn_key_cmp_exact x y ((Equal-is (dn_key_cmp x y)).0 t)
@@ -15,7 +15,7 @@ same_key x y t = dn_key_cmp_exact x y ((Equal-is (dn_key_cmp x y)).0 t)
 pub get_put : (d : Dir) (k : DnKeys) (e : Content) (q : DnKeys) → entry_at (put_entry d k e) q ≡ cond (eq_by_cmp dn_key_cmp q k) (Some e) (entry_at d q)
 get_put d k e q = get-insert dn_key_cmp_total d.entries k e q
 
-pub get_without : (d : Dir) (k q : DnKeys) → entry_at (without d k) q ≡ cond (eq_by_cmp dn_key_cmp q k) None (entry_at d q)
+pub get_without : (d : Dir) (k q : DnKeys) → entry_at (remove_entry d k) q ≡ cond (eq_by_cmp dn_key_cmp q k) None (entry_at d q)
 get_without d k q = get-remove dn_key_cmp_total d.entries k q
 
 or_mono : (a b c : Bool) → (b ≡ true → c ≡ true) → (a || b) ≡ true → (a || c) ≡ true
@@ -60,10 +60,10 @@ parent_child (x ∷ xs) p e =
     let last = last_part x xs in
     (last.0, last.1 ∙ ap (λ zs. zs ++ last.0 ∷ []) same)
 
-pub closed_without : (d : Dir) (k : DnKeys) → IsClosed d → ¬ (HasChild d k) → IsClosed (without d k)
+pub closed_without : (d : Dir) (k : DnKeys) → IsClosed d → ¬ (HasChild d k) → IsClosed (remove_entry d k)
 closed_without d k closed leaf q there = by _ refl (sym (ap is_some (get_without d k q)) ∙ there)
   where
-    keep : is_some (entry_at d q) ≡ true → (o : Option DnKeys) → parent_of q ≡ o → is_there d o ≡ true → is_there (without d k) o ≡ true
+    keep : is_some (entry_at d q) ≡ true → (o : Option DnKeys) → parent_of q ≡ o → is_there d o ≡ true → is_there (remove_entry d k) o ≡ true
     keep h None e p = p
     keep h (Some above) e p = ap is_some (get_without d k above) ∙ kept _ refl
       where
@@ -73,7 +73,7 @@ closed_without d k closed leaf q there = by _ refl (sym (ap is_some (get_without
             absurd (leaf (child.0, subst (λ z. is_some (entry_at d z) ≡ true) (child.1 ∙ ap (λ z. z ++ child.0 ∷ []) (same_key above k t)) h))
         kept false t = p
 
-    by : (b : Bool) → eq_by_cmp dn_key_cmp q k ≡ b → is_some (cond b None (entry_at d q)) ≡ true → has_parent (without d k) q ≡ true
+    by : (b : Bool) → eq_by_cmp dn_key_cmp q k ≡ b → is_some (cond b None (entry_at d q)) ≡ true → has_parent (remove_entry d k) q ≡ true
     by true t h = absurd (none_there h)
       where
         none_there : false ≡ true → ⊥

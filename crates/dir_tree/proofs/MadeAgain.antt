@@ -8,17 +8,19 @@ use Rattle.std.specs.Cmp.{tied_itself}
 use Rattle.dir_names.specs.declared.schema.TypeRow.{TypeRow}
 use Rattle.dir_names.specs.declared.value.ValueKey.{ValueKey}
 use Rattle.dir_names.specs.Attr.{Attr}
-use Rattle.dir_names.specs.NameKeys.{found}
+use Rattle.std.specs.Result.{result_ok}
 use Rattle.dir_names.specs.Orders.{attr_cmp, attr_cmp_total, attr_cmp_exact}
-use Rattle.dir_names.specs.Reading.{all_of, and_all}
+use Rattle.dir_names.specs.Results.{option_collect, option_cons}
 use Rattle.dir_names.specs.Values.{value_key_cmp, value_key_cmp_total, value_key_cmp_exact}
 use Rattle.dir_tree.specs.declared.fault.EntryFault.TheVariants.{BadValue, Twice, NotNamed, Single}
 use Rattle.dir_tree.specs.declared.lines.KeyedLine.{KeyedLine}
-use Rattle.dir_tree.specs.Arranged.{are_free}
+use Rattle.dir_tree.specs.Inside.Arranged.{have_new_values}
 use Rattle.dir_tree.specs.Content.{Content, Stored, StoredAttributes, has_in, has_value}
-use Rattle.dir_tree.specs.Made.{attributes_of, gathered, or_else_fault, then, unless_crowded, gained, gained_by, keyed_line, keyed_lines, leaf_lines, made, with_line, with_lines, with_value}
+use Rattle.std.specs.Option.{ok_or}
+use Rattle.dir_tree.specs.NewEntry.{attributes_if_distinct, attributes_of, keyed_line, keyed_lines, leaf_lines, new_entry, ok_unless_exceeding, with_line, with_lines, with_missing_lines, with_missing_of, with_value}
+use Rattle.dir_names.specs.Results.{and_then}
 use Rattle.dir_tree.specs.WellFormed.{Each, IsSoundAttribute, IsSoundEntry, IsSoundValue, all_lines, attribute_lines, has_each}
-use Rattle.dir_tree.specs.Held.{value_in}
+use Rattle.dir_tree.specs.NewEntryLaw.{value_in}
 use Rattle.dir_tree.proofs.Orderless.{free_of_empty}
 use Rattle.dir_tree.proofs.Relisted.{are_new, inserted, inserted_whole, insert_over, new_whole}
 
@@ -40,24 +42,24 @@ right false b h = absurd (true≢false (sym h))
 -- ---- each line has its key
 
 module _ {A B : Type 0} (f : A → Option B) where
-  all_append : (xs ys : List A) (us vs : List B) → all_of f xs ≡ Some us → all_of f ys ≡ Some vs → all_of f (xs ++ ys) ≡ Some (us ++ vs)
+  all_append : (xs ys : List A) (us vs : List B) → option_collect f xs ≡ Some us → option_collect f ys ≡ Some vs → option_collect f (xs ++ ys) ≡ Some (us ++ vs)
   all_append [] ys us vs e h = let none : [] ≡ us = cc in h ∙ ap (λ z. Some (z ++ vs)) none
-  all_append (x ∷ xs) ys us vs e h = by (f x) (all_of f xs) refl e (all_append xs ys)
+  all_append (x ∷ xs) ys us vs e h = by (f x) (option_collect f xs) refl e (all_append xs ys)
     where
-      by : (o : Option B) (p : Option (List B)) → all_of f xs ≡ p → and_all o p ≡ Some us → ((us vs : List B) → all_of f xs ≡ Some us → all_of f ys ≡ Some vs → all_of f (xs ++ ys) ≡ Some (us ++ vs)) → and_all o (all_of f (xs ++ ys)) ≡ Some (us ++ vs)
+      by : (o : Option B) (p : Option (List B)) → option_collect f xs ≡ p → option_cons o p ≡ Some us → ((us vs : List B) → option_collect f xs ≡ Some us → option_collect f ys ≡ Some vs → option_collect f (xs ++ ys) ≡ Some (us ++ vs)) → option_cons o (option_collect f (xs ++ ys)) ≡ Some (us ++ vs)
       by None p t e rest = absurd (cc)
       by (Some u) None t e rest = absurd (cc)
       by (Some u) (Some ws) t e rest =
           let same : u ∷ ws ≡ us = cc in
-          ap (and_all (Some u)) (rest ws vs t h) ∙ ap (λ z. Some (z ++ vs)) same
+          ap (option_cons (Some u)) (rest ws vs t h) ∙ ap (λ z. Some (z ++ vs)) same
 
 module _ (rows : List TypeRow) where
   keyed_value : (a : Attr × Stored) (v : ValueKey × List ℕ) → IsSoundValue rows a.0 v → keyed_line rows (record { spelling = a.1.spelling; key = a.0 }, v.1) ≡ Some (keyed_of a v)
-  keyed_value a v sound = ap (λ r. option_map (λ key. record { description = record { spelling = a.1.spelling; key = a.0 }; key = key; bytes = v.1 }) (found r)) sound.0
+  keyed_value a v sound = ap (λ r. option_map (λ key. record { description = record { spelling = a.1.spelling; key = a.0 }; key = key; bytes = v.1 }) (result_ok r)) sound.0
 
   keyed_values : (a : Attr × Stored) (vs : List (ValueKey × List ℕ)) → Each (IsSoundValue rows a.0) vs → keyed_lines rows (map (λ v. (record { spelling = a.1.spelling; key = a.0 }, v.1)) vs) ≡ Some (map (keyed_of a) vs)
   keyed_values a [] sound = refl
-  keyed_values a (v ∷ vs) sound = λ i. and_all (keyed_value a v sound.0 i) (keyed_values a vs sound.1 i)
+  keyed_values a (v ∷ vs) sound = λ i. option_cons (keyed_value a v sound.0 i) (keyed_values a vs sound.1 i)
 
   keyed_all : (es : List (Attr × Stored)) → Each (IsSoundAttribute rows) es → keyed_lines rows (flat_map attribute_lines es) ≡ Some (flat_map keyed_attribute es)
   keyed_all [] sound = refl
@@ -80,9 +82,9 @@ more_values xs a b (v ∷ vs) =
     ∙ more_values xs a (record { spelling = b.spelling; values = fin.insert b.values v.0 v.1 }) vs
 
 more_free : (xs : StoredAttributes) (a : Attr × Stored) (b : Stored) (vs : List (ValueKey × List ℕ)) →
-    are_free (fin.insert xs a.0 b) (map (keyed_of a) vs) ≡ are_new value_key_cmp_total value_key_cmp_exact b.values vs
+    have_new_values (fin.insert xs a.0 b) (map (keyed_of a) vs) ≡ are_new value_key_cmp_total value_key_cmp_exact b.values vs
 more_free xs a b [] = refl
-more_free xs a b (v ∷ vs) = λ i. not (has_in v.0 (get_there xs a.0 b i)) && (ap (λ ys. are_free ys (map (keyed_of a) vs)) (next_value xs a b v) ∙ more_free xs a (record { spelling = b.spelling; values = fin.insert b.values v.0 v.1 }) vs) i
+more_free xs a b (v ∷ vs) = λ i. not (has_in v.0 (get_there xs a.0 b i)) && (ap (λ ys. have_new_values ys (map (keyed_of a) vs)) (next_value xs a b v) ∙ more_free xs a (record { spelling = b.spelling; values = fin.insert b.values v.0 v.1 }) vs) i
 
 first_value : (xs : StoredAttributes) (a : Attr × Stored) (v : ValueKey × List ℕ) → fin.get xs a.0 ≡ None → with_line xs (keyed_of a v) ≡ fin.insert xs a.0 (record { spelling = a.1.spelling; values = fin.insert fin.empty v.0 v.1 })
 first_value xs a v none = ap (λ o. fin.insert xs a.0 (with_value o (keyed_of a v))) none
@@ -98,13 +100,13 @@ one_attribute xs a none some = by (fin.entries a.1.values) refl some
         ∙ ap (λ values. fin.insert xs a.0 (record { spelling = a.1.spelling; values = values }))
         (ap (inserted value_key_cmp_total value_key_cmp_exact fin.empty) (sym t) ∙ inserted_whole value_key_cmp_total value_key_cmp_exact a.1.values)
 
-one_free : (xs : StoredAttributes) (a : Attr × Stored) → fin.get xs a.0 ≡ None → are_free xs (keyed_attribute a) ≡ true
+one_free : (xs : StoredAttributes) (a : Attr × Stored) → fin.get xs a.0 ≡ None → have_new_values xs (keyed_attribute a) ≡ true
 one_free xs a none = by (fin.entries a.1.values) refl
   where
-    by : (vs : List (ValueKey × List ℕ)) → fin.entries a.1.values ≡ vs → are_free xs (map (keyed_of a) vs) ≡ true
+    by : (vs : List (ValueKey × List ℕ)) → fin.entries a.1.values ≡ vs → have_new_values xs (map (keyed_of a) vs) ≡ true
     by [] t = refl
     by (v ∷ vs) t =
-        (λ i. not (has_in v.0 (none i)) && (ap (λ ys. are_free ys (map (keyed_of a) vs)) (first_value xs a v none) ∙ more_free xs a (record { spelling = a.1.spelling; values = fin.insert fin.empty v.0 v.1 }) vs) i)
+        (λ i. not (has_in v.0 (none i)) && (ap (λ ys. have_new_values ys (map (keyed_of a) vs)) (first_value xs a v none) ∙ more_free xs a (record { spelling = a.1.spelling; values = fin.insert fin.empty v.0 v.1 }) vs) i)
         ∙ right (not (fin.contains_key (fin.empty {K = ValueKey} {X = List ℕ} {R = value_key_cmp}) v.0)) _ (ap (are_new value_key_cmp_total value_key_cmp_exact fin.empty) (sym t) ∙ new_whole value_key_cmp_total value_key_cmp_exact a.1.values)
 
 -- ---- the lines of all attributes
@@ -113,9 +115,9 @@ with_append : (xs : StoredAttributes) (ls ms : List KeyedLine) → with_lines xs
 with_append xs [] ms = refl
 with_append xs (l ∷ ls) ms = with_append (with_line xs l) ls ms
 
-free_append : (xs : StoredAttributes) (ls ms : List KeyedLine) → are_free xs (ls ++ ms) ≡ are_free xs ls && are_free (with_lines xs ls) ms
+free_append : (xs : StoredAttributes) (ls ms : List KeyedLine) → have_new_values xs (ls ++ ms) ≡ have_new_values xs ls && have_new_values (with_lines xs ls) ms
 free_append xs [] ms = refl
-free_append xs (l ∷ ls) ms = ap (λ b. not (has_value xs l.description.key l.key) && b) (free_append (with_line xs l) ls ms) ∙ joined (not (has_value xs l.description.key l.key)) (are_free (with_line xs l) ls) _
+free_append xs (l ∷ ls) ms = ap (λ b. not (has_value xs l.description.key l.key) && b) (free_append (with_line xs l) ls ms) ∙ joined (not (has_value xs l.description.key l.key)) (have_new_values (with_line xs l) ls) _
   where
     joined : (a b c : Bool) → (a && (b && c)) ≡ ((a && b) && c)
     joined true b c = refl
@@ -130,40 +132,40 @@ not_there xs k e = by (fin.get xs k) e
 
 module _ (rows : List TypeRow) where
   all_attributes : (xs : StoredAttributes) (es : List (Attr × Stored)) → Each (IsSoundAttribute rows) es → are_new attr_cmp_total attr_cmp_exact xs es ≡ true →
-      (with_lines xs (flat_map keyed_attribute es) ≡ inserted attr_cmp_total attr_cmp_exact xs es) × (are_free xs (flat_map keyed_attribute es) ≡ true)
+      (with_lines xs (flat_map keyed_attribute es) ≡ inserted attr_cmp_total attr_cmp_exact xs es) × (have_new_values xs (flat_map keyed_attribute es) ≡ true)
   all_attributes xs [] sound new = (refl, refl)
   all_attributes xs (a ∷ es) sound new =
       let none = not_there xs a.0 (left _ (are_new attr_cmp_total attr_cmp_exact (fin.insert xs a.0 a.1) es) new) in
       let one = one_attribute xs a none sound.0.1 in
       let rest = all_attributes (fin.insert xs a.0 a.1) es sound.1 (right (not (fin.contains_key xs a.0)) _ new) in (
         with_append xs (keyed_attribute a) (flat_map keyed_attribute es) ∙ ap (λ ys. with_lines ys (flat_map keyed_attribute es)) one ∙ rest.0,
-        free_append xs (keyed_attribute a) (flat_map keyed_attribute es) ∙ (λ i. one_free xs a none i && (ap (λ ys. are_free ys (flat_map keyed_attribute es)) one ∙ rest.1) i),
+        free_append xs (keyed_attribute a) (flat_map keyed_attribute es) ∙ (λ i. one_free xs a none i && (ap (λ ys. have_new_values ys (flat_map keyed_attribute es)) one ∙ rest.1) i),
       )
 
 -- ---- the values of the own RDN are there
 
-nothing_gained : (xs : StoredAttributes) (ls : List KeyedLine) → list_all (λ l. has_value xs l.description.key l.key) ls ≡ true → gained xs ls ≡ xs
+nothing_gained : (xs : StoredAttributes) (ls : List KeyedLine) → list_all (λ l. has_value xs l.description.key l.key) ls ≡ true → with_missing_lines xs ls ≡ xs
 nothing_gained xs [] there = refl
 nothing_gained xs (l ∷ ls) there =
-    ap (λ ys. gained ys ls) (ap (λ b. cond b xs (with_line xs l)) (left _ (list_all (λ l. has_value xs l.description.key l.key) ls) there))
+    ap (λ ys. with_missing_lines ys ls) (ap (λ b. cond b xs (with_line xs l)) (left _ (list_all (λ l. has_value xs l.description.key l.key) ls) there))
     ∙ nothing_gained xs ls (right (has_value xs l.description.key l.key) _ there)
 
-nothing_by : (xs : StoredAttributes) (o : Option (List KeyedLine)) → has_each xs o ≡ true → gained_by xs o ≡ xs
+nothing_by : (xs : StoredAttributes) (o : Option (List KeyedLine)) → has_each xs o ≡ true → with_missing_of xs o ≡ xs
 nothing_by xs None there = refl
 nothing_by xs (Some ls) there = nothing_gained xs ls there
 
-pub made_again : (rows : List TypeRow) (e : Content) → IsSoundEntry rows e → made rows e.own (all_lines e.attributes) ≡ Ok e
+pub made_again : (rows : List TypeRow) (e : Content) → IsSoundEntry rows e → new_entry rows e.own (all_lines e.attributes) ≡ Ok e
 made_again rows e sound =
-    ap (λ o. then (or_else_fault NotNamed o) (λ key. then (attributes_of rows (all_lines e.attributes)) (λ xs. unless_crowded rows (record { own = e.own; key = key; attributes = gained_by xs (leaf_lines rows e.own) })))) sound.0
-    ∙ ap (λ r. then r (λ xs. unless_crowded rows (record { own = e.own; key = e.key; attributes = gained_by xs (leaf_lines rows e.own) }))) gathered_again
-    ∙ ap (λ xs. unless_crowded rows (record { own = e.own; key = e.key; attributes = xs })) (nothing_by e.attributes (leaf_lines rows e.own) sound.2)
+    ap (λ o. and_then (ok_or o NotNamed) (λ key. and_then (attributes_of rows (all_lines e.attributes)) (λ xs. ok_unless_exceeding rows (record { own = e.own; key = key; attributes = with_missing_of xs (leaf_lines rows e.own) })))) sound.0
+    ∙ ap (λ r. and_then r (λ xs. ok_unless_exceeding rows (record { own = e.own; key = e.key; attributes = with_missing_of xs (leaf_lines rows e.own) }))) gathered_again
+    ∙ ap (λ xs. ok_unless_exceeding rows (record { own = e.own; key = e.key; attributes = xs })) (nothing_by e.attributes (leaf_lines rows e.own) sound.2)
     ∙ ap (λ b. cond b (Err Single) (Ok e)) sound.3
   where
-    again : (with_lines fin.empty (flat_map keyed_attribute (fin.entries e.attributes)) ≡ inserted attr_cmp_total attr_cmp_exact fin.empty (fin.entries e.attributes)) × (are_free fin.empty (flat_map keyed_attribute (fin.entries e.attributes)) ≡ true)
+    again : (with_lines fin.empty (flat_map keyed_attribute (fin.entries e.attributes)) ≡ inserted attr_cmp_total attr_cmp_exact fin.empty (fin.entries e.attributes)) × (have_new_values fin.empty (flat_map keyed_attribute (fin.entries e.attributes)) ≡ true)
     again = all_attributes rows fin.empty (fin.entries e.attributes) sound.1 (new_whole attr_cmp_total attr_cmp_exact e.attributes)
 
     gathered_again : attributes_of rows (all_lines e.attributes) ≡ Ok e.attributes
     gathered_again =
-        ap (λ o. then (or_else_fault BadValue o) gathered) (keyed_all rows (fin.entries e.attributes) sound.1)
+        ap (λ o. and_then (ok_or o BadValue) attributes_if_distinct) (keyed_all rows (fin.entries e.attributes) sound.1)
         ∙ ap (λ b. cond b (Ok (with_lines fin.empty (flat_map keyed_attribute (fin.entries e.attributes)))) (Err Twice)) (sym (free_of_empty fin.empty (flat_map keyed_attribute (fin.entries e.attributes)) (λ k v. ap (value_in v) (get-empty attr_cmp k))) ∙ again.1)
         ∙ ap Ok (again.0 ∙ inserted_whole attr_cmp_total attr_cmp_exact e.attributes)

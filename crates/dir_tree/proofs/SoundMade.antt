@@ -15,14 +15,18 @@ use Rattle.dir_names.specs.Described.{Described}
 use Rattle.dir_names.specs.Descriptions.{description_of}
 use Rattle.dir_names.specs.Keys.{RdnKeys}
 use Rattle.dir_names.specs.Names.{SpelledName, SpelledRdn}
-use Rattle.dir_names.specs.NameKeys.{and_then, found, rdn_key, value_key_of}
+use Rattle.std.specs.Option.{option_and_then}
+use Rattle.std.specs.Result.{result_ok}
+use Rattle.dir_names.specs.NameKeys.{rdn_key, value_key_of}
 use Rattle.dir_names.specs.Orders.{attr_cmp, attr_cmp_total, attr_cmp_exact}
-use Rattle.dir_names.specs.Reading.{and_all}
+use Rattle.dir_names.specs.Results.{option_cons}
 use Rattle.dir_names.specs.Values.{value_key_cmp, value_key_cmp_total, value_key_cmp_exact}
 use Rattle.dir_tree.specs.declared.fault.EntryFault.TheVariants.{BadValue, Twice, NotNamed, Single}
 use Rattle.dir_tree.specs.declared.lines.KeyedLine.{KeyedLine}
 use Rattle.dir_tree.specs.Content.{Content, Stored, StoredAttributes, has_value}
-use Rattle.dir_tree.specs.Made.{are_apart, gathered, gained, gained_by, gives_alike, is_crowded, keyed_lines, leaf_key, leaf_lines, leaf_of, made, or_else_fault, pair_line, rdn_lines, then, unless_crowded, with_line, with_lines, with_missing, with_value}
+use Rattle.std.specs.Option.{ok_or}
+use Rattle.dir_tree.specs.NewEntry.{attributes_if_distinct, exceeds_single_value, give_distinct_values, give_same_value, keyed_lines, leaf_key, leaf_lines, leaf_of, new_entry, ok_unless_exceeding, pair_line, rdn_lines, with_line, with_lines, with_missing_line, with_missing_lines, with_missing_of, with_value}
+use Rattle.dir_names.specs.Results.{and_then}
 use Rattle.dir_tree.specs.WellFormed.{Each, IsLegalLine, IsLegalPair, IsSoundAttribute, IsSoundEntry, IsSoundValue, are_bytes, has_each}
 use Rattle.dir_tree.proofs.Orderless.{given_itself, has_after}
 use Rattle.dir_tree.proofs.OwnLines.{and_right, keyed_rdn, pair_described, pair_line_keyed}
@@ -103,16 +107,16 @@ module _ (rows : List TypeRow) where
   lines_keep xs [] lines each = each
   lines_keep xs (l ∷ ls) lines each = lines_keep (with_line xs l) ls lines.1 (line_keeps xs l lines.0 each)
 
-  missing_keeps : (xs : StoredAttributes) (l : KeyedLine) → IsSoundLine rows l → Each (IsSoundAttribute rows) (fin.entries xs) → Each (IsSoundAttribute rows) (fin.entries (with_missing xs l))
+  missing_keeps : (xs : StoredAttributes) (l : KeyedLine) → IsSoundLine rows l → Each (IsSoundAttribute rows) (fin.entries xs) → Each (IsSoundAttribute rows) (fin.entries (with_missing_line xs l))
   missing_keeps xs l line each = by (has_value xs l.description.key l.key)
     where
       by : (b : Bool) → Each (IsSoundAttribute rows) (fin.entries (cond b xs (with_line xs l)))
       by true = each
       by false = line_keeps xs l line each
 
-  gained_keeps : (xs : StoredAttributes) (ls : List KeyedLine) → Each (IsSoundLine rows) ls → Each (IsSoundAttribute rows) (fin.entries xs) → Each (IsSoundAttribute rows) (fin.entries (gained xs ls))
+  gained_keeps : (xs : StoredAttributes) (ls : List KeyedLine) → Each (IsSoundLine rows) ls → Each (IsSoundAttribute rows) (fin.entries xs) → Each (IsSoundAttribute rows) (fin.entries (with_missing_lines xs ls))
   gained_keeps xs [] lines each = each
-  gained_keeps xs (l ∷ ls) lines each = gained_keeps (with_missing xs l) ls lines.1 (missing_keeps xs l lines.0 each)
+  gained_keeps xs (l ∷ ls) lines each = gained_keeps (with_missing_line xs l) ls lines.1 (missing_keeps xs l lines.0 each)
 
 -- ---- the values of the own RDN are there
 
@@ -120,29 +124,29 @@ or_true : (b : Bool) → (b || true) ≡ true
 or_true true = refl
 or_true false = refl
 
-has_more : (xs : StoredAttributes) (l m : KeyedLine) → has_value xs m.description.key m.key ≡ true → has_value (with_missing xs l) m.description.key m.key ≡ true
+has_more : (xs : StoredAttributes) (l m : KeyedLine) → has_value xs m.description.key m.key ≡ true → has_value (with_missing_line xs l) m.description.key m.key ≡ true
 has_more xs l m there = by (has_value xs l.description.key l.key)
   where
     by : (b : Bool) → has_value (cond b xs (with_line xs l)) m.description.key m.key ≡ true
     by true = there
-    by false = has_after xs l m ∙ ap (λ b. gives_alike l m || b) there ∙ or_true (gives_alike l m)
+    by false = has_after xs l m ∙ ap (λ b. give_same_value l m || b) there ∙ or_true (give_same_value l m)
 
-has_gained : (xs : StoredAttributes) (ls : List KeyedLine) (m : KeyedLine) → has_value xs m.description.key m.key ≡ true → has_value (gained xs ls) m.description.key m.key ≡ true
+has_gained : (xs : StoredAttributes) (ls : List KeyedLine) (m : KeyedLine) → has_value xs m.description.key m.key ≡ true → has_value (with_missing_lines xs ls) m.description.key m.key ≡ true
 has_gained xs [] m there = there
-has_gained xs (l ∷ ls) m there = has_gained (with_missing xs l) ls m (has_more xs l m there)
+has_gained xs (l ∷ ls) m there = has_gained (with_missing_line xs l) ls m (has_more xs l m there)
 
-has_itself : (xs : StoredAttributes) (l : KeyedLine) → has_value (with_missing xs l) l.description.key l.key ≡ true
+has_itself : (xs : StoredAttributes) (l : KeyedLine) → has_value (with_missing_line xs l) l.description.key l.key ≡ true
 has_itself xs l = by (has_value xs l.description.key l.key) refl
   where
     by : (b : Bool) → has_value xs l.description.key l.key ≡ b → has_value (cond b xs (with_line xs l)) l.description.key l.key ≡ true
     by true t = t
     by false t = has_after xs l l ∙ ap (λ b. b || has_value xs l.description.key l.key) (given_itself l)
 
-all_gained : (xs : StoredAttributes) (ls : List KeyedLine) → list_all (λ l. has_value (gained xs ls) l.description.key l.key) ls ≡ true
+all_gained : (xs : StoredAttributes) (ls : List KeyedLine) → list_all (λ l. has_value (with_missing_lines xs ls) l.description.key l.key) ls ≡ true
 all_gained xs [] = refl
-all_gained xs (l ∷ ls) = λ i. has_gained (with_missing xs l) ls l (has_itself xs l) i && all_gained (with_missing xs l) ls i
+all_gained xs (l ∷ ls) = λ i. has_gained (with_missing_line xs l) ls l (has_itself xs l) i && all_gained (with_missing_line xs l) ls i
 
-each_gained : (xs : StoredAttributes) (o : Option (List KeyedLine)) → is_some o ≡ true → has_each (gained_by xs o) o ≡ true
+each_gained : (xs : StoredAttributes) (o : Option (List KeyedLine)) → is_some o ≡ true → has_each (with_missing_of xs o) o ≡ true
 each_gained xs None e = absurd (true≢false (sym e))
 each_gained xs (Some ls) e = all_gained xs ls
 
@@ -154,7 +158,7 @@ module _ (rows : List TypeRow) where
   keyed_sound (line ∷ lines) ks legal e = by (value_key_of rows line.0.key line.1) refl (keyed_lines rows lines) refl e (keyed_sound lines)
     where
       by : (r : Result ValueKey NameFault) → value_key_of rows line.0.key line.1 ≡ r → (p : Option (List KeyedLine)) → keyed_lines rows lines ≡ p →
-          and_all (option_map (λ key. record { description = line.0; key = key; bytes = line.1 }) (found r)) p ≡ Some ks →
+          option_cons (option_map (λ key. record { description = line.0; key = key; bytes = line.1 }) (result_ok r)) p ≡ Some ks →
           ((ks : List KeyedLine) → Each (IsLegalLine rows) lines → keyed_lines rows lines ≡ Some ks → Each (IsSoundLine rows) ks) → Each (IsSoundLine rows) ks
       by (Err fault) t p u e rest = absurd (cc)
       by (Ok key) t None u e rest = absurd (cc)
@@ -167,7 +171,7 @@ module _ (rows : List TypeRow) where
   pairs_sound [] ls legal e = let none : [] ≡ ls = cc in subst (Each (IsSoundLine rows)) none tt
   pairs_sound (p ∷ ps) ls legal e = by (pair_line rows p) refl (rdn_lines rows ps) refl e (pairs_sound ps)
     where
-      by : (o : Option KeyedLine) → pair_line rows p ≡ o → (r : Option (List KeyedLine)) → rdn_lines rows ps ≡ r → and_all o r ≡ Some ls →
+      by : (o : Option KeyedLine) → pair_line rows p ≡ o → (r : Option (List KeyedLine)) → rdn_lines rows ps ≡ r → option_cons o r ≡ Some ls →
           ((ls : List KeyedLine) → Each IsLegalPair ps → rdn_lines rows ps ≡ Some ls → Each (IsSoundLine rows) ls) → Each (IsSoundLine rows) ls
       by None t r u e rest = absurd (cc)
       by (Some l) t None u e rest = absurd (cc)
@@ -179,36 +183,36 @@ module _ (rows : List TypeRow) where
           subst (Each (IsSoundLine rows)) same (sound, rest more legal.1 u)
 
   -- an entry that is made of legal lines under a legal own RDN
-  pub made_sound : (own : SpelledName) (lines : List (Described × List ℕ)) (e : Content) → ((leaf : SpelledRdn) → leaf_of own ≡ Some leaf → Each IsLegalPair leaf) → Each (IsLegalLine rows) lines → made rows own lines ≡ Ok e → IsSoundEntry rows e
+  pub made_sound : (own : SpelledName) (lines : List (Described × List ℕ)) (e : Content) → ((leaf : SpelledRdn) → leaf_of own ≡ Some leaf → Each IsLegalPair leaf) → Each (IsLegalLine rows) lines → new_entry rows own lines ≡ Ok e → IsSoundEntry rows e
   made_sound own lines e pairs legal is = by (leaf_key rows own) refl (keyed_lines rows lines) refl is
     where
-      lines_of_leaf : (o : Option SpelledRdn) → leaf_of own ≡ o → (ls : List KeyedLine) → and_then o (rdn_lines rows) ≡ Some ls → Each (IsSoundLine rows) ls
+      lines_of_leaf : (o : Option SpelledRdn) → leaf_of own ≡ o → (ls : List KeyedLine) → option_and_then (rdn_lines rows) o ≡ Some ls → Each (IsSoundLine rows) ls
       lines_of_leaf None t ls e = absurd (cc)
       lines_of_leaf (Some leaf) t ls e = pairs_sound leaf ls (pairs leaf t) e
 
-      keyed_leaf : (o : Option SpelledRdn) (key : RdnKeys) → and_then o (rdn_key rows) ≡ Some key → is_some (and_then o (rdn_lines rows)) ≡ true
+      keyed_leaf : (o : Option SpelledRdn) (key : RdnKeys) → option_and_then (rdn_key rows) o ≡ Some key → is_some (option_and_then (rdn_lines rows) o) ≡ true
       keyed_leaf None key e = absurd (cc)
       keyed_leaf (Some leaf) key e = keyed_rdn rows leaf (ap is_some e)
 
-      gain : (key : RdnKeys) (xs : StoredAttributes) → leaf_key rows own ≡ Some key → Each (IsSoundAttribute rows) (fin.entries xs) → (o : Option (List KeyedLine)) → leaf_lines rows own ≡ o → Each (IsSoundAttribute rows) (fin.entries (gained_by xs o))
+      gain : (key : RdnKeys) (xs : StoredAttributes) → leaf_key rows own ≡ Some key → Each (IsSoundAttribute rows) (fin.entries xs) → (o : Option (List KeyedLine)) → leaf_lines rows own ≡ o → Each (IsSoundAttribute rows) (fin.entries (with_missing_of xs o))
       gain key xs t each None u = each
       gain key xs t each (Some ls) u = gained_keeps rows xs ls (lines_of_leaf (leaf_of own) refl ls u) each
 
-      last : (key : RdnKeys) (xs : StoredAttributes) → leaf_key rows own ≡ Some key → Each (IsSoundAttribute rows) (fin.entries xs) → (b : Bool) → is_crowded rows (gained_by xs (leaf_lines rows own)) ≡ b →
-          cond b (Err Single) (Ok (record { own = own; key = key; attributes = gained_by xs (leaf_lines rows own) })) ≡ Ok e → IsSoundEntry rows e
+      last : (key : RdnKeys) (xs : StoredAttributes) → leaf_key rows own ≡ Some key → Each (IsSoundAttribute rows) (fin.entries xs) → (b : Bool) → exceeds_single_value rows (with_missing_of xs (leaf_lines rows own)) ≡ b →
+          cond b (Err Single) (Ok (record { own = own; key = key; attributes = with_missing_of xs (leaf_lines rows own) })) ≡ Ok e → IsSoundEntry rows e
       last key xs t each true u h = absurd (cc)
       last key xs t each false u h =
-          let whole : Content = record { own = own; key = key; attributes = gained_by xs (leaf_lines rows own) } in
+          let whole : Content = record { own = own; key = key; attributes = with_missing_of xs (leaf_lines rows own) } in
           let same : whole ≡ e = cc in
           subst (IsSoundEntry rows) same (t, gain key xs t each (leaf_lines rows own) refl, each_gained xs (leaf_lines rows own) (keyed_leaf (leaf_of own) key t), u)
 
       gather : (key : RdnKeys) → leaf_key rows own ≡ Some key → (ks : List KeyedLine) → Each (IsSoundLine rows) ks → (b : Bool) →
-          then (cond b (Ok (with_lines fin.empty ks)) (Err Twice)) (λ xs. unless_crowded rows (record { own = own; key = key; attributes = gained_by xs (leaf_lines rows own) })) ≡ Ok e → IsSoundEntry rows e
+          and_then (cond b (Ok (with_lines fin.empty ks)) (Err Twice)) (λ xs. ok_unless_exceeding rows (record { own = own; key = key; attributes = with_missing_of xs (leaf_lines rows own) })) ≡ Ok e → IsSoundEntry rows e
       gather key t ks sound false h = absurd (cc)
-      gather key t ks sound true h = last key (with_lines fin.empty ks) t (lines_keep rows fin.empty ks sound (subst (Each (IsSoundAttribute rows)) (sym (entries_of_none attr_cmp)) tt)) (is_crowded rows (gained_by (with_lines fin.empty ks) (leaf_lines rows own))) refl h
+      gather key t ks sound true h = last key (with_lines fin.empty ks) t (lines_keep rows fin.empty ks sound (subst (Each (IsSoundAttribute rows)) (sym (entries_of_none attr_cmp)) tt)) (exceeds_single_value rows (with_missing_of (with_lines fin.empty ks) (leaf_lines rows own))) refl h
 
       by : (o : Option RdnKeys) → leaf_key rows own ≡ o → (p : Option (List KeyedLine)) → keyed_lines rows lines ≡ p →
-          then (or_else_fault NotNamed o) (λ key. then (then (or_else_fault BadValue p) gathered) (λ xs. unless_crowded rows (record { own = own; key = key; attributes = gained_by xs (leaf_lines rows own) }))) ≡ Ok e → IsSoundEntry rows e
+          and_then (ok_or o NotNamed) (λ key. and_then (and_then (ok_or p BadValue) attributes_if_distinct) (λ xs. ok_unless_exceeding rows (record { own = own; key = key; attributes = with_missing_of xs (leaf_lines rows own) }))) ≡ Ok e → IsSoundEntry rows e
       by None t p u h = absurd (cc)
       by (Some key) t None u h = absurd (cc)
-      by (Some key) t (Some ks) u h = gather key t ks (keyed_sound lines ks legal u) (are_apart ks) h
+      by (Some key) t (Some ks) u h = gather key t ks (keyed_sound lines ks legal u) (give_distinct_values ks) h

@@ -1,4 +1,4 @@
--- Laws of the name as spelled: from a name to the one below it, what stands above the suffix, and what a write leaves.
+-- The names of entries as spelled: from a name to the one below it, that nothing is above the suffix, and what a write leaves as it is.
 use Rattle.std.proofs.Common.{◌≡◌, ℕ, zero, suc, ◌+◌, ◌<◌, ◌≤◌, Bool, true, false, cond, [], ◌∷◌, ◌++◌, map, reverse, length, take, Option, Some, None, is_some, refl, sym, ap, subst, ◌∙◌, arith, append_assoc, length-append}
 use Rattle.std.specs.List.{flat_map, range_with_len}
 use Rattle.std.specs.Ordering.{eq_by_cmp}
@@ -7,8 +7,8 @@ use Rattle.std.proofs.lemmas.List.FromFn.{map-range_with_len_more}
 use Rattle.dir_names.specs.Keys.{DnKeys, RdnKeys, IsAtOrBelow, parent_of}
 use Rattle.dir_names.specs.Orders.{dn_key_cmp}
 use Rattle.dir_tree.specs.Content.{Content}
-use Rattle.dir_tree.specs.Dir.{Dir, entry_at, put_entry, without, IsClosed}
-use Rattle.dir_tree.specs.Spelled.{prefixes, own_of, own_at, spelled_name}
+use Rattle.dir_tree.specs.Dir.{Dir, IsClosed, entry_at, put_entry, remove_entry}
+use Rattle.dir_tree.specs.SpelledNames.{own_name_at, own_name_of, prefixes, spelled_name}
 use Rattle.dir_tree.proofs.DirLemmas.{same_key, get_put, get_without, last_part, parent_child}
 use Rattle.dir_tree.proofs.NextKey.{reaches}
 
@@ -30,16 +30,16 @@ prefixes_child p part =
     ∙ reverse-append (map (λ n. take n p) (range_with_len 0 (length p + 1))) (k ∷ [])
 
 -- an entry's own name comes before the name of the entry above it
-pub spelled_child : (d : Dir) (p : DnKeys) (part : RdnKeys) → spelled_name d (p ++ part ∷ []) ≡ own_at d (p ++ part ∷ []) ++ spelled_name d p
-spelled_child d p part = ap (flat_map (own_at d)) (prefixes_child p part)
+pub spelled_child : (d : Dir) (p : DnKeys) (part : RdnKeys) → spelled_name d (p ++ part ∷ []) ≡ own_name_at d (p ++ part ∷ []) ++ spelled_name d p
+spelled_child d p part = ap (flat_map (own_name_at d)) (prefixes_child p part)
 
-pub spelled_below : (d : Dir) (q p : DnKeys) → parent_of q ≡ Some p → spelled_name d q ≡ own_at d q ++ spelled_name d p
+pub spelled_below : (d : Dir) (q p : DnKeys) → parent_of q ≡ Some p → spelled_name d q ≡ own_name_at d q ++ spelled_name d p
 spelled_below d q p e =
     let child = parent_child q p e in
-    subst (λ z. spelled_name d z ≡ own_at d z ++ spelled_name d p) (sym child.1) (spelled_child d p child.0)
+    subst (λ z. spelled_name d z ≡ own_name_at d z ++ spelled_name d p) (sym child.1) (spelled_child d p child.0)
 
-pub spelled_root : (d : Dir) → spelled_name d [] ≡ own_at d []
-spelled_root d = append-nil (own_at d [])
+pub spelled_root : (d : Dir) → spelled_name d [] ≡ own_name_at d []
+spelled_root d = append-nil (own_name_at d [])
 
 -- ---- keys, by their last parts
 
@@ -68,29 +68,29 @@ none_above d closed k short = by (entry_at d k) refl
 pub spelled_above : (d : Dir) → IsClosed d → (k : DnKeys) → length k < length d.suffix → spelled_name d k ≡ []
 spelled_above d closed =
     by_last (λ k. length k < length d.suffix → spelled_name d k ≡ [])
-    (λ short. spelled_root d ∙ ap own_of (none_above d closed [] short))
+    (λ short. spelled_root d ∙ ap own_name_of (none_above d closed [] short))
     (λ p part rest short.
     let count = length-append p (part ∷ []) in
-    spelled_child d p part ∙ (λ i. own_of (none_above d closed (p ++ part ∷ []) short i) ++ rest (omega (arith, count, short)) i))
+    spelled_child d p part ∙ (λ i. own_name_of (none_above d closed (p ++ part ∷ []) short i) ++ rest (omega (arith, count, short)) i))
 
 -- the suffix's entry has the whole name
-pub spelled_suffix : (d : Dir) → IsClosed d → (k : DnKeys) → k ≡ d.suffix → spelled_name d k ≡ own_at d k
+pub spelled_suffix : (d : Dir) → IsClosed d → (k : DnKeys) → k ≡ d.suffix → spelled_name d k ≡ own_name_at d k
 spelled_suffix d closed =
-    by_last (λ k. k ≡ d.suffix → spelled_name d k ≡ own_at d k)
+    by_last (λ k. k ≡ d.suffix → spelled_name d k ≡ own_name_at d k)
     (λ e. spelled_root d)
     (λ p part rest e.
     let count = length-append p (part ∷ []) in
     let long : length (p ++ part ∷ []) ≡ length d.suffix = ap length e in
     spelled_child d p part
-    ∙ ap (λ names. own_at d (p ++ part ∷ []) ++ names) (spelled_above d closed p (omega (arith, count, long)))
-    ∙ append-nil (own_at d (p ++ part ∷ [])))
+    ∙ ap (λ names. own_name_at d (p ++ part ∷ []) ++ names) (spelled_above d closed p (omega (arith, count, long)))
+    ∙ append-nil (own_name_at d (p ++ part ∷ [])))
 
 -- ---- after a write
 
 -- a name is made of the own names on its path alone
-pub spelled_same : (d e : Dir) (q : DnKeys) → ((x : DnKeys) → IsAtOrBelow q x → own_at d x ≡ own_at e x) → spelled_name d q ≡ spelled_name e q
+pub spelled_same : (d e : Dir) (q : DnKeys) → ((x : DnKeys) → IsAtOrBelow q x → own_name_at d x ≡ own_name_at e x) → spelled_name d q ≡ spelled_name e q
 spelled_same d e =
-    by_last (λ q. ((x : DnKeys) → IsAtOrBelow q x → own_at d x ≡ own_at e x) → spelled_name d q ≡ spelled_name e q)
+    by_last (λ q. ((x : DnKeys) → IsAtOrBelow q x → own_name_at d x ≡ own_name_at e x) → spelled_name d q ≡ spelled_name e q)
     (λ h. spelled_root d ∙ h [] ([], refl) ∙ sym (spelled_root e))
     (λ p part rest h.
     let q : DnKeys = p ++ part ∷ [] in
@@ -98,17 +98,17 @@ spelled_same d e =
     ∙ (λ i. h q ([], sym (append-nil q)) i ++ rest (λ x lies. h x (lies.0 ++ part ∷ [], ap (λ z. z ++ part ∷ []) lies.1 ∙ append_assoc x lies.0 (part ∷ []))) i)
     ∙ sym (spelled_child e p part))
 
-pub own_put : (d : Dir) (k : DnKeys) (e : Content) (q : DnKeys) → own_at (put_entry d k e) q ≡ cond (eq_by_cmp dn_key_cmp q k) e.own (own_at d q)
-own_put d k e q = ap own_of (get_put d k e q) ∙ by (eq_by_cmp dn_key_cmp q k)
+pub own_put : (d : Dir) (k : DnKeys) (e : Content) (q : DnKeys) → own_name_at (put_entry d k e) q ≡ cond (eq_by_cmp dn_key_cmp q k) e.own (own_name_at d q)
+own_put d k e q = ap own_name_of (get_put d k e q) ∙ by (eq_by_cmp dn_key_cmp q k)
   where
-    by : (b : Bool) → own_of (cond b (Some e) (entry_at d q)) ≡ cond b e.own (own_at d q)
+    by : (b : Bool) → own_name_of (cond b (Some e) (entry_at d q)) ≡ cond b e.own (own_name_at d q)
     by true = refl
     by false = refl
 
-pub own_without : (d : Dir) (k q : DnKeys) → own_at (without d k) q ≡ cond (eq_by_cmp dn_key_cmp q k) [] (own_at d q)
-own_without d k q = ap own_of (get_without d k q) ∙ by (eq_by_cmp dn_key_cmp q k)
+pub own_without : (d : Dir) (k q : DnKeys) → own_name_at (remove_entry d k) q ≡ cond (eq_by_cmp dn_key_cmp q k) [] (own_name_at d q)
+own_without d k q = ap own_name_of (get_without d k q) ∙ by (eq_by_cmp dn_key_cmp q k)
   where
-    by : (b : Bool) → own_of (cond b None (entry_at d q)) ≡ cond b [] (own_at d q)
+    by : (b : Bool) → own_name_of (cond b None (entry_at d q)) ≡ cond b [] (own_name_at d q)
     by true = refl
     by false = refl
 
@@ -116,21 +116,21 @@ own_without d k q = ap own_of (get_without d k q) ∙ by (eq_by_cmp dn_key_cmp q
 pub spelled_put_apart : (d : Dir) (k : DnKeys) (e : Content) (q : DnKeys) → ¬ (IsAtOrBelow q k) → spelled_name (put_entry d k e) q ≡ spelled_name d q
 spelled_put_apart d k e q apart = spelled_same (put_entry d k e) d q (λ x lies. own_put d k e x ∙ by x lies _ refl)
   where
-    by : (x : DnKeys) → IsAtOrBelow q x → (b : Bool) → eq_by_cmp dn_key_cmp x k ≡ b → cond b e.own (own_at d x) ≡ own_at d x
+    by : (x : DnKeys) → IsAtOrBelow q x → (b : Bool) → eq_by_cmp dn_key_cmp x k ≡ b → cond b e.own (own_name_at d x) ≡ own_name_at d x
     by x lies true t = absurd (apart (subst (λ z. IsAtOrBelow q z) (same_key x k t) lies))
     by x lies false t = refl
 
-pub spelled_without_apart : (d : Dir) (k q : DnKeys) → ¬ (IsAtOrBelow q k) → spelled_name (without d k) q ≡ spelled_name d q
-spelled_without_apart d k q apart = spelled_same (without d k) d q (λ x lies. own_without d k x ∙ by x lies _ refl)
+pub spelled_without_apart : (d : Dir) (k q : DnKeys) → ¬ (IsAtOrBelow q k) → spelled_name (remove_entry d k) q ≡ spelled_name d q
+spelled_without_apart d k q apart = spelled_same (remove_entry d k) d q (λ x lies. own_without d k x ∙ by x lies _ refl)
   where
-    by : (x : DnKeys) → IsAtOrBelow q x → (b : Bool) → eq_by_cmp dn_key_cmp x k ≡ b → cond b [] (own_at d x) ≡ own_at d x
+    by : (x : DnKeys) → IsAtOrBelow q x → (b : Bool) → eq_by_cmp dn_key_cmp x k ≡ b → cond b [] (own_name_at d x) ≡ own_name_at d x
     by x lies true t = absurd (apart (subst (λ z. IsAtOrBelow q z) (same_key x k t) lies))
     by x lies false t = refl
 
 -- an entry that keeps its own name changes no name
-pub spelled_put_same : (d : Dir) (k : DnKeys) (e : Content) → own_at d k ≡ e.own → (q : DnKeys) → spelled_name (put_entry d k e) q ≡ spelled_name d q
+pub spelled_put_same : (d : Dir) (k : DnKeys) (e : Content) → own_name_at d k ≡ e.own → (q : DnKeys) → spelled_name (put_entry d k e) q ≡ spelled_name d q
 spelled_put_same d k e own q = spelled_same (put_entry d k e) d q (λ x lies. own_put d k e x ∙ by x _ refl)
   where
-    by : (x : DnKeys) (b : Bool) → eq_by_cmp dn_key_cmp x k ≡ b → cond b e.own (own_at d x) ≡ own_at d x
-    by x true t = sym own ∙ ap (own_at d) (sym (same_key x k t))
+    by : (x : DnKeys) (b : Bool) → eq_by_cmp dn_key_cmp x k ≡ b → cond b e.own (own_name_at d x) ≡ own_name_at d x
+    by x true t = sym own ∙ ap (own_name_at d) (sym (same_key x k t))
     by x false t = refl

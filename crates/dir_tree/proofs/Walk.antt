@@ -17,7 +17,7 @@ use Rattle.dir_names.proofs.Maps.{rises_from_ordered, entries_from_ordered}
 use Rattle.dir_names.proofs.Placed.{first, second, keys_of}
 use Rattle.dir_tree.specs.Content.{Content}
 use Rattle.dir_tree.specs.Dir.{Dir, dir_over, entry_at, is_there, IsClosed}
-use Rattle.dir_tree.specs.Spelled.{own_of, own_at, spelled_name, walked}
+use Rattle.dir_tree.specs.SpelledNames.{named_entries, own_name_at, own_name_of, spelled_name}
 use Rattle.dir_tree.proofs.DirLemmas.{same_key, parent_child}
 use Rattle.dir_tree.proofs.NextKey.{before_below, after_above, between, or_cases, parent_snoc, reaches}
 use Rattle.dir_tree.proofs.SpelledLemmas.{same_below, by_last, spelled_child, spelled_above}
@@ -79,7 +79,7 @@ find_here e es = ap (λ o. cond (is_eq o) (Some e.1) (find dn_key_cmp e.0 es)) (
 pub find_later : (e : DnKeys × Content) (es : Entries) (q : DnKeys) → dn_key_cmp e.0 q ≡ Less → find dn_key_cmp q (e ∷ es) ≡ find dn_key_cmp q es
 find_later e es q l = ap (λ o. cond (is_eq o) (Some e.1) (find dn_key_cmp q es)) (dn_key_cmp_total.antisymm q e.0 ∙ ap ordering_reverse l)
 
--- the second key stands directly below a prefix of the first, which is no shorter than the suffix
+-- the second key is directly below a prefix of the first, which is no shorter than the suffix
 pub record Steps (suffix k next : DnKeys) : Type 0 where
   pub above : DnKeys
   pub part : RdnKeys
@@ -91,7 +91,7 @@ pub record Steps (suffix k next : DnKeys) : Type 0 where
 module _ (d : Dir) where
   -- the own names on the path of a key, from the suffix's on, n of them
   abbrev pub owns : DnKeys → ℕ → List SpelledName
-  owns k n = map (λ i. own_at d (take i k)) (range_with_len (length d.suffix) n)
+  owns k n = map (λ i. own_name_at d (take i k)) (range_with_len (length d.suffix) n)
 
   -- entries that come after the key, each a step from the one before
   abbrev pub Linked : DnKeys → Entries → Type 0
@@ -212,7 +212,7 @@ module _ (d : Dir) where
 
         base : (n : ℕ) → 1 - length d.suffix ≡ n → flat_map (λ own. own) (reverse (owns [] n)) ≡ spelled_name d []
         base zero c = sym (spelled_above d closed [] (omega arith))
-        base (suc zero) c = ap (λ k. own_at d k ++ []) (no_more (length d.suffix))
+        base (suc zero) c = ap (λ k. own_name_at d k ++ []) (no_more (length d.suffix))
         base (suc (suc n)) c = absurd (omega arith)
 
         more : (p : DnKeys) → (part : RdnKeys) → flat_map (λ own. own) (reverse (owns p (length p + 1 - length d.suffix))) ≡ spelled_name d p → (n : ℕ) → length p + 2 - length d.suffix ≡ n →
@@ -226,16 +226,16 @@ module _ (d : Dir) where
             by (suc m) c =
                 let q : DnKeys = p ++ part ∷ [] in
                 let l = length-append p (part ∷ []) in
-                let last = map-range_with_len_more (λ i. own_at d (take i q)) (length d.suffix) m (length p + 1) (omega (arith, c)) in
+                let last = map-range_with_len_more (λ i. own_name_at d (take i q)) (length d.suffix) m (length p + 1) (omega (arith, c)) in
                 let whole : take (length p + 1) q ≡ q = take_all (length p + 1) q (omega (arith, l)) in
-                let shorter : owns q m ≡ owns p m = same_below (λ i. own_at d (take i q)) (λ i. own_at d (take i p)) (length d.suffix) m (λ i h. ap (own_at d) (take-append-le i p (part ∷ []) (omega (arith, c)))) in
+                let shorter : owns q m ≡ owns p m = same_below (λ i. own_name_at d (take i q)) (λ i. own_name_at d (take i p)) (length d.suffix) m (λ i h. ap (own_name_at d) (take-append-le i p (part ∷ []) (omega (arith, c)))) in
                 let so_many : m ≡ length p + 1 - length d.suffix = omega (arith, c) in
                 let one : suc m ≡ m + 1 = omega arith in
                 ap (λ n. flat_map (λ own. own) (reverse (owns q n))) one
-                ∙ ap (λ names. flat_map (λ own. own) (reverse names)) (last ∙ (λ i. shorter i ++ own_at d (whole i) ∷ []))
-                ∙ ap (λ names. flat_map (λ own. own) names) (reverse-append (owns p m) (own_at d q ∷ []))
-                ∙ ap (λ n. own_at d q ++ flat_map (λ own. own) (reverse (owns p n))) so_many
-                ∙ ap (λ names. own_at d q ++ names) rest
+                ∙ ap (λ names. flat_map (λ own. own) (reverse names)) (last ∙ (λ i. shorter i ++ own_name_at d (whole i) ∷ []))
+                ∙ ap (λ names. flat_map (λ own. own) names) (reverse-append (owns p m) (own_name_at d q ∷ []))
+                ∙ ap (λ n. own_name_at d q ++ flat_map (λ own. own) (reverse (owns p n))) so_many
+                ∙ ap (λ names. own_name_at d q ++ names) rest
                 ∙ sym (spelled_child d p part)
 
   -- past an entry
@@ -243,8 +243,8 @@ module _ (d : Dir) where
     pub past : take (length e.0 - length d.suffix) path ++ e.1.own ∷ [] ≡ owns e.0 (length e.0 + 1 - length d.suffix)
     past =
         let low = ahead.1 in
-        let here : own_at d (take (length e.0) e.0) ≡ e.1.own = ap (own_at d) (take_all (length e.0) e.0 (omega arith)) ∙ ap own_of ahead.0 in
-        let last = map-range_with_len_more (λ i. own_at d (take i e.0)) (length d.suffix) (length e.0 - length d.suffix) (length e.0) (omega (arith, low)) in
+        let here : own_name_at d (take (length e.0) e.0) ≡ e.1.own = ap (own_name_at d) (take_all (length e.0) e.0 (omega arith)) ∙ ap own_name_of ahead.0 in
+        let last = map-range_with_len_more (λ i. own_name_at d (take i e.0)) (length d.suffix) (length e.0 - length d.suffix) (length e.0) (omega (arith, low)) in
         let count : length e.0 - length d.suffix + 1 ≡ length e.0 + 1 - length d.suffix = omega (arith, low) in
         (λ i. ahead.2 i ++ sym here i ∷ []) ∙ sym last ∙ ap (owns e.0) count
 
@@ -259,12 +259,12 @@ module _ (d : Dir) where
             let bound : length e.0 ≡ length s.above + length s.rest = ap length s.key_is ∙ length-append s.above s.rest in
             let long = s.long in
             let n : ℕ = length f.0 - length d.suffix in
-            let shared : owns e.0 n ≡ owns f.0 n = same_below (λ i. own_at d (take i e.0)) (λ i. own_at d (take i f.0)) (length d.suffix) n (λ i h.
+            let shared : owns e.0 n ≡ owns f.0 n = same_below (λ i. own_name_at d (take i e.0)) (λ i. own_name_at d (take i f.0)) (length d.suffix) n (λ i h.
             let low : i ≤ length s.above = omega (arith, size, long, h) in
-            ap (λ z. own_at d (take i z)) s.key_is ∙ ap (own_at d) (take-append-le i s.above s.rest low ∙ sym (take-append-le i s.above (s.part ∷ []) low)) ∙ ap (λ z. own_at d (take i z)) (sym s.next_is)) in (
+            ap (λ z. own_name_at d (take i z)) s.key_is ∙ ap (own_name_at d) (take-append-le i s.above s.rest low ∙ sym (take-append-le i s.above (s.part ∷ []) low)) ∙ ap (λ z. own_name_at d (take i z)) (sym s.next_is)) in (
               l.1,
               omega (arith, size, long),
-              ap (take n) past ∙ take-map-range_with_len (λ i. own_at d (take i e.0)) (length d.suffix) (length e.0 + 1 - length d.suffix) n (omega (arith, size, bound, long)) ∙ shared,
+              ap (take n) past ∙ take-map-range_with_len (λ i. own_name_at d (take i e.0)) (length d.suffix) (length e.0 + 1 - length d.suffix) n (omega (arith, size, bound, long)) ∙ shared,
               l.2,
             )
 
@@ -283,7 +283,7 @@ module _ (suffix : DnKeys) (entries : Entries) (closed : IsClosed (dir_over suff
     pub start_ahead : Ahead (dir_over suffix entries) [] entries
     start_ahead = ahead_start (dir_over suffix entries) closed entries (rises_from_ordered dn_key_cmp (keys_of dn_key_cmp entries) ordered) (λ q. get-from_entries dn_key_cmp_total entries q)
 
-    pub all_left : map (λ p. (spelled_name (dir_over suffix entries) p.0, p.1)) entries ≡ walked (dir_over suffix entries)
+    pub all_left : map (λ p. (spelled_name (dir_over suffix entries) p.0, p.1)) entries ≡ named_entries (dir_over suffix entries)
     all_left = ap (map (λ p. (spelled_name (dir_over suffix entries) p.0, p.1))) (sym (entries_from_ordered dn_key_cmp_total dn_key_cmp_exact entries ordered))
 
   module _ (path : List SpelledName) (left : Entries) (ahead : Ahead (dir_over suffix entries) path left) (k : DnKeys) (e : Content) (es : Entries) (next : left ≡ (k, e) ∷ es) where

@@ -1,10 +1,9 @@
 -- A directory (RFC 4512, section 2.1): a suffix, and a finite map from the keys of names to the contents of entries.
-use Rattle.std.specs.Prelude.{Bool, false, ◌||◌, List, [], ◌∷◌, ◌++◌, Option, Some, None, is_some, IsSome, IsTrue, refl}
+use Rattle.std.specs.Prelude.{Bool, false, ◌||◌, List, [], ◌∷◌, ◌++◌, Option, Some, None, is_some, IsSome, IsTrue}
 use Rattle.std.specs.FinMap as fin
-use Rattle.std.specs.Coded.{Coded, code_by, coded×, coded_list, coded_ℕ}
 use Rattle.dir_names.specs.Keys.{DnKeys, RdnKeys, parent_of}
 use Rattle.dir_names.specs.Orders.{dn_key_cmp, dn_key_eq}
-use Rattle.dir_tree.specs.Content.{Content, content_code, attr_code}
+use Rattle.dir_tree.specs.Content.{Content}
 
 pub record Dir : Type 0 where
   pub suffix : DnKeys
@@ -23,15 +22,15 @@ abbrev pub put_entry : Dir → DnKeys → Content → Dir
 put_entry d k e = record { suffix = d.suffix; entries = fin.insert d.entries k e }
 
 -- the directory with nothing at the key
-abbrev pub without : Dir → DnKeys → Dir
-without d k = record { suffix = d.suffix; entries = fin.remove d.entries k }
+abbrev pub remove_entry : Dir → DnKeys → Dir
+remove_entry d k = record { suffix = d.suffix; entries = fin.remove d.entries k }
 
--- whether an entry stands at the key, where there is one
+-- whether there is a key, and an entry at it
 abbrev pub is_there : Dir → Option DnKeys → Bool
 is_there d None = false
 is_there d (Some k) = is_some (entry_at d k)
 
--- whether the key is the suffix, or an entry stands directly above it
+-- whether the key is the suffix, or there is an entry at its parent's key
 abbrev pub has_parent : Dir → DnKeys → Bool
 has_parent d k = dn_key_eq k d.suffix || is_there d (parent_of k)
 
@@ -39,12 +38,6 @@ has_parent d k = dn_key_eq k d.suffix || is_there d (parent_of k)
 abbrev pub IsClosed : Dir → Type 0
 IsClosed d = (k : DnKeys) → IsSome (entry_at d k) → IsTrue (has_parent d k)
 
--- an entry stands directly below the key
+-- there is an entry directly below the key
 abbrev pub HasChild : Dir → DnKeys → Type 0
 HasChild d k = (part : RdnKeys) × IsSome (entry_at d (k ++ part ∷ []))
-
-abbrev pub dir_code : Coded Dir
-dir_code =
-    code_by (DnKeys × fin.FinMap dn_key_cmp Content)
-    (coded× (coded_list (coded_list (coded× attr_code (coded_list coded_ℕ)))) (fin.code (coded_list (coded_list (coded× attr_code (coded_list coded_ℕ)))) content_code))
-    (λ d. (d.suffix, d.entries)) (λ p. record { suffix = p.0; entries = p.1 }) (λ _. refl)

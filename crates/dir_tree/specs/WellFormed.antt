@@ -11,12 +11,12 @@ use Rattle.dir_names.specs.Keys.{DnKeys}
 use Rattle.dir_names.specs.NameKeys.{name_key, value_key_of}
 use Rattle.dir_names.specs.Names.{SpelledPair}
 use Rattle.dir_names.specs.Orders.{dn_key_eq}
-use Rattle.dir_names.specs.Reading.{is_small}
-use Rattle.dir_names.specs.Sound.{is_name, is_pair}
+use Rattle.dir_names.specs.Names.Limits.{is_rdn_within_limit}
+use Rattle.dir_names.specs.Names.Sound.{is_sound_name, is_sound_pair}
 use Rattle.dir_tree.specs.declared.lines.KeyedLine.{KeyedLine}
 use Rattle.dir_tree.specs.Content.{Content, Stored, StoredAttributes, has_value}
 use Rattle.dir_tree.specs.Dir.{Dir, IsClosed, entry_at}
-use Rattle.dir_tree.specs.Made.{is_crowded, leaf_key, leaf_lines}
+use Rattle.dir_tree.specs.NewEntry.{exceeds_single_value, leaf_key, leaf_lines}
 
 abbrev pub Each : {A : Type 0} → (A → Type 0) → List A → Type 0
 Each P [] = ⊤
@@ -36,11 +36,11 @@ all_lines xs = flat_map attribute_lines (fin.entries xs)
 abbrev pub are_bytes : List ℕ → Bool
 are_bytes value = list_all (λ b. nat_lt b 256) value
 
--- a value is made of bytes, stands under its key, and has at most 1,048,576 of them
+-- a value is under its key, and consists of at most 1,048,576 bytes
 abbrev pub IsSoundValue : List TypeRow → Attr → ValueKey × List ℕ → Type 0
 IsSoundValue rows a v = (value_key_of rows a v.1 ≡ Ok v.0) × (length v.1 ≤ 1048576) × (are_bytes v.1 ≡ true)
 
--- an attribute stands under the key of its description, and has a value
+-- an attribute is under the key of its description, and has a value; each of its values is sound
 abbrev pub IsSoundAttribute : List TypeRow → Attr × Stored → Type 0
 IsSoundAttribute rows a =
     (description_of rows a.1.spelling ≡ Ok (record { spelling = a.1.spelling; key = a.0 }))
@@ -51,37 +51,37 @@ abbrev pub has_each : StoredAttributes → Option (List KeyedLine) → Bool
 has_each xs None = false
 has_each xs (Some ls) = list_all (λ l. has_value xs l.description.key l.key) ls
 
--- an entry has the values of its own RDN, and of a single type no two
+-- the key is that of the leaf of the own name, each attribute is sound, the values of the own RDN are there, and no attribute of a single type has more than one value
 abbrev pub IsSoundEntry : List TypeRow → Content → Type 0
 IsSoundEntry rows e =
     (leaf_key rows e.own ≡ Some e.key)
     × Each (IsSoundAttribute rows) (fin.entries e.attributes)
     × (has_each e.attributes (leaf_lines rows e.own) ≡ true)
-    × (is_crowded rows e.attributes ≡ false)
+    × (exceeds_single_value rows e.attributes ≡ false)
 
--- ---- what a sound entry is made of
+-- ---- the lines and pairs of which an add makes a sound entry
 
--- a line whose description was read under the schema, of a value within the limit
+-- a line with a description that was read under the schema, and a value within the limit
 abbrev pub IsLegalLine : List TypeRow → Described × List ℕ → Type 0
 IsLegalLine rows line = (description_of rows line.0.spelling ≡ Ok line.0) × (length line.1 ≤ 1048576) × (are_bytes line.1 ≡ true)
 
--- a pair of a name, of a value within the limit
+-- a pair that a name may have, with a value within the limit
 abbrev pub IsLegalPair : SpelledPair → Type 0
-IsLegalPair p = (is_pair p ≡ true) × (length p.1 ≤ 1048576)
+IsLegalPair p = (is_sound_pair p ≡ true) × (length p.1 ≤ 1048576)
 
 -- ---- directories
 
--- what of its key the own name of an entry stands for: all of the suffix, or else the last part
+-- the part of its key that the own name of an entry stands for: for the suffix's entry the whole key, else the last part
 abbrev pub own_part : DnKeys → DnKeys → DnKeys
 own_part suffix k = cond (dn_key_eq k suffix) k (take 1 (reverse k))
 
--- each entry but the suffix's has its parent; each is sound, and its own name stands for its place
+-- the suffix is not empty, each entry but the suffix's has its parent, and each entry is sound and has the own name that its key asks for
 abbrev pub IsWellFormed : List TypeRow → Dir → Type 0
 IsWellFormed rows d =
     (d.suffix ≡ [] → ⊥)
     × IsClosed d
     × ((k : DnKeys) (e : Content) → entry_at d k ≡ Some e → IsSoundEntry rows e × (name_key rows e.own ≡ Some (own_part d.suffix k)))
 
--- each key has at most 64 parts, each RDN at most 4,096 bytes, and each type is one that a name may have
+-- each key has at most 64 parts, and each own name is sound, its RDNs within the limit
 abbrev pub IsWithinLimits : Dir → Type 0
-IsWithinLimits d = (k : DnKeys) (e : Content) → entry_at d k ≡ Some e → (length k ≤ 64) × (is_name e.own ≡ true) × (list_all is_small e.own ≡ true)
+IsWithinLimits d = (k : DnKeys) (e : Content) → entry_at d k ≡ Some e → (length k ≤ 64) × (is_sound_name e.own ≡ true) × (list_all is_rdn_within_limit e.own ≡ true)

@@ -1,6 +1,8 @@
+//! The attributes of an entry, as an ordered map from the keys of their descriptions.
+
 ghost use Rattle.std.specs.Prelude.{◌≡◌, ◌&&◌, IfErr, IfOk, IfSome, IsSome, IsTrue, OnOk, Some, false, length, map, nat_lt, option_copied};
 ghost use Rattle.std.specs.List.{list_any};
-ghost use Rattle.dir_names.specs.Sound.{is_pair};
+ghost use Rattle.dir_names.specs.Names.Sound.{is_sound_pair};
 ghost use Rattle.dir_names.specs.declared.value.ValueKey.TheVariants.{Text};
 ghost use Rattle.dir_names.specs.Table.{single_of};
 ghost use Rattle.std.specs.Option.{option_map};
@@ -8,8 +10,9 @@ ghost use Rattle.std.specs.FinMap as fin;
 ghost use Rattle.std.specs.List.Sorted.{IsSearchInRange};
 ghost use Rattle.dir_names.specs.Orders.{attr_cmp};
 ghost use Rattle.dir_names.specs.Sorted.{place};
-ghost use Rattle.dir_tree.specs.Content.{attribute_pair, attributes_rise, has_value};
-ghost use Rattle.dir_tree.specs.Made.{IsTwice, gained_by, is_crowded, pair_line, rdn_lines, with_description, with_line};
+ghost use Rattle.dir_tree.specs.Content.{has_value};
+ghost use Rattle.dir_tree.specs.Inside.Stored.{attribute_pair, attributes_rise};
+ghost use Rattle.dir_tree.specs.NewEntry.{IsTwiceFaultOf, exceeds_single_value, pair_line, rdn_lines, with_description, with_line, with_missing_of};
 ghost use Rattle.dir_tree.specs.declared.fault.EntryFault.TheVariants as EntryFault;
 
 use crate::EntryFault;
@@ -27,7 +30,8 @@ pub struct Attribute {
 }
 
 impl Model for Attribute {
-    ghost use Rattle.dir_tree.specs.Content.{Keyed, keyed_code};
+    ghost use Rattle.dir_tree.specs.Content.{Keyed};
+    ghost use Rattle.dir_tree.specs.Inside.Codes.{keyed_code};
 
     ghost Value = { Keyed };
 
@@ -78,7 +82,7 @@ impl Attribute {
         ensures key { self.new.key ≡ self.old.key }
         ensures ok { OnOk result (self.new.stored ≡ record { spelling = self.old.stored.spelling; values = fin.insert self.old.stored.values key bytes }) }
         ensures free { OnOk result (fin.contains_key self.old.stored.values key ≡ false) }
-        ensures fault { IfErr result (λ e. IsTwice e (fin.contains_key self.old.stored.values key)) }
+        ensures fault { IfErr result (λ e. IsTwiceFaultOf e (fin.contains_key self.old.stored.values key)) }
     {
         self.values.insert(alloc, key, bytes)
     }
@@ -99,7 +103,9 @@ pub struct AttributeMap {
 
 impl Model for AttributeMap {
     ghost use Rattle.std.specs.Prelude.{IsTrue};
-    ghost use Rattle.dir_tree.specs.Content.{StoredAttributes, attributes_code, attributes_in, attributes_rise};
+    ghost use Rattle.dir_tree.specs.Content.{StoredAttributes};
+    ghost use Rattle.dir_tree.specs.Inside.Codes.{attributes_code};
+    ghost use Rattle.dir_tree.specs.Inside.Stored.{attributes_in, attributes_rise};
 
     ghost Value = { StoredAttributes };
 
@@ -153,7 +159,7 @@ impl AttributeMap {
     ///
     /// # Errors
     ///
-    /// `Twice` where the value's key is there, and want of memory.
+    /// `Twice` if the value's key is there already. `Memory` if memory runs out.
     pub(crate) fn add(
         &mut self,
         alloc: Global,
@@ -163,7 +169,7 @@ impl AttributeMap {
     ) -> Result<(), EntryFault>
         ensures ok { OnOk result (self.new ≡ with_line self.old (record { description = description; key = key; bytes = bytes })) }
         ensures free { OnOk result (has_value self.old description.key key ≡ false) }
-        ensures fault { IfErr result (λ e. IsTwice e (has_value self.old description.key key)) }
+        ensures fault { IfErr result (λ e. IsTwiceFaultOf e (has_value self.old description.key key)) }
     {
         match place_of(self.items.as_slice(), description.key()) {
             Ok(at) => self.items[at].add(alloc, key, bytes),
@@ -181,8 +187,8 @@ impl AttributeMap {
         }
     }
 
-    /// Adds a description without values, unless it is there.
-    pub(crate) fn declare(
+    /// Adds an attribute of this description, without values, unless it is there already.
+    pub(crate) fn add_description(
         &mut self,
         alloc: Global,
         description: &Description,
@@ -204,19 +210,20 @@ impl AttributeMap {
         Ok(())
     }
 
-    /// Adds each pair of an RDN that isn't there by key. A new attribute is spelled as in the RDN.
-    pub(crate) fn gain(
+    /// Adds the value of each pair of an RDN, unless its key is there already. A new attribute is spelled
+    /// as in the RDN.
+    pub(crate) fn add_missing(
         &mut self,
         alloc: Global,
         schema: &Schema,
         rdn: &Rdn,
     ) -> Result<(), EntryFault>
         requires { IsSome (rdn_lines schema.now rdn.now) }
-        ensures ok { OnOk result (self.new ≡ gained_by self.old (rdn_lines schema.now rdn.now)) }
+        ensures ok { OnOk result (self.new ≡ with_missing_of self.old (rdn_lines schema.now rdn.now)) }
         ensures memory { IfErr result (λ e. e ≡ EntryFault.Memory) }
     {
         for pair in rdn.pairs() {
-            let (description, key) = described_pair(alloc, schema, pair)?;
+            let (description, key) = keyed_pair(alloc, schema, pair)?;
             if !self.has(description.key(), &key) {
                 self.add(alloc, description, key, pair.1.try_clone(alloc)?)?;
             }
@@ -224,7 +231,7 @@ impl AttributeMap {
         Ok(())
     }
 
-    /// Gives back memory that no attribute needs.
+    /// Gives back the memory that isn't needed.
     pub(crate) fn shrink(&mut self)
         ensures { self.new ≡ self.old }
     {
@@ -252,15 +259,15 @@ impl AttributeMap {
     }
 
     /// Whether an attribute of a single type has more than one value.
-    pub(crate) fn is_crowded(&self, schema: &Schema) -> bool
-        ensures { result ≡ is_crowded schema.now self.now }
+    pub(crate) fn exceeds_single_value(&self, schema: &Schema) -> bool
+        ensures { result ≡ exceeds_single_value schema.now self.now }
     {
-        are_crowded(self.items.as_slice(), schema)
+        any_exceeds_single_value(self.items.as_slice(), schema)
     }
 }
 
 /// Whether one of the attributes is of a single type and has more than one value.
-fn are_crowded(items: &[Attribute], schema: &Schema) -> bool
+fn any_exceeds_single_value(items: &[Attribute], schema: &Schema) -> bool
     ensures { result ≡ list_any (λ a. nat_lt 1 (fin.len a.stored.values) && single_of schema.now a.key) items.now }
 {
     for attribute in items {
@@ -272,12 +279,12 @@ fn are_crowded(items: &[Attribute], schema: &Schema) -> bool
 }
 
 /// A pair of an RDN as a description and the key of its value.
-fn described_pair(
+fn keyed_pair(
     alloc: Global,
     schema: &Schema,
     pair: &(Bytes, Bytes),
 ) -> Result<(Description, ValueKey), EntryFault>
-    requires sound { IsTrue (is_pair pair.now) }
+    requires sound { IsTrue (is_sound_pair pair.now) }
     requires keyed { IsSome (pair_line schema.now pair.now) }
     ensures ok { IfOk result (λ found. pair_line schema.now pair.now ≡ Some (record { description = found.0; key = found.1; bytes = pair.now.1 })) }
     ensures memory { IfErr result (λ e. e ≡ EntryFault.Memory) }
@@ -287,7 +294,7 @@ fn described_pair(
     Ok((description, key))
 }
 
-/// Where the attribute with this key stands, or where it would be put.
+/// The index of the attribute with this key, or the index at which it would be inserted.
 fn place_of(items: &[Attribute], key: &AttrKey) -> Result<usize, usize>
     requires { IsTrue (attributes_rise items.now) }
     ensures range { IsSearchInRange result (length items.now) }
@@ -307,7 +314,9 @@ impl<'a> Model for Attributes<'a> {
     ghost use Rattle.std.specs.Slice.Iter.{iter_rest};
     ghost use Rattle.dir_names.specs.Attr.{Attr};
     ghost use Rattle.std.specs.Coded.{coded_list, coded×};
-    ghost use Rattle.dir_tree.specs.Content.{Stored, attr_code, stored_code, attribute_pair};
+    ghost use Rattle.dir_tree.specs.Content.{Stored};
+    ghost use Rattle.dir_tree.specs.Inside.Codes.{attr_code, stored_code};
+    ghost use Rattle.dir_tree.specs.Inside.Stored.{attribute_pair};
 
     ghost Value = { List (Attr × Stored) };
 

@@ -1,10 +1,12 @@
-ghost use Rattle.std.specs.Prelude.{◌≡◌, IfOk, IfSome, cond, option_copied, take};
+//! Entries: made by an add, looked up, and taken apart to be changed (RFC 4512, sections 2.2 and 2.3).
+
+ghost use Rattle.std.specs.Prelude.{◌≡◌, IfOk, IfSome, cond, ok_or, option_copied, take};
 ghost use Rattle.std.specs.Option.{option_map};
 ghost use Rattle.std.specs.FinMap as fin;
 ghost use Rattle.dir_names.specs.NameKeys.{rdn_key};
-ghost use Rattle.dir_tree.specs.Closed.{content_of};
+ghost use Rattle.dir_tree.specs.ChangedEntry.{content_of};
 ghost use Rattle.dir_tree.specs.Content.{has_value};
-ghost use Rattle.dir_tree.specs.Made.{Makes, made, or_else_fault};
+ghost use Rattle.dir_tree.specs.NewEntry.{Makes, new_entry};
 ghost use Rattle.dir_tree.specs.declared.fault.EntryFault.TheVariants as EntryFault;
 
 use crate::EntryFault;
@@ -25,7 +27,8 @@ pub struct Entry {
 }
 
 impl Model for Entry {
-    ghost use Rattle.dir_tree.specs.Content.{Content, content_code};
+    ghost use Rattle.dir_tree.specs.Content.{Content};
+    ghost use Rattle.dir_tree.specs.Inside.Codes.{content_code};
 
     ghost Value = { Content };
 
@@ -35,21 +38,21 @@ impl Model for Entry {
 }
 
 impl Entry {
-    /// The entry that an add makes: with the listed values, and with those of its own RDN that
-    /// aren't listed. A description is spelled as in its first line, or else as in the RDN.
+    /// The entry that an add makes: it has the values of the lines, and those of its own RDN that no line
+    /// gives. A description is spelled as in its first line, or else as in the RDN.
     ///
     /// # Errors
     ///
-    /// `NotNamed` where the own name has no RDN, or its leaf RDN has no key; then `BadValue` where a
-    /// listed value has none; then `Twice` where an attribute is given a value
-    /// twice; then `Single` where an attribute of a single type has two.
+    /// `NotNamed` if the own name has no RDN, or its leaf RDN has no key; else `BadValue` if a value of a
+    /// line has no key; else `Twice` if two lines give an attribute one value; else `Single` if an
+    /// attribute of a single type has more than one value.
     pub fn make(
         alloc: Global,
         schema: &Schema,
         spelled: Vec<Rdn>,
         values: Lines,
     ) -> Result<Entry, EntryFault>
-        ensures { Makes (λ entry. entry) result (made schema.now spelled.items values) }
+        ensures { Makes (λ entry. entry) result (new_entry schema.now spelled.items values) }
     {
         let mut own = spelled;
         own.shrink_to_fit();
@@ -58,9 +61,9 @@ impl Entry {
         };
         let key = leaf_key(alloc, schema, leaf)?;
         let mut attributes = attributes_of(alloc, schema, values)?;
-        attributes.gain(alloc, schema, leaf)?;
+        attributes.add_missing(alloc, schema, leaf)?;
         attributes.shrink();
-        if attributes.is_crowded(schema) {
+        if attributes.exceeds_single_value(schema) {
             return Err(EntryFault::Single);
         }
         Ok(Entry {
@@ -99,7 +102,7 @@ impl Entry {
         self.attributes.iter()
     }
 
-    /// The same fields, taken apart. It takes no memory.
+    /// The fields of the entry. The call doesn't allocate.
     pub fn into_parts(self) -> Parts
         ensures { content_of result ≡ self }
     {
@@ -154,7 +157,7 @@ impl Entry {
 
 /// The key of an entry's own RDN.
 fn leaf_key(alloc: Global, schema: &Schema, leaf: &Rdn) -> Result<RdnKey, EntryFault>
-    ensures { Makes (λ key. key) result (or_else_fault EntryFault.NotNamed (rdn_key schema.now leaf.now)) }
+    ensures { Makes (λ key. key) result (ok_or (rdn_key schema.now leaf.now) EntryFault.NotNamed) }
 {
     match leaf.key(alloc, schema) {
         Ok(key) => Ok(key),
@@ -163,7 +166,7 @@ fn leaf_key(alloc: Global, schema: &Schema, leaf: &Rdn) -> Result<RdnKey, EntryF
     }
 }
 
-/// What an entry keeps of its name: all of the suffix, or else the leaf RDN.
+/// The own name of an entry of this name: the whole name for the suffix's entry, else the leaf RDN.
 pub fn own_rdns(name: Dn, is_suffix: bool) -> Vec<Rdn>
     ensures { result.items ≡ cond is_suffix name (take 1 name) }
 {

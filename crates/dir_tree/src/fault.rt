@@ -1,12 +1,14 @@
+//! Why an entry is refused.
+
 ghost use Rattle.std.specs.Prelude.{◌≡◌};
 ghost use Rattle.dir_tree.specs.declared.fault.EntryFault.TheVariants.{Memory};
-ghost use Rattle.dir_tree.specs.Made.{entry_fault_of};
+ghost use Rattle.dir_tree.specs.NewEntry.{entry_fault_of};
 
 use dir_names::{Memory, NameFault};
 use std::alloc::{AllocError, AllocFailed};
 use thiserror::Error;
 
-/// Why no entry is made.
+/// Why an entry isn't made or changed.
 #[derive(Clone, Copy, PartialEq, Eq, Debug, Error)]
 pub enum EntryFault {
     /// A value has no key under the rule of its type.
@@ -21,7 +23,7 @@ pub enum EntryFault {
     /// An attribute of a single type has more than one value.
     #[error("E4 Single")]
     Single,
-    /// No memory is left.
+    /// Memory ran out.
     #[error("E5 Memory")]
     Memory,
 }
@@ -50,7 +52,7 @@ impl<T: Drop> From<AllocFailed<T>> for EntryFault {
     }
 }
 
-/// What stands in the way of a value's key: the value itself, or memory.
+/// Why a value has no key: the value, or memory.
 impl From<NameFault> for EntryFault {
     ghost from_gives = { λ fault e. e ≡ entry_fault_of fault };
 

@@ -1,3 +1,5 @@
+//! A directory in one ordered map.
+
 ghost use Rattle.std.specs.Prelude.{◌≡◌, ◌++◌, IfNone, IfOk, IfSome, IsSome, None, OnOk, false, map, reverse};
 ghost use Rattle.std.specs.List.{flat_map};
 ghost use Rattle.std.specs.BTreeMap.{get};
@@ -7,7 +9,7 @@ ghost use Rattle.dir_names.specs.Keys.{DnKeys};
 ghost use Rattle.dir_names.specs.Orders.{dn_key_cmp};
 ghost use Rattle.std.specs.FinMap as fin;
 ghost use Rattle.dir_tree.specs.Dir.{IsClosed, dir_over};
-ghost use Rattle.dir_tree.specs.Spelled.{walked};
+ghost use Rattle.dir_tree.specs.SpelledNames.{named_entries};
 
 use crate::{Directory, Entry};
 use dir_names::{Dn, DnKey, Memory, Rdn};
@@ -26,7 +28,8 @@ pub struct FlatDirectory {
 }
 
 impl Model for FlatDirectory {
-    ghost use Rattle.dir_tree.specs.Dir.{Dir, IsClosed, dir_code, dir_over};
+    ghost use Rattle.dir_tree.specs.Dir.{Dir, IsClosed, dir_over};
+    ghost use Rattle.dir_tree.specs.Inside.Codes.{dir_code};
 
     ghost Value = { Dir };
 
@@ -102,7 +105,7 @@ impl Directory for FlatDirectory {
             };
             above = parent;
         }
-        named(rdns)
+        name_of_rdns(rdns)
     }
 
     fn walk(&self) -> Result<Vec<(Dn, &Entry)>, Memory> {
@@ -110,15 +113,15 @@ impl Directory for FlatDirectory {
     }
 }
 
-/// The entries of a directory with their names as spelled, in order of keys. The entries on the path
-/// of each one are those that were met last.
+/// The entries of a directory with their names as spelled, in order of keys. The entries above each one
+/// are among those that the loop has met last.
 fn walk_over<'m>(
     alloc: Global,
     entries: &'m BTreeMap<DnKey, Entry>,
     suffix: &DnKey,
 ) -> Result<Vec<(Dn, &'m Entry)>, Memory>
     requires closed { IsClosed (dir_over suffix.now entries.now.entries) }
-    ensures { IfOk result (λ walk. map (λ item. (item.0, item.1.now)) walk.items ≡ walked (dir_over suffix.now entries.now.entries)) }
+    ensures { IfOk result (λ walk. map (λ item. (item.0, item.1.now)) walk.items ≡ named_entries (dir_over suffix.now entries.now.entries)) }
 {
     let mut walk = Vec::with_capacity(alloc, entries.len())?;
     let mut path: Vec<&[Rdn]> = Vec::new(alloc);
@@ -127,7 +130,7 @@ fn walk_over<'m>(
         path.push(entry.own())?;
         let mut rdns = Vec::with_capacity(alloc, key.depth())?;
         push_joined(&mut rdns, path.as_slice(), alloc)?;
-        walk.push((named(rdns)?, entry))?;
+        walk.push((name_of_rdns(rdns)?, entry))?;
     }
     Ok(walk)
 }
@@ -170,7 +173,7 @@ fn push_clones(rdns: &mut Vec<Rdn>, more: &[Rdn], alloc: Global) -> Result<(), M
 }
 
 /// The name with these RDNs, leaf first.
-fn named(rdns: Vec<Rdn>) -> Result<Dn, Memory>
+fn name_of_rdns(rdns: Vec<Rdn>) -> Result<Dn, Memory>
     ensures { IfOk result (λ name. name ≡ rdns.items) }
 {
     match Dn::from_rdns(rdns) {

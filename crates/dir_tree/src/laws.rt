@@ -1,8 +1,10 @@
-ghost use Rattle.dir_tree.specs.Held.{EntriesHoldTheirLines};
+//! Laws on the definitions of this crate.
 
-/// A law: an entry that an add makes holds the values that its lines give, of which no two are alike, and
-/// behind them those of its own RDN, each with the bytes of the first line that gives it, each
-/// description as in the first line that has it; and nothing else.
+ghost use Rattle.dir_tree.specs.NewEntryLaw.{EntriesHoldTheirLines};
+
+/// A law: no two lines of an entry that an add makes give one value. The entry has the values of its
+/// lines, followed by those of its own RDN, and nothing else. Each value has the bytes of the first line
+/// that gives it, and each description is spelled as in the first line that has it.
 pub fn entries_hold_their_lines()
     ensures { EntriesHoldTheirLines }
 {}

@@ -1,9 +1,12 @@
-ghost use Rattle.std.specs.Prelude.{◌≡◌, IfErr, IfOk, IsTrue, OnOk, not};
+//! The attributes that the lines of an add give.
+
+ghost use Rattle.std.specs.Prelude.{◌≡◌, IfErr, IfOk, IsTrue, OnOk, not, ok_or};
 ghost use Rattle.std.specs.List.{filter};
 ghost use Rattle.dir_names.specs.Attr.{Attr};
 ghost use Rattle.dir_names.specs.declared.value.ValueKey.{ValueKey};
-ghost use Rattle.dir_tree.specs.Arranged.{IsArranged, are_free, declared, has_key, is_under};
-ghost use Rattle.dir_tree.specs.Made.{IsTwice, Makes, attributes_of, gathered, keyed_lines, or_else_fault, with_lines};
+ghost use Rattle.dir_tree.specs.Inside.Arranged.{IsArranged, have_new_values, with_descriptions};
+ghost use Rattle.dir_tree.specs.NewEntryLaw.{has_value_key, is_line_of};
+ghost use Rattle.dir_tree.specs.NewEntry.{IsTwiceFaultOf, Makes, attributes_if_distinct, attributes_of, keyed_lines, with_lines};
 ghost use Rattle.dir_tree.specs.declared.fault.EntryFault.TheVariants as EntryFault;
 
 use crate::EntryFault;
@@ -11,9 +14,9 @@ use crate::attributes::AttributeMap;
 use dir_names::{Bytes, Description, Lines, Schema, ValueKey};
 use std::alloc::Global;
 
-/// Where an entry has more lines than this, they are put in order before they are added, so that each
-/// finds its place at the end.
-const MANY: usize = 64;
+/// If an entry has more lines than this, they are sorted before they are added, so that each value goes
+/// to the end of its attribute.
+const MANY_LINES: usize = 64;
 
 /// A line of an entry with the key of its value.
 #[derive(Debug, Drop)]
@@ -27,7 +30,7 @@ pub(crate) struct KeyedLine {
 ///
 /// # Errors
 ///
-/// `BadValue` where a value has no key; then `Twice` where an attribute has a value twice.
+/// `BadValue` if a value has no key; else `Twice` if two lines give an attribute one value.
 pub(crate) fn attributes_of(
     alloc: Global,
     schema: &Schema,
@@ -35,11 +38,11 @@ pub(crate) fn attributes_of(
 ) -> Result<AttributeMap, EntryFault>
     ensures { Makes (λ attributes. attributes) result (attributes_of schema.now lines) }
 {
-    gathered(alloc, keyed_lines(alloc, schema, lines)?)
+    attributes_if_distinct(alloc, keyed_lines(alloc, schema, lines)?)
 }
 
 fn keyed_lines(alloc: Global, schema: &Schema, lines: Lines) -> Result<Vec<KeyedLine>, EntryFault>
-    ensures { Makes (λ keyed. keyed.items) result (or_else_fault EntryFault.BadValue (keyed_lines schema.now lines)) }
+    ensures { Makes (λ keyed. keyed.items) result (ok_or (keyed_lines schema.now lines) EntryFault.BadValue) }
 {
     let items = lines.into_items();
     let mut keyed = Vec::with_capacity(alloc, items.len())?;
@@ -54,33 +57,33 @@ fn keyed_lines(alloc: Global, schema: &Schema, lines: Lines) -> Result<Vec<Keyed
     Ok(keyed)
 }
 
-fn gathered(alloc: Global, lines: Vec<KeyedLine>) -> Result<AttributeMap, EntryFault>
-    ensures { Makes (λ attributes. attributes) result (gathered lines.items) }
+fn attributes_if_distinct(alloc: Global, lines: Vec<KeyedLine>) -> Result<AttributeMap, EntryFault>
+    ensures { Makes (λ attributes. attributes) result (attributes_if_distinct lines.items) }
 {
     let mut lines = lines;
     let mut attributes = AttributeMap::empty(alloc);
-    if lines.len() > MANY {
-        attributes = arranged(alloc, &mut lines)?;
+    if lines.len() > MANY_LINES {
+        attributes = sort_lines(alloc, &mut lines)?;
     }
     add_all(alloc, &mut attributes, lines)?;
     Ok(attributes)
 }
 
-/// Puts the lines in order of their values' keys. The answer has their descriptions, without values
-/// as yet, each spelled as in its first line.
-fn arranged(alloc: Global, lines: &mut Vec<KeyedLine>) -> Result<AttributeMap, EntryFault>
+/// Sorts the lines by the keys of their values. The answer is their descriptions, still without values,
+/// each spelled as in its first line.
+fn sort_lines(alloc: Global, lines: &mut Vec<KeyedLine>) -> Result<AttributeMap, EntryFault>
     ensures ok { IfOk result (λ attributes. IsArranged lines.old.items attributes lines.new.items) }
     ensures memory { IfErr result (λ e. e ≡ EntryFault.Memory) }
 {
     let mut attributes = AttributeMap::empty(alloc);
     sort_by_description(lines)?;
-    declare_all(alloc, &mut attributes, lines.as_slice())?;
+    add_descriptions(alloc, &mut attributes, lines.as_slice())?;
     sort_by_value(lines)?;
     Ok(attributes)
 }
 
 fn sort_by_description(lines: &mut Vec<KeyedLine>) -> Result<(), EntryFault>
-    ensures stable { (k : Attr) → filter (is_under k) lines.new.items ≡ filter (is_under k) lines.old.items }
+    ensures stable { (k : Attr) → filter (is_line_of k) lines.new.items ≡ filter (is_line_of k) lines.old.items }
     ensures memory { IfErr result (λ e. e ≡ EntryFault.Memory) }
 {
     lines.sort_by(|a, b| a.description.key().cmp(b.description.key()))?;
@@ -88,24 +91,24 @@ fn sort_by_description(lines: &mut Vec<KeyedLine>) -> Result<(), EntryFault>
 }
 
 fn sort_by_value(lines: &mut Vec<KeyedLine>) -> Result<(), EntryFault>
-    ensures stable { (v : ValueKey) → filter (has_key v) lines.new.items ≡ filter (has_key v) lines.old.items }
+    ensures stable { (v : ValueKey) → filter (has_value_key v) lines.new.items ≡ filter (has_value_key v) lines.old.items }
     ensures memory { IfErr result (λ e. e ≡ EntryFault.Memory) }
 {
     lines.sort_by(|a, b| a.key.cmp(&b.key))?;
     Ok(())
 }
 
-/// Adds each description of the lines without values, spelled as in its first line.
-fn declare_all(
+/// Adds the descriptions of all lines, without values, each spelled as in its first line.
+fn add_descriptions(
     alloc: Global,
     attributes: &mut AttributeMap,
     lines: &[KeyedLine],
 ) -> Result<(), EntryFault>
-    ensures ok { OnOk result (attributes.new ≡ declared attributes.old lines.now) }
+    ensures ok { OnOk result (attributes.new ≡ with_descriptions attributes.old lines.now) }
     ensures memory { IfErr result (λ e. e ≡ EntryFault.Memory) }
 {
     for line in lines {
-        attributes.declare(alloc, &line.description)?;
+        attributes.add_description(alloc, &line.description)?;
     }
     Ok(())
 }
@@ -117,8 +120,8 @@ fn add_all(
     lines: Vec<KeyedLine>,
 ) -> Result<(), EntryFault>
     ensures ok { OnOk result (attributes.new ≡ with_lines attributes.old lines.items) }
-    ensures free { OnOk result (IsTrue (are_free attributes.old lines.items)) }
-    ensures fault { IfErr result (λ e. IsTwice e (not (are_free attributes.old lines.items))) }
+    ensures free { OnOk result (IsTrue (have_new_values attributes.old lines.items)) }
+    ensures fault { IfErr result (λ e. IsTwiceFaultOf e (not (have_new_values attributes.old lines.items))) }
 {
     for line in lines {
         let KeyedLine {

@@ -1,8 +1,10 @@
+//! The values of an attribute as a list. A single value needs no memory of its own.
+
 ghost use Rattle.std.specs.List.{insert};
 ghost use Rattle.std.specs.Prelude.{◌≡◌, ◌≤◌, [], ◌∷◌, IfErr, IfOk, OnErr, OnOk, length};
-ghost use Rattle.dir_tree.specs.ValueLists.{listed};
+ghost use Rattle.dir_tree.specs.Inside.ValueLists.{list_values};
 
-use crate::stored::{Kept, StoredValue};
+use crate::stored::{OneOrMany, StoredValue};
 use dir_names::Memory;
 use std::alloc::Global;
 use std::marker::Model;
@@ -11,17 +13,17 @@ use std::{mem, slice};
 /// The values of an attribute, in order. One value alone needs no memory of its own.
 #[derive(Debug, Drop)]
 pub(crate) struct ValueList {
-    kept: Kept,
+    kept: OneOrMany,
 }
 
 impl Model for ValueList {
     ghost use Rattle.std.specs.Prelude.{ℕ, List};
     ghost use Rattle.dir_names.specs.declared.value.ValueKey.{ValueKey};
-    ghost use Rattle.dir_tree.specs.ValueLists.{listed};
+    ghost use Rattle.dir_tree.specs.Inside.ValueLists.{list_values};
 
     ghost Value = { List (ValueKey × List ℕ) };
 
-    ghost view = { λ list. listed list.kept };
+    ghost view = { λ list. list_values list.kept };
 }
 
 impl ValueList {
@@ -29,7 +31,7 @@ impl ValueList {
         ensures { result ≡ [] }
     {
         ValueList {
-            kept: Kept::Many(Vec::new(alloc)),
+            kept: OneOrMany::Many(Vec::new(alloc)),
         }
     }
 
@@ -37,7 +39,7 @@ impl ValueList {
         ensures { result ≡ value ∷ [] }
     {
         ValueList {
-            kept: Kept::One(value),
+            kept: OneOrMany::One(value),
         }
     }
 
@@ -45,7 +47,7 @@ impl ValueList {
         ensures { result ≡ values.items }
     {
         ValueList {
-            kept: Kept::Many(values),
+            kept: OneOrMany::Many(values),
         }
     }
 
@@ -53,16 +55,16 @@ impl ValueList {
         ensures { result.now ≡ self.now }
     {
         match &self.kept {
-            Kept::One(value) => slice::from_ref(value),
-            Kept::Many(values) => values.as_slice(),
+            OneOrMany::One(value) => slice::from_ref(value),
+            OneOrMany::Many(values) => values.as_slice(),
         }
     }
 
-    /// Puts a value at a place.
+    /// Inserts a value at an index.
     ///
     /// # Errors
     ///
-    /// For want of memory the list is as it was.
+    /// `Memory`. Then the list is as it was.
     pub(crate) fn insert(
         &mut self,
         alloc: Global,
@@ -73,11 +75,11 @@ impl ValueList {
         ensures ok { OnOk result (self.new ≡ insert self.old at value) }
         ensures err { OnErr result (self.new ≡ self.old) }
     {
-        let kept = mem::replace(&mut self.kept, Kept::Many(Vec::new(alloc)));
-        match widened(alloc, kept) {
+        let kept = mem::replace(&mut self.kept, OneOrMany::Many(Vec::new(alloc)));
+        match into_vec(alloc, kept) {
             Ok(mut values) => {
                 let put = values.insert(at, value);
-                self.kept = Kept::Many(values);
+                self.kept = OneOrMany::Many(values);
                 put?;
                 Ok(())
             }
@@ -89,20 +91,20 @@ impl ValueList {
     }
 }
 
-/// The values in memory that others can share.
-fn widened(alloc: Global, kept: Kept) -> Result<Vec<StoredValue>, Kept>
-    ensures ok { IfOk result (λ values. values.items ≡ listed kept) }
+/// The values in a `Vec`, so that others can be added.
+fn into_vec(alloc: Global, kept: OneOrMany) -> Result<Vec<StoredValue>, OneOrMany>
+    ensures ok { IfOk result (λ values. values.items ≡ list_values kept) }
     ensures err { IfErr result (λ back. back ≡ kept) }
 {
     match kept {
-        Kept::Many(values) => Ok(values),
-        Kept::One(value) => {
+        OneOrMany::Many(values) => Ok(values),
+        OneOrMany::One(value) => {
             let Ok(mut values) = Vec::with_capacity(alloc, 2) else {
-                return Err(Kept::One(value));
+                return Err(OneOrMany::One(value));
             };
             match values.push(value) {
                 Ok(()) => Ok(values),
-                Err(refused) => Err(Kept::One(refused.value)),
+                Err(refused) => Err(OneOrMany::One(refused.value)),
             }
         }
     }

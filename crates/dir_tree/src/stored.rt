@@ -1,21 +1,23 @@
+//! A value as it is stored. Most values are their own keys, and are stored once.
+
 ghost use Rattle.std.specs.Prelude.{◌≡◌, IfOk, IsTrue, None, true};
-ghost use Rattle.dir_tree.specs.Content.{kept_bytes, has_bytes};
+ghost use Rattle.dir_tree.specs.Inside.Stored.{kept_bytes, has_bytes};
 
 use dir_names::{Bytes, Memory, ValueKey};
 use std::alloc::Global;
 use std::marker::Model;
 
-/// A value as it is kept: its key, and its bytes where they are not those of the key.
+/// A value as it is stored: its key, and its bytes unless they are those of the key.
 #[derive(Debug, Drop)]
 pub(crate) struct StoredValue {
     key: ValueKey,
     bytes: Option<Bytes>,
 }
 
-/// The values of an attribute as they are kept.
+/// The values of an attribute as they are stored.
 #[derive(Debug, Drop)]
-pub(crate) enum Kept {
-    /// One alone.
+pub(crate) enum OneOrMany {
+    /// A single value, without a `Vec`.
     One(StoredValue),
     /// Any number of them.
     Many(Vec<StoredValue>),
@@ -24,7 +26,7 @@ pub(crate) enum Kept {
 impl Model for StoredValue {
     ghost use Rattle.std.specs.Prelude.{ℕ, List, IsTrue};
     ghost use Rattle.dir_names.specs.declared.value.ValueKey.{ValueKey};
-    ghost use Rattle.dir_tree.specs.Content.{kept_bytes, has_bytes};
+    ghost use Rattle.dir_tree.specs.Inside.Stored.{kept_bytes, has_bytes};
 
     ghost Value = { ValueKey × List ℕ };
 
@@ -37,7 +39,7 @@ impl StoredValue {
     pub(crate) fn new(key: ValueKey, bytes: Bytes) -> StoredValue
         ensures { result ≡ (key, bytes) }
     {
-        if is_key(&key, &bytes) {
+        if are_key_bytes(&key, &bytes) {
             StoredValue { key, bytes: None }
         } else {
             StoredValue {
@@ -76,7 +78,7 @@ impl StoredValue {
 }
 
 /// Whether these bytes are those of the key.
-fn is_key(key: &ValueKey, bytes: &Bytes) -> bool
+fn are_key_bytes(key: &ValueKey, bytes: &Bytes) -> bool
     ensures { result ≡ true → (kept_bytes key.now None ≡ bytes.now) × IsTrue (has_bytes key.now None) }
 {
     match key {

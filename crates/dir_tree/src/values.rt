@@ -1,11 +1,13 @@
+//! The values of an attribute, as an ordered map from their keys to their bytes.
+
 ghost use Rattle.std.specs.Prelude.{◌≡◌, IfErr, IfOk, IsTrue, OnErr, OnOk, false, length, map, option_copied};
 ghost use Rattle.std.specs.FinMap as fin;
 ghost use Rattle.std.specs.List.Sorted.{IsSearchInRange};
 ghost use Rattle.dir_names.specs.Sorted.{place};
 ghost use Rattle.dir_names.specs.Values.{value_key_cmp};
 ghost use Rattle.dir_names.specs.declared.value.ValueKey.TheVariants.{Text};
-ghost use Rattle.dir_tree.specs.Content.{value_pair, are_rising};
-ghost use Rattle.dir_tree.specs.Made.{IsTwice};
+ghost use Rattle.dir_tree.specs.Inside.Stored.{value_pair, are_rising};
+ghost use Rattle.dir_tree.specs.NewEntry.{IsTwiceFaultOf};
 
 use crate::EntryFault;
 use crate::list::ValueList;
@@ -24,7 +26,9 @@ pub struct ValueMap {
 
 impl Model for ValueMap {
     ghost use Rattle.std.specs.Prelude.{IsTrue};
-    ghost use Rattle.dir_tree.specs.Content.{StoredValues, values_code, values_in, are_rising};
+    ghost use Rattle.dir_tree.specs.Content.{StoredValues};
+    ghost use Rattle.dir_tree.specs.Inside.Codes.{values_code};
+    ghost use Rattle.dir_tree.specs.Inside.Stored.{values_in, are_rising};
 
     ghost Value = { StoredValues };
 
@@ -87,7 +91,7 @@ impl ValueMap {
     ///
     /// # Errors
     ///
-    /// `Twice` where its key is there, and want of memory. The map is as it was.
+    /// `Twice` if its key is there already, `Memory` if memory runs out. Then the map is as it was.
     pub(crate) fn insert(
         &mut self,
         alloc: Global,
@@ -97,7 +101,7 @@ impl ValueMap {
         ensures ok { OnOk result (self.new ≡ fin.insert self.old key bytes) }
         ensures free { OnOk result (fin.contains_key self.old key ≡ false) }
         ensures err { OnErr result (self.new ≡ self.old) }
-        ensures fault { IfErr result (λ e. IsTwice e (fin.contains_key self.old key)) }
+        ensures fault { IfErr result (λ e. IsTwiceFaultOf e (fin.contains_key self.old key)) }
     {
         match place_of(self.items.as_slice(), &key) {
             Ok(_) => Err(EntryFault::Twice),
@@ -130,7 +134,7 @@ impl ValueMap {
     }
 }
 
-/// Where the value with this key stands, or where it would be put.
+/// The index of the value with this key, or the index at which it would be inserted.
 fn place_of(items: &[StoredValue], key: &ValueKey) -> Result<usize, usize>
     requires { IsTrue (are_rising items.now) }
     ensures range { IsSearchInRange result (length items.now) }
@@ -139,17 +143,17 @@ fn place_of(items: &[StoredValue], key: &ValueKey) -> Result<usize, usize>
     items.binary_search_by(|value| value.key().cmp(key))
 }
 
-/// Where the value with this text as its key stands, or where it would be put.
+/// The index of the value with this text as its key, or the index at which it would be inserted.
 fn place_of_text(items: &[StoredValue], text: &[u8]) -> Result<usize, usize>
     requires { IsTrue (are_rising items.now) }
     ensures range { IsSearchInRange result (length items.now) }
     ensures place { result ≡ place value_key_cmp (Text text.now) (map (λ value. (value_pair value).0) items.now) }
 {
-    items.binary_search_by(|value| compared(value.key(), text))
+    items.binary_search_by(|value| cmp_text(value.key(), text))
 }
 
-/// How a key compares to that of this text.
-fn compared(key: &ValueKey, text: &[u8]) -> Ordering
+/// How a key compares to the key that is this text.
+fn cmp_text(key: &ValueKey, text: &[u8]) -> Ordering
     ensures { result ≡ value_key_cmp key.now (Text text.now) }
 {
     match key.text() {

@@ -2,7 +2,7 @@
 use Rattle.std.specs.Prelude.{ℕ, ◌+◌, Bool, true, not, ◌&&◌, if◌then◌else◌, nat_le, List, length, Option, None, Some}
 use Rattle.dir_ldif.specs.Bytes.{is_empty, begins_with, without_last}
 use Rattle.dir_ldif.specs.LogicalLines.{Line, is_long}
-use Rattle.dir_ldif.specs.Ascii.{carriage_return, space}
+use Rattle.dir_names.specs.Ascii.{carriage_return, space}
 
 -- a line that may be continued is neither empty nor too long
 abbrev pub may_be_continued : Option Line → Bool

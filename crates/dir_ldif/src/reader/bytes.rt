@@ -3,7 +3,7 @@
 ghost use Rattle.std.specs.Prelude.{◌≡◌, ◌++◌};
 ghost use Rattle.std.specs.Option.{option_map};
 ghost use Rattle.dir_ldif.specs.Bytes.{begins_with, cut_at, without_leading, without_last};
-ghost use Rattle.dir_ldif.specs.Ascii.{carriage_return, space};
+ghost use Rattle.dir_names.specs.Ascii.{carriage_return, space};
 
 use memchr::memchr;
 

@@ -6,7 +6,7 @@ ghost use Rattle.std.specs.List.{list_any};
 ghost use Rattle.dir_ldif.specs.Bytes.{begins_with, without_last};
 ghost use Rattle.dir_ldif.specs.Inside.Bounds.{has_room, may_be_continued};
 ghost use Rattle.dir_ldif.specs.LogicalLines.{is_comment, is_lf, is_long};
-ghost use Rattle.dir_ldif.specs.Ascii.{carriage_return, line_feed, space};
+ghost use Rattle.dir_names.specs.Ascii.{carriage_return, line_feed, space};
 
 use crate::faults::StreamFault;
 use crate::reader::bytes::{begins_with_space, cut_at, parts_without_cr, without_cr};

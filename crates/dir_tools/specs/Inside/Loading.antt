@@ -8,8 +8,8 @@ use Rattle.dir_names.specs.declared.schema.TypeRow.{TypeRow}
 use Rattle.dir_names.specs.Keys.{DnKeys}
 use Rattle.dir_names.specs.NameKeys.{name_key}
 use Rattle.dir_names.specs.Orders.{dn_key_cmp}
-use Rattle.dir_names.specs.Reading.{is_small}
-use Rattle.dir_names.specs.Sound.{is_name}
+use Rattle.dir_names.specs.Names.Limits.{is_rdn_within_limit}
+use Rattle.dir_names.specs.Names.Sound.{is_sound_name}
 use Rattle.dir_ldif.specs.Records.{Answer}
 use Rattle.dir_tree.specs.Content.{Content}
 use Rattle.dir_tree.specs.Dir.{Dir, IsClosed, entry_at, has_parent, put_entry}
@@ -74,7 +74,7 @@ IsPut k e old new (Some back) = (back ≡ e) × (has_parent old k ≡ false) × 
 -- an entry is sound, at its place and within the limits
 abbrev pub IsSoundAt : List TypeRow → DnKeys → DnKeys → Content → Type 0
 IsSoundAt rows suffix k e =
-    IsSoundEntry rows e × (name_key rows e.own ≡ Some (own_part suffix k)) × (length k ≤ 64) × (is_name e.own ≡ true) × (list_all is_small e.own ≡ true)
+    IsSoundEntry rows e × (name_key rows e.own ≡ Some (own_part suffix k)) × (length k ≤ 64) × (is_sound_name e.own ≡ true) × (list_all is_rdn_within_limit e.own ≡ true)
 
 abbrev pub AreSoundInPlace : List TypeRow → Dir → Type 0
 AreSoundInPlace rows d = (k : DnKeys) (e : Content) → entry_at d k ≡ Some e → IsSoundAt rows d.suffix k e

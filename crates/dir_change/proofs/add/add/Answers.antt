@@ -8,13 +8,13 @@ use Rattle.dir_names.specs.Outcome.{Gives}
 use Rattle.dir_names.specs.Orders.{dn_key_eq}
 use Rattle.dir_tree.specs.Content.{Content}
 use Rattle.dir_tree.specs.Dir.{Dir, entry_at, has_parent}
-use Rattle.dir_tree.specs.Made.{Fails, made}
+use Rattle.dir_tree.specs.NewEntry.{IsEntryFaultOf, new_entry}
 use Rattle.dir_tree.specs.declared.fault.EntryFault.{EntryFault}
 use Rattle.dir_tree.specs.declared.fault.EntryFault.TheVariants.{BadValue, Twice, NotNamed, Single, Memory}
 use Rattle.dir_change.specs.Operation.{IsRefused, directory_after_add, entry_refusal, is_at_or_below, own_rdns, with_new_entry}
 use Rattle.dir_names.specs.Names.{SpelledName}
 use Rattle.dir_ldif.specs.declared.records.ChangeKind.TheVariants as kind
-use Rattle.dir_tree.specs.Spelled.{spelled_name}
+use Rattle.dir_tree.specs.SpelledNames.{spelled_name}
 use Rattle.dir_change.specs.Undo.{name_of_parent}
 use Rattle.dir_change.proofs.AfterOperations.{add_spelled}
 use Rattle.dir_change.proofs.Conditions.{below_true, below_false, add_outside, add_taken, add_placed}
@@ -29,7 +29,7 @@ copied_none None e = refl
 copied_none (Some x) e = e
 
 -- an entry that isn't made is refused with its code
-fails_refused : (d : Dir) (k : DnKeys) (fault : EntryFault) (wanted : Result Content EntryFault) → Fails fault wanted → IsRefused (entry_refusal fault) (with_new_entry d k wanted)
+fails_refused : (d : Dir) (k : DnKeys) (fault : EntryFault) (wanted : Result Content EntryFault) → IsEntryFaultOf fault wanted → IsRefused (entry_refusal fault) (with_new_entry d k wanted)
 fails_refused d k BadValue wanted e = ap (with_new_entry d k) e
 fails_refused d k Twice wanted e = ap (with_new_entry d k) e
 fails_refused d k NotNamed wanted e = ap (with_new_entry d k) e
@@ -72,9 +72,9 @@ returns-in_err-entry-clause-refused g c =
     let same_lines = copied _ c.try_clone-2.result c.map_err-2.result c.args.lines.now c.in_ok-map_err-2.field-0 c.try_clone-2.ensures c.map_err-2.ensures.cases c.in_ok-map_err-2.was in
     let own : c.own_rdns-own.result.items ≡ own_rdns d.suffix k c.args.name.now = c.own_rdns-own.ensures ∙ (λ i. cond ((c.eq.ensures ∙ ap (dn_key_eq k) c.suffix-2.ensures.key) i) (sym same_name i) (take 1 (sym same_name i))) in
     let at_place = add_placed d k c.args.schema.now c.args.name.now c.args.lines.now below free parent in
-    let fails : Fails c.in_err-entry.field-0.0 (made c.args.schema.now (own_rdns d.suffix k c.args.name.now) c.args.lines.now) = subst (λ ls. Fails c.in_err-entry.field-0.0 (made c.args.schema.now (own_rdns d.suffix k c.args.name.now) ls)) (sym same_lines) (subst (λ o. Fails c.in_err-entry.field-0.0 (made c.args.schema.now o c.in_ok-map_err-2.field-0)) own c.in_err-entry.ensures) in
+    let fails : IsEntryFaultOf c.in_err-entry.field-0.0 (new_entry c.args.schema.now (own_rdns d.suffix k c.args.name.now) c.args.lines.now) = subst (λ ls. IsEntryFaultOf c.in_err-entry.field-0.0 (new_entry c.args.schema.now (own_rdns d.suffix k c.args.name.now) ls)) (sym same_lines) (subst (λ o. IsEntryFaultOf c.in_err-entry.field-0.0 (new_entry c.args.schema.now o c.in_ok-map_err-2.field-0)) own c.in_err-entry.ensures) in
     let e = err_from_is_err_and c.from_residual-in_err-entry.result c.from_residual-in_err-entry.ensures.1 in
-    rw e.1 (subst (λ r. IsRefused r (directory_after_add c.args.schema.now d k c.args.name.now c.args.lines.now)) (sym e.2) (subst (λ w. IsRefused (entry_refusal c.in_err-entry.field-0.0) w) (sym at_place) (fails_refused d k c.in_err-entry.field-0.0 (made c.args.schema.now (own_rdns d.suffix k c.args.name.now) c.args.lines.now) fails)))
+    rw e.1 (subst (λ r. IsRefused r (directory_after_add c.args.schema.now d k c.args.name.now c.args.lines.now)) (sym e.2) (subst (λ w. IsRefused (entry_refusal c.in_err-entry.field-0.0) w) (sym at_place) (fails_refused d k c.in_err-entry.field-0.0 (new_entry c.args.schema.now (own_rdns d.suffix k c.args.name.now) c.args.lines.now) fails)))
 
 pub returns-in-Ok-clause-ok : goal.returns-in-Ok-clause-ok
 returns-in-Ok-clause-ok g c =
@@ -87,7 +87,7 @@ returns-in-Ok-clause-ok g c =
     let same_lines = copied _ c.try_clone-2.result c.map_err-2.result c.args.lines.now c.in_ok-map_err-2.field-0 c.try_clone-2.ensures c.map_err-2.ensures.cases c.in_ok-map_err-2.was in
     let own : c.own_rdns-own.result.items ≡ own_rdns d.suffix k c.args.name.now = c.own_rdns-own.ensures ∙ (λ i. cond ((c.eq.ensures ∙ ap (dn_key_eq k) c.suffix-2.ensures.key) i) (sym same_name i) (take 1 (sym same_name i))) in
     let at_place = add_placed d k c.args.schema.now c.args.name.now c.args.lines.now below free parent in
-    let given : made c.args.schema.now (own_rdns d.suffix k c.args.name.now) c.args.lines.now ≡ Ok c.in_ok-entry.entry = (λ i. made c.args.schema.now (sym own i) (same_lines i)) ∙ c.in_ok-entry.ensures in
+    let given : new_entry c.args.schema.now (own_rdns d.suffix k c.args.name.now) c.args.lines.now ≡ Ok c.in_ok-entry.entry = (λ i. new_entry c.args.schema.now (sym own i) (same_lines i)) ∙ c.in_ok-entry.ensures in
     at_place ∙ ap (with_new_entry d k) given ∙ ap Ok (sym c.in-Ok.ensures.ok)
 
 pub returns-in-Ok-clause-undo : goal.returns-in-Ok-clause-undo
@@ -100,7 +100,7 @@ returns-in-Ok-clause-undo g c =
     let same_name = copied _ c.try_clone.result c.map_err.result c.args.name.now c.in_ok-map_err.field-0 c.try_clone.ensures c.map_err.ensures.cases c.in_ok-map_err.was in
     let same_lines = copied _ c.try_clone-2.result c.map_err-2.result c.args.lines.now c.in_ok-map_err-2.field-0 c.try_clone-2.ensures c.map_err-2.ensures.cases c.in_ok-map_err-2.was in
     let own : c.own_rdns-own.result.items ≡ own_rdns d.suffix k c.args.name.now = c.own_rdns-own.ensures ∙ (λ i. cond ((c.eq.ensures ∙ ap (dn_key_eq k) c.suffix-2.ensures.key) i) (sym same_name i) (take 1 (sym same_name i))) in
-    let given : made c.args.schema.now (own_rdns d.suffix k c.args.name.now) c.args.lines.now ≡ Ok c.in_ok-entry.entry = (λ i. made c.args.schema.now (sym own i) (same_lines i)) ∙ c.in_ok-entry.ensures in
+    let given : new_entry c.args.schema.now (own_rdns d.suffix k c.args.name.now) c.args.lines.now ≡ Ok c.in_ok-entry.entry = (λ i. new_entry c.args.schema.now (sym own i) (same_lines i)) ∙ c.in_ok-entry.ensures in
     let above : c.in-Some.above ≡ name_of_parent d k = some_name c.in_ok-above.field-0 c.in-Some.above (name_of_parent d k) c.in-Some.is c.in_ok-above.ensures.name in
     let spelled : spelled_name (g.D.Directory.state c.insert.new.self) k ≡ c.in_ok-spelled.spelled =
     ap (λ z. spelled_name z k) c.in-Ok.ensures.ok

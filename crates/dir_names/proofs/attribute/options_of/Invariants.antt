@@ -1,6 +1,6 @@
 use Rattle.std.proofs.Common.{◌+◌, length}
 use Rattle.std.specs.Option.{option_copied, option_map_or}
-use Rattle.dir_names.specs.Cut.{parts_left}
+use Rattle.dir_names.specs.Inside.Left.{parts_left}
 use Rattle.dir_names.proofs.OptionLemmas.{Keeps}
 use Rattle.dir_names.proofs.attribute.options_of.Given as goal
 

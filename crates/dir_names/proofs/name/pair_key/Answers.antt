@@ -1,7 +1,7 @@
 use Rattle.std.proofs.Common.{◌≡◌, ℕ, List, Ok, Result, ap, sym, subst, ◌∙◌, rules}
 use Rattle.dir_names.specs.declared.fault.NameFault.{NameFault}
 use Rattle.dir_names.specs.NameKeys.{attr_of}
-use Rattle.dir_names.specs.Outcome.{Fails}
+use Rattle.dir_names.specs.Outcome.{IsNameFaultOf}
 use Rattle.dir_names.specs.Table.{rule_of}
 use Rattle.dir_names.specs.ValueKeys.{text_key_of}
 use Rattle.dir_names.proofs.KeyLemmas.{pair_is, pair_fails}
@@ -23,4 +23,4 @@ returns-in-Err c =
     let rule = c.rule.ensures ∙ ap (rule_of rows) attr in
     let value : c.as_slice-2.result.now ≡ c.args.pair.now.1 = c.as_slice-2.ensures in
     let key : text_key_of c.rule.result c.as_slice-2.result.now ≡ text_key_of (rule_of rows (attr_of rows c.args.pair.now.0)) c.args.pair.now.1 = λ i. text_key_of (rule i) (value i) in
-    rw c.as_bad_dn.ensures (pair_fails rows c.args.pair.now c.in-Err.fault (subst (λ (w : Result (List ℕ) NameFault). Fails c.in-Err.fault w) key c.in-Err.ensures))
+    rw c.as_bad_dn.ensures (pair_fails rows c.args.pair.now c.in-Err.fault (subst (λ (w : Result (List ℕ) NameFault). IsNameFaultOf c.in-Err.fault w) key c.in-Err.ensures))

@@ -1,6 +1,6 @@
 use Rattle.std.proofs.Common.{All}
-use Rattle.dir_names.specs.NameKeys.{AreReady}
+use Rattle.dir_names.specs.Inside.Frequent.{IsFrequentSlot}
 use Rattle.dir_names.proofs.schema.frequent_types.Given as goal
 
 abbrev pub invariant-loop-slot : goal.invariant-loop-slot
-invariant-loop-slot l = All (AreReady l.schema) l.slots.items
+invariant-loop-slot l = All (IsFrequentSlot l.schema) l.slots.items

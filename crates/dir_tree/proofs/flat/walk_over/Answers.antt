@@ -2,7 +2,7 @@ use Rattle.std.proofs.Common.{◌≡◌, ◌-◌, List, [], ◌∷◌, ◌++◌,
 use Rattle.std.specs.List.{flat_map}
 use Rattle.dir_names.specs.Names.{SpelledName}
 use Rattle.dir_tree.specs.Dir.{Dir, dir_over}
-use Rattle.dir_tree.specs.Spelled.{spelled_name}
+use Rattle.dir_tree.specs.SpelledNames.{spelled_name}
 use Rattle.dir_tree.proofs.Walk.{Ahead, one_more, stacked, start_ahead, all_left, next_name, next_ahead}
 use Rattle.dir_tree.proofs.flat.walk_over.Goals as goal
 use Rattle.dir_tree.proofs.flat.walk_over.Goals.{In_ok-push_joined}
@@ -38,11 +38,11 @@ loop-key-preserved c =
     let s : In_ok-push_joined = (goal.at.loop-key-preserved c).In_ok-push_joined in
     let d : Dir = dir_over c.args.suffix.now c.args.entries.now.entries in
     let path : List SpelledName = map (λ own. own.now) c.loop-key.path.items in
-    let name : c.in_ok-named.field-0 ≡ spelled_name d c.in-Some.key.now = c.in_ok-named.ensures ∙ spelled s in
+    let name : c.in_ok-name_of_rdns.field-0 ≡ spelled_name d c.in-Some.key.now = c.in_ok-name_of_rdns.ensures ∙ spelled s in
     record {
       so_far =
           ap (λ walk. map (λ item. (item.0, item.1.now)) walk ++ map (λ p. (spelled_name d p.0, p.1)) c.next.new.self) c.in_ok-push-2.ensures.items
-          ∙ one_more (λ item. (item.0, item.1.now)) (λ p. (spelled_name d p.0, p.1)) c.loop-key.walk.items (c.in_ok-named.field-0, c.in-Some.entry) (c.in-Some.key.now, c.in-Some.entry.now) c.next.new.self (ap (λ n. (n, c.in-Some.entry.now)) name)
+          ∙ one_more (λ item. (item.0, item.1.now)) (λ p. (spelled_name d p.0, p.1)) c.loop-key.walk.items (c.in_ok-name_of_rdns.field-0, c.in-Some.entry) (c.in-Some.key.now, c.in-Some.entry.now) c.next.new.self (ap (λ n. (n, c.in-Some.entry.now)) name)
           ∙ ap (λ left. map (λ item. (item.0, item.1.now)) c.loop-key.walk.items ++ map (λ p. (spelled_name d p.0, p.1)) left) (sym c.in-Some.ensures.steps)
           ∙ c.loop-key.invariant.so_far;
       ahead = next_ahead c.args.suffix.now c.args.entries.now.entries c.requires.closed path c.loop-key.key-iterator c.loop-key.invariant.ahead c.in-Some.key.now c.in-Some.entry.now c.next.new.self c.in-Some.ensures.steps (map (λ own. own.now) c.push.new.self.items) (on_path s);

@@ -5,7 +5,7 @@ use Rattle.dir_names.specs.Attr.{Attr}
 use Rattle.dir_names.specs.Orders.{attr_cmp, attr_cmp_total, attr_cmp_ties}
 use Rattle.dir_names.specs.declared.value.ValueKey.TheVariants.{Text}
 use Rattle.dir_tree.specs.declared.lines.KeyedLine.{KeyedLine}
-use Rattle.dir_tree.proofs.Ties.{before, weak_by, stable_by}
+use Rattle.dir_tree.proofs.StableSorts.{before, weak_by, stable_by}
 use Rattle.dir_tree.proofs.lines.sort_by_description.Goals as goal
 
 pub returns-clause-stable : goal.returns-clause-stable

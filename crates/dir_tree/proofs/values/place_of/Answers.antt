@@ -1,8 +1,8 @@
 use Rattle.std.proofs.Common.{rules}
 use Rattle.std.proofs.lemmas.Fn.{always_returns_same}
 use Rattle.dir_names.specs.Values.{value_key_cmp, value_key_cmp_total}
-use Rattle.dir_tree.specs.Content.{value_pair}
-use Rattle.dir_tree.proofs.Kept.{placed}
+use Rattle.dir_tree.specs.Inside.Stored.{value_pair}
+use Rattle.dir_tree.proofs.SortedVecs.{placed}
 use Rattle.dir_tree.proofs.values.place_of.Goals as goal
 
 pub returns-clause-place : goal.returns-clause-place

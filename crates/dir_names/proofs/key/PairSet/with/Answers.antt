@@ -2,7 +2,7 @@ use Rattle.std.proofs.Common.{◌≡◌, true, sym, ap, subst, ◌∙◌, rules}
 use Rattle.std.specs.List.{insert}
 use Rattle.std.specs.List.Sorted.{IsBinarySearchResult}
 use Rattle.std.proofs.lemmas.Fn.{always_returns_same}
-use Rattle.dir_names.specs.Few.{listed}
+use Rattle.dir_names.specs.Inside.Few.{few_items}
 use Rattle.dir_names.specs.Keys.{is_rdn_key, with_pair}
 use Rattle.dir_names.specs.Orders.{attr_cmp}
 use Rattle.dir_names.specs.Sorted.{place}
@@ -12,7 +12,7 @@ use Rattle.dir_names.proofs.key.PairSet.with.Goals as goal
 
 pub invariant_of-result : goal.invariant_of-result
 invariant_of-result c =
-    let pairs = listed c.self.inside.pairs in
+    let pairs = few_items c.self.inside.pairs in
     let by = c.binary_search_by.ensures.position (λ p. attr_cmp p.0 c.args.attr) (always_returns_same _ _ _ (λ a r f called. search rules)) in
     let found = subst (λ xs. IsBinarySearchResult (λ p. attr_cmp p.0 c.args.attr) xs c.binary_search_by.result) c.as_slice.ensures by in
     let at : c.binary_search_by.result ≡ place attr_cmp c.args.attr (keys_of attr_cmp pairs) = pair_place pairs c.args.attr c.binary_search_by.result c.self.invariant (search rules) found in
@@ -21,7 +21,7 @@ invariant_of-result c =
 
 pub returns-in-Ok : goal.returns-in-Ok
 returns-in-Ok c =
-    let pairs = listed c.self.inside.pairs in
+    let pairs = few_items c.self.inside.pairs in
     let by = c.binary_search_by.ensures.position (λ p. attr_cmp p.0 c.args.attr) (always_returns_same _ _ _ (λ a r f called. search rules)) in
     let found = subst (λ xs. IsBinarySearchResult (λ p. attr_cmp p.0 c.args.attr) xs c.binary_search_by.result) c.as_slice.ensures by in
     let at : c.binary_search_by.result ≡ place attr_cmp c.args.attr (keys_of attr_cmp pairs) = pair_place pairs c.args.attr c.binary_search_by.result c.self.invariant (search rules) found in
@@ -29,7 +29,7 @@ returns-in-Ok c =
 
 pub returns-in_ok-with-in-Err : goal.returns-in_ok-with-in-Err
 returns-in_ok-with-in-Err c =
-    let pairs = listed c.self.inside.pairs in
+    let pairs = few_items c.self.inside.pairs in
     let by = c.binary_search_by.ensures.position (λ p. attr_cmp p.0 c.args.attr) (always_returns_same _ _ _ (λ a r f called. search rules)) in
     let found = subst (λ xs. IsBinarySearchResult (λ p. attr_cmp p.0 c.args.attr) xs c.binary_search_by.result) c.as_slice.ensures by in
     let at : c.binary_search_by.result ≡ place attr_cmp c.args.attr (keys_of attr_cmp pairs) = pair_place pairs c.args.attr c.binary_search_by.result c.self.invariant (search rules) found in

@@ -1,5 +1,5 @@
 use Rattle.dir_names.proofs.ReadNames.{rdn_ascii, only_rdn_back}
-use Rattle.dir_names.specs.Printing.{rdn_printed}
+use Rattle.dir_names.specs.Names.Printing.{printed_rdn}
 use Rattle.dir_names.proofs.ReadsSpells.{reads_only_rdn}
 use Rattle.dir_names.proofs.name.Rdn.print.Goals as goal
 
@@ -16,7 +16,7 @@ pub returns-clause-back : goal.returns-clause-back
 returns-clause-back c = only_rdn_back c.args.self.now (c.print_rdn.ensures.sound)
 
 pub returns-in_err-print_rdn-clause-spells : goal.returns-in_err-print_rdn-clause-spells
-returns-in_err-print_rdn-clause-spells c = reads_only_rdn (rdn_printed c.args.self.now) c.args.self.now (only_rdn_back c.args.self.now (c.print_rdn.ensures.sound))
+returns-in_err-print_rdn-clause-spells c = reads_only_rdn (printed_rdn c.args.self.now) c.args.self.now (only_rdn_back c.args.self.now (c.print_rdn.ensures.sound))
 
 pub returns-clause-spells : goal.returns-clause-spells
-returns-clause-spells c = reads_only_rdn (rdn_printed c.args.self.now) c.args.self.now (only_rdn_back c.args.self.now (c.print_rdn.ensures.sound))
+returns-clause-spells c = reads_only_rdn (printed_rdn c.args.self.now) c.args.self.now (only_rdn_back c.args.self.now (c.print_rdn.ensures.sound))

@@ -1,4 +1,4 @@
-use Rattle.dir_names.specs.Builtin.{builtin_rows}
+use Rattle.dir_names.specs.Table.Builtin.{builtin_rows}
 use Rattle.dir_names.proofs.schema.Schema.builtin.Goals as goal
 
 pub returns : goal.returns

@@ -3,9 +3,10 @@ use Rattle.std.specs.FinMap as fin
 use Rattle.dir_names.specs.Sorted.{place}
 use Rattle.dir_names.specs.Orders.{attr_cmp, attr_cmp_total, attr_cmp_exact}
 use Rattle.dir_tree.specs.declared.lines.KeyedLine.{KeyedLine}
-use Rattle.dir_tree.specs.Content.{Keyed, Stored, StoredAttributes, attribute_pair, attributes_in, has_in}
-use Rattle.dir_tree.specs.Made.{IsTwice, with_line, with_value}
-use Rattle.dir_tree.proofs.Kept.{got, missing, put, put_over, still_rises, rises_over, found, keys_in}
+use Rattle.dir_tree.specs.Content.{Keyed, Stored, StoredAttributes, has_in}
+use Rattle.dir_tree.specs.Inside.Stored.{attribute_pair, attributes_in}
+use Rattle.dir_tree.specs.NewEntry.{IsTwiceFaultOf, with_line, with_value}
+use Rattle.dir_tree.proofs.SortedVecs.{got, missing, put, put_over, still_rises, rises_over, found, keys_in}
 use Rattle.dir_tree.proofs.attributes.AttributeMap.add.Goals as goal
 
 on_ok : {A E P Q : Type 0} → (r : Result A E) → (P → Q) → OnOk r P → OnOk r Q
@@ -64,7 +65,7 @@ returns-in-Ok-clause-fault c =
     let at : c.place_of.result ≡ place attr_cmp c.args.description.key (keys_in attr_cmp_total attribute_pair c.self.inside.items.items) = subst (λ xs. c.place_of.result ≡ place attr_cmp c.key.result.now (keys_in attr_cmp_total attribute_pair xs)) c.as_slice.ensures.value c.place_of.ensures.place ∙ ap (λ k. place attr_cmp k (keys_in attr_cmp_total attribute_pair c.self.inside.items.items)) c.key.ensures in
     let old : Keyed = c.index_mut.result.now in
     let there : fin.get c.args.self.now c.args.description.key ≡ Some old.stored = ap (λ m. fin.get m c.args.description.key) (sym c.self.view_is) ∙ got attr_cmp_total attribute_pair c.self.inside.items.items c.self.invariant c.args.description.key c.place_of.result at c.in-Ok.at c.in-Ok.is old ∙ ap (λ a. Some a.stored) (sym c.index_mut.ensures.value) in
-    if_err c.add.result (λ e. subst (IsTwice e) (sym (ap (λ o. has_in c.args.key o) there))) c.add.ensures.fault
+    if_err c.add.result (λ e. subst (IsTwiceFaultOf e) (sym (ap (λ o. has_in c.args.key o) there))) c.add.ensures.fault
 
 pub returns-in_ok-insert-in-Err-clause-ok : goal.returns-in_ok-insert-in-Err-clause-ok
 returns-in_ok-insert-in-Err-clause-ok c =

@@ -2,8 +2,8 @@ use Rattle.std.proofs.Common.{◌≡◌, [], sym, ap, subst, ◌∙◌, Some}
 use Rattle.std.specs.FinMap as fin
 use Rattle.dir_names.specs.Sorted.{place}
 use Rattle.dir_names.specs.Orders.{attr_cmp, attr_cmp_total, attr_cmp_exact}
-use Rattle.dir_tree.specs.Content.{attribute_pair}
-use Rattle.dir_tree.proofs.Kept.{got, missing, found, keys_in}
+use Rattle.dir_tree.specs.Inside.Stored.{attribute_pair}
+use Rattle.dir_tree.proofs.SortedVecs.{got, missing, found, keys_in}
 use Rattle.dir_tree.proofs.attributes.AttributeMap.get.Goals as goal
 
 pub returns-in-Ok-clause-value : goal.returns-in-Ok-clause-value

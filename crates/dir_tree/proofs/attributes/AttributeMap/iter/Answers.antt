@@ -1,8 +1,8 @@
 use Rattle.std.proofs.Common.{map, sym, ap, ◌∙◌}
 use Rattle.std.specs.FinMap as fin
 use Rattle.dir_names.specs.Orders.{attr_cmp_total}
-use Rattle.dir_tree.specs.Content.{attribute_pair}
-use Rattle.dir_tree.proofs.Kept.{entries_in}
+use Rattle.dir_tree.specs.Inside.Stored.{attribute_pair}
+use Rattle.dir_tree.proofs.SortedVecs.{entries_in}
 use Rattle.dir_tree.proofs.attributes.AttributeMap.iter.Goals as goal
 
 pub returns : goal.returns

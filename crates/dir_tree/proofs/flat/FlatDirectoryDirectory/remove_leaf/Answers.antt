@@ -4,7 +4,7 @@ use Rattle.dir_names.specs.Keys.{DnKeys}
 use Rattle.dir_names.specs.Orders.{dn_key_cmp, dn_key_cmp_total, dn_key_cmp_exact}
 use Rattle.dir_names.proofs.Maps.{get_entries, one_gone}
 use Rattle.dir_tree.specs.Content.{Content}
-use Rattle.dir_tree.specs.Dir.{Dir, IsClosed, HasChild, entry_at, without}
+use Rattle.dir_tree.specs.Dir.{Dir, HasChild, IsClosed, entry_at, remove_entry}
 use Rattle.dir_tree.proofs.DirLemmas.{closed_without}
 use Rattle.dir_tree.proofs.flat.FlatDirectoryDirectory.remove_leaf.Goals as goal
 
@@ -29,4 +29,4 @@ pub returns-clause-new : goal.returns-clause-new
 returns-clause-new c =
     let gone = one_gone dn_key_cmp_total dn_key_cmp_exact c.self.inside.entries.entries c.remove.new.self.entries c.args.key.now c.remove.ensures.updates.0 in
     let entries : fin.FinMap dn_key_cmp Content → Dir = λ m. record { suffix = c.self.inside.suffix; entries = m } in
-    ap entries gone ∙ ap (λ d. without d c.args.key.now) c.self.view_is
+    ap entries gone ∙ ap (λ d. remove_entry d c.args.key.now) c.self.view_is

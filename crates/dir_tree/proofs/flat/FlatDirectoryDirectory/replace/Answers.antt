@@ -5,7 +5,7 @@ use Rattle.dir_names.specs.Orders.{dn_key_cmp, dn_key_cmp_total, dn_key_cmp_exac
 use Rattle.dir_names.proofs.Maps.{get_entries}
 use Rattle.dir_tree.specs.Dir.{Dir, IsClosed, entry_at, put_entry, dir_over}
 use Rattle.dir_tree.proofs.DirLemmas.{closed_put}
-use Rattle.dir_tree.proofs.Written.{one_written, lent}
+use Rattle.dir_tree.proofs.MapWrites.{one_written, lent}
 use Rattle.dir_tree.proofs.flat.FlatDirectoryDirectory.replace.Goals as goal
 use Rattle.dir_tree.proofs.flat.FlatDirectoryDirectory.replace.Goals.{After-get_mut, After-replace}
 
@@ -16,7 +16,7 @@ found c = c.get_mut.ensures.value ∙ get_entries dn_key_cmp_total c.self.inside
 pub unwrap-requires : goal.unwrap-requires
 unwrap-requires c = lent c.get_mut.result ∙ ap is_some (found (goal.at.unwrap-requires c).After-get_mut) ∙ c.requires
 
--- what the map is once the entry stands there
+-- the map with the entry there
 put : (c : After-replace) → dir_over c.self.inside.suffix (c.get_mut.follows.lender c.replace.new.dest).entries ≡ put_entry (dir_over c.self.inside.suffix c.self.inside.entries.entries) c.args.key.now c.args.entry
 put c =
     let d : Dir = dir_over c.self.inside.suffix c.self.inside.entries.entries in

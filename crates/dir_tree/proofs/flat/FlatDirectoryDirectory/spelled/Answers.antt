@@ -40,4 +40,4 @@ returns c =
           ap (left_above c.args.self.now) w.in-Some.is ∙ climbed_past c.args.self.now closed w.in-Some.key (subst (IsOnPath c.args.self.now) w.in-Some.is c.loop-above.invariant.on_path) none
       | in_default-above w ↦ ap (left_above c.args.self.now) w.in_default-above.is
     ] in
-    if_ok c.named.result (λ name e. e ∙ sym (append-nil c.loop-above.rdns.items) ∙ ap (λ names. c.loop-above.rdns.items ++ names) (sym nothing) ∙ c.loop-above.invariant.so_far) c.named.ensures
+    if_ok c.name_of_rdns.result (λ name e. e ∙ sym (append-nil c.loop-above.rdns.items) ∙ ap (λ names. c.loop-above.rdns.items ++ names) (sym nothing) ∙ c.loop-above.invariant.so_far) c.name_of_rdns.ensures

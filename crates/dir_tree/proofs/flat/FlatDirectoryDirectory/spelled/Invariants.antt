@@ -1,5 +1,5 @@
 use Rattle.std.proofs.Common.{◌≡◌, ◌++◌}
-use Rattle.dir_tree.specs.Spelled.{spelled_name}
+use Rattle.dir_tree.specs.SpelledNames.{spelled_name}
 use Rattle.dir_tree.proofs.Climb.{left_above, IsOnPath, steps_left}
 use Rattle.dir_tree.proofs.flat.FlatDirectoryDirectory.spelled.Given as goal
 

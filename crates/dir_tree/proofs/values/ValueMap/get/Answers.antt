@@ -2,8 +2,8 @@ use Rattle.std.proofs.Common.{◌≡◌, [], sym, ap, subst, ◌∙◌, Some, ge
 use Rattle.std.specs.FinMap as fin
 use Rattle.dir_names.specs.Sorted.{place}
 use Rattle.dir_names.specs.Values.{value_key_cmp, value_key_cmp_total}
-use Rattle.dir_tree.specs.Content.{value_pair}
-use Rattle.dir_tree.proofs.Kept.{got, missing, keys_in}
+use Rattle.dir_tree.specs.Inside.Stored.{value_pair}
+use Rattle.dir_tree.proofs.SortedVecs.{got, missing, keys_in}
 use Rattle.dir_tree.proofs.values.ValueMap.get.Goals as goal
 
 pub returns-in-Ok : goal.returns-in-Ok

@@ -3,9 +3,9 @@ use Rattle.std.specs.FinMap as fin
 use Rattle.dir_names.specs.Sorted.{place}
 use Rattle.dir_names.specs.Values.{value_key_cmp, value_key_cmp_total}
 use Rattle.dir_names.specs.declared.value.ValueKey.TheVariants.{Text}
-use Rattle.dir_tree.specs.Content.{value_pair}
-use Rattle.dir_tree.proofs.Kept.{keys_in}
-use Rattle.dir_tree.proofs.Told.{told}
+use Rattle.dir_tree.specs.Inside.Stored.{value_pair}
+use Rattle.dir_tree.proofs.SortedVecs.{keys_in}
+use Rattle.dir_tree.proofs.KeyPlaces.{told}
 use Rattle.dir_tree.proofs.values.ValueMap.has_text.Goals as goal
 
 pub returns : goal.returns

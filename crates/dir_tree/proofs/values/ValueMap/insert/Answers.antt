@@ -3,8 +3,8 @@ use Rattle.std.specs.FinMap as fin
 use Rattle.std.specs.List.{insert}
 use Rattle.dir_names.specs.Sorted.{place}
 use Rattle.dir_names.specs.Values.{value_key_cmp, value_key_cmp_total}
-use Rattle.dir_tree.specs.Content.{value_pair, values_in}
-use Rattle.dir_tree.proofs.Kept.{got, missing, put, still_rises, keys_in}
+use Rattle.dir_tree.specs.Inside.Stored.{value_pair, values_in}
+use Rattle.dir_tree.proofs.SortedVecs.{got, missing, put, still_rises, keys_in}
 use Rattle.dir_tree.proofs.values.ValueMap.insert.Goals as goal
 
 pub invariant_of-self-in-Err : goal.invariant_of-self-in-Err

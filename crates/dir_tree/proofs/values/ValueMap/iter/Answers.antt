@@ -2,8 +2,8 @@ use Rattle.std.proofs.Common.{sym, ap, ◌∙◌}
 use Rattle.std.specs.FinMap as fin
 use Rattle.std.proofs.lemmas.List.{map-id}
 use Rattle.dir_names.specs.Values.{value_key_cmp_total}
-use Rattle.dir_tree.specs.Content.{value_pair}
-use Rattle.dir_tree.proofs.Kept.{entries_in}
+use Rattle.dir_tree.specs.Inside.Stored.{value_pair}
+use Rattle.dir_tree.proofs.SortedVecs.{entries_in}
 use Rattle.dir_tree.proofs.values.ValueMap.iter.Goals as goal
 
 pub returns : goal.returns

@@ -1,8 +1,8 @@
 use Rattle.std.proofs.Common.{length, sym, ap, ◌∙◌}
 use Rattle.std.specs.FinMap as fin
 use Rattle.dir_names.specs.Values.{value_key_cmp_total}
-use Rattle.dir_tree.specs.Content.{value_pair}
-use Rattle.dir_tree.proofs.Kept.{len_in}
+use Rattle.dir_tree.specs.Inside.Stored.{value_pair}
+use Rattle.dir_tree.proofs.SortedVecs.{len_in}
 use Rattle.dir_tree.proofs.values.ValueMap.len.Goals as goal
 
 pub returns : goal.returns

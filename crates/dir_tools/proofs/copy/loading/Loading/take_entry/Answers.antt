@@ -5,7 +5,7 @@ use Rattle.dir_names.specs.Keys.{IsAtOrBelow}
 use Rattle.dir_names.specs.NameKeys.{name_key}
 use Rattle.dir_names.specs.Orders.{dn_key_cmp, dn_key_eq}
 use Rattle.dir_tree.specs.Dir.{entry_at, put_entry}
-use Rattle.dir_tree.specs.Made.{Fails, made}
+use Rattle.dir_tree.specs.NewEntry.{IsEntryFaultOf, new_entry}
 use Rattle.dir_change.specs.declared.operation.Refusal.TheVariants as refusal
 use Rattle.dir_change.specs.Operation.{entry_refusal, is_at_or_below, own_rdns}
 use Rattle.dir_change.proofs.Conditions.{below_false, below_true}
@@ -54,7 +54,7 @@ returns-in-Err-make-clause-cause g c m was =
     let free : entry_at m.entries k ≡ None = was.0.2 k ∙ (λ i. waiting_or (none_waits i) (no_entry i)) in
     let own : c.own_rdns.result.items ≡ own_rdns m.entries.suffix k c.args.name =
     c.own_rdns.ensures ∙ ap (λ b. cond b c.args.name (take 1 c.args.name)) (c.eq-is_suffix.ensures ∙ ap (dn_key_eq k) (c.suffix-2.ensures.key ∙ sym was.0.0)) in
-    let fails : Fails c.in-Err-make.fault (made rows (own_rdns m.entries.suffix k c.args.name) c.args.lines) = subst (λ o. Fails c.in-Err-make.fault (made rows o c.args.lines)) own c.in-Err-make.ensures in
+    let fails : IsEntryFaultOf c.in-Err-make.fault (new_entry rows (own_rdns m.entries.suffix k c.args.name) c.args.lines) = subst (λ o. IsEntryFaultOf c.in-Err-make.fault (new_entry rows o c.args.lines)) own c.in-Err-make.ensures in
     elim c.match-from.branch [
       | in-Code w ↦
           let code : entry_refusal c.in-Err-make.fault ≡ refusal.Code w.in-Code.code = sym c.from.ensures ∙ w.in-Code.is in
@@ -75,7 +75,7 @@ returns-in_ok-insert-clause-reads g c m was =
     let free : entry_at m.entries k ≡ None = was.0.2 k ∙ (λ i. waiting_or (none_waits i) (no_entry i)) in
     let own : c.own_rdns.result.items ≡ own_rdns m.entries.suffix k c.args.name =
     c.own_rdns.ensures ∙ ap (λ b. cond b c.args.name (take 1 c.args.name)) (c.eq-is_suffix.ensures ∙ ap (dn_key_eq k) (c.suffix-2.ensures.key ∙ sym was.0.0)) in
-    let makes : made rows (own_rdns m.entries.suffix k c.args.name) c.args.lines ≡ Ok c.in-Ok-make.entry = ap (λ o. made rows o c.args.lines) (sym own) ∙ c.in-Ok-make.ensures in
+    let makes : new_entry rows (own_rdns m.entries.suffix k c.args.name) c.args.lines ≡ Ok c.in-Ok-make.entry = ap (λ o. new_entry rows o c.args.lines) (sym own) ∙ c.in-Ok-make.ensures in
     let d' = g.D.Directory.state c.put.new.directory in
     let back = put_back k c.in-Ok-make.entry d d' c.in_ok-entry.field-0 c.in-Some.entry c.in_ok-entry.ensures.put c.in-Some.is in
     let waiting' = get dn_key_cmp c.insert.new.self in (
@@ -101,7 +101,7 @@ returns-in_default-clause-reads g c m was =
     let free : entry_at m.entries k ≡ None = was.0.2 k ∙ (λ i. waiting_or (none_waits i) (no_entry i)) in
     let own : c.own_rdns.result.items ≡ own_rdns m.entries.suffix k c.args.name =
     c.own_rdns.ensures ∙ ap (λ b. cond b c.args.name (take 1 c.args.name)) (c.eq-is_suffix.ensures ∙ ap (dn_key_eq k) (c.suffix-2.ensures.key ∙ sym was.0.0)) in
-    let makes : made rows (own_rdns m.entries.suffix k c.args.name) c.args.lines ≡ Ok c.in-Ok-make.entry = ap (λ o. made rows o c.args.lines) (sym own) ∙ c.in-Ok-make.ensures in
+    let makes : new_entry rows (own_rdns m.entries.suffix k c.args.name) c.args.lines ≡ Ok c.in-Ok-make.entry = ap (λ o. new_entry rows o c.args.lines) (sym own) ∙ c.in-Ok-make.ensures in
     let d' = g.D.Directory.state c.put.new.directory in
     let none : is_some c.in_ok-entry.field-0 ≡ false = search rules in
     let put = put_there k c.in-Ok-make.entry d d' c.in_ok-entry.field-0 c.in_ok-entry.ensures.put none in (

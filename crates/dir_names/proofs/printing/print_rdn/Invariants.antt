@@ -1,7 +1,0 @@
-use Rattle.std.proofs.Common.{◌≡◌, ◌∷◌, ◌++◌, take}
-use Rattle.std.specs.List.{flat_map}
-use Rattle.dir_names.specs.Printing.{pair_printed}
-use Rattle.dir_names.proofs.printing.print_rdn.Given as goal
-
-abbrev pub invariant-loop-pair : goal.invariant-loop-pair
-invariant-loop-pair l = l.out.items ≡ l.initial.out.items ++ flat_map (λ p. 43 ∷ pair_printed p) (take l.pair-index l.rest)

@@ -1,7 +1,0 @@
-use Rattle.std.proofs.Common.{◌≡◌, false, take, drop}
-use Rattle.dir_names.specs.Reading.{pieces}
-use Rattle.dir_names.proofs.PieceLemmas.{onto}
-use Rattle.dir_names.proofs.reading.cut_unescaped.Given as goal
-
-abbrev pub invariant-loop-i : goal.invariant-loop-i
-invariant-loop-i l = pieces l.separator false l.text ≡ onto (take l.i l.text) (pieces l.separator l.is_escaped (drop l.i l.text))

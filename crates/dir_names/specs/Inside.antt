@@ -1,0 +1,8 @@
+-- The views of private structs, enums and loop states. A reader of the public contracts needs none of them, but for `Steps`, which computes what
+-- `SpellsByte` and `SpellsBytes` of `Names.Spells` say as a grammar.
+pub mod Few
+pub mod Frequent
+pub mod Left
+pub mod Rows
+pub mod SortTexts
+pub mod Steps

@@ -1,0 +1,19 @@
+-- The attribute types for which a schema keeps what it would look up.
+use Rattle.std.specs.Prelude.{◌≡◌, ℕ, List, Option, IfSome, Ok}
+use Rattle.dir_names.specs.declared.schema.FrequentType.{FrequentType}
+use Rattle.dir_names.specs.declared.schema.TypeRow.{TypeRow}
+use Rattle.dir_names.specs.Described.{Described}
+use Rattle.dir_names.specs.Descriptions.{description_of}
+use Rattle.dir_names.specs.NameKeys.{attr_of}
+use Rattle.dir_names.specs.Table.{rule_of}
+
+-- a text that is a type without options, and its description
+abbrev pub IsFrequentDescription : List TypeRow → List ℕ × Described → Type 0
+IsFrequentDescription rows p = (description_of rows p.0 ≡ Ok p.1) × (attr_of rows p.0 ≡ p.1.key)
+
+-- and the rule of its values
+abbrev pub IsFrequentType : List TypeRow → FrequentType → Type 0
+IsFrequentType rows frequent = IsFrequentDescription rows (frequent.text, frequent.description) × (rule_of rows frequent.description.key ≡ frequent.rule)
+
+abbrev pub IsFrequentSlot : List TypeRow → Option FrequentType → Type 0
+IsFrequentSlot rows slot = IfSome slot (IsFrequentType rows)

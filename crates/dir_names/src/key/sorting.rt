@@ -1,0 +1,89 @@
+//! The text that a name's key is kept with: its bytes are in the order of the keys.
+
+ghost use Rattle.std.specs.List.{flat_map, list_all};
+ghost use Rattle.std.specs.Prelude.{◌≡◌, ◌++◌, ◌∷◌, Ok, nat_lt};
+ghost use Rattle.dir_names.specs.Outcome.{Gives};
+ghost use Rattle.dir_names.specs.Inside.SortTexts.{marked_byte, text_sort, list_sort, pair_sort, rdn_sort, name_sort};
+
+use crate::{AttrKey, Bytes, NameFault, RdnKey};
+
+/// Appends the text that the key of a name is ordered by.
+pub(crate) fn put_name(parts: &[RdnKey], out: &mut Vec<u8>) -> Result<(), NameFault>
+    ensures { Gives (λ _. out.new.items) result (Ok (out.old.items ++ name_sort parts.now)) }
+{
+    for part in parts {
+        put_part(part, out)?;
+    }
+    Ok(())
+}
+
+/// Appends the text of one RDN.
+pub(crate) fn put_part(part: &RdnKey, out: &mut Vec<u8>) -> Result<(), NameFault>
+    ensures { Gives (λ _. out.new.items) result (Ok (out.old.items ++ 1 ∷ rdn_sort part.now)) }
+{
+    out.push(1)?;
+    put_pairs(part.pairs(), out)?;
+    out.push(0)?;
+    Ok(())
+}
+
+fn put_pairs(pairs: &[(AttrKey, Bytes)], out: &mut Vec<u8>) -> Result<(), NameFault>
+    ensures { Gives (λ _. out.new.items) result (Ok (out.old.items ++ flat_map (λ p. 1 ∷ pair_sort p) pairs.now)) }
+{
+    for pair in pairs {
+        out.push(1)?;
+        put_pair(pair, out)?;
+    }
+    Ok(())
+}
+
+fn put_pair(pair: &(AttrKey, Bytes), out: &mut Vec<u8>) -> Result<(), NameFault>
+    ensures { Gives (λ _. out.new.items) result (Ok (out.old.items ++ pair_sort pair.now)) }
+{
+    put_text(pair.0.attr_type(), out)?;
+    put_options(pair.0.options(), out)?;
+    put_text(pair.1.as_slice(), out)?;
+    Ok(())
+}
+
+fn put_options(options: &[Bytes], out: &mut Vec<u8>) -> Result<(), NameFault>
+    ensures { Gives (λ _. out.new.items) result (Ok (out.old.items ++ list_sort text_sort options.now)) }
+{
+    for option in options {
+        out.push(1)?;
+        put_text(option.as_slice(), out)?;
+    }
+    out.push(0)?;
+    Ok(())
+}
+
+/// Appends a text and the mark of its end.
+fn put_text(text: &[u8], out: &mut Vec<u8>) -> Result<(), NameFault>
+    ensures { Gives (λ _. out.new.items) result (Ok (out.old.items ++ text_sort text.now)) }
+{
+    if is_plain(text) {
+        out.extend_from_slice(text)?;
+    } else {
+        put_marked(text, out)?;
+    }
+    out.push(0)?;
+    Ok(())
+}
+
+fn is_plain(text: &[u8]) -> bool
+    ensures { result ≡ list_all (λ b. nat_lt 1 b) text.now }
+{
+    text.iter().all(|b| *b > 1)
+}
+
+fn put_marked(text: &[u8], out: &mut Vec<u8>) -> Result<(), NameFault>
+    ensures { Gives (λ _. out.new.items) result (Ok (out.old.items ++ flat_map marked_byte text.now)) }
+{
+    for b in text {
+        if *b < 2 {
+            out.push(1)?;
+        }
+        out.push(*b)?;
+    }
+    Ok(())
+}

@@ -1,0 +1,91 @@
+//! Spaces that don't count in a comparison (RFC 4518, section 2.6.1).
+
+ghost use Rattle.std.specs.Prelude.{◌≡◌, [], ◌∷◌, ◌++◌, cond, Ok, IsTrue};
+ghost use Rattle.dir_names.specs.Outcome.{Gives};
+ghost use Rattle.dir_names.specs.ValueKeys.Spaces.{without_leading_spaces, without_trailing_spaces, without_extra_spaces, without_spaces_and_hyphens};
+
+use crate::NameFault;
+use std::alloc::Global;
+
+/// The text without spaces at its ends, and with one space for each run of spaces.
+pub(crate) fn without_extra_spaces(alloc: Global, text: Vec<u8>) -> Result<Vec<u8>, NameFault>
+    ensures { Gives (λ tidy. tidy.items) result (Ok (without_extra_spaces text.items)) }
+{
+    if has_no_extra_space(text.as_slice()) {
+        return Ok(text);
+    }
+    copy_without_extra_spaces(alloc, text.as_slice())
+}
+
+/// Whether no space is at an end or beside another one.
+fn has_no_extra_space(text: &[u8]) -> bool
+    ensures { IsTrue result → without_extra_spaces text.now ≡ text.now }
+{
+    let mut after_space = true;
+    for b in text {
+        if *b == b' ' && after_space {
+            return false;
+        }
+        after_space = *b == b' ';
+    }
+    text.is_empty() || !after_space
+}
+
+fn copy_without_extra_spaces(alloc: Global, text: &[u8]) -> Result<Vec<u8>, NameFault>
+    ensures { Gives (λ tidy. tidy.items) result (Ok (without_extra_spaces text.now)) }
+{
+    let rest = without_leading_spaces(text);
+    let mut out = Vec::with_capacity(alloc, rest.len())?;
+    let mut is_waiting = false;
+    for b in rest {
+        if *b == b' ' {
+            is_waiting = true;
+        } else {
+            push_after_space(&mut out, is_waiting, *b)?;
+            is_waiting = false;
+        }
+    }
+    Ok(out)
+}
+
+/// Appends a byte, after a space if one is waiting.
+fn push_after_space(out: &mut Vec<u8>, is_waiting: bool, b: u8) -> Result<(), NameFault>
+    ensures { Gives (λ _. out.new.items) result (Ok (out.old.items ++ cond is_waiting (32 ∷ b ∷ []) (b ∷ []))) }
+{
+    if is_waiting {
+        out.push(b' ')?;
+    }
+    out.push(b)?;
+    Ok(())
+}
+
+/// The text without its leading spaces.
+pub(crate) fn without_leading_spaces(text: &[u8]) -> &[u8]
+    ensures { result.now ≡ without_leading_spaces text.now }
+{
+    for (i, b) in text.iter().enumerate() {
+        if *b != b' ' {
+            return &text[i..];
+        }
+    }
+    &text[..0]
+}
+
+/// The text without its trailing spaces.
+pub(crate) fn without_trailing_spaces(text: &[u8]) -> &[u8]
+    ensures { result.now ≡ without_trailing_spaces text.now }
+{
+    let mut end = text.len();
+    while end > 0 && text[end - 1] == b' ' {
+        end -= 1;
+    }
+    &text[..end]
+}
+
+/// The text without any space or hyphen.
+pub(crate) fn without_spaces_and_hyphens(mut text: Vec<u8>) -> Vec<u8>
+    ensures { result.items ≡ without_spaces_and_hyphens text.items }
+{
+    text.retain(|b| *b != b' ' && *b != b'-');
+    text
+}

@@ -1,0 +1,5 @@
+//! Worked examples of entries and of a flat directory.
+
+mod directory;
+mod entries;
+mod parts;

@@ -1,0 +1,6 @@
+-- The views of private structs and enums, what the private functions that sort lines meet, and the codes by which proofs tell values of the types apart.
+-- A reader of the public contracts needs none of them.
+pub mod Arranged
+pub mod Codes
+pub mod Stored
+pub mod ValueLists

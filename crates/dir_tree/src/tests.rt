@@ -1,4 +1,0 @@
-mod directory;
-mod entries;
-mod maps;
-mod parts;
