@@ -26,7 +26,7 @@ use Rattle.dir_ldif.specs.Bytes.{is_empty}
 use Rattle.dir_ldif.specs.LogicalLines.{Line, cut}
 use Rattle.dir_names.specs.Results.{and_then}
 use Rattle.dir_ldif.specs.AttrVal.{attrval_of}
-use Rattle.dir_ldif.specs.RecordGrammar.{as_record_fault, body_of, change_of, content_of, dn_line, flag_of, is_dash, is_word, legal_dn, legal_rdn, mod_head, mod_of, mod_value, mods_of, op_of, record_of, rename_of, superior_of, try_map, value_line, value_lines}
+use Rattle.dir_ldif.specs.RecordGrammar.{as_record_fault, body_of, change_of, content_of, dn_line, flag_of, is_dash, is_keyword, legal_dn, legal_rdn, mod_head, mod_of, mod_value, mods_of, op_of, record_of, rename_of, superior_of, try_map, value_line, value_lines}
 use Rattle.dir_ldif.specs.LegalRecords.{has_key, rdn_has_key, has_this_key, is_read_under, is_short, is_legal_line, is_legal_mod, superior_has_key, is_legal_kind, is_legal_record}
 use Rattle.dir_ldif.specs.RoundTrip.{ends_name}
 use Rattle.dir_ldif.specs.SoundRecords.{AreBytes, IsSoundKind, IsSoundName, IsSoundRdn, IsSoundRecord, IsSoundSuperior, ModsAreBytes, ValuesAreBytes}
@@ -320,9 +320,9 @@ word-bytes (kind.Modify mods) = (few_bytes (change_word (kind.Modify mods)) refl
 word-bytes (kind.Rename rdn flag superior) = (few_bytes (change_word (kind.Rename rdn flag superior)) refl, omega arith)
 
 content_behind : (rows : List TypeRow) (name : SpelledName) (lines : List (Described × List ℕ)) (x : Line) (xs : List Line) (p : List ℕ × List ℕ) → attrval_of x.1 ≡ Ok p
-    → is_word p.0 (codes "control") ≡ false → is_word p.0 (codes "changetype") ≡ false → value_lines rows (x ∷ xs) ≡ Ok lines → body_of rows name (x ∷ xs) ≡ Ok (form.Content name lines)
+    → is_keyword p.0 (codes "control") ≡ false → is_keyword p.0 (codes "changetype") ≡ false → value_lines rows (x ∷ xs) ≡ Ok lines → body_of rows name (x ∷ xs) ≡ Ok (form.Content name lines)
 content_behind rows name lines x xs p part control change e =
-    ap (λ r. and_then r (λ q. if is_word q.0 (codes "control") then Err Control else (if is_word q.0 (codes "changetype") then and_then (change_of rows q.1 xs) (λ k. Ok (form.Change (record { dn = name; kind = k }))) else content_of rows name (x ∷ xs)))) part
+    ap (λ r. and_then r (λ q. if is_keyword q.0 (codes "control") then Err Control else (if is_keyword q.0 (codes "changetype") then and_then (change_of rows q.1 xs) (λ k. Ok (form.Change (record { dn = name; kind = k }))) else content_of rows name (x ∷ xs)))) part
     ∙ (rw (control, change) (ap (λ r. and_then r (λ ls. Ok (form.Content name ls))) e))
 
 -- the second line of a content record is no keyword's

@@ -21,8 +21,8 @@ AnswersInTurn (found ∷ more) rows old new left left' =
 abbrev pub ReadingEndsSoon : Type 0
 ReadingEndsSoon = (found : List Found) (rows : List TypeRow) (old new : Core) (left left' left'' : Option (List ℕ))
     → AnswersInTurn found rows old new left left' → EndsSoon LineTooLong rows new left' left''
-    → (bytes : List ℕ) × (front : List ℕ) × (last : List ℕ) × (rest : List Answer) × Consumes left left'' bytes × (hand old ++ bytes ≡ front ++ last)
-    × (length last ≤ 8192) × (answers_ahead rows old front ≡ all_found found ++ rest) × (rest ≡ Err LineTooLong ∷ [] → ⊥)
+    → (bytes : List ℕ) × (text : List ℕ) × (excess : List ℕ) × (rest : List Answer) × Consumes left left'' bytes × (hand old ++ bytes ≡ text ++ excess)
+    × (length excess ≤ 8192) × (answers_ahead rows old text ≡ all_found found ++ rest) × (rest ≡ Err LineTooLong ∷ [] → ⊥)
 
 -- the last call read bytes that complete no block
 abbrev pub CompletesNone : List TypeRow → Core → Option (List ℕ) → Option (List ℕ) → Type 0

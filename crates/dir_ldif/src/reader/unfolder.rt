@@ -136,8 +136,8 @@ impl Unfolder {
         ensures left { IfOk result (λ o. IfSome o
             (λ p. self.new.number + length p.1.now ≤ self.old.number + length chunk.now)) }
         ensures shorter { IfOk result (λ o. IfSome o (λ p. length p.1.now < length chunk.now)) }
-        ensures used { IfOk result (λ o. IfSome o (λ p. (front : List ℕ) × (chunk.now ≡ front ++ p.1.now)
-            × ((text : List ℕ) → blocks_to_come self.old (front ++ text) ≡ block_then p.0.items (blocks_to_come self.new text)))) }
+        ensures used { IfOk result (λ o. IfSome o (λ p. (used : List ℕ) × (chunk.now ≡ used ++ p.1.now)
+            × ((text : List ℕ) → blocks_to_come self.old (used ++ text) ≡ block_then p.0.items (blocks_to_come self.new text)))) }
         ensures ok { IfOk result (λ o. MatchOption o
             ((text : List ℕ) → blocks_to_come self.old (chunk.now ++ text) ≡ blocks_to_come self.new text)
             (λ p. (text : List ℕ) → blocks_to_come self.old (chunk.now ++ text) ≡ block_then p.0.items (blocks_to_come self.new (p.1.now ++ text)))) }
