@@ -13,9 +13,8 @@ use Rattle.dir_ldif.specs.Bytes.{is_empty}
 use Rattle.dir_ldif.specs.LogicalLines.{Line}
 use Rattle.dir_ldif.specs.Blocks.{BlockResult, block_then}
 use Rattle.dir_ldif.specs.Inside.Reader.{Finds, Stops, MayFail}
-use Rattle.dir_ldif.specs.Reader.Answers.{blocks_left}
+use Rattle.dir_ldif.specs.Reader.Answers.{blocks_left, ExplainsFault, FirstIsComplete, GivesFirst, GivesNone, answers_at, answers_left}
 use Rattle.dir_ldif.specs.Records.{found_of, answers_on}
-use Rattle.dir_ldif.specs.Reader.Answers.{ExplainsFault, FirstIsComplete, GivesFirst, GivesNone, answers_at, answers_left}
 use Rattle.dir_ldif.proofs.RecordsLemmas.{answers_on-block_then, answers_on-give-none}
 
 -- ---- a block was found

@@ -1,10 +1,9 @@
 -- A folded line reads back as one logical line.
 use Rattle.std.proofs.Common.{◌≡◌, ℕ, zero, suc, ◌+◌, Bool, true, false, not, ◌||◌, eqb, List, [], ◌∷◌, ◌++◌, refl, sym, ap, ◌∙◌, append_assoc, append-nil}
 use Rattle.std.specs.List.{list_any}
-use Rattle.dir_ldif.specs.Bytes.{begins_with, without_last}
+use Rattle.dir_ldif.specs.Bytes.{begins_with, without_last, is_line_break}
 use Rattle.dir_ldif.specs.LogicalLines.{cut, is_lf, logical_lines, physical_lines, with_first_line}
 use Rattle.dir_ldif.specs.LineText.{fold_from, folded_line}
-use Rattle.dir_ldif.specs.Bytes.{is_line_break}
 use Rattle.dir_ldif.proofs.LogicalLineLemmas.{with_first_line-continued, logical_lines-apart}
 
 -- ---- tests

@@ -5,8 +5,7 @@ use Rattle.dir_names.specs.declared.schema.TypeRow.{TypeRow}
 use Rattle.dir_ldif.specs.declared.faults.StreamFault.TheVariants.{LineTooLong}
 use Rattle.dir_ldif.specs.declared.reader.Core.{Core}
 use Rattle.dir_ldif.specs.declared.reader.Place.TheVariants.{Reading}
-use Rattle.dir_ldif.specs.Reader.Answers.{answers_ahead, answers_at, EndsSoon}
-use Rattle.dir_ldif.specs.Reader.Answers.{hand}
+use Rattle.dir_ldif.specs.Reader.Answers.{answers_ahead, answers_at, EndsSoon, hand}
 use Rattle.dir_ldif.specs.ManyCalls.{GivesNoEnd, ReadCallsAreUsed, ReadingEndsSoon, ReadingStopsThere, CompletesNone}
 
 -- the call that met the line

@@ -106,5 +106,5 @@ hand_short o n (x ∷ xs) kept lacks room =
     rw (line_alone n (x ∷ xs) lacks refl) (subst (λ t. list_any is_long (lines_after o ((n, without_last 13 t) ∷ [])) ≡ false) (sym (append-nil (x ∷ xs))) (behind_short o n (x ∷ xs) kept room))
 
 -- what was taken is no such fault, had the text ended there
-pub joiner_goes : (j : Unfolder) → blocks_to_come j [] ≡ Err LineTooLong ∷ [] → ⊥
-joiner_goes j = short_goes j.begun j.block.items (lines_after j.last (physical_lines j.number (cut is_lf (j.partial.items ++ [])))) (hand_short j.last j.number j.partial.items j.kept j.unended j.short)
+pub unfolder_goes : (j : Unfolder) → blocks_to_come j [] ≡ Err LineTooLong ∷ [] → ⊥
+unfolder_goes j = short_goes j.begun j.block.items (lines_after j.last (physical_lines j.number (cut is_lf (j.partial.items ++ [])))) (hand_short j.last j.number j.partial.items j.continuable j.unended j.short)

@@ -4,8 +4,7 @@ use Rattle.std.specs.Bool.{⊤}
 use Rattle.std.specs.List.{list_any, flat_map}
 use Rattle.std.proofs.lemmas.Bool.Decides.{nat_tests}
 use Rattle.dir_ldif.specs.declared.reader.version.Version.TheVariants.{Absent}
-use Rattle.dir_ldif.specs.Bytes.{is_empty, begins_with, without_last}
-use Rattle.dir_ldif.specs.Bytes.{is_line_break}
+use Rattle.dir_ldif.specs.Bytes.{is_empty, begins_with, without_last, is_line_break}
 use Rattle.dir_ldif.specs.LogicalLines.{Line, cut, is_comment, is_lf, is_long, logical_lines, physical_lines, with_first_line}
 use Rattle.dir_ldif.specs.Blocks.{BlockResult, block_then, blocks_from, version_of}
 use Rattle.dir_ldif.specs.LineText.{folded_line}

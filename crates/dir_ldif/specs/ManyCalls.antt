@@ -5,8 +5,7 @@ use Rattle.dir_names.specs.declared.schema.TypeRow.{TypeRow}
 use Rattle.dir_ldif.specs.declared.faults.StreamFault.TheVariants.{LineTooLong}
 use Rattle.dir_ldif.specs.declared.reader.Core.{Core}
 use Rattle.dir_ldif.specs.declared.reader.Place.TheVariants.{Reading}
-use Rattle.dir_ldif.specs.Reader.Answers.{EndsSoon, FirstIsComplete, GoesOn, answers_ahead, answers_at}
-use Rattle.dir_ldif.specs.Reader.Answers.{hand}
+use Rattle.dir_ldif.specs.Reader.Answers.{EndsSoon, FirstIsComplete, GoesOn, answers_ahead, answers_at, hand}
 use Rattle.dir_ldif.specs.Records.{Found, Answer, all_found}
 
 -- calls that gave these answers, in turn
