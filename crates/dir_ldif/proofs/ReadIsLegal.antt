@@ -156,9 +156,9 @@ superior_of-key rows (line ∷ further) =
     (λ value _. after (legal_dn rows value) _ (λ s. superior_has_key rows s ≡ true)
     (λ name e. only_superior-key rows name further (known (legal_dn rows value) (λ n. has_key rows n ≡ true) name (legal_dn-key rows value) e)))
 
-behind_rdn-legal : (rows : List TypeRow) (rdn : SpelledRdn) (lines : List Line) → rdn_has_key rows rdn ≡ true → IfOk (rename_after_rdn rows rdn lines) (λ k. is_legal_kind rows k ≡ true)
-behind_rdn-legal rows rdn [] e = tt
-behind_rdn-legal rows rdn (line ∷ lines) e =
+after_rdn-legal : (rows : List TypeRow) (rdn : SpelledRdn) (lines : List Line) → rdn_has_key rows rdn ≡ true → IfOk (rename_after_rdn rows rdn lines) (λ k. is_legal_kind rows k ≡ true)
+after_rdn-legal rows rdn [] e = tt
+after_rdn-legal rows rdn (line ∷ lines) e =
     after (rename_line (codes "deleteoldrdn") line) _ (λ k. is_legal_kind rows k ≡ true)
     (λ value _. after (flag_of value) _ (λ k. is_legal_kind rows k ≡ true)
     (λ flag _. after (superior_of rows lines) _ (λ k. is_legal_kind rows k ≡ true)
@@ -169,7 +169,7 @@ rename_of-legal rows [] = tt
 rename_of-legal rows (line ∷ lines) =
     after (rename_line (codes "newrdn") line) _ (λ k. is_legal_kind rows k ≡ true)
     (λ value _. after (legal_rdn rows value) _ (λ k. is_legal_kind rows k ≡ true)
-    (λ rdn e. behind_rdn-legal rows rdn lines (known (legal_rdn rows value) (λ r. rdn_has_key rows r ≡ true) rdn (legal_rdn-key rows value) e)))
+    (λ rdn e. after_rdn-legal rows rdn lines (known (legal_rdn rows value) (λ r. rdn_has_key rows r ≡ true) rdn (legal_rdn-key rows value) e)))
 
 -- ---- records
 

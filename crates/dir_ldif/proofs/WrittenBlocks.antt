@@ -40,8 +40,8 @@ lines_read : (lines : List (List ℕ)) (rest : List ℕ) (n : ℕ) → AllGood l
 lines_read [] rest n g a = ([], n, refl, refl)
 lines_read ([] ∷ lines) rest n g a = absurd g.0
 lines_read ((c ∷ cs) ∷ lines) rest n g a =
-    let behind = flat_map folded_line lines ++ rest in
-    let here = line_reads c cs behind n g.0.0 (apart-lines lines rest g.1 a) in
+    let after = flat_map folded_line lines ++ rest in
+    let here = line_reads c cs after n g.0.0 (apart-lines lines rest g.1 a) in
     let later = lines_read lines rest here.0 g.1 a in (
       (n, c ∷ cs) ∷ later.0,
       later.1,
