@@ -13,9 +13,8 @@ use Rattle.dir_ldif.specs.Bytes.{is_empty}
 use Rattle.dir_ldif.specs.LogicalLines.{Line}
 use Rattle.dir_ldif.specs.Blocks.{BlockResult, block_then}
 use Rattle.dir_ldif.specs.Inside.Reader.{Finds, Stops, MayFail}
-use Rattle.dir_ldif.specs.Reader.Answers.{blocks_left}
+use Rattle.dir_ldif.specs.Reader.Answers.{blocks_left, ExplainsFault, FirstIsComplete, GivesFirst, GivesNone, answers_at, answers_left}
 use Rattle.dir_ldif.specs.Records.{found_of, answers_on}
-use Rattle.dir_ldif.specs.Reader.Answers.{ExplainsFault, FirstIsComplete, GivesFirst, GivesNone, answers_at, answers_left}
 use Rattle.dir_ldif.proofs.RecordsLemmas.{answers_on-block_then, answers_on-give-none}
 
 -- ---- a block was found
@@ -69,8 +68,8 @@ next_none rows old new block left left' bytes reading took found some none =
 
 -- ---- no block was found
 
-unsettled : (rows : List TypeRow) (old : Core) (bytes : List ℕ) → MayFail (λ text. blocks_left old (bytes ++ text)) → FirstIsComplete (λ text. answers_at Reading rows old (bytes ++ text)) → ⊥
-unsettled rows old bytes may s =
+none_complete : (rows : List TypeRow) (old : Core) (bytes : List ℕ) → MayFail (λ text. blocks_left old (bytes ++ text)) → FirstIsComplete (λ text. answers_at Reading rows old (bytes ++ text)) → ⊥
+none_complete rows old bytes may s =
     may (λ text fault e.
     let right = s.1 text in
     let same : Ok s.0 ∷ right.0 ≡ Err fault ∷ [] = sym right.1 ∙ ap (answers_on rows) e in
@@ -88,7 +87,7 @@ next_faults LineTooLong rows old new left left' bytes f f' reading took h =
     subst (λ p. IfSome (option_map (answers_at p rows old) left) (λ known. known ≡ Err LineTooLong ∷ [])) (sym reading) (faults_of_text rows old left left' bytes LineTooLong took h)
 next_faults BadVersion rows old new left left' bytes f f' reading took h =
     subst (λ p. IfSome (option_map (answers_at p rows old) left) (λ known. known ≡ Err BadVersion ∷ [])) (sym reading) (faults_of_text rows old left left' bytes BadVersion took h)
-next_faults Read rows old new left left' bytes f f' reading took h = (h.0, (bytes, took, unsettled rows old bytes h.2))
-next_faults TooManyTurns rows old new left left' bytes f f' reading took h = (bytes, took, h.0, unsettled rows old bytes h.2)
+next_faults Read rows old new left left' bytes f f' reading took h = (h.0, (bytes, took, none_complete rows old bytes h.2))
+next_faults TooManyTurns rows old new left left' bytes f f' reading took h = (bytes, took, h.0, none_complete rows old bytes h.2)
 next_faults Memory rows old new left left' bytes f f' reading took h = tt
 next_faults AfterFault rows old new left left' bytes f f' reading took h = absurd h

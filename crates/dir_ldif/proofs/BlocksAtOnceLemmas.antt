@@ -74,15 +74,15 @@ cut_short block (line ∷ rest) long =
     ⊎_elim
     (λ (yes : is_long line ≡ true). rw yes refl)
     (λ (short : is_long line ≡ false).
-    let behind : list_any is_long rest ≡ true = rw short at long in
+    let after : list_any is_long rest ≡ true = rw short at long in
     rw short (⊎_elim
-    (λ (yes : is_comment line ≡ true). rw yes (cut_short block rest behind))
+    (λ (yes : is_comment line ≡ true). rw yes (cut_short block rest after))
     (λ (other : is_comment line ≡ false).
     rw other (⊎_elim
     (λ (empty : is_empty line.1 ≡ true).
-    rw empty (ap (block_then block) (cut_short [] rest behind ∙ ap (λ ps. nonempty_blocks ps ++ Err LineTooLong ∷ []) (with_ended-none (ended_pieces is_blank (seen rest)))) ∙ give_ended block (ended_pieces is_blank (seen rest)) (Err LineTooLong ∷ [])
+    rw empty (ap (block_then block) (cut_short [] rest after ∙ ap (λ ps. nonempty_blocks ps ++ Err LineTooLong ∷ []) (with_ended-none (ended_pieces is_blank (seen rest)))) ∙ give_ended block (ended_pieces is_blank (seen rest)) (Err LineTooLong ∷ [])
     ∙ ap (λ b. nonempty_blocks (b ∷ ended_pieces is_blank (seen rest)) ++ Err LineTooLong ∷ []) (sym (append-nil block))))
-    (λ (some : is_empty line.1 ≡ false). rw some (cut_short (block ++ line ∷ []) rest behind ∙ ap (λ ps. nonempty_blocks ps ++ Err LineTooLong ∷ []) (with_ended-onto block line (ended_pieces is_blank (seen rest)))))
+    (λ (some : is_empty line.1 ≡ false). rw some (cut_short (block ++ line ∷ []) rest after ∙ ap (λ ps. nonempty_blocks ps ++ Err LineTooLong ∷ []) (with_ended-onto block line (ended_pieces is_blank (seen rest)))))
     (true_or_false (is_empty line.1))))
     (true_or_false (is_comment line))))
     (true_or_false (is_long line))

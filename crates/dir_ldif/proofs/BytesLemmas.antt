@@ -23,10 +23,10 @@ without_last-other b c (x ∷ []) e = rw e refl
 without_last-other b c (x ∷ y ∷ ys) e = ap (λ t. x ∷ t) (without_last-other b c (y ∷ ys) e)
 
 -- the list is the same with more after it
-pub without_last-behind : (b : ℕ) (xs : List ℕ) (y : ℕ) (ys : List ℕ) → without_last b (xs ++ y ∷ ys) ≡ xs ++ without_last b (y ∷ ys)
-without_last-behind b [] y ys = refl
-without_last-behind b (x ∷ []) y ys = refl
-without_last-behind b (x ∷ z ∷ zs) y ys = ap (λ t. x ∷ t) (without_last-behind b (z ∷ zs) y ys)
+pub without_last-append : (b : ℕ) (xs : List ℕ) (y : ℕ) (ys : List ℕ) → without_last b (xs ++ y ∷ ys) ≡ xs ++ without_last b (y ∷ ys)
+without_last-append b [] y ys = refl
+without_last-append b (x ∷ []) y ys = refl
+without_last-append b (x ∷ z ∷ zs) y ys = ap (λ t. x ∷ t) (without_last-append b (z ∷ zs) y ys)
 
 -- the cut at the first such place
 pub cut_at-first : (b : ℕ) (xs : List ℕ) (k : ℕ) → k < length xs → eqb (get_or xs k 0) b ≡ true → ((j : ℕ) → j < k → eqb (get_or xs j 0) b ≡ false)

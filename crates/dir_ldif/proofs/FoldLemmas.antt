@@ -21,15 +21,15 @@ fold_from-full (x ∷ xs) rest zero e h = absurd (omega arith)
 fold_from-full (x ∷ xs) rest (suc room) e h = ap (λ t. x ∷ t) (fold_from-full xs rest room (omega arith) h)
 
 -- one turn of the writer: a prefix that fills the room, and the beginning of a new physical line
-pub fold_from-turn : (out first second front behind rest wanted : List ℕ) (room : ℕ) → first ≡ out ++ front → second ≡ first ++ 10 ∷ 32 ∷ [] → length front ≡ room
-    → 0 < length behind → out ++ fold_from room ((front ++ behind) ++ rest) ≡ wanted → second ++ fold_from 75 (behind ++ rest) ≡ wanted
-fold_from-turn out first second front behind rest wanted room a b k h e =
-    let longer : 0 < length (behind ++ rest) = omega (arith, length-append behind rest) in
-    let full = fold_from-full front (behind ++ rest) room k longer in
-    let tail = fold_from 75 (behind ++ rest) in
+pub fold_from-turn : (out first second front after rest wanted : List ℕ) (room : ℕ) → first ≡ out ++ front → second ≡ first ++ 10 ∷ 32 ∷ [] → length front ≡ room
+    → 0 < length after → out ++ fold_from room ((front ++ after) ++ rest) ≡ wanted → second ++ fold_from 75 (after ++ rest) ≡ wanted
+fold_from-turn out first second front after rest wanted room a b k h e =
+    let longer : 0 < length (after ++ rest) = omega (arith, length-append after rest) in
+    let full = fold_from-full front (after ++ rest) room k longer in
+    let tail = fold_from 75 (after ++ rest) in
     let whole : ((out ++ front) ++ 10 ∷ 32 ∷ []) ++ tail ≡ out ++ (front ++ 10 ∷ 32 ∷ tail) =
     append_assoc (out ++ front) (10 ∷ 32 ∷ []) tail ∙ append_assoc out front (10 ∷ 32 ∷ tail) in
-    rw (b, a) (whole ∙ ap (λ t. out ++ t) (sym full) ∙ ap (λ t. out ++ fold_from room t) (sym (append_assoc front behind rest)) ∙ e)
+    rw (b, a) (whole ∙ ap (λ t. out ++ t) (sym full) ∙ ap (λ t. out ++ fold_from room t) (sym (append_assoc front after rest)) ∙ e)
 
 -- the last turn: what there is room for
 pub fold_from-end : (out last front rest wanted : List ℕ) (room : ℕ) → last ≡ out ++ front → length front ≤ room → out ++ fold_from room (front ++ rest) ≡ wanted

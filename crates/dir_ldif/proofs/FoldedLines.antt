@@ -1,10 +1,9 @@
 -- A folded line reads back as one logical line.
 use Rattle.std.proofs.Common.{◌≡◌, ℕ, zero, suc, ◌+◌, Bool, true, false, not, ◌||◌, eqb, List, [], ◌∷◌, ◌++◌, refl, sym, ap, ◌∙◌, append_assoc, append-nil}
 use Rattle.std.specs.List.{list_any}
-use Rattle.dir_ldif.specs.Bytes.{begins_with, without_last}
+use Rattle.dir_ldif.specs.Bytes.{begins_with, without_last, is_line_break}
 use Rattle.dir_ldif.specs.LogicalLines.{cut, is_lf, logical_lines, physical_lines, with_first_line}
 use Rattle.dir_ldif.specs.LineText.{fold_from, folded_line}
-use Rattle.dir_ldif.specs.Bytes.{is_line_break}
 use Rattle.dir_ldif.proofs.LogicalLineLemmas.{with_first_line-continued, logical_lines-apart}
 
 -- ---- tests
@@ -87,21 +86,21 @@ refold zero (b ∷ bs) k n c pre lines e a =
     let chunk : without_last 13 (32 ∷ b ∷ front 74 bs) ≡ 32 ∷ b ∷ front 74 bs =
     without_last-lacks (32 ∷ b ∷ front 74 bs) (rw (here, front-lacks 74 bs clean) refl) in
     let ih = refold 74 bs k (n + 1) c (pre ++ b ∷ []) lines clean a in
-    let behind = logical_lines (physical_lines (n + 1) (more 74 bs ++ lines)) in
+    let after = logical_lines (physical_lines (n + 1) (more 74 bs ++ lines)) in
     let grown : c ∷ (pre ++ []) ++ (b ∷ front 74 bs) ≡ c ∷ (pre ++ b ∷ []) ++ front 74 bs =
     ap (λ t. c ∷ t) (ap (λ t. t ++ (b ∷ front 74 bs)) (append-nil pre) ∙ sym (append_assoc pre (b ∷ []) (front 74 bs))) in
     let whole : c ∷ (pre ++ b ∷ []) ++ bs ≡ c ∷ (pre ++ (b ∷ bs)) = ap (λ t. c ∷ t) (append_assoc pre (b ∷ []) bs) in (
       ih.0,
-      ap (λ t. with_first_line (k, c ∷ (pre ++ [])) (with_first_line (n, t) behind)) chunk ∙ with_first_line-continued k c (pre ++ []) n (b ∷ front 74 bs) behind ∙ ap (λ t. with_first_line (k, t) behind) grown ∙ ih.1
+      ap (λ t. with_first_line (k, c ∷ (pre ++ [])) (with_first_line (n, t) after)) chunk ∙ with_first_line-continued k c (pre ++ []) n (b ∷ front 74 bs) after ∙ ap (λ t. with_first_line (k, t) after) grown ∙ ih.1
           ∙ ap (λ t. (k, t) ∷ logical_lines (physical_lines ih.0 lines)) whole,
     )
 refold (suc room) (b ∷ bs) k n c pre lines e a =
     let clean : list_any is_line_break bs ≡ false = or_second (is_line_break b) (list_any is_line_break bs) e in
     let ih = refold room bs k n c (pre ++ b ∷ []) lines clean a in
-    let behind = logical_lines (physical_lines n (more room bs ++ lines)) in
+    let after = logical_lines (physical_lines n (more room bs ++ lines)) in
     let grown : c ∷ (pre ++ (b ∷ front room bs)) ≡ c ∷ (pre ++ b ∷ []) ++ front room bs = ap (λ t. c ∷ t) (sym (append_assoc pre (b ∷ []) (front room bs))) in
     let whole : c ∷ (pre ++ b ∷ []) ++ bs ≡ c ∷ (pre ++ (b ∷ bs)) = ap (λ t. c ∷ t) (append_assoc pre (b ∷ []) bs) in
-    (ih.0, ap (λ t. with_first_line (k, t) behind) grown ∙ ih.1 ∙ ap (λ t. (k, t) ∷ logical_lines (physical_lines ih.0 lines)) whole)
+    (ih.0, ap (λ t. with_first_line (k, t) after) grown ∙ ih.1 ∙ ap (λ t. (k, t) ∷ logical_lines (physical_lines ih.0 lines)) whole)
 
 -- a written line is one line, whatever follows, if that continues nothing
 pub line_reads : (c : ℕ) (bs rest : List ℕ) (n : ℕ) → list_any is_line_break (c ∷ bs) ≡ false → apart (cut is_lf rest) ≡ true

@@ -9,7 +9,7 @@ use Rattle.dir_ldif.specs.declared.faults.Refusal.TheVariants.{Fault, Memory}
 use Rattle.dir_names.specs.declared.schema.TypeRow.{TypeRow}
 use Rattle.dir_names.specs.Names.{SpelledName}
 use Rattle.dir_ldif.specs.declared.records.Record.TheVariants as form
-use Rattle.dir_ldif.specs.RecordGrammar.{body_of, change_of, is_word, try_map}
+use Rattle.dir_ldif.specs.RecordGrammar.{body_of, change_of, is_keyword, try_map}
 use Rattle.dir_ldif.specs.LogicalLines.{Line, cut}
 use Rattle.dir_ldif.specs.AttrVal.{attrval_of}
 use Rattle.dir_names.specs.Results.{and_then}
@@ -79,7 +79,7 @@ module _ {A : Type 0} (test : A → Bool) where
 
 -- the second line is a changetype
 pub body_of-change : (rows : List TypeRow) (name : SpelledName) (lines : List Line) (second : Line) (further : List Line) (p : List ℕ × List ℕ) → lines ≡ second ∷ further → attrval_of second.1 ≡ Ok p
-    → is_word p.0 (codes "control") ≡ false → is_word p.0 (codes "changetype") ≡ true
+    → is_keyword p.0 (codes "control") ≡ false → is_keyword p.0 (codes "changetype") ≡ true
     → body_of rows name lines ≡ and_then (change_of rows p.1 further) (λ kind. Ok (form.Change (record { dn = name; kind = kind })))
 body_of-change rows name lines second further p is e control change = rw (is, e, control, change) refl
 

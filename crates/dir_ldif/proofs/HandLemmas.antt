@@ -16,10 +16,10 @@ hand_left buffer front rest at end a b e =
     let whole : end - at ≡ length front + length rest = omega (arith, ap length e, length-append front rest, length-take (end - at) (drop at buffer), length-drop at buffer) in
     let size : end - (end - length rest) ≡ length rest = omega arith in
     let begin : end - length rest ≡ at + length front = omega arith in
-    let behind = drop at buffer in
+    let after = drop at buffer in
     let found : take (length rest) (drop (at + length front) buffer) ≡ rest =
-    ap (take (length rest)) (sym (drop-drop (length front) at buffer)) ∙ sym (drop-take (length front) (length rest) behind)
-    ∙ ap (drop (length front)) (ap (λ n. take n behind) (sym whole) ∙ e) ∙ drop-append_seam front rest in
+    ap (take (length rest)) (sym (drop-drop (length front) at buffer)) ∙ sym (drop-take (length front) (length rest) after)
+    ∙ ap (drop (length front)) (ap (λ n. take n after) (sym whole) ∙ e) ∙ drop-append_seam front rest in
     rw (size, begin) found
 
 -- the block that was found in the hand, and what is left of the hand

@@ -77,7 +77,7 @@ goes_wrong j n h =
     let one : physical_lines j.number (cut is_lf whole) ≡ (j.number, without_last 13 (whole ++ [])) ∷ [] =
     ap (λ t. physical_lines j.number (cut is_lf t)) (sym (append-nil whole)) ∙ line_alone j.number whole lacks (some_of_length whole (omega arith)) in
     let long : 2097153 < length (without_last 13 (whole ++ [])) = omega (arith, length-without_last-back (whole ++ []), length-append whole []) in
-    subst (λ t. Faulty (blocks_to_come_with j t)) (sym one) (long_faulty j.begun j.block.items j.last j.number (without_last 13 (whole ++ [])) j.kept long)
+    subst (λ t. Faulty (blocks_to_come_with j t)) (sym one) (long_faulty j.begun j.block.items j.last j.number (without_last 13 (whole ++ [])) j.continuable long)
 
 may_fail_by : (j : Unfolder) (n : ℕ) → 2097156 ≤ n → MayFail (blocks_to_come j)
 may_fail_by j n h none = let wrong = goes_wrong j n h in none (letters n) wrong.0 wrong.1

@@ -18,6 +18,7 @@ pub mod PartialLines
 pub mod ReadIsLegal
 pub mod ReadIsSound
 pub mod RecordsLemmas
+pub mod Rfc
 pub mod RoundTrip
 pub mod SoundNames
 pub mod Spellings

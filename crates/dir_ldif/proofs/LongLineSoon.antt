@@ -8,15 +8,14 @@ use Rattle.dir_ldif.specs.declared.reader.unfolder.Unfolder.{Unfolder}
 use Rattle.dir_ldif.specs.declared.reader.Core.{Core}
 use Rattle.dir_ldif.specs.Reader.Unfolding.{blocks_to_come}
 use Rattle.dir_ldif.specs.Inside.Reader.{IsSoon, StopsSoon, Uses}
-use Rattle.dir_ldif.specs.Reader.Answers.{blocks_left, hand}
+use Rattle.dir_ldif.specs.Reader.Answers.{blocks_left, hand, EndsSoon, GoesOn}
 use Rattle.dir_names.specs.declared.schema.TypeRow.{TypeRow}
 use Rattle.dir_ldif.specs.Bytes.{is_empty}
 use Rattle.dir_ldif.specs.LogicalLines.{Line}
 use Rattle.dir_ldif.specs.Blocks.{BlockResult, block_then}
 use Rattle.dir_ldif.specs.Records.{Found, found_of, answers_on}
-use Rattle.dir_ldif.specs.Reader.Answers.{EndsSoon, GoesOn}
 use Rattle.dir_ldif.proofs.RecordsLemmas.{answers_on-block_then}
-use Rattle.dir_ldif.proofs.NoLongLine.{joiner_goes}
+use Rattle.dir_ldif.proofs.NoLongLine.{unfolder_goes}
 
 pub Consumes-nothing : (o : Option (List ℕ)) → Consumes o o []
 Consumes-nothing None = tt
@@ -50,14 +49,14 @@ stops_soon BadVersion c left left' bytes took soon = tt
 pub hand_soon : (fault : StreamFault) (c now : Core) (left left' : Option (List ℕ)) (bytes : List ℕ) → Consumes left left' bytes → Takes c bytes now → StopsSoon fault c left left'
 hand_soon fault c now left left' bytes took t =
     stops_soon fault c left left' bytes took
-    (t.0, hand now, t.1, length_hand now, λ e. joiner_goes now.unfolder (sym (t.2 []) ∙ ap (blocks_to_come c.unfolder) (append-nil t.0) ∙ e))
+    (t.0, hand now, t.1, length_hand now, λ e. unfolder_goes now.unfolder (sym (t.2 []) ∙ ap (blocks_to_come c.unfolder) (append-nil t.0) ∙ e))
 
 -- all that was in hand was taken without a fault
 pub end_soon : (fault : StreamFault) (c now : Core) (j : Unfolder) (left left' : Option (List ℕ)) (bytes : List ℕ) → Consumes left left' bytes → ((text : List ℕ) → blocks_left c (bytes ++ text) ≡ blocks_left now text)
     → ((text : List ℕ) → blocks_left now text ≡ blocks_to_come j text) → StopsSoon fault c left left'
 end_soon fault c now j left left' bytes took same taken =
     let all : blocks_to_come c.unfolder (hand c ++ bytes) ≡ blocks_to_come j [] = ap (λ t. blocks_to_come c.unfolder (hand c ++ t)) (sym (append-nil bytes)) ∙ same [] ∙ taken [] in
-    stops_soon fault c left left' bytes took (hand c ++ bytes, [], sym (append-nil (hand c ++ bytes)), omega arith, λ e. joiner_goes j (sym all ∙ e))
+    stops_soon fault c left left' bytes took (hand c ++ bytes, [], sym (append-nil (hand c ++ bytes)), omega arith, λ e. unfolder_goes j (sym all ∙ e))
 
 pub any_err : {T E : Type 0} (r : Result T E) (P : E → Type 0) → ((e : E) → P e) → IfErr r P
 any_err (Ok x) P h = tt

@@ -5,8 +5,7 @@ use Rattle.dir_names.specs.declared.schema.TypeRow.{TypeRow}
 use Rattle.dir_ldif.specs.declared.faults.StreamFault.TheVariants.{LineTooLong}
 use Rattle.dir_ldif.specs.declared.reader.Core.{Core}
 use Rattle.dir_ldif.specs.declared.reader.Place.TheVariants.{Reading}
-use Rattle.dir_ldif.specs.Reader.Answers.{answers_ahead, answers_at, EndsSoon}
-use Rattle.dir_ldif.specs.Reader.Answers.{hand}
+use Rattle.dir_ldif.specs.Reader.Answers.{answers_ahead, answers_at, EndsSoon, hand}
 use Rattle.dir_ldif.specs.ManyCalls.{GivesNoEnd, ReadCallsAreUsed, ReadingEndsSoon, ReadingStopsThere, CompletesNone}
 
 -- the call that met the line
@@ -43,8 +42,8 @@ settles_at_once : (rows : List TypeRow) (old new : Core) (left left' left'' : Op
 settles_at_once rows old new left left' left'' same known h =
     subst (λ c. CompletesNone rows c left left'') (sym same) (subst (λ l. CompletesNone rows new l left'') (sym known) h)
 
-seam_behind : (hand bytes used hand' bytes' text : List ℕ) → hand ++ bytes ≡ used ++ hand' → hand ++ ((bytes ++ bytes') ++ text) ≡ used ++ (hand' ++ (bytes' ++ text))
-seam_behind hand bytes used hand' bytes' text p =
+seam_after : (hand bytes used hand' bytes' text : List ℕ) → hand ++ bytes ≡ used ++ hand' → hand ++ ((bytes ++ bytes') ++ text) ≡ used ++ (hand' ++ (bytes' ++ text))
+seam_after hand bytes used hand' bytes' text p =
     ap (λ t. hand ++ t) (append_assoc bytes bytes' text) ∙ sym (append_assoc hand bytes (bytes' ++ text)) ∙ ap (λ t. t ++ (bytes' ++ text)) p ∙ append_assoc used hand' (bytes' ++ text)
 
 pub run-stops : ReadingStopsThere
@@ -58,7 +57,7 @@ run-stops (found ∷ more) rows old new left left' left'' run h =
       step.0 ++ e.0,
       e.1,
       Consumes-trans left run.1 left'' step.0 e.0 step.2 e.2,
-      λ text. ap (answers_ahead rows old) (seam_behind (hand old) step.0 step.1 (hand mid) e.0 text step.3) ∙ step.4 (hand mid ++ (e.0 ++ text)) ∙ ap (λ t. Ok found ∷ t) (e.3 text),
+      λ text. ap (answers_ahead rows old) (seam_after (hand old) step.0 step.1 (hand mid) e.0 text step.3) ∙ step.4 (hand mid ++ (e.0 ++ text)) ∙ ap (λ t. Ok found ∷ t) (e.3 text),
       e.4,
     )
 

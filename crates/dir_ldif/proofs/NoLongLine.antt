@@ -95,16 +95,16 @@ last_short None kept = refl
 last_short (Some (k, [])) kept = cc
 last_short (Some (k, a ∷ tail)) kept = none_of_one (k, a ∷ tail) (not_second true (is_long (k, a ∷ tail)) kept)
 
-behind_short : (o : Option Line) (n : ℕ) (partial : List ℕ) → may_be_continued o ≡ true → has_room o partial ≡ true → list_any is_long (lines_after o ((n, without_last 13 partial) ∷ [])) ≡ false
-behind_short None n partial kept room = none_of_one (n, without_last 13 partial) (fits n (without_last 13 partial) (le_of_test _ _ room))
-behind_short (Some last) n partial kept room = two_short last n partial kept room
+after_short : (o : Option Line) (n : ℕ) (partial : List ℕ) → may_be_continued o ≡ true → has_room o partial ≡ true → list_any is_long (lines_after o ((n, without_last 13 partial) ∷ [])) ≡ false
+after_short None n partial kept room = none_of_one (n, without_last 13 partial) (fits n (without_last 13 partial) (le_of_test _ _ room))
+after_short (Some last) n partial kept room = two_short last n partial kept room
 
 hand_short : (o : Option Line) (n : ℕ) (partial : List ℕ) → may_be_continued o ≡ true → list_any is_lf partial ≡ false → has_room o partial ≡ true
     → list_any is_long (lines_after o (physical_lines n (cut is_lf (partial ++ [])))) ≡ false
 hand_short o n [] kept lacks room = last_short o kept
 hand_short o n (x ∷ xs) kept lacks room =
-    rw (line_alone n (x ∷ xs) lacks refl) (subst (λ t. list_any is_long (lines_after o ((n, without_last 13 t) ∷ [])) ≡ false) (sym (append-nil (x ∷ xs))) (behind_short o n (x ∷ xs) kept room))
+    rw (line_alone n (x ∷ xs) lacks refl) (subst (λ t. list_any is_long (lines_after o ((n, without_last 13 t) ∷ [])) ≡ false) (sym (append-nil (x ∷ xs))) (after_short o n (x ∷ xs) kept room))
 
 -- what was taken is no such fault, had the text ended there
-pub joiner_goes : (j : Unfolder) → blocks_to_come j [] ≡ Err LineTooLong ∷ [] → ⊥
-joiner_goes j = short_goes j.begun j.block.items (lines_after j.last (physical_lines j.number (cut is_lf (j.partial.items ++ [])))) (hand_short j.last j.number j.partial.items j.kept j.unended j.short)
+pub unfolder_goes : (j : Unfolder) → blocks_to_come j [] ≡ Err LineTooLong ∷ [] → ⊥
+unfolder_goes j = short_goes j.begun j.block.items (lines_after j.last (physical_lines j.number (cut is_lf (j.partial.items ++ [])))) (hand_short j.last j.number j.partial.items j.continuable j.unended j.short)

@@ -11,7 +11,7 @@ use Rattle.dir_ldif.specs.LogicalLines.{Line, cut, is_lf, is_long, logical_lines
 use Rattle.dir_ldif.specs.Blocks.{EndsAtOnce, blocks_from}
 use Rattle.dir_ldif.specs.Reader.Unfolding.{blocks_to_come}
 use Rattle.dir_ldif.specs.Inside.Bounds.{may_be_continued}
-use Rattle.dir_ldif.proofs.BytesLemmas.{true_or_false, without_last-behind}
+use Rattle.dir_ldif.proofs.BytesLemmas.{true_or_false, without_last-append}
 use Rattle.dir_ldif.proofs.LogicalLineLemmas.{logical_lines-apart, logical_lines-continued, partial_first, blocks_from-long, some_of_kept_line}
 use Rattle.dir_ldif.proofs.NoLongLine.{neither}
 
@@ -19,7 +19,7 @@ use Rattle.dir_ldif.proofs.NoLongLine.{neither}
 
 pub part_text : (front back : List ℕ) → eqb (length back) 0 ≡ false → front ++ without_last 13 back ≡ without_last 13 (front ++ back)
 part_text front [] e = absurd (cc)
-part_text front (y ∷ ys) e = sym (without_last-behind 13 front y ys)
+part_text front (y ∷ ys) e = sym (without_last-append 13 front y ys)
 
 pub part_first : (front back : List ℕ) → eqb (length front) 0 ≡ false → eqb (length back) 0 ≡ false → begins_with 32 front ≡ begins_with 32 (without_last 13 (front ++ back))
 part_first [] back e f = absurd (cc)
@@ -53,7 +53,7 @@ one_cr (x ∷ y ∷ ys) =
 front_stays : (xs ys : List ℕ) → (rest : List ℕ) × (without_last 13 (xs ++ ys) ≡ without_last 13 xs ++ rest)
 front_stays xs [] = ([], ap (without_last 13) (append-nil xs) ∙ sym (append-nil (without_last 13 xs)))
 front_stays xs (y ∷ ys) =
-    let whole = without_last-behind 13 xs y ys in
+    let whole = without_last-append 13 xs y ys in
     ⊎_elim
     (λ (e : without_last 13 xs ≡ xs). (without_last 13 (y ∷ ys), whole ∙ ap (λ t. t ++ without_last 13 (y ∷ ys)) (sym e)))
     (λ (e : xs ≡ without_last 13 xs ++ 13 ∷ []). (13 ∷ without_last 13 (y ∷ ys), whole ∙ ap (λ t. t ++ without_last 13 (y ∷ ys)) e ∙ append_assoc (without_last 13 xs) (13 ∷ []) (without_last 13 (y ∷ ys))))
@@ -88,10 +88,10 @@ cut_over x (z ∷ zs) ys e =
 -- ---- a line that grows by what continues it
 
 -- after a space, the first part of a physical line may go over to the line before
-rest_behind : (front rest : List ℕ) → (rest ≡ [] → without_last 13 (32 ∷ front) ≡ 32 ∷ front)
+rest_after : (front rest : List ℕ) → (rest ≡ [] → without_last 13 (32 ∷ front) ≡ 32 ∷ front)
     → drop 1 (without_last 13 (32 ∷ (front ++ rest))) ≡ front ++ drop 1 (without_last 13 (32 ∷ rest))
-rest_behind front [] h = ap (λ t. drop 1 (without_last 13 (32 ∷ t))) (append-nil front) ∙ ap (drop 1) (h refl) ∙ sym (append-nil front)
-rest_behind front (y ∷ ys) h = ap (drop 1) (without_last-behind 13 (32 ∷ front) y ys)
+rest_after front [] h = ap (λ t. drop 1 (without_last 13 (32 ∷ t))) (append-nil front) ∙ ap (drop 1) (h refl) ∙ sym (append-nil front)
+rest_after front (y ∷ ys) h = ap (drop 1) (without_last-append 13 (32 ∷ front) y ys)
 
 some_front : (xs ys : List ℕ) → is_empty xs ≡ false → is_empty (xs ++ ys) ≡ false
 some_front [] ys e = cc
@@ -109,7 +109,7 @@ module _ (begun : Bool) (block : List Line) (last : Line) (n : ℕ) where
       ap (λ t. logical_lines (last ∷ physical_lines n t)) (cut_over 32 front (held ++ text) lacks) ∙ logical_lines-continued last n long ps some (first_stays 32 (front ++ p)) in
       let two : logical_lines ((last.0, last.1 ++ front) ∷ physical_lines n (cut is_lf (32 ∷ (held ++ text)))) ≡ logical_lines ((last.0, (last.1 ++ front) ++ drop 1 short) ∷ ps) =
       ap (λ t. logical_lines ((last.0, last.1 ++ front) ∷ physical_lines n t)) (cut_over 32 [] (held ++ text) refl) ∙ logical_lines-continued (last.0, last.1 ++ front) n short ps (some_front last.1 front some) (first_stays 32 p) in
-      let same : last.1 ++ drop 1 long ≡ (last.1 ++ front) ++ drop 1 short = ap (λ t. last.1 ++ t) (rest_behind front p h) ∙ sym (append_assoc last.1 front (drop 1 short)) in
+      let same : last.1 ++ drop 1 long ≡ (last.1 ++ front) ++ drop 1 short = ap (λ t. last.1 ++ t) (rest_after front p h) ∙ sym (append_assoc last.1 front (drop 1 short)) in
       ap (blocks_from begun block) (one ∙ ap (λ t. logical_lines ((last.0, t) ∷ ps)) same ∙ sym two)
 
   -- the whole line is its first part and what is held back
@@ -185,10 +185,10 @@ grown_Ends fault begun block last n line shown lacks some e h text =
 
 -- ---- a line that continues none
 
-apart_behind : (last : Line) (n : ℕ) (line text : List ℕ) → list_any is_lf line ≡ false → is_empty line ≡ false → begins_with 32 (without_last 13 line) ≡ false
+apart_after : (last : Line) (n : ℕ) (line text : List ℕ) → list_any is_lf line ≡ false → is_empty line ≡ false → begins_with 32 (without_last 13 line) ≡ false
     → logical_lines (last ∷ physical_lines n (cut is_lf (line ++ text))) ≡ last ∷ logical_lines (physical_lines n (cut is_lf (line ++ text)))
-apart_behind last n [] text lacks some space = cc
-apart_behind last n (x ∷ xs) text lacks some space =
+apart_after last n [] text lacks some space = cc
+apart_after last n (x ∷ xs) text lacks some space =
     let f = partial_first n (x ∷ xs) text lacks refl in
     let other : begins_with 32 (without_last 13 ((x ∷ xs) ++ f.0)) ≡ false = first_stays x (xs ++ f.0) ∙ sym (first_stays x xs) ∙ space in
     rw f.2 (logical_lines-apart last n (without_last 13 ((x ∷ xs) ++ f.0)) f.1 other)
@@ -199,13 +199,13 @@ pub closed_before : (begun begun' : Bool) (block block' : List Line) (last : Lin
     → (text : List ℕ) → blocks_from begun block (logical_lines (last ∷ physical_lines n (cut is_lf (line ++ text)))) ≡ blocks_from begun' block' (logical_lines (physical_lines m (cut is_lf (line ++ text))))
 closed_before begun begun' block block' last n m line lacks some space closed same text =
     let rest = logical_lines (physical_lines n (cut is_lf (line ++ text))) in
-    ap (blocks_from begun block) (apart_behind last n line text lacks some space) ∙ closed rest ∙ ap (λ k. blocks_from begun' block' (logical_lines (physical_lines k (cut is_lf (line ++ text))))) (sym same)
+    ap (blocks_from begun block) (apart_after last n line text lacks some space) ∙ closed rest ∙ ap (λ k. blocks_from begun' block' (logical_lines (physical_lines k (cut is_lf (line ++ text))))) (sym same)
 
 pub apart_Ends : (fault : StreamFault) (begun : Bool) (block : List Line) (last : Line) (n : ℕ) (line : List ℕ) → list_any is_lf line ≡ false → is_empty line ≡ false → begins_with 32 (without_last 13 line) ≡ false
     → ((more : List Line) → EndsAtOnce fault (blocks_from begun block (last ∷ more)))
     → (text : List ℕ) → EndsAtOnce fault (blocks_from begun block (logical_lines (last ∷ physical_lines n (cut is_lf (line ++ text)))))
 apart_Ends fault begun block last n line lacks some space h text =
-    subst (λ t. EndsAtOnce fault (blocks_from begun block t)) (sym (apart_behind last n line text lacks some space)) (h (logical_lines (physical_lines n (cut is_lf (line ++ text)))))
+    subst (λ t. EndsAtOnce fault (blocks_from begun block t)) (sym (apart_after last n line text lacks some space)) (h (logical_lines (physical_lines n (cut is_lf (line ++ text)))))
 
 -- ---- a chunk after what is in hand
 

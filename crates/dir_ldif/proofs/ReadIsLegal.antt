@@ -20,7 +20,7 @@ use Rattle.dir_ldif.specs.Bytes.{cut_at}
 use Rattle.dir_ldif.specs.LogicalLines.{Line, cut}
 use Rattle.dir_names.specs.Results.{and_then}
 use Rattle.dir_ldif.specs.AttrVal.{attrval_of, attrval_of_cut, attrval_from, value_of, within_limit}
-use Rattle.dir_ldif.specs.RecordGrammar.{as_record_fault, body_of, change_of, content_of, deletion_of, dn_line, flag_of, head_of, is_dash, is_word, legal_dn, legal_rdn, mod_head, mod_of, mod_value, mods_of, no_further, op_of, record_of, rename_after_rdn, rename_line, rename_of, superior_of, try_map, value_line, value_lines}
+use Rattle.dir_ldif.specs.RecordGrammar.{as_record_fault, body_of, change_of, content_of, deletion_of, dn_line, flag_of, head_of, is_dash, is_keyword, legal_dn, legal_rdn, mod_head, mod_of, mod_value, mods_of, only_superior, op_of, record_of, rename_after_rdn, rename_line, rename_of, superior_of, try_map, value_line, value_lines}
 use Rattle.dir_ldif.specs.LegalRecords.{has_key, rdn_has_key, has_this_key, is_read_under, is_short, is_legal_line, is_legal_mod, superior_has_key, is_legal_kind, is_legal_record}
 
 pub after : {A B E : Type 0} (r : Result A E) (next : A → Result B E) (P : B → Type 0) → ((x : A) → r ≡ Ok x → IfOk (next x) P) → IfOk (and_then r next) P
@@ -146,20 +146,20 @@ mods_of-legal rows lines = try_map-all (mod_of rows) (is_legal_mod rows) (mod_of
 
 -- ---- renames
 
-no_further-key : (rows : List TypeRow) (name : SpelledName) (lines : List Line) → has_key rows name ≡ true → IfOk (no_further name lines) (λ s. superior_has_key rows s ≡ true)
-no_further-key rows name [] e = e
-no_further-key rows name (line ∷ lines) e = after (attrval_of line.1) _ (λ s. superior_has_key rows s ≡ true) (λ p _. tt)
+only_superior-key : (rows : List TypeRow) (name : SpelledName) (lines : List Line) → has_key rows name ≡ true → IfOk (only_superior name lines) (λ s. superior_has_key rows s ≡ true)
+only_superior-key rows name [] e = e
+only_superior-key rows name (line ∷ lines) e = after (attrval_of line.1) _ (λ s. superior_has_key rows s ≡ true) (λ p _. tt)
 
 superior_of-key : (rows : List TypeRow) (lines : List Line) → IfOk (superior_of rows lines) (λ s. superior_has_key rows s ≡ true)
 superior_of-key rows [] = refl
 superior_of-key rows (line ∷ further) =
     after (rename_line (codes "newsuperior") line) _ (λ s. superior_has_key rows s ≡ true)
     (λ value _. after (legal_dn rows value) _ (λ s. superior_has_key rows s ≡ true)
-    (λ name e. no_further-key rows name further (known (legal_dn rows value) (λ n. has_key rows n ≡ true) name (legal_dn-key rows value) e)))
+    (λ name e. only_superior-key rows name further (known (legal_dn rows value) (λ n. has_key rows n ≡ true) name (legal_dn-key rows value) e)))
 
-behind_rdn-legal : (rows : List TypeRow) (rdn : SpelledRdn) (lines : List Line) → rdn_has_key rows rdn ≡ true → IfOk (rename_after_rdn rows rdn lines) (λ k. is_legal_kind rows k ≡ true)
-behind_rdn-legal rows rdn [] e = tt
-behind_rdn-legal rows rdn (line ∷ lines) e =
+after_rdn-legal : (rows : List TypeRow) (rdn : SpelledRdn) (lines : List Line) → rdn_has_key rows rdn ≡ true → IfOk (rename_after_rdn rows rdn lines) (λ k. is_legal_kind rows k ≡ true)
+after_rdn-legal rows rdn [] e = tt
+after_rdn-legal rows rdn (line ∷ lines) e =
     after (rename_line (codes "deleteoldrdn") line) _ (λ k. is_legal_kind rows k ≡ true)
     (λ value _. after (flag_of value) _ (λ k. is_legal_kind rows k ≡ true)
     (λ flag _. after (superior_of rows lines) _ (λ k. is_legal_kind rows k ≡ true)
@@ -170,7 +170,7 @@ rename_of-legal rows [] = tt
 rename_of-legal rows (line ∷ lines) =
     after (rename_line (codes "newrdn") line) _ (λ k. is_legal_kind rows k ≡ true)
     (λ value _. after (legal_rdn rows value) _ (λ k. is_legal_kind rows k ≡ true)
-    (λ rdn e. behind_rdn-legal rows rdn lines (known (legal_rdn rows value) (λ r. rdn_has_key rows r ≡ true) rdn (legal_rdn-key rows value) e)))
+    (λ rdn e. after_rdn-legal rows rdn lines (known (legal_rdn rows value) (λ r. rdn_has_key rows r ≡ true) rdn (legal_rdn-key rows value) e)))
 
 -- ---- records
 
@@ -181,13 +181,13 @@ deletion_of-legal rows (line ∷ lines) = after (attrval_of line.1) _ (λ k. is_
 change_of-legal : (rows : List TypeRow) (word : List ℕ) (lines : List Line) → IfOk (change_of rows word lines) (λ k. is_legal_kind rows k ≡ true)
 change_of-legal rows word lines =
     let P : ChangeKind → Type 0 = λ k. is_legal_kind rows k ≡ true in
-    chosen (is_word word (codes "add")) _ _ P
+    chosen (is_keyword word (codes "add")) _ _ P
     (λ _. after (value_lines rows lines) _ P (λ ls e. known (value_lines rows lines) (λ ts. list_all (is_legal_line rows) ts ≡ true) ls (value_lines-legal rows lines) e))
-    (λ _. chosen (is_word word (codes "delete")) _ _ P (λ _. deletion_of-legal rows lines)
-    (λ _. chosen (is_word word (codes "modify")) _ _ P
+    (λ _. chosen (is_keyword word (codes "delete")) _ _ P (λ _. deletion_of-legal rows lines)
+    (λ _. chosen (is_keyword word (codes "modify")) _ _ P
     (λ _. after (mods_of rows lines) _ P (λ ms e. known (mods_of rows lines) (λ ts. list_all (is_legal_mod rows) ts ≡ true) ms (mods_of-legal rows lines) e))
-    (λ _. chosen (is_word word (codes "modrdn")) _ _ P (λ _. rename_of-legal rows lines)
-    (λ _. chosen (is_word word (codes "moddn")) _ _ P (λ _. rename_of-legal rows lines) (λ _. tt)))))
+    (λ _. chosen (is_keyword word (codes "modrdn")) _ _ P (λ _. rename_of-legal rows lines)
+    (λ _. chosen (is_keyword word (codes "moddn")) _ _ P (λ _. rename_of-legal rows lines) (λ _. tt)))))
 
 content_of-legal : (rows : List TypeRow) (name : SpelledName) (lines : List Line) → has_key rows name ≡ true → IfOk (content_of rows name lines) (λ r. is_legal_record rows r ≡ true)
 content_of-legal rows name lines e =
@@ -199,15 +199,15 @@ body_of-legal rows name [] e = content_of-legal rows name [] e
 body_of-legal rows name (second ∷ further) e =
     let P : Record → Type 0 = λ r. is_legal_record rows r ≡ true in
     after (attrval_of second.1) _ P
-    (λ p _. chosen (is_word p.0 (codes "control")) _ _ P (λ _. tt)
-    (λ _. chosen (is_word p.0 (codes "changetype")) _ _ P
+    (λ p _. chosen (is_keyword p.0 (codes "control")) _ _ P (λ _. tt)
+    (λ _. chosen (is_keyword p.0 (codes "changetype")) _ _ P
     (λ _. after (change_of rows p.1 further) _ P
     (λ k ek. both (has_key rows name) (is_legal_kind rows k) e (known (change_of rows p.1 further) (λ t. is_legal_kind rows t ≡ true) k (change_of-legal rows p.1 further) ek)))
     (λ _. content_of-legal rows name (second ∷ further) e)))
 
 dn_line-key : (rows : List TypeRow) (line : Line) → IfOk (dn_line rows line) (λ name. has_key rows name ≡ true)
 dn_line-key rows line =
-    after (attrval_of line.1) _ (λ name. has_key rows name ≡ true) (λ p _. chosen (is_word p.0 (codes "dn")) _ _ (λ name. has_key rows name ≡ true) (λ _. legal_dn-key rows p.1) (λ _. tt))
+    after (attrval_of line.1) _ (λ name. has_key rows name ≡ true) (λ p _. chosen (is_keyword p.0 (codes "dn")) _ _ (λ name. has_key rows name ≡ true) (λ _. legal_dn-key rows p.1) (λ _. tt))
 
 pub record_of-legal : (rows : List TypeRow) (block : List Line) → IfOk (record_of rows block) (λ r. is_legal_record rows r ≡ true)
 unfolding record_of

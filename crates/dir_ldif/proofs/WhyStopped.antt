@@ -7,10 +7,9 @@ use Rattle.dir_ldif.specs.declared.faults.StreamFault.TheVariants.{LineTooLong, 
 use Rattle.dir_ldif.specs.declared.faults.StreamFault.TheVariants.{Ended as AfterFault}
 use Rattle.dir_ldif.specs.declared.reader.unfolder.Unfolder.{Unfolder}
 use Rattle.dir_ldif.specs.declared.reader.Core.{Core}
-use Rattle.dir_ldif.specs.Inside.Reader.{FailsToRead}
+use Rattle.dir_ldif.specs.Inside.Reader.{FailsToRead, Stops, MayFail}
 use Rattle.dir_ldif.specs.Blocks.{EndsAtOnce}
 use Rattle.dir_ldif.specs.Reader.Unfolding.{blocks_to_come}
-use Rattle.dir_ldif.specs.Inside.Reader.{Stops, MayFail}
 use Rattle.dir_ldif.specs.Reader.Answers.{blocks_left, hand}
 use Rattle.dir_ldif.proofs.IncompleteBlocks.{may_fail}
 

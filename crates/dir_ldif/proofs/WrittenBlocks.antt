@@ -4,8 +4,7 @@ use Rattle.std.specs.Bool.{⊤}
 use Rattle.std.specs.List.{list_any, flat_map}
 use Rattle.std.proofs.lemmas.Bool.Decides.{nat_tests}
 use Rattle.dir_ldif.specs.declared.reader.version.Version.TheVariants.{Absent}
-use Rattle.dir_ldif.specs.Bytes.{is_empty, begins_with, without_last}
-use Rattle.dir_ldif.specs.Bytes.{is_line_break}
+use Rattle.dir_ldif.specs.Bytes.{is_empty, begins_with, without_last, is_line_break}
 use Rattle.dir_ldif.specs.LogicalLines.{Line, cut, is_comment, is_lf, is_long, logical_lines, physical_lines, with_first_line}
 use Rattle.dir_ldif.specs.Blocks.{BlockResult, block_then, blocks_from, version_of}
 use Rattle.dir_ldif.specs.LineText.{folded_line}
@@ -41,8 +40,8 @@ lines_read : (lines : List (List ℕ)) (rest : List ℕ) (n : ℕ) → AllGood l
 lines_read [] rest n g a = ([], n, refl, refl)
 lines_read ([] ∷ lines) rest n g a = absurd g.0
 lines_read ((c ∷ cs) ∷ lines) rest n g a =
-    let behind = flat_map folded_line lines ++ rest in
-    let here = line_reads c cs behind n g.0.0 (apart-lines lines rest g.1 a) in
+    let after = flat_map folded_line lines ++ rest in
+    let here = line_reads c cs after n g.0.0 (apart-lines lines rest g.1 a) in
     let later = lines_read lines rest here.0 g.1 a in (
       (n, c ∷ cs) ∷ later.0,
       later.1,

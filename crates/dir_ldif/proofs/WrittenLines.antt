@@ -8,8 +8,7 @@ use Rattle.base64.specs.Engines.{standard}
 use Rattle.base64.specs.GeneralPurpose.{IsBytes}
 use Rattle.base64.specs.Rfc4648.{encode_symbols, padding_len}
 use Rattle.base64.proofs.EngineFacts.{decode_of-encode_of}
-use Rattle.dir_ldif.specs.Bytes.{cut_at, without_leading}
-use Rattle.dir_ldif.specs.Bytes.{is_line_break}
+use Rattle.dir_ldif.specs.Bytes.{cut_at, without_leading, is_line_break}
 use Rattle.dir_names.specs.Results.{and_then}
 use Rattle.dir_ldif.specs.AttrVal.{base64_value, is_nul_or_cr, or_bad_base64, attrval_of, attrval_of_cut, value_of, within_limit}
 use Rattle.dir_ldif.specs.LineText.{base64_of, folded_line, is_plain, is_safe, is_safe_first, line_of, value_spec}

@@ -26,7 +26,7 @@ use Rattle.dir_ldif.specs.Bytes.{is_empty}
 use Rattle.dir_ldif.specs.LogicalLines.{Line, cut}
 use Rattle.dir_names.specs.Results.{and_then}
 use Rattle.dir_ldif.specs.AttrVal.{attrval_of}
-use Rattle.dir_ldif.specs.RecordGrammar.{as_record_fault, body_of, change_of, content_of, dn_line, flag_of, is_dash, is_word, legal_dn, legal_rdn, mod_head, mod_of, mod_value, mods_of, op_of, record_of, rename_of, superior_of, try_map, value_line, value_lines}
+use Rattle.dir_ldif.specs.RecordGrammar.{as_record_fault, body_of, change_of, content_of, dn_line, flag_of, is_dash, is_keyword, legal_dn, legal_rdn, mod_head, mod_of, mod_value, mods_of, op_of, record_of, rename_of, superior_of, try_map, value_line, value_lines}
 use Rattle.dir_ldif.specs.LegalRecords.{has_key, rdn_has_key, has_this_key, is_read_under, is_short, is_legal_line, is_legal_mod, superior_has_key, is_legal_kind, is_legal_record}
 use Rattle.dir_ldif.specs.RoundTrip.{ends_name}
 use Rattle.dir_ldif.specs.SoundRecords.{AreBytes, IsSoundKind, IsSoundName, IsSoundRdn, IsSoundRecord, IsSoundSuperior, ModsAreBytes, ValuesAreBytes}
@@ -319,10 +319,10 @@ word-bytes kind.Delete = (few_bytes (change_word kind.Delete) refl, omega arith)
 word-bytes (kind.Modify mods) = (few_bytes (change_word (kind.Modify mods)) refl, omega arith)
 word-bytes (kind.Rename rdn flag superior) = (few_bytes (change_word (kind.Rename rdn flag superior)) refl, omega arith)
 
-content_behind : (rows : List TypeRow) (name : SpelledName) (lines : List (Described × List ℕ)) (x : Line) (xs : List Line) (p : List ℕ × List ℕ) → attrval_of x.1 ≡ Ok p
-    → is_word p.0 (codes "control") ≡ false → is_word p.0 (codes "changetype") ≡ false → value_lines rows (x ∷ xs) ≡ Ok lines → body_of rows name (x ∷ xs) ≡ Ok (form.Content name lines)
-content_behind rows name lines x xs p part control change e =
-    ap (λ r. and_then r (λ q. if is_word q.0 (codes "control") then Err Control else (if is_word q.0 (codes "changetype") then and_then (change_of rows q.1 xs) (λ k. Ok (form.Change (record { dn = name; kind = k }))) else content_of rows name (x ∷ xs)))) part
+content_after : (rows : List TypeRow) (name : SpelledName) (lines : List (Described × List ℕ)) (x : Line) (xs : List Line) (p : List ℕ × List ℕ) → attrval_of x.1 ≡ Ok p
+    → is_keyword p.0 (codes "control") ≡ false → is_keyword p.0 (codes "changetype") ≡ false → value_lines rows (x ∷ xs) ≡ Ok lines → body_of rows name (x ∷ xs) ≡ Ok (form.Content name lines)
+content_after rows name lines x xs p part control change e =
+    ap (λ r. and_then r (λ q. if is_keyword q.0 (codes "control") then Err Control else (if is_keyword q.0 (codes "changetype") then and_then (change_of rows q.1 xs) (λ k. Ok (form.Change (record { dn = name; kind = k }))) else content_of rows name (x ∷ xs)))) part
     ∙ (rw (control, change) (ap (λ r. and_then r (λ ls. Ok (form.Content name ls))) e))
 
 -- the second line of a content record is no keyword's
@@ -338,7 +338,7 @@ content-back rows name (l ∷ ls) (x ∷ xs) e legal bytes =
     let s = spelling_of rows l.0.spelling l.0 d in
     let part : attrval_of x.1 ≡ Ok (l.0.spelling, l.1) = ap attrval_of here ∙ attrval_of-spelled l.0.spelling l.1 s bytes.0 (within l.1 (and_first (is_short l.1) (is_read_under rows l.0) legal_here)) in
     let whole = value_lines-back rows (l ∷ ls) (x ∷ xs) e legal bytes in
-    content_behind rows name (l ∷ ls) x xs (l.0.spelling, l.1) part s.3 s.4 whole
+    content_after rows name (l ∷ ls) x xs (l.0.spelling, l.1) part s.3 s.4 whole
 
 change-back : (rows : List TypeRow) (name : SpelledName) (k : ChangeKind) (block : List Line) → texts block ≡ line_of (codes "changetype") (change_word k) ∷ kind_lines k → is_legal_kind rows k ≡ true
     → IsSoundKind k → body_of rows name block ≡ Ok (form.Change (record { dn = name; kind = k }))

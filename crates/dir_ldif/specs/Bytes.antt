@@ -1,7 +1,6 @@
 -- Words on lists, most of them lists of bytes.
-use Rattle.std.specs.Prelude.{ℕ, Bool, true, false, if◌then◌else◌, ◌==◌, List, [], ◌∷◌, Option, None, Some}
+use Rattle.std.specs.Prelude.{ℕ, Bool, true, false, if◌then◌else◌, ◌==◌, List, [], ◌∷◌, Option, None, Some, ◌||◌}
 use Rattle.std.specs.Option.{option_map}
-use Rattle.std.specs.Prelude.{◌||◌}
 use Rattle.dir_names.specs.Ascii.{line_feed, carriage_return}
 
 -- the list has no element

@@ -5,8 +5,7 @@ use Rattle.dir_names.specs.declared.schema.TypeRow.{TypeRow}
 use Rattle.dir_ldif.specs.declared.faults.StreamFault.TheVariants.{LineTooLong}
 use Rattle.dir_ldif.specs.declared.reader.Core.{Core}
 use Rattle.dir_ldif.specs.declared.reader.Place.TheVariants.{Reading}
-use Rattle.dir_ldif.specs.Reader.Answers.{EndsSoon, FirstIsComplete, GoesOn, answers_ahead, answers_at}
-use Rattle.dir_ldif.specs.Reader.Answers.{hand}
+use Rattle.dir_ldif.specs.Reader.Answers.{EndsSoon, FirstIsComplete, GoesOn, answers_ahead, answers_at, hand}
 use Rattle.dir_ldif.specs.Records.{Found, Answer, all_found}
 
 -- calls that gave these answers, in turn
@@ -21,8 +20,8 @@ AnswersInTurn (found ∷ more) rows old new left left' =
 abbrev pub ReadingEndsSoon : Type 0
 ReadingEndsSoon = (found : List Found) (rows : List TypeRow) (old new : Core) (left left' left'' : Option (List ℕ))
     → AnswersInTurn found rows old new left left' → EndsSoon LineTooLong rows new left' left''
-    → (bytes : List ℕ) × (front : List ℕ) × (last : List ℕ) × (rest : List Answer) × Consumes left left'' bytes × (hand old ++ bytes ≡ front ++ last)
-    × (length last ≤ 8192) × (answers_ahead rows old front ≡ all_found found ++ rest) × (rest ≡ Err LineTooLong ∷ [] → ⊥)
+    → (bytes : List ℕ) × (text : List ℕ) × (excess : List ℕ) × (rest : List Answer) × Consumes left left'' bytes × (hand old ++ bytes ≡ text ++ excess)
+    × (length excess ≤ 8192) × (answers_ahead rows old text ≡ all_found found ++ rest) × (rest ≡ Err LineTooLong ∷ [] → ⊥)
 
 -- the last call read bytes that complete no block
 abbrev pub CompletesNone : List TypeRow → Core → Option (List ℕ) → Option (List ℕ) → Type 0

@@ -25,8 +25,8 @@ use Rattle.dir_names.specs.Results.{and_then}
 use Rattle.dir_ldif.specs.AttrVal.{attrval_of}
 
 -- a keyword, in any ASCII case
-abbrev pub is_word : List ℕ → List ℕ → Bool
-is_word text word = str_eq_ignore_ascii_case text word
+abbrev pub is_keyword : List ℕ → List ℕ → Bool
+is_keyword text word = str_eq_ignore_ascii_case text word
 
 -- `r.map_err(Name)`: a fault of a name as a fault of the record
 abbrev pub as_record_fault : {A : Type 0} → Result A NameFault → Result A RecordFault
@@ -50,7 +50,7 @@ legal_rdn rows text = and_then (as_record_fault (rdn_within_limit text)) (λ rdn
 
 -- the name of the line that begins a record: `dn` and a name
 abbrev pub dn_line : List TypeRow → Line → Result SpelledName RecordFault
-dn_line rows line = and_then (attrval_of line.1) (λ p. if is_word p.0 (codes "dn") then legal_dn rows p.1 else Err BadLine)
+dn_line rows line = and_then (attrval_of line.1) (λ p. if is_keyword p.0 (codes "dn") then legal_dn rows p.1 else Err BadLine)
 
 -- ---- lines of values
 
@@ -69,9 +69,9 @@ is_dash line = bytes_eq line.1 (codes "-")
 -- `add`, `delete` or `replace`
 abbrev pub op_of : List ℕ → Option ModOp
 op_of name =
-    if is_word name (codes "add") then Some op.Add
-    else (if is_word name (codes "delete") then Some op.Delete
-    else (if is_word name (codes "replace") then Some op.Replace else None))
+    if is_keyword name (codes "add") then Some op.Add
+    else (if is_keyword name (codes "delete") then Some op.Delete
+    else (if is_keyword name (codes "replace") then Some op.Replace else None))
 
 abbrev pub head_of : List TypeRow → Option ModOp → List ℕ → Result (ModOp × Described) RecordFault
 head_of rows None value = Err BadModify
@@ -99,22 +99,22 @@ mods_of rows lines = try_map (mod_of rows) (cut is_dash lines)
 
 -- the value of a line that must have this keyword
 abbrev pub rename_line : List ℕ → Line → Result (List ℕ) RecordFault
-rename_line word line = and_then (attrval_of line.1) (λ p. if is_word p.0 word then Ok p.1 else Err BadRename)
+rename_line word line = and_then (attrval_of line.1) (λ p. if is_keyword p.0 word then Ok p.1 else Err BadRename)
 
 abbrev pub flag_of : List ℕ → Result Bool RecordFault
 flag_of value =
     if bytes_eq value (codes "0") then Ok false else (if bytes_eq value (codes "1") then Ok true else Err BadRename)
 
 -- a rename has no line after its new superior; a line that is there has its own fault first
-abbrev pub no_further : SpelledName → List Line → Result (Option SpelledName) RecordFault
-no_further name [] = Ok (Some name)
-no_further name (line ∷ lines) = and_then (attrval_of line.1) (λ _. Err BadRename)
+abbrev pub only_superior : SpelledName → List Line → Result (Option SpelledName) RecordFault
+only_superior name [] = Ok (Some name)
+only_superior name (line ∷ lines) = and_then (attrval_of line.1) (λ _. Err BadRename)
 
 -- no line, or that of the new superior alone
 abbrev pub superior_of : List TypeRow → List Line → Result (Option SpelledName) RecordFault
 superior_of rows [] = Ok None
 superior_of rows (line ∷ further) =
-    and_then (rename_line (codes "newsuperior") line) (λ value. and_then (legal_dn rows value) (λ name. no_further name further))
+    and_then (rename_line (codes "newsuperior") line) (λ value. and_then (legal_dn rows value) (λ name. only_superior name further))
 
 abbrev pub rename_after_rdn : List TypeRow → SpelledRdn → List Line → Result ChangeKind RecordFault
 rename_after_rdn rows rdn [] = Err BadRename
@@ -137,11 +137,11 @@ deletion_of (line ∷ lines) = and_then (attrval_of line.1) (λ _. Err BadLine)
 -- the change of a changetype and the lines after it
 abbrev pub change_of : List TypeRow → List ℕ → List Line → Result ChangeKind RecordFault
 change_of rows word lines =
-    if is_word word (codes "add") then and_then (value_lines rows lines) (λ ls. Ok (kind.Add ls))
-    else (if is_word word (codes "delete") then deletion_of lines
-    else (if is_word word (codes "modify") then and_then (mods_of rows lines) (λ mods. Ok (kind.Modify mods))
-    else (if is_word word (codes "modrdn") then rename_of rows lines
-    else (if is_word word (codes "moddn") then rename_of rows lines
+    if is_keyword word (codes "add") then and_then (value_lines rows lines) (λ ls. Ok (kind.Add ls))
+    else (if is_keyword word (codes "delete") then deletion_of lines
+    else (if is_keyword word (codes "modify") then and_then (mods_of rows lines) (λ mods. Ok (kind.Modify mods))
+    else (if is_keyword word (codes "modrdn") then rename_of rows lines
+    else (if is_keyword word (codes "moddn") then rename_of rows lines
     else Err BadChangetype))))
 
 abbrev pub content_of : List TypeRow → SpelledName → List Line → Result Record RecordFault
@@ -152,8 +152,8 @@ abbrev pub body_of : List TypeRow → SpelledName → List Line → Result Recor
 body_of rows name [] = content_of rows name []
 body_of rows name (second ∷ further) =
     and_then (attrval_of second.1) (λ p.
-    if is_word p.0 (codes "control") then Err Control
-    else (if is_word p.0 (codes "changetype") then and_then (change_of rows p.1 further) (λ kind. Ok (form.Change (record { dn = name; kind = kind })))
+    if is_keyword p.0 (codes "control") then Err Control
+    else (if is_keyword p.0 (codes "changetype") then and_then (change_of rows p.1 further) (λ kind. Ok (form.Change (record { dn = name; kind = kind })))
     else content_of rows name (second ∷ further)))
 
 -- the record of a block, or the fault of its first faulty line

@@ -1,8 +1,7 @@
 -- The state of the devices for tests.
 -- Of a count of calls the greatest number, 2 ^ 64 - 1, means that all will succeed.
-use Rattle.std.specs.Prelude.{ℕ, ◌-◌, ◌^◌, ◌==◌, List, Option, None, Some, drop, if◌then◌else◌}
+use Rattle.std.specs.Prelude.{ℕ, ◌-◌, ◌^◌, ◌==◌, List, Option, None, Some, drop, if◌then◌else◌, length, take}
 use Rattle.dir_ldif.specs.declared.device.script.Script.{Script}
-use Rattle.std.specs.Prelude.{length, take}
 use Rattle.dir_ldif.specs.declared.device.tape.Tape.{Tape}
 
 -- ---- `Script`

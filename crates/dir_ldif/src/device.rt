@@ -31,7 +31,7 @@ pub trait Source {
     // How often the source has failed; the count stops at the greatest number.
     ghost failures: { Self → ℕ };
 
-    // That it is the same source still, of a borrowed one.
+    // Of a borrowed source, that it is still the same one.
     ghost is_same: { Self → Self → Type 0 };
 
     /// Puts up to `buffer.len()` bytes at the start of `buffer`, and answers how many. It answers 0 only at

@@ -2,9 +2,8 @@
 //! lines as a record (`parser`).
 
 ghost use Rattle.std.specs.Prelude.{◌≡◌, ◌+◌, ◌-◌, ◌*◌, ◌++◌, ◌∷◌, ◌^◌, ◌<◌, ◌≤◌, [], All, IfErr, IfOk, OnOk, length, vec_len};
-ghost use Rattle.dir_ldif.specs.SoundRecords.{IsLegalFound};
 ghost use Rattle.dir_ldif.specs.Records.{EndsIn, all_found, found_of, records_of};
-ghost use Rattle.dir_ldif.specs.SoundRecords.{IsSoundFound};
+ghost use Rattle.dir_ldif.specs.SoundRecords.{IsLegalFound, IsSoundFound};
 
 mod attrval;
 mod bytes;
@@ -143,14 +142,16 @@ impl<'s, R: Source + Drop> RecordReader<'s, R> {
     }
 }
 
-/// A reader without its source.
+/// A reader without its source and its schema.
 #[derive(Drop)]
 struct Core {
     unfolder: Unfolder,
     spare: Spare,
+    // the last piece that was read; `at..end` are the bytes in hand, which are not used up yet
     buffer: Vec<u8>,
     at: usize,
     end: usize,
+    // the read calls that are left
     turns: u64,
     place: Place,
     alloc: Global,
@@ -165,8 +166,7 @@ impl Core {
     ghost use Rattle.std.specs.Io.KnownBytes.{Consumes, IsAtEnd};
     ghost use Rattle.dir_ldif.specs.declared.reader.Place.TheVariants.{AtEnd, Ended, Reading};
     ghost use Rattle.dir_ldif.specs.Reader.Answers.{EndsSoon, ExplainsFault, GivesFirst, GivesNone, GoesOn, answers_left};
-    ghost use Rattle.dir_ldif.specs.SoundRecords.{IsLegalFound};
-    ghost use Rattle.dir_ldif.specs.SoundRecords.{IsSoundFound};
+    ghost use Rattle.dir_ldif.specs.SoundRecords.{IsLegalFound, IsSoundFound};
     ghost use Rattle.dir_ldif.specs.Bytes.{is_empty};
     ghost use Rattle.dir_ldif.specs.Inside.Reader.{FailsToRead};
     ghost use Rattle.dir_ldif.specs.Reader.Unfolding.{blocks_to_come};

@@ -33,7 +33,7 @@ Uses old new block left left' =
 -- it would not end in that fault), and at most 8,192 bytes more
 abbrev pub IsSoon : Core → List ℕ → Type 0
 IsSoon c bytes =
-    (front : List ℕ) × (last : List ℕ) × (hand c ++ bytes ≡ front ++ last) × (length last ≤ 8192) × (blocks_to_come c.unfolder front ≡ Err LineTooLong ∷ [] → ⊥)
+    (text : List ℕ) × (excess : List ℕ) × (hand c ++ bytes ≡ text ++ excess) × (length excess ≤ 8192) × (blocks_to_come c.unfolder text ≡ Err LineTooLong ∷ [] → ⊥)
 
 -- a line that is too long is found soon
 abbrev pub StopsSoon : StreamFault → Core → Option (List ℕ) → Option (List ℕ) → Type 0

@@ -90,8 +90,8 @@ ExplainsFault AfterFault rows old left left' failures failures' = old.place ≡ 
 -- line is too long yet (if it ended there, `LineTooLong` would not be its only answer), and at most 8,192 bytes more
 abbrev pub EndsSoon : StreamFault → List TypeRow → Core → Option (List ℕ) → Option (List ℕ) → Type 0
 EndsSoon LineTooLong rows old left left' =
-    (bytes : List ℕ) × (front : List ℕ) × (last : List ℕ) × Consumes left left' bytes × (hand old ++ bytes ≡ front ++ last) × (length last ≤ 8192)
-    × (answers_ahead rows old front ≡ Err LineTooLong ∷ [] → ⊥)
+    (bytes : List ℕ) × (text : List ℕ) × (excess : List ℕ) × Consumes left left' bytes × (hand old ++ bytes ≡ text ++ excess) × (length excess ≤ 8192)
+    × (answers_ahead rows old text ≡ Err LineTooLong ∷ [] → ⊥)
 EndsSoon Read rows old left left' = Unit {0}
 EndsSoon Memory rows old left left' = Unit {0}
 EndsSoon AfterFault rows old left left' = Unit {0}

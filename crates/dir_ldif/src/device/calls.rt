@@ -7,6 +7,7 @@ ghost use Rattle.dir_ldif.specs.TestDevices.{calls_after};
 /// The calls of a device for tests: how many will still succeed, and how many have failed.
 #[derive(Clone, Copy)]
 pub(crate) struct Calls {
+    // the greatest number: all succeed
     good: u64,
     pub(crate) failures: u64,
 }

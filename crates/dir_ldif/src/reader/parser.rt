@@ -3,7 +3,7 @@
 ghost use Rattle.std.specs.Prelude.{◌≡◌, ◌++◌, ◌∷◌, ◌<◌, [], Ok, Err, IfOk, codes, cond, length};
 ghost use Rattle.base64.specs.GeneralPurpose.{IsBytes};
 ghost use Rattle.dir_ldif.specs.declared.faults.RecordFault.TheVariants.{BadModify};
-ghost use Rattle.dir_ldif.specs.RecordGrammar.{body_of, change_of, content_of, deletion_of, dn_line, flag_of, head_of, is_dash, is_word, legal_dn, legal_rdn, mod_head, mod_of, mod_value, mods_of, no_further, op_of, record_of, rename_after_rdn, rename_line, rename_of, superior_of, try_map, value_line, value_lines};
+ghost use Rattle.dir_ldif.specs.RecordGrammar.{body_of, change_of, content_of, deletion_of, dn_line, flag_of, head_of, is_dash, is_keyword, legal_dn, legal_rdn, mod_head, mod_of, mod_value, mods_of, only_superior, op_of, record_of, rename_after_rdn, rename_line, rename_of, superior_of, try_map, value_line, value_lines};
 ghost use Rattle.dir_ldif.specs.SoundRecords.{AreBytes, IsSoundKind, IsSoundName, IsSoundRdn, IsSoundRecord, IsSoundSuperior, ModsAreBytes, ValuesAreBytes};
 ghost use Rattle.dir_ldif.specs.LogicalLines.{cut};
 ghost use Rattle.dir_names.specs.Results.{Meets, and_then};
@@ -41,18 +41,18 @@ fn body_of(alloc: Global, schema: &Schema, dn: Dn, lines: &[Line]) -> Result<Rec
         return content_of(alloc, schema, dn, lines);
     };
     let (name, value) = attrval_of(alloc, second.text())?;
-    if is_word(name, b"control") {
+    if is_keyword(name, b"control") {
         return Err(Refusal::Fault(RecordFault::Control));
     }
-    if is_word(name, b"changetype") {
+    if is_keyword(name, b"changetype") {
         return change_record(alloc, schema, dn, value.as_slice(), further);
     }
     content_of(alloc, schema, dn, lines)
 }
 
 /// Whether a text is this keyword, in any ASCII case.
-fn is_word(text: &[u8], word: &[u8]) -> bool
-    ensures { result ≡ is_word text.now word.now }
+fn is_keyword(text: &[u8], word: &[u8]) -> bool
+    ensures { result ≡ is_keyword text.now word.now }
 {
     text.eq_ignore_ascii_case(word)
 }
@@ -86,7 +86,7 @@ fn dn_line(alloc: Global, schema: &Schema, line: &Line) -> Result<Dn, Refusal>
     ensures sound { IfOk result (λ name. IsSoundName name) }
 {
     let (name, value) = attrval_of(alloc, line.text())?;
-    if !is_word(name, b"dn") {
+    if !is_keyword(name, b"dn") {
         return Err(Refusal::Fault(RecordFault::BadLine));
     }
     legal_dn(alloc, schema, value.as_slice())
@@ -147,16 +147,16 @@ fn change_of(
     ensures read { Meets Refuses (λ kind. kind) result (change_of schema.now word.now lines.now) }
     ensures sound { IfOk result (λ kind. IsSoundKind kind) }
 {
-    if is_word(word, b"add") {
+    if is_keyword(word, b"add") {
         return Ok(ChangeKind::Add(value_lines(alloc, schema, lines)?));
     }
-    if is_word(word, b"delete") {
+    if is_keyword(word, b"delete") {
         return deletion_of(alloc, lines);
     }
-    if is_word(word, b"modify") {
+    if is_keyword(word, b"modify") {
         return Ok(ChangeKind::Modify(mods_of(alloc, schema, lines)?));
     }
-    if is_word(word, b"modrdn") || is_word(word, b"moddn") {
+    if is_keyword(word, b"modrdn") || is_keyword(word, b"moddn") {
         return rename_of(alloc, schema, lines);
     }
     Err(Refusal::Fault(RecordFault::BadChangetype))
@@ -241,11 +241,11 @@ fn mod_head(alloc: Global, schema: &Schema, line: &Line) -> Result<(ModOp, Descr
 fn op_of(name: &[u8]) -> Option<ModOp>
     ensures { result ≡ op_of name.now }
 {
-    if is_word(name, b"add") {
+    if is_keyword(name, b"add") {
         Some(ModOp::Add)
-    } else if is_word(name, b"delete") {
+    } else if is_keyword(name, b"delete") {
         Some(ModOp::Delete)
-    } else if is_word(name, b"replace") {
+    } else if is_keyword(name, b"replace") {
         Some(ModOp::Replace)
     } else {
         None
@@ -325,7 +325,7 @@ fn rename_line<'a>(alloc: Global, word: &[u8], line: &'a Line) -> Result<Value<'
     ensures { Meets Refuses bytes_of result (rename_line word.now line.now) }
 {
     let (name, value) = attrval_of(alloc, line.text())?;
-    if !is_word(name, word) {
+    if !is_keyword(name, word) {
         return Err(Refusal::Fault(RecordFault::BadRename));
     }
     Ok(value)
@@ -353,12 +353,12 @@ fn superior_of(alloc: Global, schema: &Schema, lines: &[Line]) -> Result<Option<
     };
     let value = rename_line(alloc, b"newsuperior", line)?;
     let dn = legal_dn(alloc, schema, value.as_slice())?;
-    no_further(alloc, dn, further)
+    only_superior(alloc, dn, further)
 }
 
 /// A rename has no line after its new superior; a line that is there has its own fault first.
-fn no_further(alloc: Global, dn: Dn, lines: &[Line]) -> Result<Option<Dn>, Refusal>
-    ensures read { Meets Refuses (λ superior. superior) result (no_further dn lines.now) }
+fn only_superior(alloc: Global, dn: Dn, lines: &[Line]) -> Result<Option<Dn>, Refusal>
+    ensures read { Meets Refuses (λ superior. superior) result (only_superior dn lines.now) }
     ensures sound { IsSoundName dn → IfOk result (λ superior. IsSoundSuperior superior) }
 {
     match lines.split_first() {

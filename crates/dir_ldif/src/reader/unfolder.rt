@@ -96,7 +96,7 @@ pub(crate) struct Unfolder {
     // here are its space and a CR that may be its final one
     partial: Vec<u8>,
     alloc: Global,
-    ghost kept: { may_be_continued last ≡ true },
+    ghost continuable: { may_be_continued last ≡ true },
     ghost unended: { list_any is_lf partial.items ≡ false },
     ghost short: { has_room last partial.items ≡ true },
 }
@@ -136,8 +136,8 @@ impl Unfolder {
         ensures left { IfOk result (λ o. IfSome o
             (λ p. self.new.number + length p.1.now ≤ self.old.number + length chunk.now)) }
         ensures shorter { IfOk result (λ o. IfSome o (λ p. length p.1.now < length chunk.now)) }
-        ensures used { IfOk result (λ o. IfSome o (λ p. (front : List ℕ) × (chunk.now ≡ front ++ p.1.now)
-            × ((text : List ℕ) → blocks_to_come self.old (front ++ text) ≡ block_then p.0.items (blocks_to_come self.new text)))) }
+        ensures used { IfOk result (λ o. IfSome o (λ p. (used : List ℕ) × (chunk.now ≡ used ++ p.1.now)
+            × ((text : List ℕ) → blocks_to_come self.old (used ++ text) ≡ block_then p.0.items (blocks_to_come self.new text)))) }
         ensures ok { IfOk result (λ o. MatchOption o
             ((text : List ℕ) → blocks_to_come self.old (chunk.now ++ text) ≡ blocks_to_come self.new text)
             (λ p. (text : List ℕ) → blocks_to_come self.old (chunk.now ++ text) ≡ block_then p.0.items (blocks_to_come self.new (p.1.now ++ text)))) }
@@ -183,7 +183,7 @@ impl Unfolder {
         requires { self.old.last ≡ None }
         ensures number { self.new.number ≡ self.old.number }
         ensures partial { self.new.partial ≡ self.old.partial }
-        ensures parts { (more : List Line) → MatchOption result
+        ensures blocks { (more : List Line) → MatchOption result
             (blocks_after_block self.old more ≡ blocks_to_come_with self.new more)
             (λ block. blocks_after_block self.old more ≡ block_then block.items (blocks_to_come_with self.new more)) }
         ensures some { IfSome result (λ block. is_empty block.items ≡ false) }
@@ -236,7 +236,7 @@ impl Unfolder {
         back: &[u8],
     ) -> Result<(), StreamFault>
         requires none { (self.old.partial.items ≡ []) × (self.old.last ≡ None) }
-        requires kept { may_be_continued (Some last) ≡ true }
+        requires continuable { may_be_continued (Some last) ≡ true }
         requires line { list_any is_lf (front.items ++ back.now) ≡ false }
         requires some { is_empty (front.items ++ back.now) ≡ false }
         ensures number { self.new.number ≡ self.old.number }
@@ -264,7 +264,7 @@ impl Unfolder {
         has_cr: bool,
     ) -> Result<(), StreamFault>
         requires none { (self.old.partial.items ≡ []) × (self.old.last ≡ None) }
-        requires kept { may_be_continued (Some last) ≡ true }
+        requires continuable { may_be_continued (Some last) ≡ true }
         requires space { begins_with space front.now ≡ true }
         ensures number { self.new.number ≡ self.old.number }
         ensures block { (self.new.begun ≡ self.old.begun) × (self.new.block ≡ self.old.block) }
@@ -309,7 +309,7 @@ impl Unfolder {
         ensures number { self.new.number ≡ self.old.number + 1 }
         ensures partial { self.new.partial.items ≡ [] }
         ensures last { IfOk result (λ ends. ends ≡ true → self.new.last ≡ None) }
-        ensures joins { TakesLine (λ more. blocks_to_come_with self.old ((self.old.number, without_last carriage_return (self.old.partial.items ++ text.now)) ∷ more)) result self.new }
+        ensures takes { TakesLine (λ more. blocks_to_come_with self.old ((self.old.number, without_last carriage_return (self.old.partial.items ++ text.now)) ∷ more)) result self.new }
     {
         let number = self.number;
         self.number = number + 1;
@@ -329,7 +329,7 @@ impl Unfolder {
         ensures number { self.new.number ≡ self.old.number }
         ensures partial { self.new.partial ≡ self.old.partial }
         ensures last { IfOk result (λ ends. ends ≡ true → self.new.last ≡ None) }
-        ensures joins { TakesLine (λ more. blocks_to_come_with self.old ((number, without_last carriage_return (front.items ++ back.now)) ∷ more)) result self.new }
+        ensures takes { TakesLine (λ more. blocks_to_come_with self.old ((number, without_last carriage_return (front.items ++ back.now)) ∷ more)) result self.new }
     {
         if let Some(last) = self.last.take() {
             let (begin, end) = parts_without_cr(front.as_slice(), back);
@@ -347,12 +347,12 @@ impl Unfolder {
     /// Continues a line by one that begins with a space, in two parts.
     fn continue_line(&mut self, last: Line, front: &[u8], back: &[u8]) -> Result<bool, StreamFault>
         requires none { self.old.partial.items ≡ [] }
-        requires kept { may_be_continued (Some last) ≡ true }
+        requires continuable { may_be_continued (Some last) ≡ true }
         requires space { begins_with space front.now ≡ true }
         ensures number { self.new.number ≡ self.old.number }
         ensures partial { self.new.partial ≡ self.old.partial }
         ensures last { IfOk result (λ ends. ends ≡ true → self.new.last ≡ None) }
-        ensures joins { (n : ℕ) → TakesLine (λ more. blocks_from self.old.begun self.old.block.items (logical_lines (last ∷ (n, front.now ++ back.now) ∷ more))) result self.new }
+        ensures takes { (n : ℕ) → TakesLine (λ more. blocks_from self.old.begun self.old.block.items (logical_lines (last ∷ (n, front.now ++ back.now) ∷ more))) result self.new }
     {
         self.set_last(last.with_continuation(front, back)?)
     }
@@ -364,7 +364,7 @@ impl Unfolder {
         ensures number { self.new.number ≡ self.old.number }
         ensures partial { self.new.partial ≡ self.old.partial }
         ensures last { IfOk result (λ ends. ends ≡ true → self.new.last ≡ None) }
-        ensures joins { TakesLine (λ more. blocks_from self.old.begun self.old.block.items (logical_lines (line ∷ more))) result self.new }
+        ensures takes { TakesLine (λ more. blocks_from self.old.begun self.old.block.items (logical_lines (line ∷ more))) result self.new }
     {
         if line.text().is_empty() {
             return Ok(true);
@@ -379,7 +379,7 @@ impl Unfolder {
         ensures number { self.new.number ≡ self.old.number }
         ensures partial { self.new.partial ≡ self.old.partial }
         ensures last { IfOk result (λ ends. ends ≡ false) }
-        ensures joins { TakesLine (λ more. blocks_from self.old.begun self.old.block.items (logical_lines (line ∷ more))) result self.new }
+        ensures takes { TakesLine (λ more. blocks_from self.old.begun self.old.block.items (logical_lines (line ∷ more))) result self.new }
     {
         if line.is_long() {
             return Err(StreamFault::LineTooLong);

@@ -8,8 +8,8 @@ use Rattle.dir_ldif.specs.Inside.Values.{bytes_of}
 use Rattle.dir_ldif.proofs.GrammarLemmas.{body_of-change}
 use Rattle.dir_ldif.proofs.reader.parser.body_of.Goals as goal
 
-pub returns-then-is_word-2-clause-read : goal.returns-then-is_word-2-clause-read
-returns-then-is_word-2-clause-read c =
+pub returns-then-is_keyword-2-clause-read : goal.returns-then-is_keyword-2-clause-read
+returns-then-is_keyword-2-clause-read c =
     let rows = c.args.schema.now in
     let further = c.in-Some.further.now in
     let part = ap attrval_of (sym c.text.ensures) ∙ c.in_ok-name.ensures in

@@ -19,7 +19,7 @@ returns-then-begins_with_space-clause-ok c =
     let shown : length (begin ++ end) ≡ length begin + length end = length-append begin end in
     let all : length line ≡ c.len.result + length c.args.back.now = omega (arith, length-append c.args.front.items c.args.back.now, c.len.ensures, c.args.front.ok.0) in
     let has_cr = ap (λ n. nat_lt n (c.len.result + length c.args.back.now)) (sym shown) ∙ ap (λ n. nat_lt (length (begin ++ end)) n) (sym all) in
-    on_ok_weaker c.continue_partly.result (λ h. grown_to_come j.begun j.block.items c.args.last j.number line (begin ++ end) _ c.continue_partly.new.self c.requires.kept c.requires.line same space has_cr c.continue_partly.ensures.block.0 (ap (λ v. v.items) c.continue_partly.ensures.block.1) c.continue_partly.ensures.number h.0 h.1) c.continue_partly.ensures.ok
+    on_ok_weaker c.continue_partly.result (λ h. grown_to_come j.begun j.block.items c.args.last j.number line (begin ++ end) _ c.continue_partly.new.self c.requires.continuable c.requires.line same space has_cr c.continue_partly.ensures.block.0 (ap (λ v. v.items) c.continue_partly.ensures.block.1) c.continue_partly.ensures.number h.0 h.1) c.continue_partly.ensures.ok
 
 pub returns-then-begins_with_space-clause-err : goal.returns-then-begins_with_space-clause-err
 returns-then-begins_with_space-clause-err c =

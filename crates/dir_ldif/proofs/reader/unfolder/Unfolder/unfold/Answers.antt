@@ -4,16 +4,16 @@ use Rattle.dir_ldif.specs.Bytes.{begins_with, without_last}
 use Rattle.dir_ldif.proofs.LogicalLineLemmas.{EndsAtOnce-apart, TakesLine-continued}
 use Rattle.dir_ldif.proofs.reader.unfolder.Unfolder.unfold.Goals as goal
 
-pub returns-then-begins_with_space-clause-joins : goal.returns-then-begins_with_space-clause-joins
-returns-then-begins_with_space-clause-joins c =
+pub returns-then-begins_with_space-clause-takes : goal.returns-then-begins_with_space-clause-takes
+returns-then-begins_with_space-clause-takes c =
     let j = c.args.self.now in
     let line = c.args.front.items ++ c.args.back.now in
     let shown = c.parts_without_cr.result.0.now ++ c.parts_without_cr.result.1.now in
     let same : shown ≡ without_last 13 line = c.parts_without_cr.ensures.text ∙ ap (λ t. without_last 13 (t ++ c.args.back.now)) c.as_slice.ensures.value in
-    TakesLine-continued j.begun j.block.items j.last c.in-Some.last c.args.number (without_last 13 line) shown c.continue_line.result c.continue_line.new.self (cc) same (c.continue_line.ensures.joins c.args.number)
+    TakesLine-continued j.begun j.block.items j.last c.in-Some.last c.args.number (without_last 13 line) shown c.continue_line.result c.continue_line.new.self (cc) same (c.continue_line.ensures.takes c.args.number)
 
-pub returns-in_err-push_to_block-clause-joins : goal.returns-in_err-push_to_block-clause-joins
-returns-in_err-push_to_block-clause-joins c =
+pub returns-in_err-push_to_block-clause-takes : goal.returns-in_err-push_to_block-clause-takes
+returns-in_err-push_to_block-clause-takes c =
     let e = err_from_is_err_and c.from_residual.result c.from_residual.ensures.1 in
     let j = c.args.self.now in
     let line = c.args.front.items ++ c.args.back.now in
