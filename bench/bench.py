@@ -3,9 +3,9 @@
 
 For each size it writes a copy of N inetOrgPerson-like entries and a text of M changes (half of them add an
 entry, half delete one), runs the program, and prints its CPU time and peak memory, also as ratios: to the CPU
-time of `sha256sum` over the same copy, and to the copy's size. Each run of the program stands between two of
+time of `sha256sum` over the same copy, and to the copy's size. Each run of the program comes between two of
 `sha256sum`, and its ratio is taken to these, since the speed of a virtual machine changes from minute to minute.
-Times and memory are the least of all rounds, ratios the median, with the least and the greatest behind it.
+Times and memory are the least of all rounds, ratios the median, with the least and the greatest after it.
 
     bench/bench.py [--program PATH] [--size N]... [--changes M] [--rounds R]
 """
@@ -111,7 +111,7 @@ def measure(program, n, m, rounds, folder):
         runs.append(modify(program, copy, out, undo, changes))
         hashed.append(run(["sha256sum", copy])[0])
     cpu, memory, report = min(runs)
-    ratios = [run[0] * 2 / (before + behind) for run, before, behind in zip(runs, hashed, hashed[1:])]
+    ratios = [run[0] * 2 / (before + after) for run, before, after in zip(runs, hashed, hashed[1:])]
     print(
         f"{n} entries, {size / 1e6:.1f} MB ({size // n} bytes an entry), {m} changes: "
         f"{cpu:.2f} s CPU ({min(hashed):.2f} s sha256sum), "

@@ -4,7 +4,7 @@
 For each kind of text it makes two texts of changes of the same size: records with a name or a value of a tenth of
 1,048,576 bytes, and a tenth as many records with one of 1,048,576 bytes. It runs `slapkit slapmodify -u -c` over
 both in turn, and prints the least CPU time of a record in each, and how many times the one takes of the other: the
-median of the rounds, with the least and the greatest behind it. Linear is 10.
+median of the rounds, with the least and the greatest after it. Linear is 10.
 
     bench/names.py [--program PATH] [--records N] [--rounds R]
 """

@@ -3,8 +3,8 @@
 
 usage: bugs.py [CRATE ...]
 
-They are must-fail edits that the gate leaves out, to end in time on a machine of two cores: the gate has one for
-each public function, and each wrong body that a tool of this kind must not have. About half a minute each.
+They are must-fail edits that the gate leaves out (docs/CONTRIBUTING.md says which), at about half a minute each. Try
+those of a crate when it has changed.
 """
 import pathlib
 import shutil

@@ -67,7 +67,7 @@ def a_refused_record_ends_with_status_1(trial):
     assert (trial.text("new"), trial.text("undo")) == (COPY, "version: 1\n\n")
 
 
-def a_run_goes_on_behind_a_refused_record(trial):
+def a_run_goes_on_after_a_refused_record(trial):
     report = "line 1: refused, 32 noSuchObject\naccepted 1, refused 1\n"
     assert trial.modify("-c", *ONTO, typed=f"{MISSING}\n{ADD}") == (1, report, "")
     assert (trial.text("new"), trial.text("undo")) == (NEW, UNDO)
@@ -147,7 +147,7 @@ TRIALS = [
     changes_come_from_standard_input,
     a_dry_run_touches_no_file,
     a_refused_record_ends_with_status_1,
-    a_run_goes_on_behind_a_refused_record,
+    a_run_goes_on_after_a_refused_record,
     a_fault_leaves_its_files_empty,
     a_faulty_copy_is_named_by_its_line,
     a_bad_suffix_is_refused,

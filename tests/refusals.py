@@ -4,7 +4,7 @@
 usage: refusals.py PROGRAM
 
 The program makes the changes of examples/ on the copy there, once for each call that is refused: that call
-alone, or it and all behind it. A shared object, made by cc and preloaded, refuses the call. Each run must end
+alone, or it and all after it. A shared object, made by cc and preloaded, refuses the call. Each run must end
 with the fault that README names, and with each text begun only where the one before it is whole.
 """
 import dataclasses
@@ -17,7 +17,7 @@ import tempfile
 EXAMPLES = pathlib.Path(__file__).resolve().parent.parent / "examples"
 COPY, CHANGES = EXAMPLES / "company.ldif", EXAMPLES / "changes.ldif"
 
-# Counts the calls of the kind that REFUSE_KIND names, and refuses number REFUSE_AT, with REFUSE_ON all behind
+# Counts the calls of the kind that REFUSE_KIND names, and refuses number REFUSE_AT, with REFUSE_ON all after
 # it too. A call that is refused leaves the file REFUSE_TOLD.
 SHIM = r"""
 #define _GNU_SOURCE
@@ -178,7 +178,7 @@ def main():
             for on in (False, True):
                 calls = refuse_in_turn(program, shim, whole, kind, on)
                 assert calls > 0, f"no {kind} was refused"
-                print(f"{kind}{', and all behind it' if on else ''}: {calls} runs")
+                print(f"{kind}{', and all after it' if on else ''}: {calls} runs")
 
 
 main()

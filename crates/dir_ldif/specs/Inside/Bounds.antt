@@ -1,4 +1,4 @@
--- How long the lines are that an unfolder holds. (The unfolder's own invariants cite these, so they stand in a file that does not name it.)
+-- How long the lines are that an unfolder holds. (The unfolder's own invariants cite these, so they are in a file that does not name it.)
 use Rattle.std.specs.Prelude.{ℕ, ◌+◌, Bool, true, not, ◌&&◌, if◌then◌else◌, nat_le, List, length, Option, None, Some}
 use Rattle.dir_ldif.specs.Bytes.{is_empty, begins_with, without_last}
 use Rattle.dir_ldif.specs.LogicalLines.{Line, is_long}

@@ -185,9 +185,9 @@ fn each_read_of_the_copy_and_of_the_changes_fails_in_turn(rt: HostRuntime) -> Re
     Ok(())
 }
 
-/// In stop mode a fault behind the first refused record is not come to.
+/// In stop mode a fault after the first refused record is not reached.
 #[test]
-fn a_fault_behind_the_first_refusal_is_not_looked_at(rt: HostRuntime) -> Result<(), Fail> {
+fn a_fault_after_the_first_refusal_is_not_looked_at(rt: HostRuntime) -> Result<(), Fail> {
     let alloc = rt.alloc();
     let changes =
         b"dn: cn=c,dc=com\nchangetype: delete\n\ndn: cn=d,dc=com\nchangetype: delete\nx\n\n";
@@ -205,9 +205,9 @@ const REFUSED: &str = "dn: cn=c,dc=com\nchangetype: delete\n\n";
 
 const TOLD: &str = "line 1: refused, 32 noSuchObject\naccepted 0, refused 1\n";
 
-/// In stop mode a reader that fails behind the first refused record isn't read.
+/// In stop mode a reader that fails after the first refused record is not read.
 #[test]
-fn a_reader_that_fails_behind_the_first_refusal_is_not_read(rt: HostRuntime) -> Result<(), Fail> {
+fn a_reader_that_fails_after_the_first_refusal_is_not_read(rt: HostRuntime) -> Result<(), Fail> {
     let alloc = rt.alloc();
     let copy = COPY.as_bytes();
     let changes = REFUSED.as_bytes();
@@ -230,9 +230,9 @@ fn a_reader_that_fails_behind_the_first_refusal_is_not_read(rt: HostRuntime) -> 
     Ok(())
 }
 
-/// In stop mode a line that is too long isn't come to behind the first refused record.
+/// In stop mode a line that is too long after the first refused record is not reached.
 #[test]
-fn a_long_line_behind_the_first_refusal_is_not_come_to(rt: HostRuntime) -> Result<(), Fail> {
+fn a_long_line_after_the_first_refusal_is_not_reached(rt: HostRuntime) -> Result<(), Fail> {
     let alloc = rt.alloc();
     let mut changes = REFUSED.as_bytes().to_vec(alloc)?;
     let line = vec![in alloc; b'a'; 2_097_153]?;
