@@ -1,5 +1,5 @@
 -- The changes that take an add and a delete back.
-use Rattle.std.proofs.Common.{◌≡◌, ℕ, suc, ◌+◌, Bool, true, false, cond, not, ◌||◌, List, [], ◌∷◌, ◌++◌, length, take, reverse, Option, Some, None, is_some, Result, Ok, Err, refl, sym, ap, ◌∙◌, true≢false, arith, length-append, append_assoc}
+use Rattle.std.proofs.Common.{◌≡◌, ℕ, ◌+◌, Bool, true, false, cond, not, ◌||◌, List, [], ◌∷◌, ◌++◌, length, take, reverse, Option, Some, None, is_some, Result, Ok, Err, refl, sym, ap, ◌∙◌, true≢false, arith, length-append, append_assoc}
 use Rattle.std.proofs.lemmas.List.{append-nil, reverse-append, length-reverse}
 use Rattle.std.specs.FinMap.{same_map}
 use Rattle.std.specs.Ordering.{eq_by_cmp, is_eq}
@@ -29,6 +29,7 @@ use Rattle.dir_change.specs.declared.result_code.ResultCode.TheVariants.{NoSuchO
 use Rattle.dir_change.specs.Operation.{directory_after, directory_after_add, directory_after_delete, has_child, is_at_or_below, own_rdns, step, step_at, unless, with_new_entry}
 use Rattle.dir_change.specs.Undo.{TakesBack, lines_of_entry, name_of_parent, spelled_name_or_empty, undo_of}
 use Rattle.dir_change.proofs.Conditions.{add_placed, below_is, below_true, child_false, delete_leaf, parent_snoc}
+use Rattle.dir_names.proofs.Collected.{collect_append, collect_length}
 
 same_dir : (d e : Dir) → d.suffix ≡ e.suffix → ((q : DnKeys) → entry_at d q ≡ entry_at e q) → d ≡ e
 same_dir d e s h = let entries = same_map dn_key_cmp_total dn_key_cmp_exact d.entries e.entries h in λ i. record { suffix = s i; entries = entries i }
@@ -54,34 +55,13 @@ out_put d k e there = same_dir _ d refl (λ q. get_put (remove_entry d k) k e q 
 
 -- ---- names and their keys
 
-module _ {A B : Type 0} (f : A → Option B) where
-  pub all_append : (xs ys : List A) (us vs : List B) → option_collect f xs ≡ Some us → option_collect f ys ≡ Some vs → option_collect f (xs ++ ys) ≡ Some (us ++ vs)
-  all_append [] ys us vs e h = let none : [] ≡ us = cc in h ∙ ap (λ z. Some (z ++ vs)) none
-  all_append (x ∷ xs) ys us vs e h = by (f x) (option_collect f xs) refl e (all_append xs ys)
-    where
-      by : (o : Option B) (p : Option (List B)) → option_collect f xs ≡ p → option_cons o p ≡ Some us → ((us vs : List B) → option_collect f xs ≡ Some us → option_collect f ys ≡ Some vs → option_collect f (xs ++ ys) ≡ Some (us ++ vs)) → option_cons o (option_collect f (xs ++ ys)) ≡ Some (us ++ vs)
-      by None p t e rest = absurd (cc)
-      by (Some u) None t e rest = absurd (cc)
-      by (Some u) (Some ws) t e rest =
-          let same : u ∷ ws ≡ us = cc in
-          ap (option_cons (Some u)) (rest ws vs t h) ∙ ap (λ z. Some (z ++ vs)) same
-
-  pub all_length : (xs : List A) (us : List B) → option_collect f xs ≡ Some us → length xs ≡ length us
-  all_length [] us e = let none : [] ≡ us = cc in ap length none
-  all_length (x ∷ xs) us e = by (f x) (option_collect f xs) refl e (all_length xs)
-    where
-      by : (o : Option B) (p : Option (List B)) → option_collect f xs ≡ p → option_cons o p ≡ Some us → ((us : List B) → option_collect f xs ≡ Some us → length xs ≡ length us) → suc (length xs) ≡ length us
-      by None p t e rest = absurd (cc)
-      by (Some u) None t e rest = absurd (cc)
-      by (Some u) (Some ws) t e rest = let same : u ∷ ws ≡ us = cc in ap suc (rest ws t) ∙ ap length same
-
 module _ (rows : List TypeRow) where
   -- the key of a name that is two joined
   pub joined_key : (xs ys : SpelledName) (below above : DnKeys) → name_key rows xs ≡ Some below → name_key rows ys ≡ Some above → name_key rows (xs ++ ys) ≡ Some (above ++ below)
-  joined_key xs ys below above e h = ap (option_collect (rdn_key rows)) (reverse-append xs ys) ∙ all_append (rdn_key rows) (reverse ys) (reverse xs) above below h e
+  joined_key xs ys below above e h = ap (option_collect (rdn_key rows)) (reverse-append xs ys) ∙ collect_append (rdn_key rows) (reverse ys) (reverse xs) above below h e
 
   pub key_length : (name : SpelledName) (k : DnKeys) → name_key rows name ≡ Some k → length name ≡ length k
-  key_length name k e = sym (length-reverse name) ∙ all_length (rdn_key rows) (reverse name) k e
+  key_length name k e = sym (length-reverse name) ∙ collect_length (rdn_key rows) (reverse name) k e
 
 last_of : (p : DnKeys) (part : RdnKeys) → take 1 (reverse (p ++ part ∷ [])) ≡ part ∷ []
 last_of p part = ap (take 1) (reverse-append p (part ∷ []))

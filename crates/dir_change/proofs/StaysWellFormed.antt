@@ -33,14 +33,7 @@ use Rattle.dir_change.specs.Operation.{directory_after, has_child, own_rdns, ste
 use Rattle.dir_change.specs.SoundChange.{IsSoundChange}
 use Rattle.dir_change.proofs.Conditions.{child_true}
 use Rattle.dir_change.proofs.AfterOperations.{added_is, deleted_is, made_own, own_named}
-
-left : (a b : Bool) → (a && b) ≡ true → a ≡ true
-left true b h = refl
-left false b h = h
-
-right : (a b : Bool) → (a && b) ≡ true → b ≡ true
-right true b h = h
-right false b h = absurd (true≢false (sym h))
+use Rattle.dir_names.proofs.Both.{left, right}
 
 -- ---- lines
 

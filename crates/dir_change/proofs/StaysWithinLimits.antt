@@ -1,5 +1,5 @@
 -- Names and values within the limits, and that an operation keeps them so.
-use Rattle.std.proofs.Common.{◌≡◌, ℕ, zero, suc, ◌<◌, ◌≤◌, Bool, true, false, cond, ◌&&◌, nat_le, nat_lt, List, [], ◌∷◌, ◌++◌, length, map, take, Option, Some, None, is_some, Ok, refl, sym, ap, subst, ◌∙◌, true≢false, arith}
+use Rattle.std.proofs.Common.{◌≡◌, ℕ, zero, suc, ◌<◌, ◌≤◌, Bool, true, false, cond, ◌&&◌, nat_le, nat_lt, List, [], ◌∷◌, ◌++◌, length, map, take, Option, Some, None, is_some, Ok, refl, sym, ap, subst, ◌∙◌, arith}
 use Rattle.std.specs.Prelude.{slice_index}
 use Rattle.std.specs.List.{flat_map, list_all}
 use Rattle.std.specs.FinMap as fin
@@ -33,14 +33,7 @@ use Rattle.dir_change.specs.Undo.{lines_of_entry, undo_of}
 use Rattle.dir_change.proofs.StaysWellFormed.{step_keeps}
 use Rattle.dir_change.proofs.LegalUndo.{group_legal}
 use Rattle.dir_change.proofs.AfterOperations.{added_is, deleted_is, itself, key_length, made_own, spelled_key}
-
-left : (a b : Bool) → (a && b) ≡ true → a ≡ true
-left true b h = refl
-left false b h = h
-
-right : (a b : Bool) → (a && b) ≡ true → b ≡ true
-right true b h = h
-right false b h = absurd (true≢false (sym h))
+use Rattle.dir_names.proofs.Both.{left, right}
 
 -- ---- names
 

@@ -16,4 +16,3 @@ pub use laws::{
 pub use operation::{Refusal, apply};
 pub use result_code::ResultCode;
 pub use undo::Undo;
-

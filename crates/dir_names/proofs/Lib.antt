@@ -1,10 +1,12 @@
+pub mod AllLemmas
+pub mod AsciiFolding
+pub mod Both
 pub mod ByteFacts
+pub mod Collected
 pub mod Compared
 pub mod CutLemmas
 pub mod FindLemmas
 pub mod HasKeys
-pub mod AllLemmas
-pub mod AsciiFolding
 pub mod KeyLemmas
 pub mod Maps
 pub mod OptionLemmas
@@ -17,8 +19,8 @@ pub mod ReadNames
 pub mod ReadValues
 pub mod ReadsSpells
 pub mod Rfc4514
-pub mod SoundLemmas
 pub mod SortOrder
+pub mod SoundLemmas
 pub mod SpellsReads
 pub mod Tidy
 pub mod ValueSteps

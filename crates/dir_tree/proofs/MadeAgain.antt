@@ -10,7 +10,7 @@ use Rattle.dir_names.specs.declared.value.ValueKey.{ValueKey}
 use Rattle.dir_names.specs.Attr.{Attr}
 use Rattle.std.specs.Result.{result_ok}
 use Rattle.dir_names.specs.Orders.{attr_cmp, attr_cmp_total, attr_cmp_exact}
-use Rattle.dir_names.specs.Results.{option_collect, option_cons}
+use Rattle.dir_names.specs.Results.{option_cons, and_then}
 use Rattle.dir_names.specs.Values.{value_key_cmp, value_key_cmp_total, value_key_cmp_exact}
 use Rattle.dir_tree.specs.declared.fault.EntryFault.TheVariants.{BadValue, Twice, NotNamed, Single}
 use Rattle.dir_tree.specs.declared.lines.KeyedLine.{KeyedLine}
@@ -18,11 +18,12 @@ use Rattle.dir_tree.specs.Inside.Arranged.{have_new_values}
 use Rattle.dir_tree.specs.Content.{Content, Stored, StoredAttributes, has_in, has_value}
 use Rattle.std.specs.Option.{ok_or}
 use Rattle.dir_tree.specs.NewEntry.{attributes_if_distinct, attributes_of, keyed_line, keyed_lines, leaf_lines, new_entry, ok_unless_exceeding, with_line, with_lines, with_missing_lines, with_missing_of, with_value}
-use Rattle.dir_names.specs.Results.{and_then}
 use Rattle.dir_tree.specs.WellFormed.{Each, IsSoundAttribute, IsSoundEntry, IsSoundValue, all_lines, attribute_lines, has_each}
 use Rattle.dir_tree.specs.NewEntryLaw.{value_in}
 use Rattle.dir_tree.proofs.Orderless.{free_of_empty}
 use Rattle.dir_tree.proofs.Relisted.{are_new, inserted, inserted_whole, insert_over, new_whole}
+use Rattle.dir_names.proofs.Both.{left, right}
+use Rattle.dir_names.proofs.Collected.{collect_append}
 
 -- a value of an attribute, as a line with its key
 abbrev keyed_of : Attr × Stored → ValueKey × List ℕ → KeyedLine
@@ -31,27 +32,7 @@ keyed_of a v = record { description = record { spelling = a.1.spelling; key = a.
 abbrev keyed_attribute : Attr × Stored → List KeyedLine
 keyed_attribute a = map (keyed_of a) (fin.entries a.1.values)
 
-left : (a b : Bool) → (a && b) ≡ true → a ≡ true
-left true b h = refl
-left false b h = h
-
-right : (a b : Bool) → (a && b) ≡ true → b ≡ true
-right true b h = h
-right false b h = absurd (true≢false (sym h))
-
 -- ---- each line has its key
-
-module _ {A B : Type 0} (f : A → Option B) where
-  all_append : (xs ys : List A) (us vs : List B) → option_collect f xs ≡ Some us → option_collect f ys ≡ Some vs → option_collect f (xs ++ ys) ≡ Some (us ++ vs)
-  all_append [] ys us vs e h = let none : [] ≡ us = cc in h ∙ ap (λ z. Some (z ++ vs)) none
-  all_append (x ∷ xs) ys us vs e h = by (f x) (option_collect f xs) refl e (all_append xs ys)
-    where
-      by : (o : Option B) (p : Option (List B)) → option_collect f xs ≡ p → option_cons o p ≡ Some us → ((us vs : List B) → option_collect f xs ≡ Some us → option_collect f ys ≡ Some vs → option_collect f (xs ++ ys) ≡ Some (us ++ vs)) → option_cons o (option_collect f (xs ++ ys)) ≡ Some (us ++ vs)
-      by None p t e rest = absurd (cc)
-      by (Some u) None t e rest = absurd (cc)
-      by (Some u) (Some ws) t e rest =
-          let same : u ∷ ws ≡ us = cc in
-          ap (option_cons (Some u)) (rest ws vs t h) ∙ ap (λ z. Some (z ++ vs)) same
 
 module _ (rows : List TypeRow) where
   keyed_value : (a : Attr × Stored) (v : ValueKey × List ℕ) → IsSoundValue rows a.0 v → keyed_line rows (record { spelling = a.1.spelling; key = a.0 }, v.1) ≡ Some (keyed_of a v)
@@ -64,7 +45,7 @@ module _ (rows : List TypeRow) where
   keyed_all : (es : List (Attr × Stored)) → Each (IsSoundAttribute rows) es → keyed_lines rows (flat_map attribute_lines es) ≡ Some (flat_map keyed_attribute es)
   keyed_all [] sound = refl
   keyed_all (a ∷ es) sound =
-      all_append (keyed_line rows) (attribute_lines a) (flat_map attribute_lines es) (keyed_attribute a) (flat_map keyed_attribute es) (keyed_values a (fin.entries a.1.values) sound.0.2) (keyed_all es sound.1)
+      collect_append (keyed_line rows) (attribute_lines a) (flat_map attribute_lines es) (keyed_attribute a) (flat_map keyed_attribute es) (keyed_values a (fin.entries a.1.values) sound.0.2) (keyed_all es sound.1)
 
 -- ---- the lines of one attribute
 
