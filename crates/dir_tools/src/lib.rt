@@ -9,6 +9,7 @@ mod laws;
 mod modify;
 mod report;
 mod run;
+mod taking;
 mod write;
 
 pub use copy::{read_copy, write_copy};
@@ -16,4 +17,3 @@ pub use fault::{Cause, Input, Item, Output, ToolFault};
 pub use laws::{canonical_texts_read_back, written_runs_are_taken_back};
 pub use modify::run_modify;
 pub use run::{ModifyOptions, Summary};
-
