@@ -1,17 +1,15 @@
 -- Why a copy is not read, in the words of its definition.
-use Rattle.std.proofs.Common.{◌≡◌, ℕ, true, false, not, List, [], ◌∷◌, Option, None, Some, is_some, Result, Ok, Err, IfErr, IfSome, Bor, refl, ap, subst, ◌∙◌}
+use Rattle.std.proofs.Common.{◌≡◌, ℕ, true, false, not, List, [], ◌∷◌, ◌++◌, Option, None, Some, is_some, Result, Ok, Err, IfErr, IfSome, Bor, refl, ap, subst, ◌∙◌}
 use Rattle.std.specs.Option.{option_copied, option_map}
 use Rattle.dir_names.specs.declared.schema.TypeRow.{TypeRow}
 use Rattle.dir_names.specs.Described.{Described}
 use Rattle.dir_names.specs.Keys.{DnKeys}
 use Rattle.dir_names.specs.Names.{SpelledName}
-use Rattle.dir_ldif.specs.Device.{HasFailed}
 use Rattle.dir_ldif.specs.declared.faults.StreamFault.{StreamFault}
 use Rattle.dir_ldif.specs.declared.faults.StreamFault.TheVariants as stream
 use Rattle.dir_ldif.specs.declared.reader.RecordReader.{RecordReader}
-use Rattle.dir_ldif.specs.Reader.Answers.{GivesFirst}
-use Rattle.dir_ldif.specs.Reader.{IsEnded, SpendsTurns, StopsFor, answers_to_come, source_of, turns_left}
-use Rattle.dir_ldif.specs.Records.{Answer, Found, records_of}
+use Rattle.dir_ldif.specs.Reader.{answers_to_come, source_of}
+use Rattle.dir_ldif.specs.Records.{Answer, Found, all_found, records_of}
 use Rattle.dir_tree.specs.Content.{Content}
 use Rattle.dir_tree.specs.Dir.{Dir, entry_at}
 use Rattle.dir_tree.specs.NewEntry.{IsEntryFaultOf as FailsToMake, new_entry}
@@ -30,12 +28,15 @@ use Rattle.dir_tools.specs.declared.fault.ToolFault.{ToolFault}
 use Rattle.dir_tools.specs.declared.fault.ToolFault.TheVariants as tool
 use Rattle.dir_tools.specs.CopyOf.{LoadedCopy, copy_of, empty_copy, refused_if, whole_directory, with_content, with_entry, with_record, with_records}
 use Rattle.dir_names.specs.Results.{and_then}
-use Rattle.dir_tools.specs.Inside.Loading.{IsCopyFault, IsLoaded, IsMadeOf, IsRecordFault, LoadsOver, LoadsTo, StopsLoading, copy_fault, waiting_or}
+use Rattle.dir_tools.specs.Inside.Loading.{IsCopyFault, IsLoaded, IsMadeOf, IsRecordFault, LoadsOver, LoadsTo, StopsLoading, TakesRecord, copy_fault, waiting_or}
 use Rattle.dir_tools.specs.CopyFaults.{HasNoEntries, IsCopyFaultCause}
-use Rattle.dir_tools.specs.Inside.Running.{Continues}
-use Rattle.dir_tools.specs.ReadCalls.{FillsReadCalls, GaveAtLeast}
-use Rattle.dir_tools.proofs.ReadCalls.{spends_all}
-use Rattle.dir_tools.proofs.CopyLemmas.{LoadsSoFar}
+use Rattle.dir_tools.specs.ReadCalls.{FillsReadCalls}
+use Rattle.dir_tools.proofs.CopyLemmas.{complete_load, loads_all}
+use Rattle.dir_tools.specs.CompleteRecords.{CompleteRecordsLoad, GaveBytesTo, IsReaderFault}
+use Rattle.dir_tools.specs.Inside.Taking.{BreaksAfter, TakesAll, TakesUpTo}
+use Rattle.dir_tools.proofs.CompleteRecords.{IsReaders}
+use Rattle.dir_tools.proofs.TakingLemmas.{gave_complete}
+use Rattle.dir_tools.proofs.Small.{known}
 
 -- ---- a record
 
@@ -85,69 +86,68 @@ makes_none entry.NotNamed code wanted is fails = fails
 makes_none entry.Single code wanted is fails = fails
 makes_none entry.Memory code wanted is fails = absurd (cc)
 
--- ---- over the answers of a reader
+-- ---- over the records that are taken
 
-broken : (rows : List TypeRow) (start m : LoadedCopy) (found : Found) (line : ℕ) (why : Cause) (first old new : Option (List Answer))
-    → with_record rows m found.0 found.1 ≡ Err (line, why) → GivesFirst (Ok found) old new
-    → Continues first old (λ answers rest. with_records rows start answers ≡ with_records rows m rest)
-    → IfSome first (λ answers. with_records rows start answers ≡ Err (line, why))
-broken rows start m found line why None old new fails gives was = tt
-broken rows start m found line why (Some answers) None new fails gives was = absurd (was)
-broken rows start m found line why (Some answers) (Some now) None fails gives was = absurd (gives)
-broken rows start m found line why (Some answers) (Some now) (Some rest) fails gives was =
-    was ∙ ap (with_records rows m) gives ∙ ap (λ r. and_then r (λ n. with_records rows n rest)) fails
+module _ {D : Type 0} (state : D → Dir) (rows : List TypeRow) (first : Option (List Answer)) (begun : Loading D) where
+  broken : (fault : ToolFault) (loading : Loading D) (line : ℕ) (why : Cause) (upto : TakesUpTo rows (TakesRecord state rows) (Err fault) first begun loading)
+      → ((m : LoadedCopy) → IsLoaded state m upto.2 → with_record rows m upto.1.0 upto.1.1 ≡ Err (line, why))
+      → (start : LoadedCopy) → IsLoaded state start begun → IfSome first (λ answers. with_records rows start answers ≡ Err (line, why))
+  broken fault loading line why upto fails start holds =
+      let all = loads_all state rows upto.0 begun upto.2 upto.3 start holds in
+      known first (λ answers given. ap (with_records rows start) given.1 ∙ all.3 (Ok upto.1 ∷ given.0) ∙ ap (λ r. and_then r (λ n. with_records rows n given.0)) (fails all.0 all.1)) upto.5
 
--- the first record that can't be taken
-pub stops_at : {D : Type 0} (state : D → Dir) (rows : List TypeRow) (found : Found) (first old new : Option (List Answer)) (begun loading : Loading D) (failures failures' : ℕ) (fault : ToolFault)
-    → IsRecordFault fault → ((m : LoadedCopy) → IsLoaded state m loading → IsCopyFault (with_record rows m found.0 found.1) fault) → GivesFirst (Ok found) old new
-    → LoadsSoFar state rows first old begun loading → StopsLoading state rows first failures failures' begun fault
-stops_at state rows found first old new begun loading failures failures' (tool.BadCopy line (cause.Code code)) of why gives was = λ start at_start.
-    let so_far = was start at_start in
-    broken rows start so_far.0 found line (cause.Code code) first old new (why so_far.0 so_far.1) gives so_far.3
-stops_at state rows found first old new begun loading failures failures' (tool.BadCopy line (cause.Fault fault)) of why gives was = λ start at_start.
-    let so_far = was start at_start in
-    broken rows start so_far.0 found line (cause.Fault fault) first old new (why so_far.0 so_far.1) gives so_far.3
-stops_at state rows found first old new begun loading failures failures' (tool.BadCopy line (cause.Ended fault)) of why gives was = absurd (of)
-stops_at state rows found first old new begun loading failures failures' (tool.Read input) of why gives was = absurd (of)
-stops_at state rows found first old new begun loading failures failures' tool.Memory of why gives was = tt
-stops_at state rows found first old new begun loading failures failures' (tool.Write output) of why gives was = absurd (of)
-stops_at state rows found first old new begun loading failures failures' (tool.BadQuestion item) of why gives was = absurd (of)
-stops_at state rows found first old new begun loading failures failures' (tool.BadChanges fault) of why gives was = absurd (of)
+  -- the first record that can't be taken
+  pub stops_at : (failures failures' : ℕ) (fault : ToolFault) (loading : Loading D) → TakesUpTo rows (TakesRecord state rows) (Err fault) first begun loading → StopsLoading state rows first failures failures' begun fault
+  stops_at failures failures' (tool.BadCopy line (cause.Code code)) loading upto = broken (tool.BadCopy line (cause.Code code)) loading line (cause.Code code) upto upto.4.1
+  stops_at failures failures' (tool.BadCopy line (cause.Fault fault)) loading upto = broken (tool.BadCopy line (cause.Fault fault)) loading line (cause.Fault fault) upto upto.4.1
+  stops_at failures failures' (tool.BadCopy line (cause.Ended fault)) loading upto = absurd (upto.4.0)
+  stops_at failures failures' (tool.Read input) loading upto = absurd (upto.4.0)
+  stops_at failures failures' tool.Memory loading upto = tt
+  stops_at failures failures' (tool.Write output) loading upto = absurd (upto.4.0)
+  stops_at failures failures' (tool.BadQuestion item) loading upto = absurd (upto.4.0)
+  stops_at failures failures' (tool.BadChanges fault) loading upto = absurd (upto.4.0)
 
-ended_so : (rows : List TypeRow) (start m : LoadedCopy) (fault : StreamFault) (first old : Option (List Answer))
-    → IfSome old (λ known. known ≡ Err fault ∷ [])
-    → Continues first old (λ answers rest. with_records rows start answers ≡ with_records rows m rest)
-    → IfSome first (λ answers. with_records rows start answers ≡ Err (0, cause.Ended fault))
-ended_so rows start m fault None old ends was = tt
-ended_so rows start m fault (Some answers) None ends was = absurd (was)
-ended_so rows start m fault (Some answers) (Some rest) ends was = was ∙ ap (with_records rows m) ends
+  ended_so : (founds : List Found) (loading : Loading D) (fault : StreamFault) → TakesAll rows (TakesRecord state rows) founds begun loading → IfSome first (λ known. known ≡ all_found founds ++ Err fault ∷ [])
+      → (start : LoadedCopy) → IsLoaded state start begun → IfSome first (λ answers. with_records rows start answers ≡ Err (0, cause.Ended fault))
+  ended_so founds loading fault takes given start holds =
+      let all = loads_all state rows founds begun loading takes start holds in
+      known first (λ answers is. ap (with_records rows start) is ∙ all.3 (Err fault ∷ [])) given
+
+of_copy : (fault : StreamFault) → IsReaderFault (copy_fault fault) → IsReaders fault
+of_copy stream.Read is = tt
+of_copy stream.TooManyTurns is = tt
+of_copy stream.LineTooLong is = absurd (is)
+of_copy stream.Memory is = absurd (is)
+of_copy stream.Ended is = absurd (is)
+of_copy stream.BadVersion is = absurd (is)
+
+-- a record's fault is not the reader's
+pub of_record : (fault : ToolFault) → IsRecordFault fault → IsReaderFault fault → ⊥
+of_record (tool.BadCopy line (cause.Code code)) of is = is
+of_record (tool.BadCopy line (cause.Fault fault)) of is = is
+of_record (tool.BadCopy line (cause.Ended fault)) of is = of
+of_record (tool.Read input) of is = of
+of_record tool.Memory of is = is
+of_record (tool.Write output) of is = of
+of_record (tool.BadQuestion item) of is = of
+of_record (tool.BadChanges fault) of is = of
 
 -- the fault of a reader
-module _ {D : Type 0} {S : Type 0} where
-  pub loads_blamed : (state : D → Dir) (rows : List TypeRow) (left : S → Option (List ℕ)) (failures : S → ℕ) (fault : StreamFault) (first : Option (List Answer)) (count : ℕ) (old new : RecordReader S) (begun loading : Loading D)
-      → (IsEnded old → ⊥) → failures (source_of old) ≡ count → StopsFor left failures fault old new
-      → LoadsSoFar state rows first (answers_to_come left old) begun loading
-      → StopsLoading state rows first count (failures (source_of new)) begun (copy_fault fault)
-  loads_blamed state rows left failures stream.LineTooLong first count old new begun loading going same stops was = λ start at_start.
-      let so_far = was start at_start in ended_so rows start so_far.0 stream.LineTooLong first (answers_to_come left old) stops so_far.3
-  loads_blamed state rows left failures stream.BadVersion first count old new begun loading going same stops was = λ start at_start.
-      let so_far = was start at_start in ended_so rows start so_far.0 stream.BadVersion first (answers_to_come left old) stops so_far.3
-  loads_blamed state rows left failures stream.Read first count old new begun loading going same stops was = subst (λ n. HasFailed n (failures (source_of new))) same stops.0
-  loads_blamed state rows left failures stream.Memory first count old new begun loading going same stops was = tt
-  loads_blamed state rows left failures stream.TooManyTurns first count old new begun loading going same stops was = refl
-  loads_blamed state rows left failures stream.Ended first count old new begun loading going same stops was = absurd (going stops)
+module _ {D : Type 0} {S : Type 0} (state : D → Dir) (rows : List TypeRow) (left : S → Option (List ℕ)) (failures : S → ℕ) (founds : List Found) (begun loading : Loading D) (first last : RecordReader S) where
+  pub loads_blamed : (fault : StreamFault) → TakesAll rows (TakesRecord state rows) founds begun loading → BreaksAfter rows (TakesRecord state rows) left failures founds fault begun first last
+      → StopsLoading state rows (answers_to_come left first) (failures (source_of first)) (failures (source_of last)) begun (copy_fault fault)
+  loads_blamed stream.LineTooLong takes breaks = ended_so state rows (answers_to_come left first) begun founds loading stream.LineTooLong takes breaks
+  loads_blamed stream.BadVersion takes breaks = ended_so state rows (answers_to_come left first) begun founds loading stream.BadVersion takes breaks
+  loads_blamed stream.Read takes breaks = breaks.0
+  loads_blamed stream.Memory takes breaks = tt
+  loads_blamed stream.TooManyTurns takes breaks = refl
+  loads_blamed stream.Ended takes breaks = absurd (breaks)
 
-too_many : (fault : StreamFault) → copy_fault fault ≡ tool.BadCopy 0 (cause.Ended stream.TooManyTurns) → fault ≡ stream.TooManyTurns
-too_many stream.TooManyTurns is = refl
-too_many stream.LineTooLong is = absurd (cc)
-too_many stream.Read is = absurd (cc)
-too_many stream.Memory is = absurd (cc)
-too_many stream.Ended is = absurd (cc)
-too_many stream.BadVersion is = absurd (cc)
-
-pub copy_long : {S : Type 0} (left : S → Option (List ℕ)) (failures : S → ℕ) (fault : StreamFault) (a b c : RecordReader S) → copy_fault fault ≡ tool.BadCopy 0 (cause.Ended stream.TooManyTurns)
-    → SpendsTurns left a b → StopsFor left failures fault b c → GaveAtLeast (left (source_of a)) (left (source_of c)) (turns_left a)
-copy_long left failures fault a b c is first stops = spends_all left failures fault a b c (too_many fault is) first stops
+  pub loads_settled : (fault : StreamFault) → BreaksAfter rows (TakesRecord state rows) left failures founds fault begun first last → IsReaderFault (copy_fault fault) → (start : LoadedCopy) → IsLoaded state start begun
+      → GaveBytesTo left first last (CompleteRecordsLoad rows start)
+  loads_settled fault breaks is start holds =
+      let gave = gave_complete rows (TakesRecord state rows) left failures founds fault begun first last (of_copy fault is) breaks in
+      (gave.0, gave.1, complete_load state rows begun _ gave.2 start holds)
 
 -- ---- the whole copy
 

@@ -1,5 +1,5 @@
 -- The entries of a copy as far as it was read.
-use Rattle.std.proofs.Common.{◌≡◌, ℕ, Bool, true, false, cond, not, List, [], Option, None, Some, is_some, Result, Ok, Err, IfOk, IfSome, Bor, refl, sym, ap, subst, ◌∙◌}
+use Rattle.std.proofs.Common.{◌≡◌, ℕ, ◌⊎◌, inl, inr, Bool, true, false, cond, not, List, [], ◌∷◌, ◌++◌, append-nil, Option, None, Some, is_some, Result, Ok, Err, IfOk, IfSome, Bor, refl, sym, ap, subst, ◌∙◌}
 use Rattle.std.specs.Option.{option_copied, option_map}
 use Rattle.std.specs.Ordering.{eq_by_cmp}
 use Rattle.std.specs.Cmp.{eq_by_cmp_equiv}
@@ -12,8 +12,7 @@ use Rattle.dir_names.specs.Keys.{DnKeys}
 use Rattle.dir_names.specs.Names.{SpelledName}
 use Rattle.dir_names.specs.Outcome.{ok_or_bad_dn}
 use Rattle.dir_names.specs.Orders.{dn_key_cmp, dn_key_cmp_total}
-use Rattle.dir_ldif.specs.Reader.Answers.{GivesFirst, GivesNone}
-use Rattle.dir_ldif.specs.Records.{Answer, Found, records_of}
+use Rattle.dir_ldif.specs.Records.{Answer, Found, all_found, records_of}
 use Rattle.dir_tree.specs.Content.{Content}
 use Rattle.dir_tree.specs.Dir.{Dir, IsClosed, entry_at, has_parent, put_entry}
 use Rattle.dir_tree.specs.NewEntry.{new_entry}
@@ -22,16 +21,20 @@ use Rattle.dir_change.specs.declared.result_code.ResultCode.TheVariants.{NoSuchO
 use Rattle.dir_change.specs.Operation.{is_at_or_below, own_rdns}
 use Rattle.dir_tools.specs.declared.copy.loading.Loading.{Loading}
 use Rattle.dir_tools.specs.declared.copy.loading.Waiting.{Waiting}
-use Rattle.dir_tools.specs.CopyOf.{LoadedCopy, copy_of, empty_copy, refused_if, whole_directory, with_content, with_entry, with_record, with_records}
+use Rattle.dir_tools.specs.CopyOf.{LoadedCopy, copy_of, empty_copy, refused_if, whole_directory, with_content, with_entry, with_records}
 use Rattle.dir_names.specs.Results.{and_then}
-use Rattle.dir_ldif.specs.SoundRecords.{IsSoundFound}
 use Rattle.dir_tree.specs.WellFormed.{IsWellFormed, IsWithinLimits}
 use Rattle.dir_tools.proofs.CopySound.{order_taken, order_whole}
-use Rattle.dir_tools.specs.Inside.Loading.{AllWait, AreSoundInPlace, IsLoaded, IsMadeOf, IsPut, KeepsSound, LoadsOver, LoadsTo, waiting_or}
+use Rattle.dir_tools.specs.Inside.Loading.{AllWait, AreSoundInPlace, IsLoaded, IsMadeOf, IsPut, KeepsSound, LoadsOver, LoadsTo, TakesRecord, waiting_or}
 use Rattle.dir_tools.specs.CopyFaults.{HasNoEntries, HasRdn}
-use Rattle.dir_tools.specs.Inside.Running.{Continues}
 use Rattle.dir_tools.proofs.Orphans.{waits}
 use Rattle.dir_tools.proofs.Small.{known}
+use Rattle.dir_tools.specs.CompleteRecords.{CompleteRecordsLoad}
+use Rattle.dir_tools.specs.Inside.Taking.{EndsIn, TakesAll, TakesComplete}
+use Rattle.dir_ldif.specs.declared.reader.RecordReader.{RecordReader}
+use Rattle.dir_ldif.specs.Reader.{answers_to_come}
+use Rattle.dir_tools.specs.declared.taking.End.{End}
+use Rattle.dir_tools.specs.declared.taking.End.TheVariants as end
 
 -- ---- an entry more
 
@@ -95,55 +98,57 @@ placed_ok rows m line name lines key k e named below free makes =
     ap (with_content rows m line name lines) named
     ∙ (λ i. refused_if (not (below i)) line NoSuchObject (refused_if (is_some (free i)) line EntryAlreadyExists (with_entry m line k (makes i))))
 
--- ---- over the answers of a reader
+-- ---- over the records that are taken
 
--- the records that were read lead from one to the other
-abbrev pub LoadsSoFar : {D : Type 0} → (D → Dir) → List TypeRow → Option (List Answer) → Option (List Answer) → Loading D → Loading D → Type 0
-LoadsSoFar state rows first now old loading =
-    (start : LoadedCopy) → IsLoaded state start old
-    → (m : LoadedCopy) × IsLoaded state m loading × (AreSoundInPlace rows start.entries → AreSoundInPlace rows m.entries) × Continues first now (λ answers rest. with_records rows start answers ≡ with_records rows m rest)
+module _ {D : Type 0} (state : D → Dir) (rows : List TypeRow) where
+  -- they lead from one copy to another
+  pub loads_all : (founds : List Found) (begun loading : Loading D) → TakesAll rows (TakesRecord state rows) founds begun loading → (start : LoadedCopy) → IsLoaded state start begun
+      → (m : LoadedCopy) × IsLoaded state m loading × (AreSoundInPlace rows start.entries → AreSoundInPlace rows m.entries)
+      × ((rest : List Answer) → with_records rows start (all_found founds ++ rest) ≡ with_records rows m rest)
+  loads_all [] begun loading takes start holds = (start, subst (IsLoaded state start) takes holds, (λ order. order), λ rest. refl)
+  loads_all (found ∷ founds) begun loading takes start holds =
+      let one = takes.2.1 start holds in
+      let all = loads_all founds takes.0 loading takes.3 one.0 one.2 in (
+        all.0,
+        all.1,
+        (λ order. all.2 (order_taken rows start one.0 found.0 found.1 takes.1 one.1 order)),
+        λ rest. ap (λ r. and_then r (λ n. with_records rows n (all_found founds ++ rest))) one.1 ∙ all.3 rest,
+      )
 
-pub loads_begun : {D : Type 0} (state : D → Dir) (rows : List TypeRow) (first : Option (List Answer)) (loading : Loading D) → LoadsSoFar state rows first first loading loading
-loads_begun state rows None loading start was = (start, was, (λ order. order), tt)
-loads_begun state rows (Some answers) loading start was = (start, was, (λ order. order), refl)
+  loads_these : (founds : List Found) (begun loading : Loading D) → TakesAll rows (TakesRecord state rows) founds begun loading → (start : LoadedCopy) → IsLoaded state start begun
+      → LoadsTo state (with_records rows start (all_found founds)) loading
+  loads_these founds begun loading takes start holds =
+      let all = loads_all founds begun loading takes start holds in
+      (all.0, ap (with_records rows start) (sym (append-nil (all_found founds))) ∙ all.3 [], all.1)
 
-goes_on : (rows : List TypeRow) (start m next : LoadedCopy) (found : Found) (first old new : Option (List Answer))
-    → with_record rows m found.0 found.1 ≡ Ok next → GivesFirst (Ok found) old new
-    → Continues first old (λ answers rest. with_records rows start answers ≡ with_records rows m rest)
-    → Continues first new (λ answers rest. with_records rows start answers ≡ with_records rows next rest)
-goes_on rows start m next found None old new takes gives was = tt
-goes_on rows start m next found (Some answers) None new takes gives was = absurd (was)
-goes_on rows start m next found (Some answers) (Some now) None takes gives was = absurd (gives)
-goes_on rows start m next found (Some answers) (Some now) (Some rest) takes gives was =
-    was ∙ ap (with_records rows m) gives ∙ ap (λ r. and_then r (λ n. with_records rows n rest)) takes
+  pub loads_out : (founds : List Found) (first : Option (List Answer)) (begun loading : Loading D) → TakesAll rows (TakesRecord state rows) founds begun loading
+      → IfSome first (λ known. known ≡ all_found founds) → LoadsOver state rows first begun loading
+  loads_out founds first begun loading takes given start holds =
+      known first (λ answers is. subst (λ t. LoadsTo state (with_records rows start t) loading) (sym is) (loads_these founds begun loading takes start holds)) given
 
-pub loads_further : {D : Type 0} (state : D → Dir) (rows : List TypeRow) (found : Found) (first old new : Option (List Answer)) (begun loading next : Loading D)
-    → IsSoundFound rows found → ((m : LoadedCopy) → IsLoaded state m loading → LoadsTo state (with_record rows m found.0 found.1) next) → GivesFirst (Ok found) old new
-    → LoadsSoFar state rows first old begun loading → LoadsSoFar state rows first new begun next
-loads_further state rows found first old new begun loading next sound takes gives was start at_start =
-    let so_far = was start at_start in
-    let taken = takes so_far.0 so_far.1 in (
-      taken.0,
-      taken.2,
-      (λ order. order_taken rows so_far.0 taken.0 found.0 found.1 sound taken.1 (so_far.2 order)),
-      goes_on rows start so_far.0 taken.0 found first old new taken.1 gives so_far.3,
-    )
+  pub order_out : (founds : List Found) (begun loading : Loading D) → TakesAll rows (TakesRecord state rows) founds begun loading → KeepsSound state rows begun loading
+  order_out founds begun loading takes start holds = let all = loads_all founds begun loading takes start holds in (all.0, all.1, all.2)
 
-ends : (rows : List TypeRow) (start m : LoadedCopy) (first old : Option (List Answer)) → GivesNone old
-    → Continues first old (λ answers rest. with_records rows start answers ≡ with_records rows m rest) → IfSome first (λ answers. with_records rows start answers ≡ Ok m)
-ends rows start m None old none was = tt
-ends rows start m (Some answers) None none was = absurd (was)
-ends rows start m (Some answers) (Some rest) none was = was ∙ ap (with_records rows m) none
+  pub suffix_out : (founds : List Found) (begun loading : Loading D) → TakesAll rows (TakesRecord state rows) founds begun loading → (state loading.directory).suffix ≡ (state begun.directory).suffix
+  suffix_out [] begun loading takes = ap (λ (l : Loading D). (state l.directory).suffix) (sym takes)
+  suffix_out (found ∷ founds) begun loading takes = suffix_out founds takes.0 loading takes.3 ∙ takes.2.0
 
-pub loads_out : {D : Type 0} (state : D → Dir) (rows : List TypeRow) (first old : Option (List Answer)) (begun loading : Loading D)
-    → GivesNone old → LoadsSoFar state rows first old begun loading → LoadsOver state rows first begun loading
-loads_out state rows first old begun loading none was start at_start =
-    let so_far = was start at_start in
-    known first (λ answers is. (so_far.0, is, so_far.1)) (ends rows start so_far.0 first old none so_far.3)
+  -- so do the complete records of a text
+  pub complete_load : (begun : Loading D) (answers : List ℕ → List Answer) → TakesComplete rows (TakesRecord state rows) begun answers → (start : LoadedCopy) → IsLoaded state start begun → CompleteRecordsLoad rows start answers
+  complete_load begun answers takes start holds = λ founds settles.
+      let taken = takes founds settles in
+      let all = loads_these founds begun taken.0 taken.1 start holds in (all.0, all.1)
 
-pub order_out : {D : Type 0} (state : D → Dir) (rows : List TypeRow) (first old : Option (List Answer)) (begun loading : Loading D)
-    → LoadsSoFar state rows first old begun loading → KeepsSound state rows begun loading
-order_out state rows first old begun loading was start at_start = let so_far = was start at_start in (so_far.0, so_far.1, so_far.2)
+-- each record of a copy is wanted, so it is read to its end
+pub all_loaded : {D : Type 0} {S : Type 0} (state : D → Dir) (rows : List TypeRow) (left : S → Option (List ℕ)) (failures : S → ℕ) (ended : End) (begun loading : Loading D) (first last : RecordReader S)
+    → (ended ≡ end.AtEnd) ⊎ (ended ≡ end.Enough) → EndsIn rows (TakesRecord state rows) left failures ended begun loading first last
+    → (founds : List Found) × TakesAll rows (TakesRecord state rows) founds begun loading × IfSome (answers_to_come left first) (λ known. known ≡ all_found founds)
+all_loaded state rows left failures end.AtEnd begun loading first last is ends = ends.1
+all_loaded state rows left failures end.Enough begun loading first last is ends = absurd (ends.1.4)
+all_loaded state rows left failures (end.TextFault fault) begun loading first last (inl is) ends = absurd (cc)
+all_loaded state rows left failures (end.TextFault fault) begun loading first last (inr is) ends = absurd (cc)
+all_loaded state rows left failures (end.TakeFault fault) begun loading first last (inl is) ends = absurd (cc)
+all_loaded state rows left failures (end.TakeFault fault) begun loading first last (inr is) ends = absurd (cc)
 
 -- ---- the whole copy
 

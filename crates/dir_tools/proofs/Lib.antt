@@ -8,4 +8,5 @@ pub mod ReadCalls
 pub mod RunBack
 pub mod RunLemmas
 pub mod Small
+pub mod TakingLemmas
 pub mod TextLemmas

@@ -1,7 +1,6 @@
 -- The read calls that a reader spends.
 use Rattle.std.proofs.Common.{◌≡◌, ℕ, List, [], ◌++◌, length, length-append, Option, None, Some, Result, Ok, Err, IfSome, refl, ap, ◌∙◌, arith}
 use Rattle.std.proofs.KnownBytes.{Consumes-nil, Consumes-trans}
-use Rattle.dir_ldif.specs.declared.faults.StreamFault.{StreamFault}
 use Rattle.dir_ldif.specs.declared.faults.StreamFault.TheVariants as stream
 use Rattle.dir_ldif.specs.declared.reader.Place.{Place}
 use Rattle.dir_ldif.specs.declared.reader.Place.TheVariants as place
@@ -28,16 +27,11 @@ module _ {S : Type 0} where
       (first.0 ++ later.0, Consumes-trans (left a.source) (left b.source) (left c.source) first.0 later.0 first.1 later.1, omega (arith, long, first.2, later.2))
 
   -- a reader without read calls left had as many bytes
-  pub spends_all : (left : S → Option (List ℕ)) (failures : S → ℕ) (fault : StreamFault) (a b c : RecordReader S) → fault ≡ stream.TooManyTurns → SpendsTurns left a b → StopsFor left failures fault b c
+  pub spends_all : (left : S → Option (List ℕ)) (failures : S → ℕ) (a b c : RecordReader S) → SpendsTurns left a b → StopsFor left failures stream.TooManyTurns b c
       → GaveAtLeast (left (source_of a)) (left (source_of c)) (turns_left a)
-  spends_all left failures stream.TooManyTurns a b c is first stops =
+  spends_all left failures a b c first stops =
       let long = length-append first.0 stops.0 in
       (first.0 ++ stops.0, Consumes-trans (left a.source) (left b.source) (left c.source) first.0 stops.0 first.1 stops.1, omega (arith, long, first.2, stops.2))
-  spends_all left failures stream.LineTooLong a b c is first stops = absurd (cc)
-  spends_all left failures stream.Read a b c is first stops = absurd (cc)
-  spends_all left failures stream.Memory a b c is first stops = absurd (cc)
-  spends_all left failures stream.Ended a b c is first stops = absurd (cc)
-  spends_all left failures stream.BadVersion a b c is first stops = absurd (cc)
 
 -- a reader that gives a record or a fault is not at its end
 pub some_none : {A E : Type 0} (r : Result (Option A) E) (o : Option A) (x : A) → r ≡ Ok o → o ≡ Some x → r ≡ Ok None → ⊥
@@ -45,9 +39,6 @@ some_none r o x some is none = cc
 
 pub fault_none : {A E : Type 0} (r : Result (Option A) E) (e : E) → r ≡ Err e → r ≡ Ok None → ⊥
 fault_none r e fails none = cc
-
-pub err_same : {A E : Type 0} {x y : E} → ◌≡◌ {A = Result A E} (Err x) (Err y) → x ≡ y
-err_same h = cc
 
 pub long_text : (left left' : Option (List ℕ)) (turns : ℕ) → turns ≡ MAX_TURNS → GaveAtLeast left left' turns → IfSome left FillsReadCalls
 long_text None left' turns all gave = tt

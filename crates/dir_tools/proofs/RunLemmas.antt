@@ -1,5 +1,5 @@
 -- A run's outcomes, one after the other.
-use Rattle.std.proofs.Common.{◌≡◌, ℕ, ◌+◌, Bool, true, false, cond, List, [], ◌∷◌, ◌++◌, length, refl, sym, ap, subst, ◌∙◌, Option, None, Some, Result, Ok, Err, IfSome, arith, append_assoc, length-append}
+use Rattle.std.proofs.Common.{◌≡◌, ℕ, ◌⊎◌, inl, inr, ◌+◌, Bool, true, false, ◌||◌, cond, List, [], ◌∷◌, ◌++◌, length, refl, sym, ap, subst, ◌∙◌, Option, Result, Ok, Err, IfSome, arith, append_assoc, length-append}
 use Rattle.std.proofs.lemmas.List.{append-nil}
 use Rattle.std.specs.List.{flat_map}
 use Rattle.dir_names.specs.declared.schema.TypeRow.{TypeRow}
@@ -7,15 +7,10 @@ use Rattle.dir_ldif.specs.declared.faults.RecordFault.{RecordFault}
 use Rattle.dir_ldif.specs.declared.faults.StreamFault.{StreamFault}
 use Rattle.dir_ldif.specs.declared.records.Change.{Change}
 use Rattle.dir_ldif.specs.declared.records.Record.{Record}
-use Rattle.dir_ldif.specs.Device.{HasFailed}
 use Rattle.dir_ldif.specs.declared.faults.StreamFault.TheVariants as stream
 use Rattle.dir_ldif.specs.declared.reader.RecordReader.{RecordReader}
-use Rattle.dir_ldif.specs.Reader.{IsEnded, SpendsTurns, StopsFor, answers_to_come, source_of, turns_left}
-use Rattle.dir_tools.specs.ReadCalls.{GaveAtLeast}
-use Rattle.dir_tools.specs.declared.fault.ToolFault.TheVariants as tool
-use Rattle.dir_tools.proofs.ReadCalls.{spends_all}
-use Rattle.dir_ldif.specs.Reader.Answers.{GivesFirst, GivesNone}
-use Rattle.dir_ldif.specs.Records.{Answer, Found}
+use Rattle.dir_ldif.specs.Reader.{answers_to_come, source_of}
+use Rattle.dir_ldif.specs.Records.{Answer, Found, all_found}
 use Rattle.dir_tree.specs.Dir.{Dir}
 use Rattle.dir_tools.specs.declared.fault.Cause.{Cause}
 use Rattle.dir_tools.specs.declared.run.Run.{Run}
@@ -28,7 +23,14 @@ use Rattle.dir_change.specs.declared.result_code.ResultCode.{ResultCode}
 use Rattle.dir_change.specs.Operation.{step}
 use Rattle.dir_change.specs.Runs.{Ending, accepted_or, group_of, run_to_end, with_group_first}
 use Rattle.dir_change.specs.SoundChange.{IsSoundChange}
-use Rattle.dir_tools.specs.Inside.Running.{Adds, AddsAll, BreaksOff, Continues, IsChangesFaultCause, RunsOver, Takes, changes_fault}
+use Rattle.dir_tools.specs.Inside.Running.{Adds, AddsAll, BreaksOff, IsChangesFaultCause, RunsOver, Takes, TakesRecord, changes_fault}
+use Rattle.dir_tools.specs.CompleteRecords.{AcceptsTo, CompleteRecordsAreAccepted, GaveBytesTo, IsReaderFault}
+use Rattle.dir_tools.specs.Inside.Taking.{BreaksAfter, EndsIn, TakesAll, TakesUpTo}
+use Rattle.dir_tools.proofs.CompleteRecords.{IsReaders}
+use Rattle.dir_tools.proofs.TakingLemmas.{found_then, gave_complete, takes_induct}
+use Rattle.dir_tools.proofs.Small.{known}
+use Rattle.dir_tools.specs.declared.taking.End.{End}
+use Rattle.dir_tools.specs.declared.taking.End.TheVariants as end
 
 flat_map_snoc : {A B : Type 0} (f : A → List B) (xs : List A) (x : A) → flat_map f (xs ++ x ∷ []) ≡ flat_map f xs ++ f x
 flat_map_snoc f [] x = append-nil (f x)
@@ -76,61 +78,29 @@ pub goes : (rows : List TypeRow) (go_on : Bool) (d : Dir) (found : Found) (l : R
     → run_of rows go_on d (Ok found ∷ rest) ≡ run_after l found.0 (λ x. run_of rows go_on x rest) (cond go_on (run_of rows go_on d rest) (ended_run d))
 goes rows go_on d found l rest is = ap (λ (l : RecordStep). run_after l found.0 (λ x. run_of rows go_on x rest) (cond go_on (run_of rows go_on d rest) (ended_run d))) is
 
--- ---- over the answers of a reader
+-- ---- the answer on one record
 
--- what an accepted record leads on to, and a refused one of a run that goes on
-pub on_accepted : (rows : List TypeRow) (go_on : Bool) (d0 d e : Dir) (os : List (ℕ × Outcome)) (found : Found) (group : List Change) (first old new : Option (List Answer))
-    → record_step rows d found.1 ≡ Ok (e, group) → GivesFirst (Ok found) old new
-    → Continues first old (λ answers rest. run_of rows go_on d0 answers ≡ with_outcomes_before os (run_of rows go_on d rest))
-    → Continues first new (λ answers rest. run_of rows go_on d0 answers ≡ with_outcomes_before (os ++ (found.0, Ok group) ∷ []) (run_of rows go_on e rest))
-on_accepted rows go_on d0 d e os found group None old new is gives was = tt
-on_accepted rows go_on d0 d e os found group (Some answers) None new is gives was = absurd (was)
-on_accepted rows go_on d0 d e os found group (Some answers) (Some now) None is gives was = absurd (gives)
-on_accepted rows go_on d0 d e os found group (Some answers) (Some now) (Some rest) is gives was =
-    was ∙ ap (λ t. with_outcomes_before os (run_of rows go_on d t)) gives ∙ ap (with_outcomes_before os) (goes rows go_on d found (Ok (e, group)) rest is) ∙ onto_onto os ((found.0, Ok group) ∷ []) (run_of rows go_on e rest)
+module _ (rows : List TypeRow) (go_on : Bool) (d e : Dir) (os : List (ℕ × Outcome)) (found : Found) (rest : List Answer) where
+  -- what an accepted record leads on to, and a refused one of a run that goes on
+  on_accepted : (group : List Change) → record_step rows d found.1 ≡ Ok (e, group)
+      → with_outcomes_before os (run_of rows go_on d (Ok found ∷ rest)) ≡ with_outcomes_before (os ++ (found.0, Ok group) ∷ []) (run_of rows go_on e rest)
+  on_accepted group is = ap (with_outcomes_before os) (goes rows go_on d found (Ok (e, group)) rest is) ∙ onto_onto os ((found.0, Ok group) ∷ []) (run_of rows go_on e rest)
 
-pub on_refused : (rows : List TypeRow) (go_on : Bool) (d0 d e : Dir) (os : List (ℕ × Outcome)) (found : Found) (why : Cause) (first old new : Option (List Answer))
-    → go_on ≡ true → record_step rows d found.1 ≡ Err why → e ≡ d → GivesFirst (Ok found) old new
-    → Continues first old (λ answers rest. run_of rows go_on d0 answers ≡ with_outcomes_before os (run_of rows go_on d rest))
-    → Continues first new (λ answers rest. run_of rows go_on d0 answers ≡ with_outcomes_before (os ++ (found.0, Err why) ∷ []) (run_of rows go_on e rest))
-on_refused rows go_on d0 d e os found why None old new on is same gives was = tt
-on_refused rows go_on d0 d e os found why (Some answers) None new on is same gives was = absurd (was)
-on_refused rows go_on d0 d e os found why (Some answers) (Some now) None on is same gives was = absurd (gives)
-on_refused rows go_on d0 d e os found why (Some answers) (Some now) (Some rest) on is same gives was =
-    was ∙ ap (λ t. with_outcomes_before os (run_of rows go_on d t)) gives ∙ ap (with_outcomes_before os) (goes rows go_on d found (Err why) rest is) ∙ onto_onto os ((found.0, Err why) ∷ []) _
-    ∙ ap (λ (b : Bool). with_outcomes_before (os ++ (found.0, Err why) ∷ []) (cond b (run_of rows go_on d rest) (ended_run d))) on
-    ∙ ap (λ x. with_outcomes_before (os ++ (found.0, Err why) ∷ []) (run_of rows go_on x rest)) (sym same)
+  on_refused : (why : Cause) → go_on ≡ true → record_step rows d found.1 ≡ Err why → e ≡ d
+      → with_outcomes_before os (run_of rows go_on d (Ok found ∷ rest)) ≡ with_outcomes_before (os ++ (found.0, Err why) ∷ []) (run_of rows go_on e rest)
+  on_refused why on is same =
+      ap (with_outcomes_before os) (goes rows go_on d found (Err why) rest is) ∙ onto_onto os ((found.0, Err why) ∷ []) _
+      ∙ ap (λ (b : Bool). with_outcomes_before (os ++ (found.0, Err why) ∷ []) (cond b (run_of rows go_on d rest) (ended_run d))) on
+      ∙ ap (λ x. with_outcomes_before (os ++ (found.0, Err why) ∷ []) (run_of rows go_on x rest)) (sym same)
 
--- where a run ends
-pub on_stopped : (rows : List TypeRow) (go_on : Bool) (d0 d e : Dir) (os : List (ℕ × Outcome)) (found : Found) (why : Cause) (first old new : Option (List Answer))
-    → go_on ≡ false → record_step rows d found.1 ≡ Err why → e ≡ d → GivesFirst (Ok found) old new
-    → Continues first old (λ answers rest. run_of rows go_on d0 answers ≡ with_outcomes_before os (run_of rows go_on d rest))
-    → IfSome first (λ answers. run_of rows go_on d0 answers ≡ Ok (record { end = e; outcomes = os ++ (found.0, Err why) ∷ [] }))
-on_stopped rows go_on d0 d e os found why None old new off is same gives was = tt
-on_stopped rows go_on d0 d e os found why (Some answers) None new off is same gives was = absurd (was)
-on_stopped rows go_on d0 d e os found why (Some answers) (Some now) None off is same gives was = absurd (gives)
-on_stopped rows go_on d0 d e os found why (Some answers) (Some now) (Some rest) off is same gives was =
-    was ∙ ap (λ t. with_outcomes_before os (run_of rows go_on d t)) gives ∙ ap (with_outcomes_before os) (goes rows go_on d found (Err why) rest is) ∙ onto_onto os ((found.0, Err why) ∷ []) _
-    ∙ ap (λ (b : Bool). with_outcomes_before (os ++ (found.0, Err why) ∷ []) (cond b (run_of rows go_on d rest) (ended_run d))) off
-    ∙ ap (λ t. Ok (record { end = d; outcomes = t })) (append-nil (os ++ (found.0, Err why) ∷ []))
-    ∙ ap (λ x. Ok (record { end = x; outcomes = os ++ (found.0, Err why) ∷ [] })) (sym same)
-
-pub on_end : (rows : List TypeRow) (go_on : Bool) (d0 d : Dir) (os : List (ℕ × Outcome)) (first old : Option (List Answer))
-    → GivesNone old
-    → Continues first old (λ answers rest. run_of rows go_on d0 answers ≡ with_outcomes_before os (run_of rows go_on d rest))
-    → IfSome first (λ answers. run_of rows go_on d0 answers ≡ Ok (record { end = d; outcomes = os }))
-on_end rows go_on d0 d os None old none was = tt
-on_end rows go_on d0 d os (Some answers) None none was = absurd (was)
-on_end rows go_on d0 d os (Some answers) (Some rest) none was =
-    was ∙ ap (λ t. with_outcomes_before os (run_of rows go_on d t)) none ∙ ap (λ t. Ok (record { end = d; outcomes = t })) (append-nil os)
-
-pub on_fault : (rows : List TypeRow) (go_on : Bool) (d0 d : Dir) (os : List (ℕ × Outcome)) (fault : StreamFault) (first old : Option (List Answer))
-    → IfSome old (λ known. known ≡ Err fault ∷ [])
-    → Continues first old (λ answers rest. run_of rows go_on d0 answers ≡ with_outcomes_before os (run_of rows go_on d rest))
-    → IfSome first (λ answers. run_of rows go_on d0 answers ≡ Err fault)
-on_fault rows go_on d0 d os fault None old ends was = tt
-on_fault rows go_on d0 d os fault (Some answers) None ends was = absurd (was)
-on_fault rows go_on d0 d os fault (Some answers) (Some rest) ends was = was ∙ ap (λ t. with_outcomes_before os (run_of rows go_on d t)) ends
+  -- where a run ends
+  on_stopped : (why : Cause) → go_on ≡ false → record_step rows d found.1 ≡ Err why → e ≡ d
+      → with_outcomes_before os (run_of rows go_on d (Ok found ∷ rest)) ≡ Ok (record { end = e; outcomes = os ++ (found.0, Err why) ∷ [] })
+  on_stopped why off is same =
+      ap (with_outcomes_before os) (goes rows go_on d found (Err why) rest is) ∙ onto_onto os ((found.0, Err why) ∷ []) _
+      ∙ ap (λ (b : Bool). with_outcomes_before (os ++ (found.0, Err why) ∷ []) (cond b (run_of rows go_on d rest) (ended_run d))) off
+      ∙ ap (λ t. Ok (record { end = d; outcomes = t })) (append-nil (os ++ (found.0, Err why) ∷ []))
+      ∙ ap (λ x. Ok (record { end = x; outcomes = os ++ (found.0, Err why) ∷ [] })) (sym same)
 
 -- ---- the accepted changes alone
 
@@ -205,78 +175,134 @@ accepted_still rows d0 d e os line why same was = (
       ∙ ap (λ gs. record { end = e; groups = gs }) (sym (append-nil (groups_in os)) ∙ sym (flat_map_snoc group_in os (line, Err why))),
 )
 
--- ---- one record of the loop
+-- ---- over the records that are taken
 
--- the run so far: outcomes were told, and the rest is to be run from here
-abbrev pub RunsSoFar : {D : Type 0} → (D → Dir) → List TypeRow → Option (List Answer) → Option (List Answer) → Run D → Run D → Type 0
-RunsSoFar state rows first now old run =
-    (outcomes : List (ℕ × Outcome)) × AddsAll outcomes old run × HasAccepted rows (state old.directory) outcomes (state run.directory)
-    × Continues first now (λ answers rest. run_of rows old.options.go_on (state old.directory) answers ≡ with_outcomes_before outcomes (run_of rows old.options.go_on (state run.directory) rest))
+module _ {D : Type 0} (state : D → Dir) (rows : List TypeRow) (begun : Run D) where
+  -- the run so far: outcomes were told, and what follows these records is to be run from here
+  abbrev RunsSoFar : List Found → Run D → Type 0
+  RunsSoFar founds run =
+      (outcomes : List (ℕ × Outcome)) × AddsAll outcomes begun run × HasAccepted rows (state begun.directory) outcomes (state run.directory) × (run.options ≡ begun.options)
+      × ((rest : List Answer)
+      → run_of rows begun.options.go_on (state begun.directory) (all_found founds ++ rest) ≡ with_outcomes_before outcomes (run_of rows begun.options.go_on (state run.directory) rest))
 
-pub runs_begun : {D : Type 0} (state : D → Dir) (rows : List TypeRow) (first : Option (List Answer)) (run : Run D) → RunsSoFar state rows first first run run
-runs_begun state rows None run = ([], adds_none run, accepted_none rows (state run.directory), tt)
-runs_begun state rows (Some answers) run = ([], adds_none run, accepted_none rows (state run.directory), onto_none (run_of rows run.options.go_on (state run.directory) answers))
+  runs_begun : RunsSoFar [] begun
+  runs_begun = ([], adds_none begun, accepted_none rows (state begun.directory), refl, λ rest. onto_none (run_of rows begun.options.go_on (state begun.directory) rest))
 
-pub runs_further : {D : Type 0} (state : D → Dir) (rows : List TypeRow) (is_accepted : Bool) (found : Found) (first old new : Option (List Answer)) (begun run next : Run D)
-    → (is_accepted ≡ false → begun.options.go_on ≡ true) → IsSoundFound rows found
-    → Takes is_accepted state rows found.0 found.1 run next → GivesFirst (Ok found) old new
-    → RunsSoFar state rows first old begun run → RunsSoFar state rows first new begun next
-runs_further state rows true found first old new begun run next on sound takes gives was = (
-  was.0 ++ (found.0, Ok takes.0) ∷ [],
-  adds_one was.0 (found.0, Ok takes.0) begun run next was.1 takes.2,
-  accepted_more rows (state begun.directory) (state run.directory) (state next.directory) was.0 found.0 found.1 takes.0 takes.1 sound was.2,
-  on_accepted rows begun.options.go_on (state begun.directory) (state run.directory) (state next.directory) was.0 found takes.0 first old new takes.1 gives was.3,
-)
-runs_further state rows false found first old new begun run next on sound takes gives was = (
-  was.0 ++ (found.0, Err takes.0) ∷ [],
-  adds_one was.0 (found.0, Err takes.0) begun run next was.1 takes.3,
-  accepted_still rows (state begun.directory) (state run.directory) (state next.directory) was.0 found.0 takes.0 takes.2 was.2,
-  on_refused rows begun.options.go_on (state begun.directory) (state run.directory) (state next.directory) was.0 found takes.0 first old new (on refl) takes.1 takes.2 gives was.3,
-)
+  runs_further : (founds : List Found) (found : Found) (run next : Run D) → IsSoundFound rows found → TakesRecord state rows found run (Ok true) next → RunsSoFar founds run → RunsSoFar (founds ++ found ∷ []) next
+  runs_further founds found run next sound gives was = by gives.1 gives.2 gives.3
+    where
+      by : (is_accepted : Bool) → Takes is_accepted state rows found.0 found.1 run next → true ≡ (is_accepted || run.options.go_on) → RunsSoFar (founds ++ found ∷ []) next
+      by true takes wants = (
+        was.0 ++ (found.0, Ok takes.0) ∷ [],
+        adds_one was.0 (found.0, Ok takes.0) begun run next was.1 takes.2,
+        accepted_more rows (state begun.directory) (state run.directory) (state next.directory) was.0 found.0 found.1 takes.0 takes.1 sound was.2,
+        gives.0 ∙ was.3,
+        λ rest. ap (run_of rows begun.options.go_on (state begun.directory)) (found_then founds found rest) ∙ was.4 (Ok found ∷ rest)
+            ∙ on_accepted rows begun.options.go_on (state run.directory) (state next.directory) was.0 found rest takes.0 takes.1,
+      )
+      by false takes wants = (
+        was.0 ++ (found.0, Err takes.0) ∷ [],
+        adds_one was.0 (found.0, Err takes.0) begun run next was.1 takes.3,
+        accepted_still rows (state begun.directory) (state run.directory) (state next.directory) was.0 found.0 takes.0 takes.2 was.2,
+        gives.0 ∙ was.3,
+        λ rest. ap (run_of rows begun.options.go_on (state begun.directory)) (found_then founds found rest) ∙ was.4 (Ok found ∷ rest)
+            ∙ on_refused rows begun.options.go_on (state run.directory) (state next.directory) was.0 found rest takes.0 (sym (ap (λ o. o.go_on) was.3) ∙ sym wants) takes.1 takes.2,
+      )
 
-pub runs_stopped : {D : Type 0} (state : D → Dir) (rows : List TypeRow) (is_accepted : Bool) (found : Found) (first old new : Option (List Answer)) (begun run next : Run D)
-    → is_accepted ≡ false → begun.options.go_on ≡ false
-    → Takes is_accepted state rows found.0 found.1 run next → GivesFirst (Ok found) old new
-    → RunsSoFar state rows first old begun run → RunsOver state rows first begun next
-runs_stopped state rows true found first old new begun run next refused off takes gives was = absurd (cc)
-runs_stopped state rows false found first old new begun run next refused off takes gives was = (
-  was.0 ++ (found.0, Err takes.0) ∷ [],
-  adds_one was.0 (found.0, Err takes.0) begun run next was.1 takes.3,
-  accepted_still rows (state begun.directory) (state run.directory) (state next.directory) was.0 found.0 takes.0 takes.2 was.2,
-  on_stopped rows begun.options.go_on (state begun.directory) (state run.directory) (state next.directory) was.0 found takes.0 first old new off takes.1 takes.2 gives was.3,
-)
+  runs_all : (founds : List Found) (run : Run D) → TakesAll rows (TakesRecord state rows) founds begun run → RunsSoFar founds run
+  runs_all founds run takes = takes_induct rows (TakesRecord state rows) RunsSoFar runs_further founds begun run takes runs_begun
 
-pub runs_out : {D : Type 0} (state : D → Dir) (rows : List TypeRow) (first old : Option (List Answer)) (begun run : Run D)
-    → GivesNone old → RunsSoFar state rows first old begun run → RunsOver state rows first begun run
-runs_out state rows first old begun run none was =
-    (was.0, was.1, was.2, on_end rows begun.options.go_on (state begun.directory) (state run.directory) was.0 first old none was.3)
+  same_options : (founds : List Found) (run : Run D) → TakesAll rows (TakesRecord state rows) founds begun run → run.options ≡ begun.options
+  same_options founds run takes = (runs_all founds run takes).3
 
-pub runs_faulty : {D : Type 0} (state : D → Dir) (rows : List TypeRow) (fault : StreamFault) (first old : Option (List Answer)) (begun run : Run D)
-    → IfSome old (λ known. known ≡ Err fault ∷ []) → RunsSoFar state rows first old begun run → BreaksOff state rows first begun fault
-runs_faulty state rows fault first old begun run ends was =
-    on_fault rows begun.options.go_on (state begun.directory) (state run.directory) was.0 fault first old ends was.3
+  -- the run ends at the end of the text
+  runs_out : (founds : List Found) (first : Option (List Answer)) (run : Run D) → TakesAll rows (TakesRecord state rows) founds begun run → IfSome first (λ known. known ≡ all_found founds) → RunsOver state rows first begun run
+  runs_out founds first run takes given =
+      let was = runs_all founds run takes in (
+        was.0,
+        was.1,
+        was.2,
+        known first
+            (λ answers is. ap (run_of rows begun.options.go_on (state begun.directory)) (is ∙ sym (append-nil (all_found founds))) ∙ was.4 []
+            ∙ ap (λ t. Ok (record { end = state run.directory; outcomes = t })) (append-nil was.0))
+            given,
+      )
 
--- the fault of a reader, in the run's words
-module _ {D : Type 0} {S : Type 0} where
-  pub runs_blamed : (state : D → Dir) (rows : List TypeRow) (left : S → Option (List ℕ)) (failures : S → ℕ) (fault : StreamFault) (first : Option (List Answer)) (count : ℕ) (old new : RecordReader S) (begun run : Run D)
-      → (IsEnded old → ⊥) → failures (source_of old) ≡ count → StopsFor left failures fault old new
-      → RunsSoFar state rows first (answers_to_come left old) begun run
-      → IsChangesFaultCause state rows first count (failures (source_of new)) begun (changes_fault fault)
-  runs_blamed state rows left failures stream.LineTooLong first count old new begun run going same stops was = runs_faulty state rows stream.LineTooLong first (answers_to_come left old) begun run stops was
-  runs_blamed state rows left failures stream.BadVersion first count old new begun run going same stops was = runs_faulty state rows stream.BadVersion first (answers_to_come left old) begun run stops was
-  runs_blamed state rows left failures stream.Read first count old new begun run going same stops was = subst (λ n. HasFailed n (failures (source_of new))) same stops.0
-  runs_blamed state rows left failures stream.Memory first count old new begun run going same stops was = tt
-  runs_blamed state rows left failures stream.TooManyTurns first count old new begun run going same stops was = tt
-  runs_blamed state rows left failures stream.Ended first count old new begun run going same stops was = absurd (going stops)
+  -- it ends at a refused record
+  runs_stopped : (first : Option (List Answer)) (next : Run D) → TakesUpTo rows (TakesRecord state rows) (Ok false) first begun next → RunsOver state rows first begun next
+  runs_stopped first next upto = by upto.4.1 upto.4.2 upto.4.3
+    where
+      by : (is_accepted : Bool) → Takes is_accepted state rows upto.1.0 upto.1.1 upto.2 next → false ≡ (is_accepted || upto.2.options.go_on) → RunsOver state rows first begun next
+      by true takes wants = absurd (cc)
+      by false takes wants =
+          let was = runs_all upto.0 upto.2 upto.3 in (
+            was.0 ++ (upto.1.0, Err takes.0) ∷ [],
+            adds_one was.0 (upto.1.0, Err takes.0) begun upto.2 next was.1 takes.3,
+            accepted_still rows (state begun.directory) (state upto.2.directory) (state next.directory) was.0 upto.1.0 takes.0 takes.2 was.2,
+            known first
+                (λ answers given. ap (run_of rows begun.options.go_on (state begun.directory)) given.1 ∙ was.4 (Ok upto.1 ∷ given.0)
+                ∙ on_stopped rows begun.options.go_on (state upto.2.directory) (state next.directory) was.0 upto.1 given.0 takes.0 (sym (ap (λ o. o.go_on) was.3) ∙ sym wants) takes.1 takes.2)
+                upto.5,
+          )
 
-too_many : (fault : StreamFault) → changes_fault fault ≡ tool.BadChanges stream.TooManyTurns → fault ≡ stream.TooManyTurns
-too_many stream.TooManyTurns is = refl
-too_many stream.LineTooLong is = absurd (cc)
-too_many stream.Read is = absurd (cc)
-too_many stream.Memory is = absurd (cc)
-too_many stream.Ended is = absurd (cc)
-too_many stream.BadVersion is = absurd (cc)
+  -- it comes to the fault of the text
+  runs_faulty : (founds : List Found) (fault : StreamFault) (first : Option (List Answer)) (run : Run D) → TakesAll rows (TakesRecord state rows) founds begun run
+      → IfSome first (λ known. known ≡ all_found founds ++ Err fault ∷ []) → BreaksOff state rows first begun fault
+  runs_faulty founds fault first run takes given =
+      let was = runs_all founds run takes in known first (λ answers is. ap (run_of rows begun.options.go_on (state begun.directory)) is ∙ was.4 (Err fault ∷ [])) given
 
-pub changes_long : {S : Type 0} (left : S → Option (List ℕ)) (failures : S → ℕ) (fault : StreamFault) (a b c : RecordReader S) → changes_fault fault ≡ tool.BadChanges stream.TooManyTurns
-    → SpendsTurns left a b → StopsFor left failures fault b c → GaveAtLeast (left (source_of a)) (left (source_of c)) (turns_left a)
-changes_long left failures fault a b c is first stops = spends_all left failures fault a b c (too_many fault is) first stops
+-- a run ends at the end of the text, or at a refused record
+pub all_run : {D : Type 0} {S : Type 0} (state : D → Dir) (rows : List TypeRow) (left : S → Option (List ℕ)) (failures : S → ℕ) (ended : End) (begun run : Run D) (first last : RecordReader S)
+    → (ended ≡ end.AtEnd) ⊎ (ended ≡ end.Enough) → EndsIn rows (TakesRecord state rows) left failures ended begun run first last → RunsOver state rows (answers_to_come left first) begun run
+all_run state rows left failures end.AtEnd begun run first last is ends = runs_out state rows begun ends.1.0 (answers_to_come left first) run ends.1.1 ends.1.2
+all_run state rows left failures end.Enough begun run first last is ends = runs_stopped state rows begun (answers_to_come left first) run ends.1
+all_run state rows left failures (end.TextFault fault) begun run first last (inl is) ends = absurd (cc)
+all_run state rows left failures (end.TextFault fault) begun run first last (inr is) ends = absurd (cc)
+all_run state rows left failures (end.TakeFault fault) begun run first last (inl is) ends = absurd (cc)
+all_run state rows left failures (end.TakeFault fault) begun run first last (inr is) ends = absurd (cc)
+
+pub options_stay : {D : Type 0} {S : Type 0} (state : D → Dir) (rows : List TypeRow) (left : S → Option (List ℕ)) (failures : S → ℕ) (ended : End) (begun run : Run D) (first last : RecordReader S)
+    → EndsIn rows (TakesRecord state rows) left failures ended begun run first last → run.options ≡ begun.options
+options_stay state rows left failures end.AtEnd begun run first last ends = same_options state rows begun ends.1.0 run ends.1.1
+options_stay state rows left failures end.Enough begun run first last ends = ends.1.4.0 ∙ same_options state rows begun ends.1.0 ends.1.2 ends.1.3
+options_stay state rows left failures (end.TextFault fault) begun run first last ends = same_options state rows begun ends.0 run ends.1
+options_stay state rows left failures (end.TakeFault fault) begun run first last ends = ends.4.0 ∙ same_options state rows begun ends.0 ends.2 ends.3
+
+-- where a run stops at the first refused record, each of those that were taken is accepted
+accepts_all : {D : Type 0} (state : D → Dir) (rows : List TypeRow) (founds : List Found) (run next : Run D) → run.options.go_on ≡ false → TakesAll rows (TakesRecord state rows) founds run next
+    → AcceptsTo rows (state run.directory) founds (state next.directory)
+accepts_all state rows [] run next off takes = ap (λ r. state r.directory) takes
+accepts_all state rows (found ∷ founds) run next off takes = by takes.2.1 takes.2.2 takes.2.3 (accepts_all state rows founds takes.0 next (ap (λ o. o.go_on) takes.2.0 ∙ off) takes.3)
+  where
+    by : (is_accepted : Bool) → Takes is_accepted state rows found.0 found.1 run takes.0 → true ≡ (is_accepted || run.options.go_on) → AcceptsTo rows (state takes.0.directory) founds (state next.directory)
+        → AcceptsTo rows (state run.directory) (found ∷ founds) (state next.directory)
+    by true t wants later = (state takes.0.directory, t.0, t.1, later)
+    by false t wants later = absurd (cc)
+
+of_changes : (fault : StreamFault) → IsReaderFault (changes_fault fault) → IsReaders fault
+of_changes stream.Read is = tt
+of_changes stream.TooManyTurns is = tt
+of_changes stream.LineTooLong is = absurd (is)
+of_changes stream.Memory is = absurd (is)
+of_changes stream.Ended is = absurd (is)
+of_changes stream.BadVersion is = absurd (is)
+
+-- the fault of a reader
+module _ {D : Type 0} {S : Type 0} (state : D → Dir) (rows : List TypeRow) (left : S → Option (List ℕ)) (failures : S → ℕ) (founds : List Found) (begun run : Run D) (first last : RecordReader S) where
+  pub runs_blamed : (fault : StreamFault) → TakesAll rows (TakesRecord state rows) founds begun run → BreaksAfter rows (TakesRecord state rows) left failures founds fault begun first last
+      → IsChangesFaultCause state rows (answers_to_come left first) (failures (source_of first)) (failures (source_of last)) begun (changes_fault fault)
+  runs_blamed stream.LineTooLong takes breaks = runs_faulty state rows begun founds stream.LineTooLong (answers_to_come left first) run takes breaks
+  runs_blamed stream.BadVersion takes breaks = runs_faulty state rows begun founds stream.BadVersion (answers_to_come left first) run takes breaks
+  runs_blamed stream.Read takes breaks = breaks.0
+  runs_blamed stream.Memory takes breaks = tt
+  runs_blamed stream.TooManyTurns takes breaks = tt
+  runs_blamed stream.Ended takes breaks = absurd (breaks)
+
+  pub runs_settled : (fault : StreamFault) → BreaksAfter rows (TakesRecord state rows) left failures founds fault begun first last → IsReaderFault (changes_fault fault) → begun.options.go_on ≡ false
+      → GaveBytesTo left first last (CompleteRecordsAreAccepted rows (state begun.directory))
+  runs_settled fault breaks is off =
+      let gave = gave_complete rows (TakesRecord state rows) left failures founds fault begun first last (of_changes fault is) breaks in (
+        gave.0,
+        gave.1,
+        λ settled settles. let taken = gave.2 settled settles in (state taken.0.directory, accepts_all state rows settled begun taken.0 off taken.1),
+      )

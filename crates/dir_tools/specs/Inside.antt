@@ -1,3 +1,4 @@
 pub mod Loading
 pub mod RunTexts
 pub mod Running
+pub mod Taking

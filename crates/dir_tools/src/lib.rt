@@ -9,6 +9,7 @@ mod laws;
 mod modify;
 mod report;
 mod run;
+mod taking;
 mod write;
 
 pub use copy::{read_copy, write_copy};

@@ -5,6 +5,7 @@ ghost use Rattle.dir_tools.specs.Inside.Running.{changes_fault};
 
 use crate::canonical::canonical_text;
 use crate::report::Report;
+use crate::taking::{End, Taker, take_records};
 use crate::{Cause, Input, ToolFault};
 use dir_change::{History, Refusal, apply};
 use dir_ldif::{Change, Record, RecordFault, RecordReader, Source, StreamFault};
@@ -125,25 +126,15 @@ impl<D: Directory + Drop> Run<D> {
         ensures same { S.is_same (source_of records.old) (source_of records.new) }
         ensures options { self.new.options ≡ self.old.options }
     {
-        loop {
-            match records.next() {
-                Ok(Some((line, found))) => {
-                    let is_accepted = match self.take(alloc, schema, line, found) {
-                        Ok(is_accepted) => is_accepted,
-                        Err(fault) => return Err(fault),
-                    };
-                    if !is_accepted && !self.options.go_on {
-                        return Ok(());
-                    }
-                }
-                Ok(None) => return Ok(()),
-                Err(fault) => return Err(ended(fault)),
-            }
+        match take_records(self, alloc, schema, records) {
+            End::AtEnd | End::Enough => Ok(()),
+            End::TextFault(fault) => Err(ended(fault)),
+            End::TakeFault(fault) => Err(fault),
         }
     }
 
     /// Takes one record, and tells whether it is accepted.
-    fn take(
+    fn take_record(
         &mut self,
         alloc: Global,
         schema: &Schema,
@@ -233,6 +224,26 @@ impl<D: Directory + Drop> Run<D> {
             report: report.close(summary)?,
             summary,
         })
+    }
+}
+
+impl<D: Directory + Drop> Taker for Run<D> {
+    ghost use Rattle.dir_tools.specs.Inside.Running.{TakesRecord, records_taken};
+
+    ghost take_gives = { TakesRecord D.state };
+
+    ghost counted = { records_taken };
+
+    /// More records are wanted after an accepted one, and after a refused one where the run goes on.
+    fn take(
+        &mut self,
+        alloc: Global,
+        schema: &Schema,
+        line: u64,
+        found: Result<Record, RecordFault>,
+    ) -> Result<bool, ToolFault> {
+        let is_accepted = self.take_record(alloc, schema, line, found)?;
+        Ok(is_accepted || self.options.go_on)
     }
 }
 

@@ -10,14 +10,14 @@ use Rattle.dir_names.specs.NameKeys.{name_key}
 use Rattle.dir_names.specs.Orders.{dn_key_cmp}
 use Rattle.dir_names.specs.Names.Limits.{is_rdn_within_limit}
 use Rattle.dir_names.specs.Names.Sound.{is_sound_name}
-use Rattle.dir_ldif.specs.Records.{Answer}
+use Rattle.dir_ldif.specs.Records.{Answer, Found}
 use Rattle.dir_tree.specs.Content.{Content}
 use Rattle.dir_tree.specs.Dir.{Dir, IsClosed, entry_at, has_parent, put_entry}
 use Rattle.dir_ldif.specs.Device.{HasFailed}
 use Rattle.dir_ldif.specs.declared.faults.StreamFault.{StreamFault}
 use Rattle.dir_ldif.specs.declared.faults.StreamFault.TheVariants as stream
 use Rattle.dir_tree.specs.WellFormed.{IsSoundEntry, own_part}
-use Rattle.dir_tools.specs.CopyOf.{CopyFault, LoadedCopy, with_records}
+use Rattle.dir_tools.specs.CopyOf.{CopyFault, LoadedCopy, with_record, with_records}
 use Rattle.dir_tools.specs.declared.copy.loading.Loading.{Loading}
 use Rattle.dir_tools.specs.declared.copy.loading.Waiting.{Waiting}
 use Rattle.dir_tools.specs.declared.fault.Cause.TheVariants as cause
@@ -88,6 +88,15 @@ module _ {D : Type 0} where
   -- the records give the entries that are in the directory or wait
   abbrev pub LoadsTo : (D → Dir) → Result LoadedCopy CopyFault → Loading D → Type 0
   LoadsTo state taken loading = (m : LoadedCopy) × (taken ≡ Ok m) × IsLoaded state m loading
+
+  -- what taking a record answers: more are always wanted, and its entry is in the directory or waits; or the copy has this fault
+  abbrev pub TakesRecord : (D → Dir) → List TypeRow → Found → Loading D → Result Bool ToolFault → Loading D → Type 0
+  TakesRecord state rows found old (Ok true) new =
+      ((state new.directory).suffix ≡ (state old.directory).suffix)
+      × ((m : LoadedCopy) → IsLoaded state m old → LoadsTo state (with_record rows m found.0 found.1) new)
+  TakesRecord state rows found old (Ok false) new = ⊥
+  TakesRecord state rows found old (Err fault) new =
+      IsRecordFault fault × ((m : LoadedCopy) → IsLoaded state m old → IsCopyFault (with_record rows m found.0 found.1) fault)
 
   -- whatever was read before, so do the answers that were given
   abbrev pub LoadsOver : (D → Dir) → List TypeRow → Option (List Answer) → Loading D → Loading D → Type 0

@@ -1,5 +1,5 @@
 -- The view of `Run`: a run as far as it has come, and how it takes a record. No public contract needs this file.
-use Rattle.std.specs.Prelude.{◌≡◌, ⊤, IfSome, ℕ, ◌+◌, Bool, true, false, List, [], ◌∷◌, ◌++◌, length, Option, None, Some, Result, Ok, Err}
+use Rattle.std.specs.Prelude.{◌≡◌, ⊤, IfSome, ℕ, ◌+◌, ◌||◌, Bool, true, false, List, [], ◌∷◌, ◌++◌, length, Option, None, Some, Result, Ok, Err}
 use Rattle.std.specs.List.{flat_map}
 use Rattle.dir_names.specs.declared.schema.TypeRow.{TypeRow}
 use Rattle.dir_ldif.specs.Device.{HasFailed}
@@ -17,18 +17,12 @@ use Rattle.dir_tools.specs.Canonical.{canonical_of}
 use Rattle.dir_tools.specs.declared.run.Files.{Files}
 use Rattle.dir_tools.specs.declared.run.RunTexts.{RunTexts}
 use Rattle.dir_tools.specs.declared.run.Run.{Run}
-use Rattle.dir_ldif.specs.Records.{Answer}
+use Rattle.dir_ldif.specs.Records.{Answer, Found}
 use Rattle.dir_tools.specs.declared.fault.ToolFault.{ToolFault}
 use Rattle.dir_tools.specs.declared.fault.ToolFault.TheVariants as tool
 use Rattle.dir_tools.specs.declared.fault.Input.TheVariants as input
 use Rattle.dir_tools.specs.RunOf.{Outcome, cause_in, causes_in, group_in, groups_in, record_step, run_of, HasAccepted}
 use Rattle.dir_tools.specs.Report.{numbers_line, outcome_line}
-
--- what is still to give after the first answers of a list that is known
-abbrev pub Continues : Option (List Answer) → Option (List Answer) → (List Answer → List Answer → Type 0) → Type 0
-Continues None now P = ⊤
-Continues (Some answers) None P = ⊥
-Continues (Some answers) (Some rest) P = P answers rest
 
 -- what a fault that ends the text of changes means
 abbrev pub changes_fault : StreamFault → ToolFault
@@ -78,6 +72,12 @@ module _ {D : Type 0} where
       (group : List Change) × (record_step rows (state old.directory) found ≡ Ok (state new.directory, group)) × Adds (line, Ok group) old new
   Takes false state rows line found old new =
       (why : Cause) × (record_step rows (state old.directory) found ≡ Err why) × (state new.directory ≡ state old.directory) × Adds (line, Err why) old new
+
+  -- what taking a record answers: whether it is accepted, or the run goes on; or memory ran out
+  abbrev pub TakesRecord : (D → Dir) → List TypeRow → Found → Run D → Result Bool ToolFault → Run D → Type 0
+  TakesRecord state rows found old (Ok more) new =
+      (new.options ≡ old.options) × (is_accepted : Bool) × Takes is_accepted state rows found.0 found.1 old new × (more ≡ (is_accepted || old.options.go_on))
+  TakesRecord state rows found old (Err fault) new = (new.options ≡ old.options) × (fault ≡ tool.Memory)
 
   -- outcomes are reported, one after the other
   abbrev pub AddsAll : List (ℕ × Outcome) → Run D → Run D → Type 0

@@ -10,6 +10,7 @@ ghost use Rattle.dir_tools.specs.declared.fault.ToolFault.TheVariants as ToolFau
 ghost use Rattle.dir_tree.specs.Dir.{entry_at};
 
 use super::orphans::Orphans;
+use crate::taking::{End, Taker, take_records};
 use crate::{Cause, Input, ToolFault};
 use dir_change::{Refusal, ResultCode};
 use dir_ldif::{Record, RecordFault, RecordReader, Source, StreamFault};
@@ -69,39 +70,10 @@ impl<D: Directory + Drop> Loading<D> {
         ensures unfailed { OnOk result (S.failures (source_of records.new) ≡ S.failures (source_of records.old)) }
         ensures same { S.is_same (source_of records.old) (source_of records.new) }
     {
-        loop {
-            match records.next() {
-                Ok(Some((line, found))) => {
-                    if let Err(fault) = self.take(alloc, schema, line, found) {
-                        return Err(fault);
-                    }
-                }
-                Ok(None) => return Ok(()),
-                Err(fault) => return Err(ended(fault)),
-            }
-        }
-    }
-
-    /// Takes the next record of the copy.
-    fn take(
-        &mut self,
-        alloc: Global,
-        schema: &Schema,
-        line: u64,
-        found: Result<Record, RecordFault>,
-    ) -> Result<(), ToolFault>
-        ensures suffix { OnOk result ((D.state self.new.directory).suffix ≡ (D.state self.old.directory).suffix) }
-        ensures reads { OnOk result ((m : LoadedCopy) → IsLoaded D.state m self.old → LoadsTo D.state (with_record schema.now m line found) self.new) }
-        ensures fault { IfErr result IsRecordFault }
-        ensures cause { IfErr result (λ fault. (m : LoadedCopy) → IsLoaded D.state m self.old → IsCopyFault (with_record schema.now m line found) fault) }
-    {
-        match found {
-            Ok(Record::Content { dn, lines }) => self.take_entry(alloc, schema, line, dn, lines),
-            Ok(Record::Change(_)) => Err(ToolFault::BadCopy(
-                line,
-                Cause::Fault(RecordFault::BadChangetype),
-            )),
-            Err(fault) => Err(ToolFault::BadCopy(line, Cause::Fault(fault))),
+        match take_records(self, alloc, schema, records) {
+            End::AtEnd | End::Enough => Ok(()),
+            End::TextFault(fault) => Err(ended(fault)),
+            End::TakeFault(fault) => Err(fault),
         }
     }
 
@@ -171,6 +143,36 @@ impl<D: Directory + Drop> Loading<D> {
         match orphans.first {
             Some(line) => Err(refused(line, ResultCode::NoSuchObject)),
             None => Ok(directory),
+        }
+    }
+}
+
+impl<D: Directory + Drop> Taker for Loading<D> {
+    ghost use Rattle.dir_tools.specs.Inside.Loading.{TakesRecord};
+
+    ghost take_gives = { TakesRecord D.state };
+
+    ghost counted = { λ _. 0 };
+
+    fn take(
+        &mut self,
+        alloc: Global,
+        schema: &Schema,
+        line: u64,
+        found: Result<Record, RecordFault>,
+    ) -> Result<bool, ToolFault> {
+        match found {
+            Ok(Record::Content { dn, lines }) => {
+                match self.take_entry(alloc, schema, line, dn, lines) {
+                    Ok(()) => Ok(true),
+                    Err(fault) => Err(fault),
+                }
+            }
+            Ok(Record::Change(_)) => Err(ToolFault::BadCopy(
+                line,
+                Cause::Fault(RecordFault::BadChangetype),
+            )),
+            Err(fault) => Err(ToolFault::BadCopy(line, Cause::Fault(fault))),
         }
     }
 }
