@@ -15,7 +15,6 @@ test:
 
 # Runs the program on files, and with each of its calls for memory, openings, reads and writes refused in turn.
 trial: $(PROGRAM)
-	tests/slots.py
 	tests/program.py $(PROGRAM)
 	tests/refusals.py $(PROGRAM)
 

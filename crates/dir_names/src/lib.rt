@@ -21,3 +21,6 @@ pub use list::{Bytes, Texts};
 pub use name::{Dn, Rdn};
 pub use schema::{Rule, Schema};
 pub use value::ValueKey;
+
+#[cfg(test)]
+mod tests;

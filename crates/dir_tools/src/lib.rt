@@ -17,3 +17,6 @@ pub use fault::{Cause, Input, Item, Output, ToolFault};
 pub use laws::{canonical_texts_read_back, written_runs_are_taken_back};
 pub use modify::run_modify;
 pub use run::{ModifyOptions, Summary};
+
+#[cfg(test)]
+mod tests;

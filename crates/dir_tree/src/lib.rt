@@ -21,3 +21,6 @@ pub use flat::FlatDirectory;
 pub use laws::entries_hold_their_lines;
 pub use parts::Parts;
 pub use values::{ValueMap, Values};
+
+#[cfg(test)]
+mod tests;

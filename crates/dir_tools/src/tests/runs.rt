@@ -1,8 +1,8 @@
 //! Runs, their reports and their texts.
 
 use super::{DRY, GO_ON, STOP, VERBOSE, Want, assert_text, assert_wrote, run_over};
+use crate::{Item, Summary, ToolFault};
 use dir_ldif::StreamFault;
-use dir_tools::{Item, Summary, ToolFault};
 use std::test::Fail;
 
 const COM: &[u8] = b"dn: dc=com\ndc: com\n\n";

@@ -1,6 +1,7 @@
 //! Worked examples of names, keys, values and limits, and vectors of Unicode's case folding and NFKC.
 
-use dir_names::*;
+use super::*;
+use crate::schema::table::FREQUENT;
 use std::alloc::Global;
 use std::process::Abort;
 use std::test::Fail;
@@ -37,9 +38,14 @@ fn descriptions_have_keys_of_their_types(rt: HostRuntime) -> Result<(), Fail> {
     let plain = described(alloc, &schema, "cn")?;
     let number = described(alloc, &schema, "2.5.4.3")?;
     assert_eq!(rt; english.spelling(), b"CommonName;lang-en".as_slice());
-    let capitals = described(alloc, &schema, "CN;Lang-EN")?;
-    assert!(rt; english.key() == capitals.key());
-    assert!(rt; english.key() != plain.key());
+    assert_eq!(rt; english.key().attr_type(), b"cn".as_slice());
+    assert_eq!(rt; english.key().options().len(), 1);
+    assert_eq!(rt;
+        english.key().options()[0].as_slice(),
+        b"lang-en".as_slice()
+    );
+    assert_eq!(rt; plain.key().attr_type(), b"cn".as_slice());
+    assert_eq!(rt; plain.key().options().len(), 0);
     assert!(rt; plain.key().covers(english.key()));
     assert!(rt; !english.key().covers(plain.key()));
     assert!(rt; number.key() == plain.key());
@@ -149,6 +155,17 @@ fn names_have_keys_unless_a_pair_has_none(rt: HostRuntime) -> Result<(), Fail> {
     assert_eq!(rt; below.depth(), 2);
     assert!(rt; com.is_parent_of(&below) && below.at_or_below(&com) && !com.at_or_below(&below));
     assert!(rt; below.parent(alloc)? == Some(com.try_clone(alloc)?));
+    Ok(())
+}
+
+#[test]
+fn frequent_types_are_looked_up(rt: HostRuntime) -> Result<(), Fail> {
+    let alloc = rt.alloc();
+    let schema = Schema::builtin(alloc)?;
+    for name in &FREQUENT {
+        let is_frequent = schema.frequent(name.as_bytes()).is_some();
+        assert!(rt; is_frequent, "{name}");
+    }
     Ok(())
 }
 

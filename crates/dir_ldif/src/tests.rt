@@ -1,7 +1,7 @@
 //! Reading: texts, their faults and the lines of these, pieces, sources that fail or never end, and long lines.
 
+use super::*;
 use base64::engine::general_purpose::STANDARD;
-use dir_ldif::*;
 use dir_names::{Bytes, Description, Dn, Lines, Schema};
 use std::alloc::Global;
 use std::process::Abort;

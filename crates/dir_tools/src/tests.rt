@@ -5,9 +5,9 @@ mod faults;
 mod runs;
 mod taken_back;
 
+use crate::{ModifyOptions, Summary, ToolFault, run_modify};
 use dir_ldif::{Script, Tape};
 use dir_names::Schema;
-use dir_tools::{ModifyOptions, Summary, ToolFault, run_modify};
 use std::alloc::Global;
 use std::process::Abort;
 use std::test::Fail;

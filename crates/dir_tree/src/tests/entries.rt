@@ -1,7 +1,7 @@
 //! What an add makes of its lines, and each fault before the next.
 
+use crate::{Entry, EntryFault, entries_hold_their_lines};
 use dir_names::{AttrKey, Bytes, Description, Dn, Lines, Schema, ValueKey};
-use dir_tree::{Entry, EntryFault, entries_hold_their_lines};
 use std::alloc::Global;
 use std::process::Abort;
 use std::test::Fail;

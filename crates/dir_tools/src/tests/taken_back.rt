@@ -1,7 +1,7 @@
 //! Runs that are taken back.
 
 use super::{GO_ON, Ran, STOP, Want, assert_text, assert_wrote, run_over};
-use dir_tools::{canonical_texts_read_back, written_runs_are_taken_back};
+use crate::{canonical_texts_read_back, written_runs_are_taken_back};
 use std::alloc::Global;
 use std::process::Abort;
 use std::test::Fail;

@@ -1,7 +1,7 @@
 //! Names as spelled, walks, and each call of a flat directory.
 
+use crate::{Directory, Entry, FlatDirectory, may_stand, own_rdns};
 use dir_names::{Dn, DnKey, Lines, Memory, Schema};
-use dir_tree::{Directory, Entry, FlatDirectory, may_stand, own_rdns};
 use std::alloc::Global;
 use std::process::Abort;
 use std::test::Fail;

@@ -2,4 +2,5 @@
 
 mod directory;
 mod entries;
+mod maps;
 mod parts;

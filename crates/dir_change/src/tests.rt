@@ -1,6 +1,6 @@
 //! Tests of the operations on a flat directory.
 
-use dir_change::{
+use crate::{
     History, Refusal, ResultCode, apply, groups_undo_changes, runs_are_taken_back,
     runs_stay_in_order, undo_texts_read_back,
 };

@@ -1,9 +1,9 @@
 //! Faults of copies, changes and suffixes, and the order in which they come.
 
 use super::{GO_ON, Ran, STOP, assert_text, run_over, run_reading};
+use crate::{Cause, Input, Item, Output, Summary, ToolFault, run_modify};
 use dir_ldif::{RecordFault, Script, StreamFault, Tape};
 use dir_names::Schema;
-use dir_tools::{Cause, Input, Item, Output, Summary, ToolFault, run_modify};
 use std::alloc::Global;
 use std::test::Fail;
 

@@ -1,9 +1,9 @@
 //! Readers and writers that fail, in turn.
 
 use super::{STOP, assert_text};
+use crate::{Input, Output, ToolFault, read_copy, run_modify, write_copy};
 use dir_ldif::{Script, Tape};
 use dir_names::{Dn, Schema};
-use dir_tools::{Input, Output, ToolFault, read_copy, run_modify, write_copy};
 use dir_tree::FlatDirectory;
 use std::test::Fail;
 
