@@ -21,6 +21,7 @@ pub mod RecordsLemmas
 pub mod Rfc
 pub mod RoundTrip
 pub mod SoundNames
+pub mod SoundTexts
 pub mod Spellings
 pub mod UnfolderLemmas
 pub mod WhyStopped

@@ -57,7 +57,7 @@ attrval_of-short line = cut_short (cut_at 58 line)
 
 -- ---- names
 
-as_record_fault-ok : {A : Type 0} (r : Result A NameFault) (x : A) → as_record_fault r ≡ Ok x → r ≡ Ok x
+pub as_record_fault-ok : {A : Type 0} (r : Result A NameFault) (x : A) → as_record_fault r ≡ Ok x → r ≡ Ok x
 as_record_fault-ok (Ok y) x e = cc
 as_record_fault-ok (Err f) x e = cc
 

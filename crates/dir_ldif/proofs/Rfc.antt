@@ -1,5 +1,5 @@
 -- Lines of the examples of RFC 2849, proved of the definitions.
-use Rattle.std.proofs.Common.{◌≡◌, [], ◌∷◌, true, false, codes, refl, Ok, Err}
+use Rattle.std.proofs.Common.{◌≡◌, [], ◌∷◌, false, codes, refl, Ok, Err}
 use Rattle.dir_ldif.specs.declared.faults.RecordFault.TheVariants.{UrlValue}
 use Rattle.dir_ldif.specs.declared.reader.version.Version.TheVariants.{One}
 use Rattle.dir_ldif.specs.AttrVal.{attrval_of}

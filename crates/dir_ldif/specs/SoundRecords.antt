@@ -1,7 +1,7 @@
 -- Sound records: their names are sound and within the limits, and their values are bytes. Each record that the reader gives is sound, and
 -- legal (LegalRecords).
 use Rattle.std.specs.Prelude.{◌≡◌, ℕ, true, List, [], ◌∷◌, ⊤, Option, None, Some, IfOk}
-use Rattle.base64.specs.GeneralPurpose.{IsBytes}
+pub use Rattle.base64.specs.GeneralPurpose.{IsBytes}
 use Rattle.dir_names.specs.declared.schema.TypeRow.{TypeRow}
 use Rattle.dir_names.specs.Described.{Described}
 use Rattle.dir_names.specs.Names.{SpelledName, SpelledRdn}
@@ -13,7 +13,7 @@ use Rattle.dir_ldif.specs.declared.records.ChangeKind.{ChangeKind}
 use Rattle.dir_ldif.specs.declared.records.ChangeKind.TheVariants as kind
 use Rattle.dir_ldif.specs.declared.records.Mod.{Mod}
 use Rattle.dir_ldif.specs.LegalRecords.{is_legal_record}
-use Rattle.dir_ldif.specs.Records.{Found}
+use Rattle.dir_ldif.specs.Records.{Answer, Found, records_of}
 
 -- a name that is sound and within the limits, as each name that was read is
 abbrev pub IsSoundName : SpelledName → Type 0
@@ -63,3 +63,12 @@ IsLegalFound rows found = IfOk found.1 (λ r. is_legal_record rows r ≡ true)
 -- the record that was found, if it is no fault, is legal and sound
 abbrev pub IsSoundFound : List TypeRow → Found → Type 0
 IsSoundFound rows found = IfOk found.1 (λ r. (is_legal_record rows r ≡ true) × IsSoundRecord r)
+
+-- each record among the answers is legal and sound
+abbrev pub AreSoundAnswers : List TypeRow → List Answer → Type 0
+AreSoundAnswers rows [] = ⊤
+AreSoundAnswers rows (answer ∷ answers) = IfOk answer (IsSoundFound rows) × AreSoundAnswers rows answers
+
+-- a law: each record of a text of bytes is legal and sound
+abbrev pub RecordsAreSound : Type 0
+RecordsAreSound = (rows : List TypeRow) (text : List ℕ) → IsBytes text → AreSoundAnswers rows (records_of rows text)

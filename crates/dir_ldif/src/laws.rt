@@ -2,6 +2,7 @@
 
 ghost use Rattle.dir_ldif.specs.BlocksAtOnce.{LongLinesStay, TextsAreBlocks};
 ghost use Rattle.dir_ldif.specs.RoundTrip.{WrittenLineReadsBack, RecordsReadBack};
+ghost use Rattle.dir_ldif.specs.SoundRecords.{RecordsAreSound};
 ghost use Rattle.dir_ldif.specs.ManyCalls.{ReadCallsAreUsed, ReadingEndsSoon, ReadingStopsThere};
 
 /// A law: the blocks of a text are the pieces between its empty lines that have a line, among the lines that
@@ -43,4 +44,9 @@ pub fn written_lines_read_back()
 /// version line before them.
 pub fn written_records_read_back()
     ensures { RecordsReadBack }
+{}
+
+/// A law: each record of a text of bytes is legal and sound.
+pub fn records_are_sound()
+    ensures { RecordsAreSound }
 {}

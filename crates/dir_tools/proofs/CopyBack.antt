@@ -32,7 +32,7 @@ use Rattle.dir_change.proofs.StaysWithinLimits.{bytes_all, name_sound}
 use Rattle.dir_tools.specs.Canonical.{canonical_of, entry_text}
 use Rattle.dir_tools.specs.CopyOf.{LoadedCopy, copy_of, first_line, line_or_zero, refused_if, unless_orphan, whole_directory, with_content, with_entry, with_record, with_records}
 use Rattle.dir_names.specs.Results.{and_then}
-use Rattle.dir_tools.specs.Headline.{CanonicalTextsReadBack}
+use Rattle.dir_tools.specs.Laws.{CanonicalTextsReadBack}
 use Rattle.dir_tools.proofs.Small.{heads, left, not_true, one_found, right}
 
 -- ---- every entry that is listed is at its key

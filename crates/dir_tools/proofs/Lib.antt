@@ -1,3 +1,4 @@
+pub mod AcceptedRuns
 pub mod CompleteRecords
 pub mod CopyBack
 pub mod CopyFaults
@@ -8,5 +9,8 @@ pub mod ReadCalls
 pub mod RunBack
 pub mod RunLemmas
 pub mod Small
+pub mod SoundCopies
+pub mod SuffixLemmas
 pub mod TakingLemmas
 pub mod TextLemmas
+pub mod WholeRuns

@@ -17,7 +17,7 @@ use Rattle.dir_names.specs.Results.{and_then}
 use Rattle.dir_change.specs.UndoText.{undo_text_of}
 use Rattle.dir_tools.specs.Canonical.{canonical_of}
 use Rattle.dir_tools.specs.CopyOf.{copy_of}
-use Rattle.dir_tools.specs.Headline.{CanonicalTextsReadBack, IsTakenBackBy, WrittenRunsAreTakenBack, texts_of_run}
+use Rattle.dir_tools.specs.Laws.{CanonicalTextsReadBack, LeadsBackTo, WrittenRunsAreTakenBack}
 use Rattle.dir_tools.specs.RunOf.{RunEnd, causes_in, change_step, groups_in, record_step, run_of, with_outcomes_before}
 use Rattle.dir_tools.proofs.RunLemmas.{goes}
 use Rattle.dir_tools.proofs.Small.{heads, one_found}
@@ -54,7 +54,7 @@ module _ (rows : List TypeRow) (go_on : Bool) where
       by (Err code) takes t rest = absurd (cc)
 
 pub runs_back : CanonicalTextsReadBack → RunsAreTakenBack → RunsStayInOrder → UndoTextsReadBack → WrittenRunsAreTakenBack
-runs_back canonical back order undo rows d ran verbose well within was =
+runs_back canonical back order undo rows d ran well within was =
     let ending : Ending = record { end = ran.end; groups = groups_in ran.outcomes } in
     let leads : LeadsBack rows d ending = subst (LeadsBack rows d) was.2 (back rows d was.0 well was.1).0 in
     let reads : ReadsBack rows ending = subst (ReadsBack rows) was.2 (undo rows d was.0 well within was.1).0 in
@@ -62,5 +62,11 @@ runs_back canonical back order undo rows d ran verbose well within was =
     (reads, λ go_on. by go_on (all_accepted rows go_on (undo_changes ending) ran.end d (records_of rows (undo_text_of (groups_in ran.outcomes))) reads leads) stays)
   where
     by : (go_on : Bool) → AcceptsAll rows go_on ran.end (records_of rows (undo_text_of (groups_in ran.outcomes))) d → StaysInOrder rows d (record { end = ran.end; groups = groups_in ran.outcomes })
-        → IsTakenBackBy rows d.suffix d (texts_of_run verbose ran) go_on
-    by go_on whole stays = (ran.end, whole.0, ap (λ k. copy_of rows k (canonical_of ran.end)) (sym stays.2) ∙ canonical rows ran.end stays.0 stays.1, whole.1, whole.2, whole.3)
+        → LeadsBackTo rows d ran go_on
+    by go_on whole stays = record {
+      copied = ap (λ k. copy_of rows k (canonical_of ran.end)) (sym stays.2) ∙ canonical rows ran.end stays.0 stays.1;
+      back = whole.0;
+      runs = whole.1;
+      refuses_nothing = whole.2;
+      ends_first = whole.3;
+    }

@@ -104,11 +104,11 @@ module _ (rows : List TypeRow) (go_on : Bool) (d e : Dir) (os : List (ℕ × Out
 
 -- ---- the accepted changes alone
 
-goes_on_step : (rows : List TypeRow) (d : Dir) (c : Change) (cs : List Change) (r : Result Dir ResultCode) → step rows d c ≡ r
+pub goes_on_step : (rows : List TypeRow) (d : Dir) (c : Change) (cs : List Change) (r : Result Dir ResultCode) → step rows d c ≡ r
     → run_to_end rows d (c ∷ cs) ≡ accepted_or r (λ e. with_group_first (group_of rows d e c) (run_to_end rows e cs)) (run_to_end rows d cs)
 goes_on_step rows d c cs r is = ap (λ z. accepted_or z (λ e. with_group_first (group_of rows d e c) (run_to_end rows e cs)) (run_to_end rows d cs)) is
 
-one_further : (rows : List TypeRow) (d e : Dir) (c : Change) → step rows d c ≡ Ok e
+pub one_further : (rows : List TypeRow) (d e : Dir) (c : Change) → step rows d c ≡ Ok e
     → run_to_end rows d (c ∷ []) ≡ record { end = e; groups = group_of rows d e c ∷ [] }
 one_further rows d e c is = goes_on_step rows d c [] (Ok e) is
 
@@ -142,7 +142,7 @@ each_snoc P (y ∷ xs) x ps p = (ps.0, each_snoc P xs x ps.1 p)
 pub accepted_none : (rows : List TypeRow) (d : Dir) → HasAccepted rows d [] d
 accepted_none rows d = ([], tt, refl)
 
-accepted_step : (rows : List TypeRow) (d e : Dir) (change : Change) (r : Result Dir ResultCode) (group : List Change) → change_step rows d change r ≡ Ok (e, group) → (r ≡ Ok e) × (group_of rows d e change ≡ group)
+pub accepted_step : (rows : List TypeRow) (d e : Dir) (change : Change) (r : Result Dir ResultCode) (group : List Change) → change_step rows d change r ≡ Ok (e, group) → (r ≡ Ok e) × (group_of rows d e change ≡ group)
 accepted_step rows d e change (Ok f) group is =
     let pair : (f, group_of rows d f change) ≡ (e, group) = cc in
     let there : f ≡ e = ap (λ (p : Dir × List Change). p.0) pair in

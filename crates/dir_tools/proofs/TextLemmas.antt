@@ -1,5 +1,5 @@
 -- What a run makes, in the words of its definition.
-use Rattle.std.proofs.Common.{◌≡◌, ℕ, ◌+◌, Bool, true, false, List, [], ◌∷◌, ◌++◌, length, Option, None, Some, IfSome, Result, Ok, Err, refl, sym, ap, subst, ◌∙◌, arith}
+use Rattle.std.proofs.Common.{◌≡◌, ℕ, ◌+◌, Bool, true, false, List, ◌++◌, length, Option, None, Some, IfSome, Result, Ok, Err, refl, sym, ap, subst, ◌∙◌, arith}
 use Rattle.std.specs.List.{flat_map}
 use Rattle.std.specs.Option.{option_map}
 use Rattle.dir_names.specs.declared.schema.TypeRow.{TypeRow}
@@ -8,26 +8,28 @@ use Rattle.dir_ldif.specs.declared.faults.StreamFault.TheVariants as stream
 use Rattle.dir_ldif.specs.Records.{records_of}
 use Rattle.dir_tree.specs.Dir.{Dir}
 use Rattle.dir_change.specs.UndoText.{undo_text_of}
+use Rattle.dir_tools.specs.declared.fault.Cause.{Cause}
 use Rattle.dir_tools.specs.declared.fault.Cause.TheVariants as cause
 use Rattle.dir_tools.specs.declared.fault.Input.TheVariants as input
+use Rattle.dir_tools.specs.declared.fault.Item.TheVariants as item
 use Rattle.dir_tools.specs.declared.fault.Output.TheVariants as to
 use Rattle.dir_tools.specs.declared.fault.ToolFault.{ToolFault}
 use Rattle.dir_tools.specs.declared.fault.ToolFault.TheVariants as tool
 use Rattle.dir_tools.specs.declared.run.Files.{Files}
 use Rattle.dir_tools.specs.declared.run.ModifyOptions.{ModifyOptions}
 use Rattle.dir_tools.specs.declared.run.RunTexts.{RunTexts}
-use Rattle.dir_tools.specs.declared.run.Summary.{Summary}
 use Rattle.dir_tools.specs.declared.run.Run.{Run}
-use Rattle.dir_tools.specs.Headline.{AnswersRun, ChangesAreBad, HeldBefore, IsBadText, IsCausedBy, IsStatedRun, KnownBytes, WrittenRunsAreTakenBack, nonempty_key, suffix_key, suffix_of, texts_of_run}
+use Rattle.dir_tools.specs.Headline.{Question, RunOutput, output_at, output_of}
+use Rattle.dir_tools.specs.Laws.{GroupsAreUndos, WrittenRunsAreTakenBack}
+use Rattle.dir_tools.specs.RunAnswers.{AnswersRun, AreBadChanges, IsBadText, IsCausedBy, IsStatedRun, IsWholeRun, Sources, sources}
+use Rattle.dir_tools.specs.StoppedReading.{HeldBefore, KnownBytes}
+use Rattle.dir_tools.specs.Suffix.{suffix_of}
+use Rattle.dir_tools.proofs.WholeRuns.{bad_changes, bad_copy, bad_suffix, gives_back, whole_run}
 use Rattle.dir_tools.specs.CopyOf.{copy_of, empty_copy}
 use Rattle.dir_tools.specs.CompleteRecords.{CompleteRecordsAreAccepted, CompleteRecordsLoad, GaveBytes, IsReaderFault, answers_after}
-use Rattle.dir_tools.specs.CopyFaults.{HasNoEntries, HasRdn, IsCopyFaultCause}
+use Rattle.dir_tools.specs.CopyFaults.{HasNoEntries, IsCopyFaultCause}
 use Rattle.dir_tree.specs.WellFormed.{IsWellFormed, IsWithinLimits}
-use Rattle.dir_names.specs.declared.fault.NameFault.{NameFault}
 use Rattle.dir_names.specs.Keys.{DnKeys}
-use Rattle.dir_names.specs.Names.{SpelledName}
-use Rattle.dir_names.specs.NameKeys.{name_key}
-use Rattle.dir_names.specs.Names.Reading.{name_within_limits}
 use Rattle.dir_tools.specs.RunOf.{RunEnd, causes_in, groups_in, run_of}
 use Rattle.dir_tools.specs.Report.{numbers_line, outcome_line}
 use Rattle.dir_tools.specs.Inside.RunTexts.{AreFiles, AreTexts, is_dry, texts_of}
@@ -47,72 +49,59 @@ pub read_so : (rows : List TypeRow) (copy : Option (List ℕ)) (suffix : DnKeys)
 read_so rows copy suffix d begun same is h =
     subst (λ (z : Dir). IfSome copy (λ text. copy_of rows z.suffix text ≡ Ok z)) (sym is) (subst (λ k. IfSome copy (λ text. copy_of rows k text ≡ Ok d)) (sym same) h)
 
-has_part : (o : Option DnKeys) (k : DnKeys) → nonempty_key o ≡ Some k → k ≡ [] → ⊥
-has_part None k h none = absurd (cc)
-has_part (Some []) k h none = absurd (cc)
-has_part (Some (part ∷ parts)) k h none = cc
-
--- a suffix has an RDN
-pub named_suffix : (rows : List TypeRow) (text : List ℕ) (k : DnKeys) → suffix_of rows text ≡ Some k → HasRdn k
-named_suffix rows text k = by (name_within_limits text)
-  where
-    by : (r : Result SpelledName NameFault) → suffix_key rows r ≡ Some k → HasRdn k
-    by (Ok name) h = has_part (name_key rows name) k h
-    by (Err fault) h = λ none. absurd (cc)
-
 -- a copy's fault, as a fault of the copy's text
-pub copy_blamed_so : (rows : List TypeRow) (suffix : List ℕ) (options : ModifyOptions) (copy left : Option (List ℕ)) (empty : Dir) (failures failures' : ℕ) (fault : ToolFault)
-    → suffix_of rows suffix ≡ Some empty.suffix → HasNoEntries empty → IsCopyFaultCause rows empty copy failures failures' fault → IsCausedBy rows suffix options copy left fault
-copy_blamed_so rows suffix options copy left empty failures failures' (tool.BadCopy line why) key bare h = (empty.suffix, key, h bare)
-copy_blamed_so rows suffix options copy left empty failures failures' (tool.Read input.Copy) key bare h = tt
-copy_blamed_so rows suffix options copy left empty failures failures' (tool.Read input.Changes) key bare h = absurd (h)
-copy_blamed_so rows suffix options copy left empty failures failures' (tool.Read input.Config) key bare h = absurd (h)
-copy_blamed_so rows suffix options copy left empty failures failures' tool.Memory key bare h = tt
-copy_blamed_so rows suffix options copy left empty failures failures' (tool.Write output) key bare h = absurd (h)
-copy_blamed_so rows suffix options copy left empty failures failures' (tool.BadQuestion item) key bare h = absurd (h)
-copy_blamed_so rows suffix options copy left empty failures failures' (tool.BadChanges fault) key bare h = absurd (h)
+pub copy_blamed_so : (q : Question) (copy left : Option (List ℕ)) (empty : Dir) (failures failures' : ℕ) (fault : ToolFault)
+    → suffix_of q.rows q.suffix ≡ Some empty.suffix → HasNoEntries empty → IsCopyFaultCause q.rows empty copy failures failures' fault → IsCausedBy q (sources copy left) fault
+copy_blamed_so q copy left empty failures failures' (tool.BadCopy line why) key bare h = (empty.suffix, key, h bare)
+copy_blamed_so q copy left empty failures failures' (tool.Read input.Copy) key bare h = tt
+copy_blamed_so q copy left empty failures failures' (tool.Read input.Changes) key bare h = absurd (h)
+copy_blamed_so q copy left empty failures failures' (tool.Read input.Config) key bare h = absurd (h)
+copy_blamed_so q copy left empty failures failures' tool.Memory key bare h = tt
+copy_blamed_so q copy left empty failures failures' (tool.Write output) key bare h = absurd (h)
+copy_blamed_so q copy left empty failures failures' (tool.BadQuestion item) key bare h = absurd (h)
+copy_blamed_so q copy left empty failures failures' (tool.BadChanges fault) key bare h = absurd (h)
 
 -- the complete records before the fault of a copy's reader
-pub copy_first : (rows : List TypeRow) (suffix : List ℕ) (options : ModifyOptions) (copy copy' : Option (List ℕ)) (changes : KnownBytes) (empty : Dir) (failures failures' : ℕ) (fault : ToolFault)
-    → suffix_of rows suffix ≡ Some empty.suffix → IsCopyFaultCause rows empty copy failures failures' fault
-    → (IsReaderFault fault → GaveBytes copy copy' (λ bytes. CompleteRecordsLoad rows (empty_copy empty.suffix) (answers_after rows bytes)))
-    → HeldBefore rows suffix options (copy, copy') changes fault
-copy_first rows suffix options copy copy' changes empty failures failures' (tool.Read input.Copy) key h settled = (empty.suffix, key, settled tt)
-copy_first rows suffix options copy copy' changes empty failures failures' (tool.Read input.Changes) key h settled = absurd (h)
-copy_first rows suffix options copy copy' changes empty failures failures' (tool.Read input.Config) key h settled = absurd (h)
-copy_first rows suffix options copy copy' changes empty failures failures' (tool.BadCopy line (cause.Code code)) key h settled = tt
-copy_first rows suffix options copy copy' changes empty failures failures' (tool.BadCopy line (cause.Fault fault)) key h settled = tt
-copy_first rows suffix options copy copy' changes empty failures failures' (tool.BadCopy line (cause.Ended stream.TooManyTurns)) key h settled = (empty.suffix, key, settled tt)
-copy_first rows suffix options copy copy' changes empty failures failures' (tool.BadCopy line (cause.Ended stream.LineTooLong)) key h settled = tt
-copy_first rows suffix options copy copy' changes empty failures failures' (tool.BadCopy line (cause.Ended stream.Read)) key h settled = tt
-copy_first rows suffix options copy copy' changes empty failures failures' (tool.BadCopy line (cause.Ended stream.Memory)) key h settled = tt
-copy_first rows suffix options copy copy' changes empty failures failures' (tool.BadCopy line (cause.Ended stream.Ended)) key h settled = tt
-copy_first rows suffix options copy copy' changes empty failures failures' (tool.BadCopy line (cause.Ended stream.BadVersion)) key h settled = tt
-copy_first rows suffix options copy copy' changes empty failures failures' tool.Memory key h settled = tt
-copy_first rows suffix options copy copy' changes empty failures failures' (tool.Write output) key h settled = absurd (h)
-copy_first rows suffix options copy copy' changes empty failures failures' (tool.BadQuestion item) key h settled = absurd (h)
-copy_first rows suffix options copy copy' changes empty failures failures' (tool.BadChanges fault) key h settled = absurd (h)
+pub copy_first : (q : Question) (copy copy' : Option (List ℕ)) (changes : KnownBytes) (empty : Dir) (failures failures' : ℕ) (fault : ToolFault)
+    → suffix_of q.rows q.suffix ≡ Some empty.suffix → IsCopyFaultCause q.rows empty copy failures failures' fault
+    → (IsReaderFault fault → GaveBytes copy copy' (λ bytes. CompleteRecordsLoad q.rows (empty_copy empty.suffix) (answers_after q.rows bytes)))
+    → HeldBefore q (copy, copy') changes fault
+copy_first q copy copy' changes empty failures failures' (tool.Read input.Copy) key h settled = (empty.suffix, key, settled tt)
+copy_first q copy copy' changes empty failures failures' (tool.Read input.Changes) key h settled = absurd (h)
+copy_first q copy copy' changes empty failures failures' (tool.Read input.Config) key h settled = absurd (h)
+copy_first q copy copy' changes empty failures failures' (tool.BadCopy line (cause.Code code)) key h settled = tt
+copy_first q copy copy' changes empty failures failures' (tool.BadCopy line (cause.Fault fault)) key h settled = tt
+copy_first q copy copy' changes empty failures failures' (tool.BadCopy line (cause.Ended stream.TooManyTurns)) key h settled = (empty.suffix, key, settled tt)
+copy_first q copy copy' changes empty failures failures' (tool.BadCopy line (cause.Ended stream.LineTooLong)) key h settled = tt
+copy_first q copy copy' changes empty failures failures' (tool.BadCopy line (cause.Ended stream.Read)) key h settled = tt
+copy_first q copy copy' changes empty failures failures' (tool.BadCopy line (cause.Ended stream.Memory)) key h settled = tt
+copy_first q copy copy' changes empty failures failures' (tool.BadCopy line (cause.Ended stream.Ended)) key h settled = tt
+copy_first q copy copy' changes empty failures failures' (tool.BadCopy line (cause.Ended stream.BadVersion)) key h settled = tt
+copy_first q copy copy' changes empty failures failures' tool.Memory key h settled = tt
+copy_first q copy copy' changes empty failures failures' (tool.Write output) key h settled = absurd (h)
+copy_first q copy copy' changes empty failures failures' (tool.BadQuestion item) key h settled = absurd (h)
+copy_first q copy copy' changes empty failures failures' (tool.BadChanges fault) key h settled = absurd (h)
 
-module _ {D : Type 0} (state : D → Dir) (rows : List TypeRow) (suffix : List ℕ) (options : ModifyOptions) (copy left : Option (List ℕ)) (begun : Run D)
-    (reads : IfSome copy (λ text. copy_of rows (state begun.directory).suffix text ≡ Ok (state begun.directory))) where
-  bad : (fault : StreamFault) → ((text : List ℕ) → run_of rows options.go_on (state begun.directory) (records_of rows text) ≡ Err fault → IsBadText rows options.go_on (state begun.directory) text fault)
-      → begun.options ≡ options → suffix_of rows suffix ≡ Some (state begun.directory).suffix → BreaksOff state rows (option_map (records_of rows) left) begun fault → ChangesAreBad rows suffix options copy left fault
-  bad fault so same key h = (
-    state begun.directory,
-    key,
-    reads,
-    known left so
-        (of_text (records_of rows) (λ answers. run_of rows options.go_on (state begun.directory) answers ≡ Err fault) left
-        (subst (λ (o : ModifyOptions). IfSome (option_map (records_of rows) left) (λ answers. run_of rows o.go_on (state begun.directory) answers ≡ Err fault)) same h)),
-  )
+module _ {D : Type 0} (state : D → Dir) (q : Question) (copy left : Option (List ℕ)) (begun : Run D)
+    (reads : IfSome copy (λ text. copy_of q.rows (state begun.directory).suffix text ≡ Ok (state begun.directory))) where
+  bad : (fault : StreamFault) → ((text : List ℕ) → run_of q.rows q.options.go_on (state begun.directory) (records_of q.rows text) ≡ Err fault → IsBadText q (state begun.directory) text fault)
+      → begun.options ≡ q.options → suffix_of q.rows q.suffix ≡ Some (state begun.directory).suffix → BreaksOff state q.rows (option_map (records_of q.rows) left) begun fault → AreBadChanges q (sources copy left) fault
+  bad fault so same key h = record {
+    first = state begun.directory;
+    suffix = key;
+    copy = reads;
+    changes = known left so
+        (of_text (records_of q.rows) (λ answers. run_of q.rows q.options.go_on (state begun.directory) answers ≡ Err fault) left
+        (subst (λ (o : ModifyOptions). IfSome (option_map (records_of q.rows) left) (λ answers. run_of q.rows o.go_on (state begun.directory) answers ≡ Err fault)) same h));
+  }
 
   -- a run's fault, as a fault of the text of changes
-  pub blamed_so : (failures failures' : ℕ) (fault : ToolFault) → begun.options ≡ options → suffix_of rows suffix ≡ Some (state begun.directory).suffix
+  pub blamed_so : (failures failures' : ℕ) (fault : ToolFault) → begun.options ≡ q.options → suffix_of q.rows q.suffix ≡ Some (state begun.directory).suffix
       → (fault ≡ tool.BadChanges stream.TooManyTurns → IfSome left FillsReadCalls)
-      → IsChangesFaultCause state rows (option_map (records_of rows) left) failures failures' begun fault → IsCausedBy rows suffix options copy left fault
+      → IsChangesFaultCause state q.rows (option_map (records_of q.rows) left) failures failures' begun fault → IsCausedBy q (sources copy left) fault
   blamed_so failures failures' (tool.BadChanges stream.LineTooLong) same key long h = bad stream.LineTooLong (λ text e. e) same key h
   blamed_so failures failures' (tool.BadChanges stream.BadVersion) same key long h = bad stream.BadVersion (λ text e. e) same key h
-  blamed_so failures failures' (tool.BadChanges stream.TooManyTurns) same key long h = (state begun.directory, key, reads, long refl)
+  blamed_so failures failures' (tool.BadChanges stream.TooManyTurns) same key long h = record { first = state begun.directory; suffix = key; copy = reads; changes = long refl }
   blamed_so failures failures' (tool.BadChanges stream.Read) same key long h = absurd (h)
   blamed_so failures failures' (tool.BadChanges stream.Memory) same key long h = absurd (h)
   blamed_so failures failures' (tool.BadChanges stream.Ended) same key long h = absurd (h)
@@ -125,14 +114,14 @@ module _ {D : Type 0} (state : D → Dir) (rows : List TypeRow) (suffix : List �
   blamed_so failures failures' (tool.BadQuestion item) same key long h = absurd (h)
 
   -- and before that of the changes' reader
-  pub changes_first : (copy' left' : Option (List ℕ)) (failures failures' : ℕ) (fault : ToolFault) → suffix_of rows suffix ≡ Some (state begun.directory).suffix
-      → IsChangesFaultCause state rows (option_map (records_of rows) left) failures failures' begun fault
-      → (IsReaderFault fault → options.go_on ≡ false → GaveBytes left left' (λ bytes. CompleteRecordsAreAccepted rows (state begun.directory) (answers_after rows bytes)))
-      → HeldBefore rows suffix options (copy, copy') (left, left') fault
-  changes_first copy' left' failures failures' (tool.Read input.Changes) key h settled = (state begun.directory, key, reads, settled tt)
+  pub changes_first : (copy' left' : Option (List ℕ)) (failures failures' : ℕ) (fault : ToolFault) → suffix_of q.rows q.suffix ≡ Some (state begun.directory).suffix
+      → IsChangesFaultCause state q.rows (option_map (records_of q.rows) left) failures failures' begun fault
+      → (IsReaderFault fault → q.options.go_on ≡ false → GaveBytes left left' (λ bytes. CompleteRecordsAreAccepted q.rows (state begun.directory) (answers_after q.rows bytes)))
+      → HeldBefore q (copy, copy') (left, left') fault
+  changes_first copy' left' failures failures' (tool.Read input.Changes) key h settled = record { first = state begun.directory; suffix = key; reads = reads; accepted = settled tt }
   changes_first copy' left' failures failures' (tool.Read input.Copy) key h settled = absurd (h)
   changes_first copy' left' failures failures' (tool.Read input.Config) key h settled = absurd (h)
-  changes_first copy' left' failures failures' (tool.BadChanges stream.TooManyTurns) key h settled = (state begun.directory, key, reads, settled tt)
+  changes_first copy' left' failures failures' (tool.BadChanges stream.TooManyTurns) key h settled = record { first = state begun.directory; suffix = key; reads = reads; accepted = settled tt }
   changes_first copy' left' failures failures' (tool.BadChanges stream.LineTooLong) key h settled = tt
   changes_first copy' left' failures failures' (tool.BadChanges stream.BadVersion) key h settled = tt
   changes_first copy' left' failures failures' (tool.BadChanges stream.Read) key h settled = absurd (h)
@@ -146,12 +135,12 @@ module _ {D : Type 0} (state : D → Dir) (rows : List TypeRow) (suffix : List �
   from_none : (a b n : ℕ) → a ≡ b + n → b ≡ 0 → a ≡ n
   from_none a b n e z = grind (arith)
 
-  module _ (directory : D) (ended : Run D) (starts : HasTakenNone directory options begun) (over : RunsOver state rows (option_map (records_of rows) left) begun ended) where
+  module _ (directory : D) (ended : Run D) (starts : HasTakenNone directory q.options begun) (over : RunsOver state q.rows (option_map (records_of q.rows) left) begun ended) where
     abbrev ran : RunEnd
     ran = record { end = state ended.directory; outcomes = over.0 }
 
-    abbrev stated : Texts
-    stated = texts_of_run options.verbose ran
+    abbrev stated : RunOutput
+    stated = output_at q ran
 
     history : ended.history ≡ groups_in over.0
     history = over.1.0 ∙ ap (λ z. z ++ groups_in over.0) starts.1
@@ -162,36 +151,38 @@ module _ {D : Type 0} (state : D → Dir) (rows : List TypeRow) (suffix : List �
     refused : ended.summary.refused ≡ length (causes_in over.0)
     refused = from_none ended.summary.refused begun.summary.refused _ over.1.4 starts.5
 
-    report : ended.report.text.items ++ numbers_line ended.summary.accepted ended.summary.refused ≡ stated.report
+    report : ended.report.text.items ++ numbers_line ended.summary.accepted ended.summary.refused ≡ stated.texts.report
     report =
         ap (λ z. z ++ numbers_line ended.summary.accepted ended.summary.refused)
         (over.1.1 ∙ ap (λ z. z ++ flat_map (outcome_line begun.report.verbose) over.0) starts.2 ∙ ap (λ v. flat_map (outcome_line v) over.0) starts.3)
-        ∙ (λ i. flat_map (outcome_line options.verbose) over.0 ++ numbers_line (accepted i) (refused i))
+        ∙ (λ i. flat_map (outcome_line q.options.verbose) over.0 ++ numbers_line (accepted i) (refused i))
 
-    files : ended.options ≡ options → (made : Option Files) → AreFilesOfRun state ended made → AreFiles options.dry stated made
+    files : ended.options ≡ q.options → (made : Option Files) → AreFilesOfRun state ended made → AreFiles q.options.dry stated.texts made
     files same None h = ap (λ (o : ModifyOptions). o.dry) (sym same) ∙ h
     files same (Some made) h = (ap (λ (o : ModifyOptions). o.dry) (sym same) ∙ h.0, h.1 ∙ ap undo_text_of history, h.2)
 
-    -- the texts of a run that has ended
-    pub told : (texts : RunTexts) → WrittenRunsAreTakenBack → suffix_of rows suffix ≡ Some (state begun.directory).suffix → ended.options ≡ begun.options → AreTextsOfRun state ended texts
-        → IsWellFormed rows (state begun.directory) → IsWithinLimits (state begun.directory)
-        → (s : Texts) × AreTexts options.dry s texts × IsStatedRun rows suffix options copy left texts.summary s
-    told texts law key same made well within = (
-      stated,
-      (files (same ∙ starts.6) texts.files made.0, made.2 ∙ report),
-      (
-        state begun.directory,
-        ran,
-        key,
-        reads,
-        of_text (records_of rows) (λ answers. run_of rows options.go_on (state begun.directory) answers ≡ Ok ran) left
-            (subst (λ (o : ModifyOptions). IfSome (option_map (records_of rows) left) (λ answers. run_of rows o.go_on (state begun.directory) answers ≡ Ok ran)) starts.6 over.3),
-        refl,
-        (ap (λ (n : Summary). n.accepted) made.1 ∙ accepted, ap (λ (n : Summary). n.refused) made.1 ∙ refused),
-        (law rows (state begun.directory) ran options.verbose well within over.2).0,
-        (law rows (state begun.directory) ran options.verbose well within over.2).1,
-      ),
-    )
+    -- the texts and the numbers of a run that has ended
+    pub told : (texts : RunTexts) → WrittenRunsAreTakenBack → GroupsAreUndos → suffix_of q.rows q.suffix ≡ Some (state begun.directory).suffix → ended.options ≡ begun.options → AreTextsOfRun state ended texts
+        → IsWellFormed q.rows (state begun.directory) → IsWithinLimits (state begun.directory)
+        → (output : RunOutput) × AreTexts q.options.dry output.texts texts × (texts.summary ≡ output.summary) × IsStatedRun q (sources copy left) output
+    told texts law undos key same made well within =
+        let taken = law q.rows (state begun.directory) ran well within over.2 in (
+          stated,
+          (files (same ∙ starts.6) texts.files made.0, made.2 ∙ report),
+          made.1 ∙ (λ i. record { accepted = accepted i; refused = refused i }),
+          record {
+            first = state begun.directory;
+            ran = ran;
+            suffix = key;
+            copy = reads;
+            changes = of_text (records_of q.rows) (λ answers. run_of q.rows q.options.go_on (state begun.directory) answers ≡ Ok ran) left
+                (subst (λ (o : ModifyOptions). IfSome (option_map (records_of q.rows) left) (λ answers. run_of q.rows o.go_on (state begun.directory) answers ≡ Ok ran)) starts.6 over.3);
+            output_is = refl;
+            undos = undos q.rows (state begun.directory) ran well within over.2;
+            undo_records = taken.0;
+            taken_back = λ options. gives_back q (state begun.directory) ran key options (taken.1 options.go_on);
+          },
+        )
 
 -- ---- the writing
 
@@ -231,24 +222,95 @@ dry_of dry s t h = by t.files refl h.0
     by None there h = ap (λ (o : Option Files). is_dry (record t { files = o })) there ∙ sym h
     by (Some made) there h = ap (λ (o : Option Files). is_dry (record t { files = o })) there ∙ sym h.0
 
-pub answers_write : (rows : List TypeRow) (suffix : List ℕ) (options : ModifyOptions) (copy left : Option (List ℕ)) (summary : Summary) (s : Texts) (fault : ToolFault)
-    → IsWriteFault fault → IsStatedRun rows suffix options copy left summary s → AnswersRun rows suffix options copy left (Err fault) s
-answers_write rows suffix options copy left summary s (tool.Write output) h run = (summary, run)
-answers_write rows suffix options copy left summary s (tool.BadCopy line why) h run = absurd (h)
-answers_write rows suffix options copy left summary s (tool.Read input) h run = absurd (h)
-answers_write rows suffix options copy left summary s tool.Memory h run = absurd (h)
-answers_write rows suffix options copy left summary s (tool.BadQuestion item) h run = absurd (h)
-answers_write rows suffix options copy left summary s (tool.BadChanges fault) h run = absurd (h)
+-- ---- the answer
+
+pub answers_write : (q : Question) (known : Sources) (output : RunOutput) (fault : ToolFault) → IsWriteFault fault → IsStatedRun q known output → AnswersRun q known (Err fault) output
+answers_write q known output (tool.Write writer) h run = run
+answers_write q known output (tool.BadCopy line why) h run = absurd (h)
+answers_write q known output (tool.Read from) h run = absurd (h)
+answers_write q known output tool.Memory h run = absurd (h)
+answers_write q known output (tool.BadQuestion item) h run = absurd (h)
+answers_write q known output (tool.BadChanges fault) h run = absurd (h)
 
 -- a fault before the writing
-pub unwritten : (A : Type 0) (rows : List TypeRow) (suffix : List ℕ) (options : ModifyOptions) (copy left : Option (List ℕ)) (s : Texts) (fault : ToolFault) (u o w : TakenBytes)
-    → IsCausedBy rows suffix options copy left fault → u.1 ≡ u.0 → o.1 ≡ o.0 → w.1 ≡ w.0
-    → WroteInOrder {A = A} options.dry (Err fault) s u o w × AnswersRun rows suffix options copy left (Err fault) s
-unwritten A rows suffix options copy left s (tool.Write output) u o w h a b c = absurd (h)
-unwritten A rows suffix options copy left s (tool.BadCopy line why) u o w h a b c = ((a, b, c), h)
-unwritten A rows suffix options copy left s (tool.Read input.Copy) u o w h a b c = ((a, b, c), h)
-unwritten A rows suffix options copy left s (tool.Read input.Changes) u o w h a b c = ((a, b, c), h)
-unwritten A rows suffix options copy left s (tool.Read input.Config) u o w h a b c = absurd (h)
-unwritten A rows suffix options copy left s tool.Memory u o w h a b c = ((a, b, c), h)
-unwritten A rows suffix options copy left s (tool.BadQuestion item) u o w h a b c = ((a, b, c), h)
-unwritten A rows suffix options copy left s (tool.BadChanges fault) u o w h a b c = ((a, b, c), h)
+pub unwritten : (A : Type 0) (q : Question) (known : Sources) (output : RunOutput) (fault : ToolFault) (u o w : TakenBytes)
+    → IsCausedBy q known fault → u.1 ≡ u.0 → o.1 ≡ o.0 → w.1 ≡ w.0
+    → WroteInOrder {A = A} q.options.dry (Err fault) output.texts u o w × AnswersRun q known (Err fault) output
+unwritten A q known output (tool.Write writer) u o w h a b c = absurd (h)
+unwritten A q known output (tool.BadCopy line why) u o w h a b c = ((a, b, c), h)
+unwritten A q known output (tool.Read input.Copy) u o w h a b c = ((a, b, c), h)
+unwritten A q known output (tool.Read input.Changes) u o w h a b c = ((a, b, c), h)
+unwritten A q known output (tool.Read input.Config) u o w h a b c = absurd (h)
+unwritten A q known output tool.Memory u o w h a b c = ((a, b, c), h)
+unwritten A q known output (tool.BadQuestion item) u o w h a b c = ((a, b, c), h)
+unwritten A q known output (tool.BadChanges fault) u o w h a b c = ((a, b, c), h)
+
+-- ---- over sources that tell their texts
+
+if_both : {A : Type 0} (a b : Option A) (P Q : A → Type 0) (R : A → A → Type 0) → IfSome a P → IfSome b Q → ((x y : A) → P x → Q y → R x y) → IfSome a (λ x. IfSome b (λ y. R x y))
+if_both None b P Q R p q f = tt
+if_both (Some x) None P Q R p q f = tt
+if_both (Some x) (Some y) P Q R p q f = f x y p q
+
+if_one : {A : Type 0} (a b : Option A) (P : A → Type 0) (R : A → A → Type 0) → IfSome a P → ((x y : A) → P x → R x y) → IfSome a (λ x. IfSome b (λ y. R x y))
+if_one None b P R p f = tt
+if_one (Some x) None P R p f = tt
+if_one (Some x) (Some y) P R p f = f x y p
+
+if_any : {A : Type 0} (a b : Option A) (R : A → A → Type 0) → ((x y : A) → R x y) → IfSome a (λ x. IfSome b (λ y. R x y))
+if_any None b R f = tt
+if_any (Some x) None R f = tt
+if_any (Some x) (Some y) R f = f x y
+
+module _ (q : Question) (known : Sources) where
+  abbrev Gives : RunOutput → Type 0
+  Gives output = IfSome known.copy (λ copy. IfSome known.changes (λ changes. output_of q copy changes ≡ Ok output))
+
+  abbrev Fails : ToolFault → Type 0
+  Fails fault = IfSome known.copy (λ copy. IfSome known.changes (λ changes. output_of q copy changes ≡ Err fault))
+
+  pub stated_whole : (output : RunOutput) → IsStatedRun q known output → Gives output
+  stated_whole output run =
+      if_both known.copy known.changes _ _ (λ copy changes. output_of q copy changes ≡ Ok output) run.copy run.changes
+      (λ copy changes reads runs. whole_run q copy changes run.first.suffix run.suffix run.first reads run.ran runs ∙ ap Ok (sym run.output_is))
+
+  copy_fails : (line : ℕ) (why : Cause) (key : DnKeys) → suffix_of q.rows q.suffix ≡ Some key → IfSome known.copy (λ text. copy_of q.rows key text ≡ Err (line, why)) → Fails (tool.BadCopy line why)
+  copy_fails line why key named reads =
+      if_one known.copy known.changes _ (λ copy changes. output_of q copy changes ≡ Err (tool.BadCopy line why)) reads (λ copy changes is. bad_copy q copy changes key named line why is)
+
+  changes_fail : (fault : StreamFault) (first : Dir) → suffix_of q.rows q.suffix ≡ Some first.suffix → IfSome known.copy (λ text. copy_of q.rows first.suffix text ≡ Ok first)
+      → IfSome known.changes (λ text. run_of q.rows q.options.go_on first (records_of q.rows text) ≡ Err fault) → Fails (tool.BadChanges fault)
+  changes_fail fault first named reads runs =
+      if_both known.copy known.changes _ _ (λ copy changes. output_of q copy changes ≡ Err (tool.BadChanges fault)) reads runs
+      (λ copy changes is h. bad_changes q copy changes first.suffix named first is fault h)
+
+  pub fault_whole : (output : RunOutput) (fault : ToolFault) → IsCausedBy q known fault → IsWholeRun q known (Err fault) output
+  fault_whole output (tool.BadQuestion item.Suffix) h = if_any known.copy known.changes _ (λ copy changes. bad_suffix q copy changes h)
+  fault_whole output (tool.BadQuestion item.Base) h = absurd (h)
+  fault_whole output (tool.BadQuestion item.Authc) h = absurd (h)
+  fault_whole output (tool.BadQuestion (item.Word n)) h = absurd (h)
+  fault_whole output (tool.BadCopy line (cause.Code code)) h = copy_fails line (cause.Code code) h.0 h.1 h.2
+  fault_whole output (tool.BadCopy line (cause.Fault fault)) h = copy_fails line (cause.Fault fault) h.0 h.1 h.2
+  fault_whole output (tool.BadCopy line (cause.Ended stream.TooManyTurns)) h = if_any known.copy known.changes _ (λ copy changes. tt)
+  fault_whole output (tool.BadCopy line (cause.Ended stream.LineTooLong)) h = copy_fails line (cause.Ended stream.LineTooLong) h.0 h.1 h.2
+  fault_whole output (tool.BadCopy line (cause.Ended stream.Read)) h = copy_fails line (cause.Ended stream.Read) h.0 h.1 h.2
+  fault_whole output (tool.BadCopy line (cause.Ended stream.Memory)) h = copy_fails line (cause.Ended stream.Memory) h.0 h.1 h.2
+  fault_whole output (tool.BadCopy line (cause.Ended stream.Ended)) h = copy_fails line (cause.Ended stream.Ended) h.0 h.1 h.2
+  fault_whole output (tool.BadCopy line (cause.Ended stream.BadVersion)) h = copy_fails line (cause.Ended stream.BadVersion) h.0 h.1 h.2
+  fault_whole output (tool.BadChanges stream.TooManyTurns) h = if_any known.copy known.changes _ (λ copy changes. tt)
+  fault_whole output (tool.BadChanges stream.LineTooLong) h = changes_fail stream.LineTooLong h.first h.suffix h.copy h.changes
+  fault_whole output (tool.BadChanges stream.Read) h = changes_fail stream.Read h.first h.suffix h.copy h.changes
+  fault_whole output (tool.BadChanges stream.Memory) h = changes_fail stream.Memory h.first h.suffix h.copy h.changes
+  fault_whole output (tool.BadChanges stream.Ended) h = changes_fail stream.Ended h.first h.suffix h.copy h.changes
+  fault_whole output (tool.BadChanges stream.BadVersion) h = changes_fail stream.BadVersion h.first h.suffix h.copy h.changes
+  fault_whole output (tool.Read from) h = if_any known.copy known.changes _ (λ copy changes. tt)
+  fault_whole output tool.Memory h = if_any known.copy known.changes _ (λ copy changes. tt)
+  fault_whole output (tool.Write writer) h = absurd (h)
+
+  pub write_whole : (output : RunOutput) (fault : ToolFault) → IsWriteFault fault → IsStatedRun q known output → IsWholeRun q known (Err fault) output
+  write_whole output (tool.Write writer) h run = stated_whole output run
+  write_whole output (tool.BadCopy line why) h run = absurd (h)
+  write_whole output (tool.Read from) h run = absurd (h)
+  write_whole output tool.Memory h run = absurd (h)
+  write_whole output (tool.BadQuestion item) h run = absurd (h)
+  write_whole output (tool.BadChanges fault) h run = absurd (h)

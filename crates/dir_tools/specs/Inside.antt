@@ -1,4 +1,5 @@
 pub mod Loading
+pub mod RunInMemory
 pub mod RunTexts
 pub mod Running
 pub mod Taking

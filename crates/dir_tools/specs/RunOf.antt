@@ -1,5 +1,5 @@
 -- A run of changes on a directory (slapmodify(8)): an outcome for each record that it looks at.
-use Rattle.std.specs.Prelude.{ℕ, Bool, cond, List, [], ◌∷◌, ◌++◌, Result, Ok, Err, ◌≡◌}
+use Rattle.std.specs.Prelude.{ℕ, Bool, cond, List, [], ◌∷◌, ◌++◌, map, reverse, Result, Ok, Err, ◌≡◌}
 use Rattle.std.specs.List.{flat_map}
 use Rattle.dir_names.specs.declared.schema.TypeRow.{TypeRow}
 use Rattle.dir_ldif.specs.declared.faults.RecordFault.{RecordFault}
@@ -8,7 +8,8 @@ use Rattle.dir_ldif.specs.declared.faults.StreamFault.{StreamFault}
 use Rattle.dir_ldif.specs.declared.records.Change.{Change}
 use Rattle.dir_ldif.specs.declared.records.Record.{Record}
 use Rattle.dir_ldif.specs.declared.records.Record.TheVariants as form
-use Rattle.dir_ldif.specs.Records.{Answer}
+use Rattle.dir_ldif.specs.Records.{Answer, records_of}
+use Rattle.dir_ldif.specs.RoundTrip.{without_line}
 use Rattle.dir_tree.specs.Dir.{Dir}
 use Rattle.dir_change.specs.declared.result_code.ResultCode.{ResultCode}
 use Rattle.dir_change.specs.Operation.{step}
@@ -17,6 +18,7 @@ use Rattle.dir_tools.specs.declared.fault.Cause.{Cause}
 use Rattle.dir_tools.specs.declared.fault.Cause.TheVariants as cause
 use Rattle.dir_tree.specs.WellFormed.{Each}
 use Rattle.dir_change.specs.SoundChange.{IsSoundChange}
+use Rattle.dir_change.specs.Undo.{IsUndo}
 
 -- the changes that take an accepted record back, or why a record is refused
 abbrev pub Outcome : Type 0
@@ -80,3 +82,12 @@ causes_in outcomes = flat_map cause_in outcomes
 abbrev pub HasAccepted : List TypeRow → Dir → List (ℕ × Outcome) → Dir → Type 0
 HasAccepted rows first outcomes last =
     (changes : List Change) × Each (IsSoundChange rows) changes × (run_to_end rows first changes ≡ record { end = last; groups = groups_in outcomes })
+
+-- each group is an undo of a sound change, and these changes lead from one directory to the other
+abbrev pub AreUndos : List TypeRow → Dir → List (List Change) → Dir → Type 0
+AreUndos rows d [] last = d ≡ last
+AreUndos rows d (group ∷ groups) last = (change : Change) × (next : Dir) × IsSoundChange rows change × IsUndo rows d next change group × AreUndos rows next groups last
+
+-- the records of the undo text are the changes of the groups, those of the last accepted record first, and none is faulty
+abbrev pub ReadsAsGroups : List TypeRow → List ℕ → List (List Change) → Type 0
+ReadsAsGroups rows undo groups = map without_line (records_of rows undo) ≡ map (λ c. Ok (Ok (form.Change c))) (flat_map (λ group. group) (reverse groups))

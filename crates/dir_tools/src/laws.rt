@@ -1,15 +1,39 @@
-//! Laws about canonical texts and runs: functions with no code, whose contracts are the laws.
+//! Laws about copies and runs: functions with no code, whose contracts are the laws.
 
-ghost use Rattle.dir_tools.specs.Headline.{CanonicalTextsReadBack, WrittenRunsAreTakenBack};
+ghost use Rattle.dir_tools.specs.Headline.{Headline};
+ghost use Rattle.dir_tools.specs.Laws.{CanonicalTextsReadBack, CopiesAreSound, GroupsAreUndos, RunsAcceptChanges, WrittenRunsAreTakenBack};
 
-use dir_change::{runs_are_taken_back, runs_stay_in_order, undo_texts_read_back};
-use dir_ldif::written_records_read_back;
+use dir_change::{
+    groups_undo_changes, runs_are_taken_back, runs_stay_in_order, undo_texts_read_back,
+};
+use dir_ldif::{records_are_sound, written_records_read_back};
+
+/// A law: what a text of bytes is the copy of, is well formed and within the limits.
+pub fn copies_are_sound()
+    ensures { CopiesAreSound }
+{
+    records_are_sound();
+}
 
 /// A law: the canonical text of a well-formed directory within the limits reads back as that directory.
 pub fn canonical_texts_read_back()
     ensures { CanonicalTextsReadBack }
 {
     written_records_read_back();
+}
+
+/// A law: a run over sound records accepts sound changes, one after the other.
+pub fn runs_accept_changes()
+    ensures { RunsAcceptChanges }
+{}
+
+/// A law: on a well-formed directory within the limits, the group of each accepted record of a run is an
+/// undo of its change.
+pub fn groups_are_undos()
+    ensures { GroupsAreUndos }
+{
+    groups_undo_changes();
+    runs_stay_in_order();
 }
 
 /// A law: the undo text of a run, run on the copy that the run wrote, in both modes, is accepted whole and
@@ -21,4 +45,16 @@ pub fn written_runs_are_taken_back()
     runs_are_taken_back();
     runs_stay_in_order();
     undo_texts_read_back();
+}
+
+/// The headline: for every copy and every text of changes, where the run has an output, its undo text, run
+/// on its new copy, refuses nothing, and gives the canonical text of the first copy, byte for byte,
+/// whatever the options.
+pub fn headline()
+    ensures { Headline }
+{
+    records_are_sound();
+    copies_are_sound();
+    runs_accept_changes();
+    written_runs_are_taken_back();
 }

@@ -8,14 +8,19 @@ mod fault;
 mod laws;
 mod modify;
 mod report;
+mod round_trip;
 mod run;
 mod taking;
 mod write;
 
 pub use copy::{read_copy, write_copy};
 pub use fault::{Cause, Input, Item, Output, ToolFault};
-pub use laws::{canonical_texts_read_back, written_runs_are_taken_back};
+pub use laws::{
+    canonical_texts_read_back, copies_are_sound, groups_are_undos, headline, runs_accept_changes,
+    written_runs_are_taken_back,
+};
 pub use modify::run_modify;
+pub use round_trip::{RoundTrip, run_there_and_back};
 pub use run::{ModifyOptions, Summary};
 
 #[cfg(test)]

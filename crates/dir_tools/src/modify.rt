@@ -2,15 +2,18 @@
 
 ghost use Rattle.std.specs.Prelude.{◌≡◌, ◌⊎◌, Err, IfErr, IfOk, OnOk, Some};
 ghost use Rattle.dir_ldif.specs.Device.{HasFailed};
-ghost use Rattle.dir_tools.specs.Headline.{AnswersRun, HeldBefore, IsCausedBy, IsNoSuffix, IsStatedRun, suffix_of};
+ghost use Rattle.dir_tools.specs.Headline.{RunOutput, question};
 ghost use Rattle.dir_tools.specs.Inside.RunTexts.{AreTexts, is_dry, texts_of};
-ghost use Rattle.dir_tools.specs.Writing.{FlushedInOrder, IsWriteFault, Texts, WroteInOrder};
+ghost use Rattle.dir_tools.specs.RunAnswers.{AnswersRun, IsCausedBy, IsStatedRun, IsWholeRun, sources};
+ghost use Rattle.dir_tools.specs.StoppedReading.{HeldBefore};
+ghost use Rattle.dir_tools.specs.Suffix.{IsNoSuffix, suffix_of};
+ghost use Rattle.dir_tools.specs.Writing.{FlushedInOrder, IsWriteFault, WroteInOrder};
 ghost use Rattle.dir_tools.specs.declared.fault.Input.TheVariants as Input;
 ghost use Rattle.dir_tools.specs.declared.fault.Output.TheVariants as Output;
 ghost use Rattle.dir_tools.specs.declared.fault.ToolFault.TheVariants as ToolFault;
 
 use crate::copy::read_copy;
-use crate::laws::written_runs_are_taken_back;
+use crate::laws::{groups_are_undos, written_runs_are_taken_back};
 use crate::run::{ModifyOptions, Run, RunTexts, Summary};
 use crate::write::write_text;
 use crate::{Item, Output, ToolFault};
@@ -43,9 +46,11 @@ pub fn run_modify<R: Source, R2: Source, W: Sink, W2: Sink, W3: Sink>(
     report: &mut W3,
 ) -> Result<Summary, ToolFault>
     ensures unfailed { OnOk result ((W.failures undo.new ≡ W.failures undo.old) × (W2.failures out.new ≡ W2.failures out.old) × (W3.failures report.new ≡ W3.failures report.old)) }
-    ensures texts { (s : Texts) × WroteInOrder options.dry result s (W.taken undo.old, W.taken undo.new) (W2.taken out.old, W2.taken out.new) (W3.taken report.old, W3.taken report.new)
-        × AnswersRun schema.now suffix.now options (R.left copy.old) (R2.left changes.old) result s }
-    ensures first { IfErr result (HeldBefore schema.now suffix.now options (R.left copy.old, R.left copy.new) (R2.left changes.old, R2.left changes.new)) }
+    ensures headline { (output : RunOutput)
+        × WroteInOrder options.dry result output.texts (W.taken undo.old, W.taken undo.new) (W2.taken out.old, W2.taken out.new) (W3.taken report.old, W3.taken report.new)
+        × AnswersRun (question schema.now suffix.now options) (sources (R.left copy.old) (R2.left changes.old)) result output
+        × IsWholeRun (question schema.now suffix.now options) (sources (R.left copy.old) (R2.left changes.old)) result output }
+    ensures first { IfErr result (HeldBefore (question schema.now suffix.now options) (R.left copy.old, R.left copy.new) (R2.left changes.old, R2.left changes.new)) }
     ensures unfailed_copy { OnOk result (R.failures copy.new ≡ R.failures copy.old) }
     ensures unfailed_changes { OnOk result (R2.failures changes.new ≡ R2.failures changes.old) }
     ensures read_copy { result ≡ Err (ToolFault.Read Input.Copy) → HasFailed (R.failures copy.old) (R.failures copy.new) }
@@ -99,9 +104,10 @@ fn make_texts<R: Source, R2: Source>(
     copy: &mut R,
     changes: &mut R2,
 ) -> Result<RunTexts, ToolFault>
-    ensures ok { IfOk result (λ texts. (s : Texts) × AreTexts options.dry s texts × IsStatedRun schema.now suffix.now options (R.left copy.old) (R2.left changes.old) texts.summary s) }
-    ensures blamed { IfErr result (IsCausedBy schema.now suffix.now options (R.left copy.old) (R2.left changes.old)) }
-    ensures first { IfErr result (HeldBefore schema.now suffix.now options (R.left copy.old, R.left copy.new) (R2.left changes.old, R2.left changes.new)) }
+    ensures ok { IfOk result (λ texts. (output : RunOutput) × AreTexts options.dry output.texts texts × (texts.summary ≡ output.summary)
+        × IsStatedRun (question schema.now suffix.now options) (sources (R.left copy.old) (R2.left changes.old)) output) }
+    ensures blamed { IfErr result (IsCausedBy (question schema.now suffix.now options) (sources (R.left copy.old) (R2.left changes.old))) }
+    ensures first { IfErr result (HeldBefore (question schema.now suffix.now options) (R.left copy.old, R.left copy.new) (R2.left changes.old, R2.left changes.new)) }
     ensures unfailed_copy { OnOk result (R.failures copy.new ≡ R.failures copy.old) }
     ensures unfailed_changes { OnOk result (R2.failures changes.new ≡ R2.failures changes.old) }
     ensures read_copy { result ≡ Err (ToolFault.Read Input.Copy) → HasFailed (R.failures copy.old) (R.failures copy.new) }
@@ -120,6 +126,7 @@ fn make_texts<R: Source, R2: Source>(
         return Err(fault);
     }
     written_runs_are_taken_back();
+    groups_are_undos();
     run.finish(alloc)
 }
 

@@ -148,6 +148,7 @@ fn laws_are_called() {
     read_calls_are_used();
     reading_ends_soon();
     reading_stops_there();
+    records_are_sound();
     texts_are_blocks();
     written_lines_read_back();
     written_records_read_back();

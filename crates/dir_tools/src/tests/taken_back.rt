@@ -1,7 +1,11 @@
 //! Runs that are taken back.
 
 use super::{GO_ON, Ran, STOP, Want, assert_text, assert_wrote, run_over};
-use crate::{canonical_texts_read_back, written_runs_are_taken_back};
+use crate::{
+    canonical_texts_read_back, copies_are_sound, groups_are_undos, headline, run_there_and_back,
+    runs_accept_changes, written_runs_are_taken_back,
+};
+use dir_names::Schema;
 use std::alloc::Global;
 use std::process::Abort;
 use std::test::Fail;
@@ -40,9 +44,40 @@ fn the_first_entry_of_a_directory_is_taken_back(rt: HostRuntime) -> Result<(), F
             report: "accepted 1, refused 0\n",
         },
     );
-    canonical_texts_read_back();
-    written_runs_are_taken_back();
     Ok(())
+}
+
+#[test]
+fn a_run_there_and_back_gives_the_canonical_text_of_the_first_copy(
+    rt: HostRuntime,
+) -> Result<(), Fail> {
+    let alloc = rt.alloc();
+    let schema = Schema::builtin(alloc)?;
+    let copy = b"dn: ou=b,dc=com\nou: b\n\ndn: dc=com\n\n";
+    let changes =
+        b"dn: OU=B,dc=com\nchangetype: delete\n\ndn: ou=a,dc=com\nchangetype: add\nou: a\n";
+    let Ok(trip) = run_there_and_back(alloc, &schema, b"dc=com", STOP, copy, changes) else {
+        panic!(rt; "one of the runs ends in a fault");
+    };
+    assert_eq!(rt; trip.there.accepted, 2);
+    assert_eq!(rt; trip.back.accepted, 2);
+    assert_eq!(rt; trip.back.refused, 0);
+    assert_text(
+        &rt,
+        trip.copy.as_slice(),
+        "dn: dc=com\ndc: com\n\ndn: ou=b,dc=com\nou: b\n\n",
+    );
+    Ok(())
+}
+
+#[test]
+fn laws_are_called() {
+    canonical_texts_read_back();
+    copies_are_sound();
+    groups_are_undos();
+    headline();
+    runs_accept_changes();
+    written_runs_are_taken_back();
 }
 
 #[test]

@@ -1,5 +1,5 @@
 use Rattle.std.proofs.lemmas.Result.{err_from_is_err_and}
-use Rattle.std.proofs.Common.{◌≡◌, ℕ, ◌<◌, Ok, List, ◌++◌, length, sym, ap, subst, ◌∙◌, length-append, arith}
+use Rattle.std.proofs.Common.{◌≡◌, ℕ, ◌<◌, List, ◌++◌, length, sym, ap, subst, ◌∙◌, length-append, arith}
 use Rattle.dir_ldif.specs.Reader.Unfolding.{blocks_to_come}
 use Rattle.dir_ldif.specs.Reader.Answers.{blocks_left, hand}
 use Rattle.dir_ldif.specs.Inside.Reader.{FailsToRead}

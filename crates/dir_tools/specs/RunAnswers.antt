@@ -1,0 +1,96 @@
+-- What `run_modify` answers over devices, which may tell their bytes or not.
+use Rattle.std.specs.Prelude.{◌≡◌, ℕ, ⊤, List, Option, None, Some, IfSome, Result, Ok, Err}
+use Rattle.dir_names.specs.Keys.{DnKeys}
+use Rattle.dir_ldif.specs.declared.faults.StreamFault.{StreamFault}
+use Rattle.dir_ldif.specs.declared.faults.StreamFault.TheVariants as stream
+use Rattle.dir_ldif.specs.Records.{records_of}
+use Rattle.dir_tree.specs.Dir.{Dir}
+use Rattle.dir_tools.specs.declared.fault.Cause.{Cause}
+use Rattle.dir_tools.specs.declared.fault.Cause.TheVariants as cause
+use Rattle.dir_tools.specs.declared.fault.Input.TheVariants as input
+use Rattle.dir_tools.specs.declared.fault.Item.TheVariants as item
+use Rattle.dir_tools.specs.declared.fault.ToolFault.{ToolFault}
+use Rattle.dir_tools.specs.declared.fault.ToolFault.TheVariants as tool
+use Rattle.dir_tools.specs.declared.run.ModifyOptions.{ModifyOptions}
+use Rattle.dir_tools.specs.declared.run.Summary.{Summary}
+use Rattle.dir_tools.specs.Canonical.{canonical_of}
+use Rattle.dir_tools.specs.CopyFaults.{IsBadCopy}
+use Rattle.dir_tools.specs.CopyOf.{copy_of}
+use Rattle.dir_tools.specs.Headline.{IsTakenBack, Question, RunOutput, output_at, output_of}
+use Rattle.dir_tools.specs.ReadCalls.{FillsReadCalls}
+use Rattle.dir_tools.specs.RunOf.{AreUndos, ReadsAsGroups, RunEnd, groups_in, run_of}
+use Rattle.dir_tools.specs.Suffix.{suffix_of}
+
+-- the texts that the two sources have left, where they tell them
+pub record Sources : Type 0 where
+  pub copy : Option (List ℕ)
+  pub changes : Option (List ℕ)
+
+abbrev pub sources : Option (List ℕ) → Option (List ℕ) → Sources
+sources copy changes = record { copy = copy; changes = changes }
+
+-- ---- a run that came to its end
+
+-- a run from the directory that its copy is the text of, over the records of its changes. Each accepted record has an undo as its group; the
+-- records of the undo text are those of the groups, the last first; and the output takes the run back, whatever the options
+pub record IsStatedRun (q : Question) (known : Sources) (output : RunOutput) : Type 0 where
+  pub first : Dir
+  pub ran : RunEnd
+  pub suffix : suffix_of q.rows q.suffix ≡ Some first.suffix
+  pub copy : IfSome known.copy (λ text. copy_of q.rows first.suffix text ≡ Ok first)
+  pub changes : IfSome known.changes (λ text. run_of q.rows q.options.go_on first (records_of q.rows text) ≡ Ok ran)
+  pub output_is : output ≡ output_at q ran
+  pub undos : AreUndos q.rows first (groups_in ran.outcomes) ran.end
+  pub undo_records : ReadsAsGroups q.rows output.texts.undo (groups_in ran.outcomes)
+  pub taken_back : (options : ModifyOptions) → IsTakenBack q output options (canonical_of first)
+
+-- ---- a fault before the writing
+
+-- the run from a directory comes to this fault of the text of changes; or the text has a byte or more for each read call of
+-- a reader
+abbrev pub IsBadText : Question → Dir → List ℕ → StreamFault → Type 0
+IsBadText q first text stream.TooManyTurns = FillsReadCalls text
+IsBadText q first text fault = run_of q.rows q.options.go_on first (records_of q.rows text) ≡ Err fault
+
+-- the copy is the text of a directory, and from there the text of changes is at fault
+pub record AreBadChanges (q : Question) (known : Sources) (fault : StreamFault) : Type 0 where
+  pub first : Dir
+  pub suffix : suffix_of q.rows q.suffix ≡ Some first.suffix
+  pub copy : IfSome known.copy (λ text. copy_of q.rows first.suffix text ≡ Ok first)
+  pub changes : IfSome known.changes (λ text. IsBadText q first text fault)
+
+-- the fault is that of the copy's text
+abbrev pub HasBadCopy : Question → Sources → ℕ → Cause → Type 0
+HasBadCopy q known line why = (key : DnKeys) × (suffix_of q.rows q.suffix ≡ Some key) × IfSome known.copy (λ text. IsBadCopy q.rows key text line why)
+
+-- what a fault says of the texts that were read. Out of memory says nothing of them; for a read fault see `StoppedReading`
+abbrev pub IsCausedBy : Question → Sources → ToolFault → Type 0
+IsCausedBy q known (tool.BadQuestion item.Suffix) = suffix_of q.rows q.suffix ≡ None
+IsCausedBy q known (tool.BadCopy line why) = HasBadCopy q known line why
+IsCausedBy q known (tool.BadChanges fault) = AreBadChanges q known fault
+IsCausedBy q known (tool.Read input.Copy) = ⊤
+IsCausedBy q known (tool.Read input.Changes) = ⊤
+IsCausedBy q known tool.Memory = ⊤
+IsCausedBy q known fault = ⊥
+
+-- ---- the answer
+
+-- the answer of a run that has this output, if it came to one
+abbrev pub AnswersRun : Question → Sources → Result Summary ToolFault → RunOutput → Type 0
+AnswersRun q known (Ok summary) output = (summary ≡ output.summary) × IsStatedRun q known output
+AnswersRun q known (Err (tool.Write writer)) output = IsStatedRun q known output
+AnswersRun q known (Err fault) output = IsCausedBy q known fault
+
+-- the answer, and the output, are those of the definition. Where reading stopped, or memory ran out, the answer says nothing of it
+abbrev pub IsAnswerOf : Result Summary ToolFault → RunOutput → Result RunOutput ToolFault → Type 0
+IsAnswerOf (Ok summary) output wanted = wanted ≡ Ok output
+IsAnswerOf (Err (tool.Write writer)) output wanted = wanted ≡ Ok output
+IsAnswerOf (Err tool.Memory) output wanted = ⊤
+IsAnswerOf (Err (tool.Read from)) output wanted = ⊤
+IsAnswerOf (Err (tool.BadCopy line (cause.Ended stream.TooManyTurns))) output wanted = ⊤
+IsAnswerOf (Err (tool.BadChanges stream.TooManyTurns)) output wanted = ⊤
+IsAnswerOf (Err fault) output wanted = wanted ≡ Err fault
+
+-- where both sources tell their texts, the run does as the definition says
+abbrev pub IsWholeRun : Question → Sources → Result Summary ToolFault → RunOutput → Type 0
+IsWholeRun q known result output = IfSome known.copy (λ copy. IfSome known.changes (λ changes. IsAnswerOf result output (output_of q copy changes)))
