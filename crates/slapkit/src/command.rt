@@ -1,7 +1,7 @@
 //! The command line, by `clap`.
 
 ghost use Rattle.std.specs.Prelude.{IfOk};
-ghost use Rattle.slapkit.specs.Words.{IsDryWithoutFiles, WritesNoFileDry};
+ghost use Rattle.slapkit.specs.Words.{AreWordsOf, IsDryWithoutFiles, WritesNoFileDry};
 
 use clap::{Arg, ArgAction, ArgMatches, Command, Error};
 use dir_tools::ModifyOptions;
@@ -49,7 +49,8 @@ pub fn read_words<'a, S: AsStr>(alloc: Global, words: &'a [S]) -> Result<Words<'
 }
 
 fn modify_words<'a>(matches: &ArgMatches<'a>) -> ModifyWords<'a>
-    ensures { IsDryWithoutFiles result }
+    ensures dry { IsDryWithoutFiles result }
+    ensures words { AreWordsOf matches.now result }
 {
     let dry = matches.get_flag("dry");
     let files = match (matches.get_str("out"), matches.get_str("undo")) {
