@@ -1,6 +1,7 @@
 //! Laws about the format, and about many calls of a reader: each is the contract of a function that does nothing.
 
 ghost use Rattle.dir_ldif.specs.BlocksAtOnce.{LongLinesStay, TextsAreBlocks};
+ghost use Rattle.dir_ldif.specs.LegalRecords.{LegalChangesHaveNoFault};
 ghost use Rattle.dir_ldif.specs.RoundTrip.{WrittenLineReadsBack, RecordsReadBack};
 ghost use Rattle.dir_ldif.specs.ManyCalls.{ReadCallsAreUsed, ReadingEndsSoon, ReadingStopsThere};
 
@@ -32,6 +33,11 @@ pub fn reading_stops_there()
 /// were read calls.
 pub fn read_calls_are_used()
     ensures { ReadCallsAreUsed }
+{}
+
+/// A law: the changes in which `Change::check` finds no fault are the legal ones.
+pub fn legal_changes_have_no_fault()
+    ensures { LegalChangesHaveNoFault }
 {}
 
 /// A law: a written line reads back as one line, with its name and its value.

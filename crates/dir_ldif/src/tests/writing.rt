@@ -120,8 +120,8 @@ fn changes_are_checked(rt: HostRuntime) -> Result<(), Fail> {
     );
 
     for (length, want) in [
-        (MAX_VALUE, Ok(())),
-        (MAX_VALUE + 1, Err(RecordFault::ValueTooLong)),
+        (1_048_576, Ok(())),
+        (1_048_577, Err(RecordFault::ValueTooLong)),
     ] {
         let value = vec![in alloc; b'a'; length]?;
         let mut mods = Vec::new(alloc);
@@ -144,6 +144,7 @@ fn changes_are_checked(rt: HostRuntime) -> Result<(), Fail> {
 
 #[test]
 fn laws_are_called() {
+    legal_changes_have_no_fault();
     long_lines_stay();
     read_calls_are_used();
     reading_ends_soon();
@@ -180,6 +181,30 @@ fn lines_are_folded(rt: HostRuntime) -> Result<(), Fail> {
 }
 
 #[test]
+fn a_line_of_77_bytes_is_folded(rt: HostRuntime) -> Result<(), Fail> {
+    let alloc = rt.alloc();
+    // `x: ` and a value: how long the physical lines are.
+    for (length, want) in [
+        (73, [76usize, 0, 0]),
+        (74, [76, 2, 0]),
+        (148, [76, 76, 0]),
+        (149, [76, 76, 2]),
+    ] {
+        let mut out = Vec::new(alloc);
+        push_line(&mut out, b"x", vec![in alloc; b'a'; length]?.as_slice())?;
+        let mut lengths = [0usize; 3];
+        for (found, line) in lengths
+            .iter_mut()
+            .zip(out.as_slice().split(|b| *b == b'\n'))
+        {
+            *found = line.len();
+        }
+        assert_eq!(rt; lengths, want);
+    }
+    Ok(())
+}
+
+#[test]
 fn legal_changes_pass(rt: HostRuntime) -> Result<(), Fail> {
     let alloc = rt.alloc();
     let schema = Schema::builtin(alloc)?;
@@ -193,10 +218,29 @@ fn legal_changes_pass(rt: HostRuntime) -> Result<(), Fail> {
         kind: ChangeKind::Add(Lines::new(items)),
     };
     assert_eq!(rt; change.check(alloc, &schema), Ok(()));
+    Ok(())
+}
+
+#[test]
+fn the_first_fault_of_a_change_is_told(rt: HostRuntime) -> Result<(), Fail> {
+    let alloc = rt.alloc();
+    let schema = Schema::builtin(alloc)?;
+    let no_name = Err(RecordFault::Name(NameFault::BadDn));
     let keyless = Change {
         dn: Dn::read(alloc, b"cn=a+commonName=b")?,
         kind: ChangeKind::Delete,
     };
-    assert!(rt; keyless.check(alloc, &schema).is_err());
+    assert_eq!(rt; keyless.check(alloc, &schema), no_name);
+    let long = vec![in alloc; b'a'; 1_048_577]?;
+    let mut lines = Vec::new(alloc);
+    lines.push((
+        Description::read(alloc, &schema, b"sn")?,
+        Bytes::copy_of(alloc, long.as_slice())?,
+    ))?;
+    let keyless = Change {
+        dn: Dn::read(alloc, b"cn=a+commonName=b")?,
+        kind: ChangeKind::Add(Lines::new(lines)),
+    };
+    assert_eq!(rt; keyless.check(alloc, &schema), no_name);
     Ok(())
 }
