@@ -65,7 +65,7 @@ pub fn push_line(out: &mut Vec<u8>, name: &[u8], value: &[u8]) -> Result<(), Mem
 
 /// Appends what follows a line's name. Answers the room that is left in its physical line.
 fn push_value(out: &mut Vec<u8>, room: usize, value: &[u8]) -> Result<usize, Memory>
-    requires { room ≤ COLUMNS }
+    requires { room ≤ 76 }
     ensures { IfOk result (λ left. (rest : List ℕ)
         → out.new.items ++ fold_from left rest ≡ out.old.items ++ fold_from room (value_spec value.now ++ rest)) }
 {
@@ -99,8 +99,8 @@ pub fn push_end(out: &mut Vec<u8>) -> Result<(), Memory>
 /// Appends bytes to a line whose physical line has room for so many more, and begins a continuation wherever
 /// no room is left. Answers the room that is left.
 fn push_folded(out: &mut Vec<u8>, room: usize, text: &[u8]) -> Result<usize, Memory>
-    requires { room ≤ COLUMNS }
-    ensures room { IfOk result (λ left. left ≤ COLUMNS) }
+    requires { room ≤ 76 }
+    ensures room { IfOk result (λ left. left ≤ 76) }
     ensures text { IfOk result (λ left. (rest : List ℕ)
         → out.new.items ++ fold_from left rest ≡ out.old.items ++ fold_from room (text.now ++ rest)) }
 {
