@@ -20,6 +20,7 @@ pub mod ReadIsSound
 pub mod RecordsLemmas
 pub mod Rfc
 pub mod RoundTrip
+pub mod ScriptLemmas
 pub mod SoundNames
 pub mod Spellings
 pub mod UnfolderLemmas
