@@ -9,6 +9,7 @@ use std::test::Fail;
 
 mod devices;
 mod examples;
+mod faults;
 mod writing;
 
 /// What a text reads as: the line of each record, and its text or its fault; then what ends the text.
