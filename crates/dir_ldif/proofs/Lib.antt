@@ -15,6 +15,7 @@ pub mod LongLinesStay
 pub mod ManyCallsLemmas
 pub mod NoLongLine
 pub mod PartialLines
+pub mod PhysicalLines
 pub mod ReadIsLegal
 pub mod ReadIsSound
 pub mod RecordsLemmas

@@ -12,7 +12,8 @@ pub use device::{DeviceFault, Reader, Script, Sink, Source, Tape, Writer, write_
 pub use faults::{RecordFault, StreamFault};
 pub use laws::{
     legal_changes_have_no_fault, long_lines_stay, read_calls_are_used, reading_ends_soon,
-    reading_stops_there, texts_are_blocks, written_lines_read_back, written_records_read_back,
+    reading_stops_there, texts_are_blocks, written_lines_are_folded, written_lines_read_back,
+    written_records_read_back,
 };
 pub use reader::{MAX_LINE, MAX_TURNS, MAX_VALUE, RecordReader, read_all};
 pub use records::{Change, ChangeKind, Mod, ModOp, Mods, Record};

@@ -150,6 +150,7 @@ fn laws_are_called() {
     reading_ends_soon();
     reading_stops_there();
     texts_are_blocks();
+    written_lines_are_folded();
     written_lines_read_back();
     written_records_read_back();
 }
@@ -200,6 +201,40 @@ fn a_line_of_77_bytes_is_folded(rt: HostRuntime) -> Result<(), Fail> {
             *found = line.len();
         }
         assert_eq!(rt; lengths, want);
+    }
+    Ok(())
+}
+
+/// The one value of a text's one record.
+fn value_in(alloc: Global, schema: &Schema, text: &[u8]) -> Result<Vec<u8>, Fail> {
+    let answers = read_all(alloc, schema, text)?;
+    match answers.as_slice() {
+        [(1, Ok(Record::Content { dn: _, lines }))] => match lines.as_slice() {
+            [(_, value)] => Ok(value.as_slice().to_vec(alloc)?),
+            _ => Err("not one line".into()),
+        },
+        _ => Err("not one record".into()),
+    }
+}
+
+#[test]
+fn values_of_each_last_byte_read_back(rt: HostRuntime) -> Result<(), Fail> {
+    let alloc = rt.alloc();
+    let schema = Schema::builtin(alloc)?;
+    // With no padding, two signs of it, and one; the value is written in base64 for its first byte, where there
+    // is one before the last.
+    for start in [b"\x80a".as_slice(), b"\x80ab", b"\x80", b""] {
+        for last in 0..=255u8 {
+            let mut value = start.to_vec(alloc)?;
+            value.push(last)?;
+            let mut text = b"dn: cn=a\n".to_vec(alloc)?;
+            push_line(&mut text, b"x", value.as_slice())?;
+            if !start.is_empty() {
+                assert!(rt; text.as_slice().starts_with(b"dn: cn=a\nx:: "), "{last}");
+            }
+            let found = value_in(alloc, &schema, text.as_slice())?;
+            assert_eq!(rt; found.as_slice(), value.as_slice(), "{last}");
+        }
     }
     Ok(())
 }
