@@ -15,11 +15,13 @@ pub mod LongLinesStay
 pub mod ManyCallsLemmas
 pub mod NoLongLine
 pub mod PartialLines
+pub mod PhysicalLines
 pub mod ReadIsLegal
 pub mod ReadIsSound
 pub mod RecordsLemmas
 pub mod Rfc
 pub mod RoundTrip
+pub mod ScriptLemmas
 pub mod SoundNames
 pub mod SoundTexts
 pub mod Spellings

@@ -1,4 +1,4 @@
--- The text of a fault, of a record or of the stream: its number and its name.
+-- The text of a fault: of a record or of the stream, its number and its name; or of a device.
 use Rattle.std.specs.Prelude.{ℕ, List, ◌++◌, codes}
 use Rattle.dir_names.specs.FaultText.{name_fault_text}
 use Rattle.dir_ldif.specs.declared.faults.RecordFault.{RecordFault}
@@ -24,3 +24,6 @@ stream_fault_text stream.Memory = codes "L12 Memory"
 stream_fault_text stream.Ended = codes "L13 Ended"
 stream_fault_text stream.TooManyTurns = codes "L14 TooManyTurns"
 stream_fault_text stream.BadVersion = codes "L15 BadVersion"
+
+abbrev pub device_fault_text : List ℕ
+device_fault_text = codes "the device failed"

@@ -1,9 +1,10 @@
 -- One line as it is written (RFC 2849, attrval-spec and value-spec): its value plain where it can be, else in base64; folded.
-use Rattle.std.specs.Prelude.{ℕ, zero, suc, Bool, false, not, ◌&&◌, cond, nat_lt, ◌==◌, List, [], ◌∷◌, ◌++◌}
-use Rattle.std.specs.List.{list_all}
+use Rattle.std.specs.Prelude.{◌≡◌, ◌⊎◌, ℕ, zero, suc, ◌≤◌, All, Bool, false, not, ◌&&◌, cond, nat_lt, ◌==◌, List, [], ◌∷◌, ◌++◌, length}
+use Rattle.std.specs.List.{list_all, list_any}
 use Rattle.base64.specs.Engines.{standard}
 use Rattle.base64.specs.GeneralPurpose.{encode_of}
-use Rattle.dir_ldif.specs.Bytes.{ends_in}
+use Rattle.dir_ldif.specs.Bytes.{ends_in, is_line_break}
+use Rattle.dir_ldif.specs.LogicalLines.{cut, is_lf}
 use Rattle.dir_names.specs.Ascii.{carriage_return, colon, less_than, line_feed, nul, space}
 
 -- SAFE-CHAR: ASCII without NUL, LF and CR
@@ -46,3 +47,24 @@ folded_line line = fold_from 76 line
 -- a line of a name and a value, as it is written
 abbrev pub written_line : List ℕ → List ℕ → List ℕ
 written_line name value = folded_line (line_of name value)
+
+-- ---- the physical lines of a written line
+
+-- one line of at most 76 bytes
+abbrev pub IsOneLine : List (List ℕ) → Type 0
+IsOneLine lines = (only : List ℕ) × (lines ≡ only ∷ []) × (length only ≤ 76)
+
+-- a space and so many bytes
+abbrev pub IsContinuation : ℕ → List ℕ → Type 0
+IsContinuation n line = (bytes : List ℕ) × (line ≡ space ∷ bytes) × (length bytes ≡ n)
+
+-- a line of 76 bytes, then lines of a space and 75 bytes, and a last one of a space and 1 to 75 bytes
+abbrev pub IsFolded : List (List ℕ) → Type 0
+IsFolded lines =
+    (first : List ℕ) × (middle : List (List ℕ)) × (last : List ℕ) × (n : ℕ) × (lines ≡ (first ∷ middle) ++ last ∷ [])
+    × (length first ≡ 76) × All (IsContinuation 75) middle × IsContinuation n last × (1 ≤ n) × (n ≤ 75)
+
+-- a law: a written line is one physical line, or is folded so
+abbrev pub WrittenLinesAreFolded : Type 0
+WrittenLinesAreFolded = (name value : List ℕ) → list_any is_line_break name ≡ false
+    → IsOneLine (cut is_lf (written_line name value)) ⊎ IsFolded (cut is_lf (written_line name value))

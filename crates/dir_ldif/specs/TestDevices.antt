@@ -1,6 +1,7 @@
 -- The state of the devices for tests.
 -- Of a count of calls the greatest number, 2 ^ 64 - 1, means that all will succeed.
-use Rattle.std.specs.Prelude.{ℕ, ◌-◌, ◌^◌, ◌==◌, List, Option, None, Some, drop, if◌then◌else◌, length, take}
+use Rattle.std.specs.Prelude.{ℕ, ◌-◌, ◌^◌, ◌==◌, Bool, List, ◌++◌, Option, None, Some, drop, if◌then◌else◌, length, take}
+use Rattle.std.specs.List.{repeat}
 use Rattle.dir_ldif.specs.declared.device.script.Script.{Script}
 use Rattle.dir_ldif.specs.declared.device.tape.Tape.{Tape}
 
@@ -9,6 +10,14 @@ use Rattle.dir_ldif.specs.declared.device.tape.Tape.{Tape}
 -- the bytes that it has left, unless it gives them without end
 abbrev pub left_of : Script → Option (List ℕ)
 left_of s = if s.endless then None else Some (drop s.at s.bytes.now)
+
+-- it gives its text over and over
+abbrev pub is_endless : Script → Bool
+is_endless s = s.endless
+
+-- the rest of its text, and then the whole text so many times
+abbrev pub rest_and_turns : ℕ → Script → List ℕ
+rest_and_turns n s = drop s.at s.bytes.now ++ repeat n s.bytes.now
 
 -- how often it has failed, and how many calls will succeed before it fails
 abbrev pub failures_of : Script → ℕ

@@ -14,14 +14,29 @@ mod whole;
 
 pub use script::Script;
 pub use standard::{Reader, Writer};
+use std::error::Error;
+use std::fmt;
 pub use tape::Tape;
-use thiserror::Error;
 pub use whole::write_whole;
 
 /// A device failed. In that call it took and gave no byte.
-#[derive(Clone, Copy, PartialEq, Eq, Debug, Error)]
-#[error("the device failed")]
+#[derive(Clone, Copy, PartialEq, Eq, Debug)]
 pub struct DeviceFault;
+
+impl fmt::Display for DeviceFault {
+    ghost use Rattle.std.specs.Prelude.{Some};
+    ghost use Rattle.dir_ldif.specs.FaultText.{device_fault_text};
+
+    ghost output = { λ _. Some device_fault_text };
+
+    ghost styled_output = { λ _ _. Some device_fault_text };
+
+    fn fmt<W: fmt::Write>(&self, f: &mut fmt::Formatter<W>) -> fmt::Result {
+        f.write_str("the device failed")
+    }
+}
+
+impl Error for DeviceFault {}
 
 /// A source of bytes.
 pub trait Source {

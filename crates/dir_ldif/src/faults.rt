@@ -34,17 +34,36 @@ impl fmt::Display for RecordFault {
 
     ghost output = { λ fault. Some (record_fault_text fault) };
 
+    ghost styled_output = { λ fault _. Some (record_fault_text fault) };
+
     fn fmt<W: fmt::Write>(&self, f: &mut fmt::Formatter<W>) -> fmt::Result {
+        f.write_str(self.text())
+    }
+}
+
+impl RecordFault {
+    ghost use Rattle.std.specs.Prelude.{◌≡◌};
+    ghost use Rattle.dir_ldif.specs.FaultText.{record_fault_text};
+
+    /// The number and the name of the fault.
+    fn text(&self) -> &'static str
+        ensures { result.now ≡ record_fault_text self.now }
+    {
         match self {
-            RecordFault::BadLine => f.write_str("L1 BadLine"),
-            RecordFault::BadBase64 => f.write_str("L2 BadBase64"),
-            RecordFault::UrlValue => f.write_str("L3 UrlValue"),
-            RecordFault::Control => f.write_str("L4 Control"),
-            RecordFault::BadChangetype => f.write_str("L5 BadChangetype"),
-            RecordFault::BadModify => f.write_str("L6 BadModify"),
-            RecordFault::BadRename => f.write_str("L7 BadRename"),
-            RecordFault::ValueTooLong => f.write_str("L8 ValueTooLong"),
-            RecordFault::Name(fault) => write!(f, "L9 {fault}"),
+            RecordFault::BadLine => "L1 BadLine",
+            RecordFault::BadBase64 => "L2 BadBase64",
+            RecordFault::UrlValue => "L3 UrlValue",
+            RecordFault::Control => "L4 Control",
+            RecordFault::BadChangetype => "L5 BadChangetype",
+            RecordFault::BadModify => "L6 BadModify",
+            RecordFault::BadRename => "L7 BadRename",
+            RecordFault::ValueTooLong => "L8 ValueTooLong",
+            RecordFault::Name(NameFault::BadDescription) => "L9 N1 BadDescription",
+            RecordFault::Name(NameFault::ReservedName) => "L9 N2 ReservedName",
+            RecordFault::Name(NameFault::BadValue) => "L9 N3 BadValue",
+            RecordFault::Name(NameFault::BadDn) => "L9 N4 BadDn",
+            RecordFault::Name(NameFault::NameLimit) => "L9 N5 NameLimit",
+            RecordFault::Name(NameFault::Memory) => "L9 N6 Memory",
         }
     }
 }
@@ -73,6 +92,8 @@ impl fmt::Display for StreamFault {
     ghost use Rattle.dir_ldif.specs.FaultText.{stream_fault_text};
 
     ghost output = { λ fault. Some (stream_fault_text fault) };
+
+    ghost styled_output = { λ fault _. Some (stream_fault_text fault) };
 
     fn fmt<W: fmt::Write>(&self, f: &mut fmt::Formatter<W>) -> fmt::Result {
         f.write_str(match self {

@@ -1,6 +1,8 @@
 //! Laws about the format, and about many calls of a reader: each is the contract of a function that does nothing.
 
 ghost use Rattle.dir_ldif.specs.BlocksAtOnce.{LongLinesStay, TextsAreBlocks};
+ghost use Rattle.dir_ldif.specs.LegalRecords.{LegalChangesHaveNoFault};
+ghost use Rattle.dir_ldif.specs.LineText.{WrittenLinesAreFolded};
 ghost use Rattle.dir_ldif.specs.RoundTrip.{WrittenLineReadsBack, RecordsReadBack};
 ghost use Rattle.dir_ldif.specs.SoundRecords.{RecordsAreSound};
 ghost use Rattle.dir_ldif.specs.ManyCalls.{ReadCallsAreUsed, ReadingEndsSoon, ReadingStopsThere};
@@ -33,6 +35,17 @@ pub fn reading_stops_there()
 /// were read calls.
 pub fn read_calls_are_used()
     ensures { ReadCallsAreUsed }
+{}
+
+/// A law: the changes in which `Change::check` finds no fault are the legal ones.
+pub fn legal_changes_have_no_fault()
+    ensures { LegalChangesHaveNoFault }
+{}
+
+/// A law: a written line is one physical line of at most 76 bytes; or the first has 76 bytes, each further
+/// one a space and 75 bytes, and the last a space and 1 to 75 bytes.
+pub fn written_lines_are_folded()
+    ensures { WrittenLinesAreFolded }
 {}
 
 /// A law: a written line reads back as one line, with its name and its value.

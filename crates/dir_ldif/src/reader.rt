@@ -1,7 +1,8 @@
 //! The reader: it takes the bytes of a source in pieces, unfolds their lines (`unfolder`), and reads each block of
 //! lines as a record (`parser`).
 
-ghost use Rattle.std.specs.Prelude.{◌≡◌, ◌+◌, ◌-◌, ◌*◌, ◌++◌, ◌∷◌, ◌^◌, ◌<◌, ◌≤◌, [], All, IfErr, IfOk, OnOk, length, vec_len};
+ghost use Rattle.std.specs.Prelude.{◌≡◌, ◌+◌, ◌-◌, ◌*◌, ◌++◌, ◌∷◌, ◌^◌, ◌<◌, ◌≤◌, [], All, Err, IfErr, IfOk, OnOk, length, vec_len};
+ghost use Rattle.dir_ldif.specs.Limits.{most_read_calls};
 ghost use Rattle.dir_ldif.specs.Records.{EndsIn, all_found, found_of, records_of};
 ghost use Rattle.dir_ldif.specs.SoundRecords.{IsLegalFound, IsSoundFound};
 
@@ -72,7 +73,7 @@ impl<'s, R: Source + Drop> RecordReader<'s, R> {
     ) -> Result<RecordReader<'s, R>, StreamFault>
         ensures answers { IfOk result (λ r. answers_to_come R.left r ≡ option_map (records_of schema.now) (R.left source)) }
         ensures ahead { IfOk result (λ r. (in_hand r ≡ []) × ((text : List ℕ) → answers_to_come_with r text ≡ records_of schema.now text)) }
-        ensures turns { IfOk result (λ r. turns_left r ≡ MAX_TURNS) }
+        ensures turns { IfOk result (λ r. turns_left r ≡ most_read_calls) }
         ensures source { IfOk result (λ r. (source_of r ≡ source) × (schema_of r ≡ schema.now) × IsReading r) }
         ensures err { IfErr result (λ fault. fault ≡ StreamFault.Memory) }
     {
@@ -90,7 +91,7 @@ impl<'s, R: Source + Drop> RecordReader<'s, R> {
         source: R,
         turns: u64,
     ) -> Result<RecordReader<'s, R>, StreamFault>
-        requires { turns ≤ MAX_TURNS }
+        requires { turns ≤ most_read_calls }
         ensures answers { IfOk result (λ r. answers_to_come R.left r ≡ option_map (records_of schema.now) (R.left source)) }
         ensures ahead { IfOk result (λ r. (in_hand r ≡ []) × ((text : List ℕ) → answers_to_come_with r text ≡ records_of schema.now text)) }
         ensures turns { IfOk result (λ r. turns_left r ≡ turns) }
@@ -175,7 +176,7 @@ impl Core {
     ghost use Rattle.dir_ldif.specs.Reader.Answers.{IsInPieces, blocks_left, bytes_ahead, hand};
 
     fn new(alloc: Global, turns: u64) -> Result<Core, StreamFault>
-        requires { turns ≤ MAX_TURNS }
+        requires { turns ≤ most_read_calls }
         ensures text { IfOk result (λ c. (text : List ℕ) → blocks_to_come c.unfolder text ≡ blocks_of text) }
         ensures fresh { IfOk result (λ c. hand c ≡ []) }
         ensures place { IfOk result (λ c. c.place ≡ Reading) }
@@ -390,6 +391,7 @@ pub fn read_all(alloc: Global, schema: &Schema, text: &[u8]) -> Result<Vec<Answe
     ensures legal { IfOk result (λ answers. All (IsLegalFound schema.now) answers.items) }
     ensures sound { IfOk result (λ answers. All (IsSoundFound schema.now) answers.items) }
     ensures err { IfErr result (λ fault. EndsIn fault schema.now text.now) }
+    ensures long { 9007199254732800 < length text.now → result ≡ Err StreamFault.TooManyTurns }
 {
     if text.len() > MAX_TEXT {
         return Err(StreamFault::TooManyTurns);

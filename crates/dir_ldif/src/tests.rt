@@ -9,6 +9,7 @@ use std::test::Fail;
 
 mod devices;
 mod examples;
+mod faults;
 mod writing;
 
 /// What a text reads as: the line of each record, and its text or its fault; then what ends the text.
@@ -263,6 +264,23 @@ fn a_source_ends_or_fails(rt: HostRuntime) -> Result<(), Fail> {
     Ok(())
 }
 
+#[test]
+fn so_many_read_calls_are_allowed(rt: HostRuntime) -> Result<(), Fail> {
+    let alloc = rt.alloc();
+    let schema = Schema::builtin(alloc)?;
+    // Eleven pieces of a byte, and the end.
+    for (turns, want) in [(12, "1 dn: dc=com||;"), (11, "L14 TooManyTurns;L13 Ended;")] {
+        let source = Script::new(b"dn: dc=com\n").pieces(1);
+        let reader = RecordReader::with_turns(alloc, &schema, source, turns)?;
+        assert_eq!(rt; shown_answers(&rt, alloc, reader).as_str(), want);
+    }
+    assert_eq!(rt;
+        (MAX_TURNS, MAX_LINE, MAX_VALUE),
+        (1_099_511_627_776, 2_097_152, 1_048_576)
+    );
+    Ok(())
+}
+
 /// The fault of the only record.
 fn fault_of(alloc: Global, schema: &Schema, text: &[u8]) -> Result<Option<RecordFault>, Fail> {
     let answers = read_all(alloc, schema, text)?;
@@ -283,8 +301,8 @@ fn a_long_line_ends_the_text(rt: HostRuntime) -> Result<(), Fail> {
         "L10 LineTooLong;L13 Ended;"
     );
     for (length, want) in [
-        (MAX_VALUE, None),
-        (MAX_VALUE + 1, Some(RecordFault::ValueTooLong)),
+        (1_048_576, None),
+        (1_048_577, Some(RecordFault::ValueTooLong)),
     ] {
         let value = vec![in alloc; b'a'; length]?;
         let mut plain = b"dn: cn=a\nx: ".to_vec(alloc)?;
@@ -296,7 +314,7 @@ fn a_long_line_ends_the_text(rt: HostRuntime) -> Result<(), Fail> {
         assert_eq!(rt; fault_of(alloc, &schema, encoded.as_slice())?, want);
     }
     let mut comment = b"#".to_vec(alloc)?;
-    for _ in 1..MAX_LINE {
+    for _ in 1..2_097_152 {
         comment.push(b'a')?;
     }
     comment.push(b'\r')?;
@@ -320,11 +338,11 @@ fn long_base64_texts_are_base64_or_not(rt: HostRuntime) -> Result<(), Fail> {
         (0, b'*', RecordFault::BadBase64),
         (1023, b'=', RecordFault::BadBase64),
         (1024, b' ', RecordFault::BadBase64),
-        (MAX_LINE - 6, b'=', RecordFault::BadBase64),
-        (MAX_LINE - 5, b'=', RecordFault::ValueTooLong),
-        (MAX_LINE - 5, b'B', RecordFault::ValueTooLong),
+        (2_097_146, b'=', RecordFault::BadBase64),
+        (2_097_147, b'=', RecordFault::ValueTooLong),
+        (2_097_147, b'B', RecordFault::ValueTooLong),
     ] {
-        let mut signs = vec![in alloc; b'A'; MAX_LINE - 4]?;
+        let mut signs = vec![in alloc; b'A'; 2_097_148]?;
         if let Some(changed) = signs.get_mut(at) {
             *changed = sign;
         }

@@ -1,6 +1,7 @@
 //! The writer: the text of a record, line by line, folded.
 
 ghost use Rattle.std.specs.Prelude.{◌≡◌, ◌++◌, ◌∷◌, ◌≤◌, ℕ, List, [], IfOk, OnOk, codes};
+ghost use Rattle.std.specs.Io.{StartsWith};
 ghost use Rattle.std.specs.List.{flat_map, list_all};
 ghost use Rattle.dir_names.specs.Names.Printing.{printed_rdn};
 ghost use Rattle.dir_ldif.specs.Bytes.{ends_in};
@@ -27,7 +28,8 @@ pub fn record_text(alloc: Global, record: &Record) -> Result<Vec<u8>, Memory>
 
 /// Appends the text of a record.
 pub fn push_record(out: &mut Vec<u8>, record: &Record) -> Result<(), Memory>
-    ensures { OnOk result (out.new.items ≡ out.old.items ++ record_text_of «record».now) }
+    ensures text { OnOk result (out.new.items ≡ out.old.items ++ record_text_of «record».now) }
+    ensures kept { StartsWith out.new.items out.old.items }
 {
     match record {
         Record::Content { dn, lines } => push_content(out, dn, lines),
@@ -36,7 +38,8 @@ pub fn push_record(out: &mut Vec<u8>, record: &Record) -> Result<(), Memory>
 }
 
 fn push_content(out: &mut Vec<u8>, dn: &Dn, lines: &Lines) -> Result<(), Memory>
-    ensures { OnOk result (out.new.items ≡ out.old.items ++ record_text_of (Record.Content dn.now lines.now)) }
+    ensures text { OnOk result (out.new.items ≡ out.old.items ++ record_text_of (Record.Content dn.now lines.now)) }
+    ensures kept { StartsWith out.new.items out.old.items }
 {
     push_name(out, b"dn", dn)?;
     push_values(out, lines.as_slice())?;
@@ -45,7 +48,8 @@ fn push_content(out: &mut Vec<u8>, dn: &Dn, lines: &Lines) -> Result<(), Memory>
 
 /// Appends the text of a change record.
 pub fn push_change(out: &mut Vec<u8>, change: &Change) -> Result<(), Memory>
-    ensures { OnOk result (out.new.items ≡ out.old.items ++ change_text change.now) }
+    ensures text { OnOk result (out.new.items ≡ out.old.items ++ change_text change.now) }
+    ensures kept { StartsWith out.new.items out.old.items }
 {
     push_name(out, b"dn", &change.dn)?;
     push_line(out, b"changetype", change_word(&change.kind))?;
@@ -56,7 +60,8 @@ pub fn push_change(out: &mut Vec<u8>, change: &Change) -> Result<(), Memory>
 /// Appends one line of a name and a value: plain where the value can be written so, else in base64; folded at
 /// 76 bytes; with its LF (RFC 2849, notes 2, 4 and 8).
 pub fn push_line(out: &mut Vec<u8>, name: &[u8], value: &[u8]) -> Result<(), Memory>
-    ensures { OnOk result (out.new.items ≡ out.old.items ++ written_line name.now value.now) }
+    ensures text { OnOk result (out.new.items ≡ out.old.items ++ written_line name.now value.now) }
+    ensures kept { StartsWith out.new.items out.old.items }
 {
     let room = push_folded(out, COLUMNS, name)?;
     let _ = push_value(out, room, value)?;
@@ -65,9 +70,10 @@ pub fn push_line(out: &mut Vec<u8>, name: &[u8], value: &[u8]) -> Result<(), Mem
 
 /// Appends what follows a line's name. Answers the room that is left in its physical line.
 fn push_value(out: &mut Vec<u8>, room: usize, value: &[u8]) -> Result<usize, Memory>
-    requires { room ≤ COLUMNS }
-    ensures { IfOk result (λ left. (rest : List ℕ)
+    requires { room ≤ 76 }
+    ensures text { IfOk result (λ left. (rest : List ℕ)
         → out.new.items ++ fold_from left rest ≡ out.old.items ++ fold_from room (value_spec value.now ++ rest)) }
+    ensures kept { StartsWith out.new.items out.old.items }
 {
     if value.is_empty() {
         push_folded(out, room, b":")
@@ -90,7 +96,8 @@ fn encoded(alloc: Global, value: &[u8]) -> Result<Vec<u8>, Memory>
 
 /// Appends the LF that ends a line, or the empty line that ends a record.
 pub fn push_end(out: &mut Vec<u8>) -> Result<(), Memory>
-    ensures { OnOk result (out.new.items ≡ out.old.items ++ line_feed ∷ []) }
+    ensures text { OnOk result (out.new.items ≡ out.old.items ++ line_feed ∷ []) }
+    ensures kept { StartsWith out.new.items out.old.items }
 {
     out.push(b'\n')?;
     Ok(())
@@ -99,10 +106,11 @@ pub fn push_end(out: &mut Vec<u8>) -> Result<(), Memory>
 /// Appends bytes to a line whose physical line has room for so many more, and begins a continuation wherever
 /// no room is left. Answers the room that is left.
 fn push_folded(out: &mut Vec<u8>, room: usize, text: &[u8]) -> Result<usize, Memory>
-    requires { room ≤ COLUMNS }
-    ensures room { IfOk result (λ left. left ≤ COLUMNS) }
+    requires { room ≤ 76 }
+    ensures room { IfOk result (λ left. left ≤ 76) }
     ensures text { IfOk result (λ left. (rest : List ℕ)
         → out.new.items ++ fold_from left rest ≡ out.old.items ++ fold_from room (text.now ++ rest)) }
+    ensures kept { StartsWith out.new.items out.old.items }
 {
     let mut room = room;
     let mut rest = text;
@@ -158,7 +166,8 @@ fn ends_in_space(text: &[u8]) -> bool
 
 /// Appends the line of a keyword whose value is a name, as the `dn` line of a record.
 pub fn push_name(out: &mut Vec<u8>, word: &[u8], dn: &Dn) -> Result<(), Memory>
-    ensures { OnOk result (out.new.items ≡ out.old.items ++ name_line word.now dn.now) }
+    ensures text { OnOk result (out.new.items ≡ out.old.items ++ name_line word.now dn.now) }
+    ensures kept { StartsWith out.new.items out.old.items }
 {
     match dn.print(*out.allocator()) {
         Ok(text) => push_line(out, word, text.as_slice()),
@@ -167,7 +176,8 @@ pub fn push_name(out: &mut Vec<u8>, word: &[u8], dn: &Dn) -> Result<(), Memory>
 }
 
 fn push_rdn(out: &mut Vec<u8>, rdn: &Rdn) -> Result<(), Memory>
-    ensures { OnOk result (out.new.items ≡ out.old.items ++ written_line (codes "newrdn") (printed_rdn rdn.now)) }
+    ensures text { OnOk result (out.new.items ≡ out.old.items ++ written_line (codes "newrdn") (printed_rdn rdn.now)) }
+    ensures kept { StartsWith out.new.items out.old.items }
 {
     match rdn.print(*out.allocator()) {
         Ok(text) => push_line(out, b"newrdn", text.as_slice()),
@@ -176,7 +186,8 @@ fn push_rdn(out: &mut Vec<u8>, rdn: &Rdn) -> Result<(), Memory>
 }
 
 fn push_values(out: &mut Vec<u8>, lines: &[(Description, Bytes)]) -> Result<(), Memory>
-    ensures { OnOk result (out.new.items ≡ out.old.items ++ flat_map value_text lines.now) }
+    ensures text { OnOk result (out.new.items ≡ out.old.items ++ flat_map value_text lines.now) }
+    ensures kept { StartsWith out.new.items out.old.items }
 {
     for line in lines {
         push_line(out, line.0.spelling(), line.1.as_slice())?;
@@ -197,7 +208,8 @@ fn change_word(kind: &ChangeKind) -> &'static [u8]
 
 /// Appends the lines after the changetype.
 fn push_kind(out: &mut Vec<u8>, kind: &ChangeKind) -> Result<(), Memory>
-    ensures { OnOk result (out.new.items ≡ out.old.items ++ kind_text kind.now) }
+    ensures text { OnOk result (out.new.items ≡ out.old.items ++ kind_text kind.now) }
+    ensures kept { StartsWith out.new.items out.old.items }
 {
     match kind {
         ChangeKind::Add(lines) => push_values(out, lines.as_slice()),
@@ -217,7 +229,8 @@ fn push_rename(
     delete_old: bool,
     newsuperior: &Option<Dn>,
 ) -> Result<(), Memory>
-    ensures { OnOk result (out.new.items ≡ out.old.items ++ kind_text (ChangeKind.Rename newrdn.now delete_old newsuperior.now)) }
+    ensures text { OnOk result (out.new.items ≡ out.old.items ++ kind_text (ChangeKind.Rename newrdn.now delete_old newsuperior.now)) }
+    ensures kept { StartsWith out.new.items out.old.items }
 {
     push_rdn(out, newrdn)?;
     push_flag(out, delete_old)?;
@@ -225,7 +238,8 @@ fn push_rename(
 }
 
 fn push_flag(out: &mut Vec<u8>, delete_old: bool) -> Result<(), Memory>
-    ensures { OnOk result (out.new.items ≡ out.old.items ++ written_line (codes "deleteoldrdn") (flag_text delete_old)) }
+    ensures text { OnOk result (out.new.items ≡ out.old.items ++ written_line (codes "deleteoldrdn") (flag_text delete_old)) }
+    ensures kept { StartsWith out.new.items out.old.items }
 {
     if delete_old {
         push_line(out, b"deleteoldrdn", b"1")
@@ -235,7 +249,8 @@ fn push_flag(out: &mut Vec<u8>, delete_old: bool) -> Result<(), Memory>
 }
 
 fn push_superior(out: &mut Vec<u8>, newsuperior: &Option<Dn>) -> Result<(), Memory>
-    ensures { OnOk result (out.new.items ≡ out.old.items ++ superior_text newsuperior.now) }
+    ensures text { OnOk result (out.new.items ≡ out.old.items ++ superior_text newsuperior.now) }
+    ensures kept { StartsWith out.new.items out.old.items }
 {
     match newsuperior {
         Some(dn) => push_name(out, b"newsuperior", dn),
@@ -244,7 +259,8 @@ fn push_superior(out: &mut Vec<u8>, newsuperior: &Option<Dn>) -> Result<(), Memo
 }
 
 fn push_mods(out: &mut Vec<u8>, mods: &[Mod]) -> Result<(), Memory>
-    ensures { OnOk result (out.new.items ≡ out.old.items ++ flat_map mod_text mods.now) }
+    ensures text { OnOk result (out.new.items ≡ out.old.items ++ flat_map mod_text mods.now) }
+    ensures kept { StartsWith out.new.items out.old.items }
 {
     for m in mods {
         push_mod(out, m)?;
@@ -253,7 +269,8 @@ fn push_mods(out: &mut Vec<u8>, mods: &[Mod]) -> Result<(), Memory>
 }
 
 fn push_mod(out: &mut Vec<u8>, m: &Mod) -> Result<(), Memory>
-    ensures { OnOk result (out.new.items ≡ out.old.items ++ mod_text m.now) }
+    ensures text { OnOk result (out.new.items ≡ out.old.items ++ mod_text m.now) }
+    ensures kept { StartsWith out.new.items out.old.items }
 {
     let spelling = m.description.spelling();
     push_line(out, op_word(m.op), spelling)?;
@@ -264,7 +281,8 @@ fn push_mod(out: &mut Vec<u8>, m: &Mod) -> Result<(), Memory>
 
 /// Appends a line for each value of one attribute.
 fn push_texts(out: &mut Vec<u8>, spelling: &[u8], values: &[Bytes]) -> Result<(), Memory>
-    ensures { OnOk result (out.new.items ≡ out.old.items ++ flat_map (λ value. written_line spelling.now value) values.now) }
+    ensures text { OnOk result (out.new.items ≡ out.old.items ++ flat_map (λ value. written_line spelling.now value) values.now) }
+    ensures kept { StartsWith out.new.items out.old.items }
 {
     for value in values {
         push_line(out, spelling, value.as_slice())?;

@@ -5,7 +5,7 @@ use Rattle.dir_ldif.specs.declared.faults.StreamFault.TheVariants as stream
 use Rattle.dir_ldif.specs.declared.reader.Place.{Place}
 use Rattle.dir_ldif.specs.declared.reader.Place.TheVariants as place
 use Rattle.dir_ldif.specs.declared.reader.RecordReader.{RecordReader}
-use Rattle.dir_ldif.specs.declared.reader.TheConstants.{MAX_TURNS}
+use Rattle.dir_ldif.specs.Limits.{most_read_calls}
 use Rattle.dir_ldif.specs.Reader.{IsAtEnd, IsEnded, IsReading, SpendsTurns, StopsFor, source_of, turns_left}
 use Rattle.dir_tools.specs.ReadCalls.{FillsReadCalls, GaveAtLeast}
 
@@ -40,7 +40,7 @@ some_none r o x some is none = cc
 pub fault_none : {A E : Type 0} (r : Result (Option A) E) (e : E) → r ≡ Err e → r ≡ Ok None → ⊥
 fault_none r e fails none = cc
 
-pub long_text : (left left' : Option (List ℕ)) (turns : ℕ) → turns ≡ MAX_TURNS → GaveAtLeast left left' turns → IfSome left FillsReadCalls
+pub long_text : (left left' : Option (List ℕ)) (turns : ℕ) → turns ≡ most_read_calls → GaveAtLeast left left' turns → IfSome left FillsReadCalls
 long_text None left' turns all gave = tt
 long_text (Some text) None turns all gave = absurd (gave.1)
 long_text (Some text) (Some rest) turns all gave =

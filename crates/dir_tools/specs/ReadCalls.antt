@@ -1,7 +1,7 @@
 -- What is known of a text whose reader had no read call left.
 use Rattle.std.specs.Prelude.{ℕ, ◌≤◌, List, length, Option}
 use Rattle.std.specs.Io.KnownBytes.{Consumes}
-use Rattle.dir_ldif.specs.declared.reader.TheConstants.{MAX_TURNS}
+use Rattle.dir_ldif.specs.Limits.{most_read_calls}
 
 -- the source gave at least so many bytes
 abbrev pub GaveAtLeast : Option (List ℕ) → Option (List ℕ) → ℕ → Type 0
@@ -9,4 +9,4 @@ GaveAtLeast left left' n = (bytes : List ℕ) × Consumes left left' bytes × (n
 
 -- a text of a byte or more for each read call of a reader
 abbrev pub FillsReadCalls : List ℕ → Type 0
-FillsReadCalls text = MAX_TURNS ≤ length text
+FillsReadCalls text = most_read_calls ≤ length text

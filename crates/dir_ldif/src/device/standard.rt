@@ -1,9 +1,24 @@
 //! Devices over std's readers and writers.
 
-ghost use Rattle.std.specs.Prelude.{◌≡◌, ⊤};
+ghost use Rattle.std.specs.Prelude.{◌≡◌, ⊤, IsErr, MatchResult};
+ghost use Rattle.dir_ldif.specs.Device.{Counts};
 
 use crate::device::{DeviceFault, Sink, Source};
-use std::io::{Read, Write};
+use std::io::{self, Read, Write};
+
+/// The answer of a reader or a writer, as the answer of a device: a failure is counted.
+fn counted<T: Drop>(answer: io::Result<T>, failures: &mut u64) -> Result<T, DeviceFault>
+    ensures answer { MatchResult answer (λ value. result ≡ Ok value) (λ _. IsErr result) }
+    ensures count { Counts answer failures.old failures.new }
+{
+    match answer {
+        Ok(value) => Ok(value),
+        Err(_) => {
+            *failures = failures.saturating_add(1);
+            Err(DeviceFault)
+        }
+    }
+}
 
 /// A source over any reader.
 #[derive(Drop)]
@@ -33,13 +48,7 @@ impl<R: Read> Source for Reader<R> {
     ghost same_trans = { λ _ _ _ _ _. tt };
 
     fn read(&mut self, buffer: &mut [u8]) -> Result<usize, DeviceFault> {
-        match self.inner.read(buffer) {
-            Ok(n) => Ok(n),
-            Err(_) => {
-                self.failures = self.failures.saturating_add(1);
-                Err(DeviceFault)
-            }
-        }
+        counted(self.inner.read(buffer), &mut self.failures)
     }
 }
 
@@ -70,22 +79,10 @@ impl<W: Write> Sink for Writer<W> {
     ghost is_flushed = { λ _. ⊤ };
 
     fn write(&mut self, bytes: &[u8]) -> Result<usize, DeviceFault> {
-        match self.inner.write(bytes) {
-            Ok(n) => Ok(n),
-            Err(_) => {
-                self.failures = self.failures.saturating_add(1);
-                Err(DeviceFault)
-            }
-        }
+        counted(self.inner.write(bytes), &mut self.failures)
     }
 
     fn flush(&mut self) -> Result<(), DeviceFault> {
-        match self.inner.flush() {
-            Ok(()) => Ok(()),
-            Err(_) => {
-                self.failures = self.failures.saturating_add(1);
-                Err(DeviceFault)
-            }
-        }
+        counted(self.inner.flush(), &mut self.failures)
     }
 }

@@ -125,7 +125,7 @@ fn is_base64(text: &[u8]) -> bool
 
 /// Whether a piece is base64 without padding, so that the rest of the text decides whether all is base64.
 fn is_whole_piece(piece: &[u8]) -> bool
-    requires { length piece.now ≡ ENCODED_PIECE }
+    requires { length piece.now ≡ 1024 }
     ensures { (rest : List ℕ) → IsBytes rest → 0 < length rest → is_base64 (piece.now ++ rest) ≡ (result && is_base64 rest) }
 {
     let mut value = [0u8; DECODED_PIECE];

@@ -1,8 +1,7 @@
 //! Whether a change is legal, as each change is that was read.
 
-ghost use Rattle.std.specs.Prelude.{◌&&◌};
-ghost use Rattle.std.specs.List.{list_all};
-ghost use Rattle.dir_ldif.specs.LegalRecords.{Checks, has_key, is_legal, is_legal_kind, is_legal_line, is_legal_mod, is_read_under, is_short, rdn_has_key, superior_has_key};
+ghost use Rattle.dir_names.specs.Results.{and_then};
+ghost use Rattle.dir_ldif.specs.LegalRecords.{Checks, check_of, check_of_description, check_of_kind, check_of_line, check_of_mod, check_of_name, check_of_rdn, check_of_superior, check_of_value, first_fault};
 
 use crate::faults::RecordFault;
 use crate::reader::MAX_VALUE;
@@ -20,7 +19,7 @@ impl Change {
     /// `ValueTooLong`; or `Name`: with the fault of a name that has no key, with `BadDescription` for a
     /// description that has another key under the schema, and with `Memory` when memory runs out.
     pub fn check(&self, alloc: Global, schema: &Schema) -> Result<(), RecordFault>
-        ensures { Checks result (is_legal schema.now self.now) }
+        ensures { Checks result (check_of schema.now self.now) }
     {
         check_dn(alloc, schema, &self.dn)?;
         check_kind(alloc, schema, &self.kind)
@@ -28,7 +27,7 @@ impl Change {
 }
 
 fn check_kind(alloc: Global, schema: &Schema, kind: &ChangeKind) -> Result<(), RecordFault>
-    ensures { Checks result (is_legal_kind schema.now kind.now) }
+    ensures { Checks result (check_of_kind schema.now kind.now) }
 {
     match kind {
         ChangeKind::Add(lines) => check_lines(alloc, schema, lines.as_slice()),
@@ -43,7 +42,7 @@ fn check_kind(alloc: Global, schema: &Schema, kind: &ChangeKind) -> Result<(), R
 }
 
 fn check_dn(alloc: Global, schema: &Schema, dn: &Dn) -> Result<(), RecordFault>
-    ensures { Checks result (has_key schema.now dn.now) }
+    ensures { Checks result (check_of_name schema.now dn.now) }
 {
     match dn.key(alloc, schema) {
         Ok(_) => Ok(()),
@@ -52,7 +51,7 @@ fn check_dn(alloc: Global, schema: &Schema, dn: &Dn) -> Result<(), RecordFault>
 }
 
 fn check_rdn(alloc: Global, schema: &Schema, rdn: &Rdn) -> Result<(), RecordFault>
-    ensures { Checks result (rdn_has_key schema.now rdn.now) }
+    ensures { Checks result (check_of_rdn schema.now rdn.now) }
 {
     match rdn.key(alloc, schema) {
         Ok(_) => Ok(()),
@@ -66,7 +65,7 @@ fn check_rename(
     newrdn: &Rdn,
     newsuperior: &Option<Dn>,
 ) -> Result<(), RecordFault>
-    ensures { Checks result (rdn_has_key schema.now newrdn.now && superior_has_key schema.now newsuperior.now) }
+    ensures { Checks result (and_then (check_of_rdn schema.now newrdn.now) (λ _. check_of_superior schema.now newsuperior.now)) }
 {
     check_rdn(alloc, schema, newrdn)?;
     match newsuperior {
@@ -81,7 +80,7 @@ fn check_description(
     schema: &Schema,
     description: &Description,
 ) -> Result<(), RecordFault>
-    ensures { Checks result (is_read_under schema.now description.now) }
+    ensures { Checks result (check_of_description schema.now description.now) }
 {
     match Description::read(alloc, schema, description.spelling()) {
         Ok(read) => {
@@ -96,7 +95,7 @@ fn check_description(
 }
 
 fn check_value(value: &Bytes) -> Result<(), RecordFault>
-    ensures { Checks result (is_short value.now) }
+    ensures { Checks result (check_of_value value.now) }
 {
     if value.as_slice().len() > MAX_VALUE {
         return Err(RecordFault::ValueTooLong);
@@ -109,7 +108,7 @@ fn check_lines(
     schema: &Schema,
     lines: &[(Description, Bytes)],
 ) -> Result<(), RecordFault>
-    ensures { Checks result (list_all (is_legal_line schema.now) lines.now) }
+    ensures { Checks result (first_fault (check_of_line schema.now) lines.now) }
 {
     for line in lines {
         check_line(alloc, schema, line)?;
@@ -122,14 +121,14 @@ fn check_line(
     schema: &Schema,
     line: &(Description, Bytes),
 ) -> Result<(), RecordFault>
-    ensures { Checks result (is_legal_line schema.now line.now) }
+    ensures { Checks result (check_of_line schema.now line.now) }
 {
     check_value(&line.1)?;
     check_description(alloc, schema, &line.0)
 }
 
 fn check_mods(alloc: Global, schema: &Schema, mods: &[Mod]) -> Result<(), RecordFault>
-    ensures { Checks result (list_all (is_legal_mod schema.now) mods.now) }
+    ensures { Checks result (first_fault (check_of_mod schema.now) mods.now) }
 {
     for m in mods {
         check_mod(alloc, schema, m)?;
@@ -139,14 +138,14 @@ fn check_mods(alloc: Global, schema: &Schema, mods: &[Mod]) -> Result<(), Record
 
 /// Whether the modification is legal, each of its values under its one description.
 fn check_mod(alloc: Global, schema: &Schema, m: &Mod) -> Result<(), RecordFault>
-    ensures { Checks result (is_legal_mod schema.now m.now) }
+    ensures { Checks result (check_of_mod schema.now m.now) }
 {
     check_description(alloc, schema, &m.description)?;
     check_values(m.values.as_slice())
 }
 
 fn check_values(values: &[Bytes]) -> Result<(), RecordFault>
-    ensures { Checks result (list_all is_short values.now) }
+    ensures { Checks result (first_fault check_of_value values.now) }
 {
     for value in values {
         check_value(value)?;

@@ -47,6 +47,28 @@ fn scripts_give_pieces(rt: HostRuntime) {
     }
 }
 
+#[test]
+fn endless_scripts_give_their_text_over_and_over(rt: HostRuntime) {
+    let alloc = rt.alloc();
+    let text = b"abcdefg".as_slice();
+    let mut room = [0u8; 16];
+    for size in [1usize, 2, 3, 5, 7, 8, 16] {
+        let mut script = Script::new(text).pieces(size).endless();
+        let mut expected = text.iter().cycle();
+        for _ in 0..50 {
+            let n = script.read(&mut room).expect(&rt, "no fault");
+            assert!(rt; n > 0 && n <= size);
+            for byte in &room[..n] {
+                assert_eq!(rt; Some(byte), expected.next());
+            }
+        }
+    }
+    // A failure takes no byte, and the script goes on failing.
+    let mut script = Script::new(text).endless().failing_from(3);
+    let found = bytes_given(&rt, alloc, &mut script, &mut room, 4);
+    assert_eq!(rt; found.as_slice(), b"|abcdefg|abcdefg!!".as_slice());
+}
+
 /// A text, and a flush.
 fn written<W: Sink + Drop>(mut sink: W, text: &[u8]) -> Result<(), DeviceFault> {
     write_whole(&mut sink, text)?;
@@ -106,6 +128,83 @@ impl Write for Broken {
 
     fn flush(&mut self) -> io::Result<()> {
         Err(io::Error::from(ErrorKind::Other))
+    }
+}
+
+/// A device that counts its calls, and fails in one of them. It gives or takes one byte in a call.
+#[derive(Drop)]
+struct Counting<'a> {
+    calls: &'a mut usize,
+    failing: usize,
+}
+
+impl Counting<'_> {
+    fn call(&mut self) -> io::Result<()> {
+        *self.calls = self.calls.saturating_add(1);
+        if *self.calls == self.failing {
+            return Err(io::Error::from(ErrorKind::Interrupted));
+        }
+        Ok(())
+    }
+}
+
+impl Read for Counting<'_> {
+    fn read(&mut self, buf: &mut [u8]) -> io::Result<usize> {
+        self.call()?;
+        match buf.first_mut() {
+            Some(first) => {
+                *first = b'x';
+                Ok(1)
+            }
+            None => Ok(0),
+        }
+    }
+}
+
+impl Write for Counting<'_> {
+    fn write(&mut self, buf: &[u8]) -> io::Result<usize> {
+        self.call()?;
+        Ok(buf.len().min(1))
+    }
+
+    fn flush(&mut self) -> io::Result<()> {
+        self.call()
+    }
+}
+
+#[test]
+fn each_call_is_passed_on_once(rt: HostRuntime) {
+    let alloc = rt.alloc();
+    let mut room = [0u8; 4];
+    for (failing, want) in [
+        (1, b"!|x|x".as_slice()),
+        (2, b"|x!|x"),
+        (3, b"|x|x!"),
+        (4, b"|x|x|x"),
+    ] {
+        let mut calls = 0usize;
+        let mut reader = Reader::new(Counting {
+            calls: &mut calls,
+            failing,
+        });
+        let found = bytes_given(&rt, alloc, &mut reader, &mut room, 3);
+        assert_eq!(rt; found.as_slice(), want);
+        drop(reader);
+        assert_eq!(rt; calls, 3);
+    }
+    for failing in 1..5usize {
+        let mut calls = 0usize;
+        let mut writer = Writer::new(Counting {
+            calls: &mut calls,
+            failing,
+        });
+        let answer = |call: usize| if call == failing { None } else { Some(1) };
+        assert_eq!(rt; writer.write(b"ab").ok(), answer(1));
+        assert_eq!(rt; writer.flush().is_err(), failing == 2);
+        assert_eq!(rt; writer.write(b"ab").ok(), answer(3));
+        assert_eq!(rt; writer.flush().is_err(), failing == 4);
+        drop(writer);
+        assert_eq!(rt; calls, 4);
     }
 }
 

@@ -120,8 +120,8 @@ fn changes_are_checked(rt: HostRuntime) -> Result<(), Fail> {
     );
 
     for (length, want) in [
-        (MAX_VALUE, Ok(())),
-        (MAX_VALUE + 1, Err(RecordFault::ValueTooLong)),
+        (1_048_576, Ok(())),
+        (1_048_577, Err(RecordFault::ValueTooLong)),
     ] {
         let value = vec![in alloc; b'a'; length]?;
         let mut mods = Vec::new(alloc);
@@ -144,12 +144,14 @@ fn changes_are_checked(rt: HostRuntime) -> Result<(), Fail> {
 
 #[test]
 fn laws_are_called() {
+    legal_changes_have_no_fault();
     long_lines_stay();
     read_calls_are_used();
     reading_ends_soon();
     reading_stops_there();
     records_are_sound();
     texts_are_blocks();
+    written_lines_are_folded();
     written_lines_read_back();
     written_records_read_back();
 }
@@ -181,6 +183,64 @@ fn lines_are_folded(rt: HostRuntime) -> Result<(), Fail> {
 }
 
 #[test]
+fn a_line_of_77_bytes_is_folded(rt: HostRuntime) -> Result<(), Fail> {
+    let alloc = rt.alloc();
+    // `x: ` and a value: how long the physical lines are.
+    for (length, want) in [
+        (73, [76usize, 0, 0]),
+        (74, [76, 2, 0]),
+        (148, [76, 76, 0]),
+        (149, [76, 76, 2]),
+    ] {
+        let mut out = Vec::new(alloc);
+        push_line(&mut out, b"x", vec![in alloc; b'a'; length]?.as_slice())?;
+        let mut lengths = [0usize; 3];
+        for (found, line) in lengths
+            .iter_mut()
+            .zip(out.as_slice().split(|b| *b == b'\n'))
+        {
+            *found = line.len();
+        }
+        assert_eq!(rt; lengths, want);
+    }
+    Ok(())
+}
+
+/// The one value of a text's one record.
+fn value_in(alloc: Global, schema: &Schema, text: &[u8]) -> Result<Vec<u8>, Fail> {
+    let answers = read_all(alloc, schema, text)?;
+    match answers.as_slice() {
+        [(1, Ok(Record::Content { dn: _, lines }))] => match lines.as_slice() {
+            [(_, value)] => Ok(value.as_slice().to_vec(alloc)?),
+            _ => Err("not one line".into()),
+        },
+        _ => Err("not one record".into()),
+    }
+}
+
+#[test]
+fn values_of_each_last_byte_read_back(rt: HostRuntime) -> Result<(), Fail> {
+    let alloc = rt.alloc();
+    let schema = Schema::builtin(alloc)?;
+    // With no padding, two signs of it, and one; the value is written in base64 for its first byte, where there
+    // is one before the last.
+    for start in [b"\x80a".as_slice(), b"\x80ab", b"\x80", b""] {
+        for last in 0..=255u8 {
+            let mut value = start.to_vec(alloc)?;
+            value.push(last)?;
+            let mut text = b"dn: cn=a\n".to_vec(alloc)?;
+            push_line(&mut text, b"x", value.as_slice())?;
+            if !start.is_empty() {
+                assert!(rt; text.as_slice().starts_with(b"dn: cn=a\nx:: "), "{last}");
+            }
+            let found = value_in(alloc, &schema, text.as_slice())?;
+            assert_eq!(rt; found.as_slice(), value.as_slice(), "{last}");
+        }
+    }
+    Ok(())
+}
+
+#[test]
 fn legal_changes_pass(rt: HostRuntime) -> Result<(), Fail> {
     let alloc = rt.alloc();
     let schema = Schema::builtin(alloc)?;
@@ -194,10 +254,29 @@ fn legal_changes_pass(rt: HostRuntime) -> Result<(), Fail> {
         kind: ChangeKind::Add(Lines::new(items)),
     };
     assert_eq!(rt; change.check(alloc, &schema), Ok(()));
+    Ok(())
+}
+
+#[test]
+fn the_first_fault_of_a_change_is_told(rt: HostRuntime) -> Result<(), Fail> {
+    let alloc = rt.alloc();
+    let schema = Schema::builtin(alloc)?;
+    let no_name = Err(RecordFault::Name(NameFault::BadDn));
     let keyless = Change {
         dn: Dn::read(alloc, b"cn=a+commonName=b")?,
         kind: ChangeKind::Delete,
     };
-    assert!(rt; keyless.check(alloc, &schema).is_err());
+    assert_eq!(rt; keyless.check(alloc, &schema), no_name);
+    let long = vec![in alloc; b'a'; 1_048_577]?;
+    let mut lines = Vec::new(alloc);
+    lines.push((
+        Description::read(alloc, &schema, b"sn")?,
+        Bytes::copy_of(alloc, long.as_slice())?,
+    ))?;
+    let keyless = Change {
+        dn: Dn::read(alloc, b"cn=a+commonName=b")?,
+        kind: ChangeKind::Add(Lines::new(lines)),
+    };
+    assert_eq!(rt; keyless.check(alloc, &schema), no_name);
     Ok(())
 }

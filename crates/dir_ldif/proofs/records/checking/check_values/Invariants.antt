@@ -1,7 +1,6 @@
-use Rattle.std.proofs.Common.{◌≡◌, true, take}
-use Rattle.std.specs.List.{list_all}
-use Rattle.dir_ldif.specs.LegalRecords.{is_short}
+use Rattle.std.proofs.Common.{◌≡◌, drop}
+use Rattle.dir_ldif.specs.LegalRecords.{check_of_value, first_fault}
 use Rattle.dir_ldif.proofs.records.checking.check_values.Given as goal
 
 abbrev pub invariant-loop-value : goal.invariant-loop-value
-invariant-loop-value l = list_all is_short (take l.value-index l.values) ≡ true
+invariant-loop-value l = first_fault check_of_value l.values ≡ first_fault check_of_value (drop l.value-index l.values)
