@@ -9,14 +9,13 @@ PROGRAM = crates/slapkit/out/slapkit
 demo: $(PROGRAM)
 	examples/demo.sh $(PROGRAM)
 
-# Proves every crate and runs all tests.
+# The gate: proves every crate, runs all tests, and tries the program that was built.
 test:
-	rt ci
+	.ci/run
 
-# Runs the program on files, and with each of its calls for memory, openings, reads and writes refused in turn.
+# Runs the program on files, on large inputs, and with each of its calls for memory, openings, reads and writes refused in turn.
 trial: $(PROGRAM)
-	tests/program.py $(PROGRAM)
-	tests/refusals.py $(PROGRAM)
+	tests/trial.py $(PROGRAM)
 
 # Plants the bugs that the gate leaves out, of all crates or of one (make bugs CRATE=dir_ldif): the prover must refuse each.
 bugs:

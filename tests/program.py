@@ -9,12 +9,18 @@ import subprocess
 import sys
 import tempfile
 
+import checks
+from checks import expect
+
 COPY = "dn: dc=com\ndc: com\n\n"
 ADD = "dn: ou=people,DC=COM\nchangetype: add\ndescription: staff\n"
 NEW = COPY + "dn: ou=people,dc=com\ndescription: staff\nou: people\n\n"
 UNDO = "version: 1\n\ndn: ou=people,dc=com\nchangetype: delete\n\n"
 REDO = "version: 1\n\ndn: ou=people,dc=com\nchangetype: add\ndescription: staff\nou: people\n\n"
 MISSING = "dn: ou=none,dc=com\nchangetype: delete\n"
+# the undo file of a run that changed nothing
+NOTHING = "version: 1\n\n"
+REFUSED = "line 1: refused, 32 noSuchObject\n"
 ONTO = ["--out", "new", "--undo", "undo"]
 
 
@@ -26,149 +32,309 @@ class Trial:
         for name, text in files.items():
             (self.folder / name).write_text(text)
 
-    def run(self, words, typed="", out=subprocess.PIPE):
+    def run(self, words, typed="", out=subprocess.PIPE, err=subprocess.PIPE):
         """The exit status, and what went to standard output and to standard error."""
-        command = [self.program, *words]
         ended = subprocess.run(
-            command, cwd=self.folder, input=typed.encode(), stdout=out, stderr=subprocess.PIPE, timeout=60
+            [self.program, *words], cwd=self.folder, input=typed.encode(), stdout=out, stderr=err, timeout=60
         )
-        return ended.returncode, (ended.stdout or b"").decode(), ended.stderr.decode()
+        return ended.returncode, (ended.stdout or b"").decode(), (ended.stderr or b"").decode()
 
-    def modify(self, *words, typed="", out=subprocess.PIPE):
-        return self.run(["slapmodify", "-b", "dc=com", "--data", "copy", *words], typed, out)
+    def modify(self, *words, **how):
+        return self.run(["slapmodify", "-b", "dc=com", "--data", "copy", *words], **how)
 
     def text(self, name):
         path = self.folder / name
-        return path.read_text() if path.exists() else None
+        return path.read_bytes().decode() if path.exists() else None
+
+    def write(self, name, text):
+        (self.folder / name).write_text(text)
+
+    def names(self):
+        """The files in the folder, but for those that it began with."""
+        return sorted(path.name for path in self.folder.iterdir() if path.name not in ("copy", "changes"))
+
+    def expect_files(self, new, undo):
+        expect(self.text("new"), new, "the new copy")
+        expect(self.text("undo"), undo, "the undo file")
+
+    def expect_no_files(self):
+        expect(self.names(), [], "files made")
 
 
 def an_add_is_taken_back(trial):
-    assert trial.modify("-l", "changes", *ONTO) == (0, "accepted 1, refused 0\n", "")
-    assert (trial.text("new"), trial.text("undo")) == (NEW, UNDO)
+    expect(trial.modify("-l", "changes", *ONTO), (0, "accepted 1, refused 0\n", ""))
+    trial.expect_files(NEW, UNDO)
     words = ["slapmodify", "-b", "DC=Com", "--data", "new", "-l", "undo", "--out", "back", "--undo", "redo", "-v"]
-    assert trial.run(words) == (0, "line 3: accepted\naccepted 1, refused 0\n", "")
-    assert (trial.text("back"), trial.text("redo")) == (COPY, REDO)
+    expect(trial.run(words), (0, "line 3: accepted\naccepted 1, refused 0\n", ""))
+    expect((trial.text("back"), trial.text("redo")), (COPY, REDO))
 
 
 def changes_come_from_standard_input(trial):
-    assert trial.modify(*ONTO, typed=ADD) == (0, "accepted 1, refused 0\n", "")
-    assert (trial.text("new"), trial.text("undo")) == (NEW, UNDO)
+    trial.write("changes", MISSING)
+    expect(trial.modify(*ONTO, typed=ADD), (0, "accepted 1, refused 0\n", ""))
+    trial.expect_files(NEW, UNDO)
+
+
+def changes_come_from_their_file_alone(trial):
+    expect(trial.modify("-l", "changes", *ONTO, typed=MISSING), (0, "accepted 1, refused 0\n", ""))
+    trial.expect_files(NEW, UNDO)
+
+
+def the_copy_and_the_changes_are_not_exchanged(trial):
+    # content records are changes of no kind (L5), and change records are no copy
+    expect(trial.modify("-l", "other", *ONTO)[2], "slapkit: cannot open other\n")
+    trial.write("other", COPY)
+    report = "line 1: refused, L5 BadChangetype\naccepted 0, refused 1\n"
+    expect(trial.modify("-l", "other", *ONTO), (1, report, ""))
+    trial.expect_files(COPY, NOTHING)
+    words = ["slapmodify", "-b", "dc=com", "--data", "changes", "-l", "copy", "-u"]
+    expect(trial.run(words), (1, "", "slapkit: copy, line 1: L5 BadChangetype\n"))
+
+
+def no_changes_make_the_copy_again(trial):
+    expect(trial.modify("-l", "/dev/null", *ONTO), (0, "accepted 0, refused 0\n", ""))
+    trial.expect_files(COPY, NOTHING)
 
 
 def a_dry_run_touches_no_file(trial):
     report = "line 1: accepted\naccepted 1, refused 0\n"
-    assert trial.modify("-u", "-v", *ONTO, typed=ADD) == (0, report, "")
-    assert (trial.text("new"), trial.text("undo")) == (None, None)
+    expect(trial.modify("-u", "-v", *ONTO, typed=ADD), (0, report, ""))
+    trial.expect_no_files()
+
+
+def a_dry_run_keeps_the_files_that_are_there(trial):
+    trial.write("new", "kept")
+    trial.write("undo", "kept too")
+    expect(trial.modify("-u", *ONTO, typed=ADD), (0, "accepted 1, refused 0\n", ""))
+    trial.expect_files("kept", "kept too")
+
+
+def a_dry_run_with_a_refused_record_ends_with_status_1(trial):
+    for words in ([], ONTO):
+        report = f"{REFUSED}accepted 0, refused 1\n"
+        expect(trial.modify("-u", *words, typed=f"{MISSING}\n{ADD}"), (1, report, ""))
+        trial.expect_no_files()
+
+
+def a_dry_run_goes_on_after_a_refused_record(trial):
+    for words in ([], ONTO):
+        report = f"{REFUSED}accepted 1, refused 1\n"
+        expect(trial.modify("-u", "-c", *words, typed=f"{MISSING}\n{ADD}"), (1, report, ""))
+        report = f"{REFUSED}line 4: accepted\naccepted 1, refused 1\n"
+        expect(trial.modify("-u", "-c", "-v", *words, typed=f"{MISSING}\n{ADD}"), (1, report, ""))
+        trial.expect_no_files()
 
 
 def a_refused_record_ends_with_status_1(trial):
-    report = "line 1: refused, 32 noSuchObject\naccepted 0, refused 1\n"
-    assert trial.modify(*ONTO, typed=f"{MISSING}\n{ADD}") == (1, report, "")
-    assert (trial.text("new"), trial.text("undo")) == (COPY, "version: 1\n\n")
+    report = f"{REFUSED}accepted 0, refused 1\n"
+    expect(trial.modify(*ONTO, typed=f"{MISSING}\n{ADD}"), (1, report, ""))
+    trial.expect_files(COPY, NOTHING)
+
+
+def what_was_accepted_before_a_refused_record_is_written(trial):
+    report = "line 5: refused, 32 noSuchObject\naccepted 1, refused 1\n"
+    expect(trial.modify(*ONTO, typed=f"{ADD}\n{MISSING}"), (1, report, ""))
+    trial.expect_files(NEW, UNDO)
 
 
 def a_run_goes_on_after_a_refused_record(trial):
-    report = "line 1: refused, 32 noSuchObject\naccepted 1, refused 1\n"
-    assert trial.modify("-c", *ONTO, typed=f"{MISSING}\n{ADD}") == (1, report, "")
-    assert (trial.text("new"), trial.text("undo")) == (NEW, UNDO)
+    report = f"{REFUSED}accepted 1, refused 1\n"
+    expect(trial.modify("-c", *ONTO, typed=f"{MISSING}\n{ADD}"), (1, report, ""))
+    trial.expect_files(NEW, UNDO)
+
+
+def a_verbose_run_alone_does_not_go_on(trial):
+    report = f"{REFUSED}accepted 0, refused 1\n"
+    expect(trial.modify("-v", *ONTO, typed=f"{MISSING}\n{ADD}"), (1, report, ""))
+    trial.expect_files(COPY, NOTHING)
+
+
+def a_verbose_run_reports_each_record(trial):
+    report = "line 1: accepted\nline 5: refused, 32 noSuchObject\naccepted 1, refused 1\n"
+    expect(trial.modify("-v", *ONTO, typed=f"{ADD}\n{MISSING}"), (1, report, ""))
+    trial.expect_files(NEW, UNDO)
+
+
+def one_option_alone_is_refused(trial):
+    options = (["-b", "dc=com"], ["--data", "copy"], ["--out", "new"], ["--undo", "undo"], ["-l", "changes"])
+    for words in (*options, ["-c"], ["-u"], ["-v"]):
+        status, told, said = trial.run(["slapmodify", *words], typed=ADD)
+        expect((status, told, said != ""), (1, "", True), words)
+        trial.expect_no_files()
+
+
+def each_of_four_options_is_needed(trial):
+    options = {"-b": "dc=com", "--data": "copy", "--out": "new", "--undo": "undo"}
+    for left_out in options:
+        words = [word for option in options.items() if option[0] != left_out for word in option]
+        status, told, said = trial.run(["slapmodify", *words], typed=ADD)
+        expect((status, told, said != ""), (1, "", True), f"without {left_out}")
+        trial.expect_no_files()
+    words = [word for option in options.items() for word in option]
+    expect(trial.run(["slapmodify", *words], typed=ADD), (0, "accepted 1, refused 0\n", ""))
+    trial.expect_files(NEW, UNDO)
 
 
 def a_fault_leaves_its_files_empty(trial):
-    assert trial.modify(*ONTO, typed="version: 2\n") == (1, "", "slapkit: changes: L15 BadVersion\n")
-    assert (trial.text("new"), trial.text("undo")) == ("", "")
+    expect(trial.modify(*ONTO, typed="version: 2\n"), (1, "", "slapkit: changes: L15 BadVersion\n"))
+    trial.expect_files("", "")
 
 
 def a_faulty_copy_is_named_by_its_line(trial):
-    trial.folder.joinpath("copy").write_text(f"{COPY}dn: cn=a,ou=none,dc=com\ncn: a\n\n")
-    assert trial.modify("-u") == (1, "", "slapkit: copy, line 4: 32 noSuchObject\n")
+    trial.write("copy", f"{COPY}dn: cn=a,ou=none,dc=com\ncn: a\n\n")
+    expect(trial.modify("-u"), (1, "", "slapkit: copy, line 4: 32 noSuchObject\n"))
 
 
 def a_bad_suffix_is_refused(trial):
-    words = ["slapmodify", "-b", "com", "--data", "copy", "-u"]
-    assert trial.run(words) == (1, "", "slapkit: bad question: suffix\n")
+    # no name, none at all, and a backslash with nothing after it
+    for suffix in ("com", "", "dc=com\\", "\\"):
+        for words in (["-u"], ONTO):
+            found = trial.run(["slapmodify", "-b", suffix, "--data", "copy", *words])
+            expect(found, (1, "", "slapkit: bad question: suffix\n"), suffix)
+        trial.expect_files("", "")
+        for name in ("new", "undo"):
+            (trial.folder / name).unlink()
+
+
+def a_suffix_may_end_in_an_escaped_backslash(trial):
+    trial.write("copy", "")
+    words = ["slapmodify", "-b", "dc=com\\\\", "--data", "copy", *ONTO]
+    expect(trial.run(words, typed="dn: dc=com\\\\\nchangetype: add\n"), (0, "accepted 1, refused 0\n", ""))
+    trial.expect_files("dn: dc=com\\5C\ndc: com\\\n\n", "version: 1\n\ndn: dc=com\\5C\nchangetype: delete\n\n")
 
 
 def a_file_that_is_there_is_not_written_over(trial):
-    trial.folder.joinpath("new").write_text("kept")
-    assert trial.modify(*ONTO, typed=ADD) == (1, "", "slapkit: exists already: new\n")
-    assert (trial.text("new"), trial.text("undo")) == ("kept", "")
+    trial.write("new", "kept")
+    expect(trial.modify(*ONTO, typed=ADD), (1, "", "slapkit: exists already: new\n"))
+    trial.expect_files("kept", "")
 
 
 def an_undo_file_that_is_there_comes_first(trial):
-    trial.folder.joinpath("undo").write_text("kept")
-    assert trial.modify(*ONTO, typed=ADD) == (1, "", "slapkit: exists already: undo\n")
-    assert (trial.text("new"), trial.text("undo")) == (None, "kept")
+    trial.write("undo", "kept")
+    expect(trial.modify(*ONTO, typed=ADD), (1, "", "slapkit: exists already: undo\n"))
+    trial.expect_files(None, "kept")
+
+
+def a_link_is_not_followed_to_a_file_that_is_made(trial):
+    for name in ("undo", "new"):
+        (trial.folder / name).symlink_to("elsewhere")
+        expect(trial.modify(*ONTO, typed=ADD), (1, "", f"slapkit: exists already: {name}\n"))
+        expect(trial.text("elsewhere"), None, "the file that the link names")
+        (trial.folder / name).unlink()
 
 
 def paths_must_differ(trial):
-    assert trial.modify("-l", "copy", *ONTO) == (1, "", "slapkit: same path twice: copy\n")
-    assert trial.modify("--out", "x", "--undo", "x") == (1, "", "slapkit: same path twice: x\n")
-    assert trial.text("x") is None
+    expect(trial.modify("-l", "copy", *ONTO), (1, "", "slapkit: same path twice: copy\n"))
+    expect(trial.modify("--out", "x", "--undo", "x"), (1, "", "slapkit: same path twice: x\n"))
+    trial.expect_no_files()
+
+
+def the_copy_is_not_written_over(trial):
+    for words in (["--out", "copy", "--undo", "undo"], ["--out", "new", "--undo", "copy"]):
+        expect(trial.modify(*words, typed=ADD), (1, "", "slapkit: same path twice: copy\n"))
+    expect(trial.modify("--out", "./copy", "--undo", "undo", typed=ADD), (1, "", "slapkit: exists already: ./copy\n"))
+    expect(trial.text("copy"), COPY, "the copy")
 
 
 def the_copy_is_opened_before_the_changes(trial):
     words = ["slapmodify", "-b", "dc=com", "--data", "none", "-l", "nothing", *ONTO]
-    assert trial.run(words) == (1, "", "slapkit: cannot open none\n")
-    assert trial.modify("-l", "nothing", *ONTO) == (1, "", "slapkit: cannot open nothing\n")
-    assert (trial.text("new"), trial.text("undo")) == (None, None)
+    expect(trial.run(words), (1, "", "slapkit: cannot open none\n"))
+    expect(trial.modify("-l", "nothing", *ONTO), (1, "", "slapkit: cannot open nothing\n"))
+    trial.expect_no_files()
 
 
 def a_folder_cannot_be_read(trial):
     words = ["slapmodify", "-b", "dc=com", "--data", ".", "-u"]
-    assert trial.run(words) == (1, "", "slapkit: cannot read copy\n")
-    assert trial.modify("-l", ".", "-u") == (1, "", "slapkit: cannot read changes\n")
+    expect(trial.run(words), (1, "", "slapkit: cannot read copy\n"))
+    expect(trial.modify("-l", ".", "-u"), (1, "", "slapkit: cannot read changes\n"))
 
 
 def a_full_device_is_told(trial):
     with open("/dev/full", "wb") as full:
-        assert trial.modify(*ONTO, typed=ADD, out=full) == (1, "", "slapkit: cannot write report\n")
-    assert (trial.text("new"), trial.text("undo")) == (NEW, UNDO)
+        expect(trial.modify(*ONTO, typed=ADD, out=full), (1, "", "slapkit: cannot write report\n"))
+    trial.expect_files(NEW, UNDO)
+
+
+def a_fault_that_cannot_be_told_ends_with_status_1(trial):
+    with open("/dev/full", "wb") as full:
+        expect(trial.modify(*ONTO, typed="version: 2\n", err=full), (1, "", ""))
+        trial.expect_files("", "")
+        expect(trial.modify("-u", typed="version: 2\n", out=full, err=full), (1, "", ""))
+        expect(trial.modify("-u", typed=ADD, out=full, err=full), (1, "", ""))
+        expect(trial.run(["slapmodify", "-x"], err=full), (1, "", ""))
+
+
+def a_report_needs_no_standard_error(trial):
+    with open("/dev/full", "wb") as full:
+        expect(trial.modify(*ONTO, typed=ADD, err=full), (0, "accepted 1, refused 0\n", ""))
+        trial.expect_files(NEW, UNDO)
+        expect(trial.modify("-u", typed=MISSING, err=full), (1, f"{REFUSED}accepted 0, refused 1\n", ""))
 
 
 def a_faulty_command_line_ends_with_status_1(trial):
     for words in ([], ["slapadd"], ["slapmodify"], ["slapmodify", "-b", "dc=com", "--data", "copy"]):
         status, told, said = trial.run(words)
-        assert (status, told) == (1, "") and said, words
+        expect((status, told, said != ""), (1, "", True), words)
 
 
 def words_that_are_not_utf_8_are_refused(trial):
     status, told, said = trial.modify("-l", b"\xff", "-u")
-    assert (status, told) == (1, "") and said.startswith("slapkit: cannot read the command line: ")
+    expect((status, told), (1, ""))
+    expect(said.startswith("slapkit: cannot read the command line: "), True, said)
 
 
 def help_ends_with_status_0(trial):
     for words in (["--help"], ["slapmodify", "--help"], ["help", "slapmodify"]):
         status, told, said = trial.run(words)
-        assert (status, said) == (0, "") and told, words
+        expect((status, told != "", said), (0, True, ""), words)
 
 
 TRIALS = [
     an_add_is_taken_back,
     changes_come_from_standard_input,
+    changes_come_from_their_file_alone,
+    the_copy_and_the_changes_are_not_exchanged,
+    no_changes_make_the_copy_again,
     a_dry_run_touches_no_file,
+    a_dry_run_keeps_the_files_that_are_there,
+    a_dry_run_with_a_refused_record_ends_with_status_1,
+    a_dry_run_goes_on_after_a_refused_record,
     a_refused_record_ends_with_status_1,
+    what_was_accepted_before_a_refused_record_is_written,
     a_run_goes_on_after_a_refused_record,
+    a_verbose_run_alone_does_not_go_on,
+    a_verbose_run_reports_each_record,
+    one_option_alone_is_refused,
+    each_of_four_options_is_needed,
     a_fault_leaves_its_files_empty,
     a_faulty_copy_is_named_by_its_line,
     a_bad_suffix_is_refused,
+    a_suffix_may_end_in_an_escaped_backslash,
     a_file_that_is_there_is_not_written_over,
     an_undo_file_that_is_there_comes_first,
+    a_link_is_not_followed_to_a_file_that_is_made,
     paths_must_differ,
+    the_copy_is_not_written_over,
     the_copy_is_opened_before_the_changes,
     a_folder_cannot_be_read,
     a_full_device_is_told,
+    a_fault_that_cannot_be_told_ends_with_status_1,
+    a_report_needs_no_standard_error,
     a_faulty_command_line_ends_with_status_1,
     words_that_are_not_utf_8_are_refused,
     help_ends_with_status_0,
 ]
 
 
+def tried(program, trial):
+    with tempfile.TemporaryDirectory() as folder:
+        trial(Trial(program, folder, {"copy": COPY, "changes": ADD}))
+
+
 def main():
     program = os.path.abspath(sys.argv[1])
-    for trial in TRIALS:
-        with tempfile.TemporaryDirectory() as folder:
-            trial(Trial(program, folder, {"copy": COPY, "changes": ADD}))
-        print(f"{trial.__name__.replace('_', ' ')}: ok")
+    named = [(trial.__name__.replace("_", " "), lambda trial=trial: tried(program, trial)) for trial in TRIALS]
+    sys.exit(checks.run("program", named))
 
 
 main()

@@ -14,6 +14,9 @@ import subprocess
 import sys
 import tempfile
 
+import checks
+from checks import Wrong
+
 EXAMPLES = pathlib.Path(__file__).resolve().parent.parent / "examples"
 COPY, CHANGES = EXAMPLES / "company.ldif", EXAMPLES / "changes.ldif"
 
@@ -111,10 +114,10 @@ def nothing_is_written(left):
 
 
 def texts_come_in_order(left, whole):
-    """Each text is a front of the whole one, and empty where the one before it is not whole."""
+    """Each text is a prefix of the whole one, and empty where the one before it is not whole."""
     pairs = [(left.undo, whole.undo), (left.new, whole.new), (left.report, whole.report)]
-    fronts = all(full.startswith(text or b"") for text, full in pairs)
-    return fronts and all(not text or last == full for (last, full), (text, _) in zip(pairs, pairs[1:]))
+    prefixes = all(full.startswith(text or b"") for text, full in pairs)
+    return prefixes and all(not text or last == full for (last, full), (text, _) in zip(pairs, pairs[1:]))
 
 
 def memory_is_told(left, whole):
@@ -154,15 +157,19 @@ KINDS = {
 
 
 def refuse_in_turn(program, shim, whole, kind, on):
-    """The number of calls that were refused, each in a run of its own."""
+    """Refuses each call of a kind, in a run of its own, and returns how many runs that were."""
     at = 1
     while True:
         refusal = {"REFUSE_KIND": kind, "REFUSE_AT": str(at)} | ({"REFUSE_ON": "1"} if on else {})
         left, was_refused = run(program, shim, refusal)
         if not was_refused:
-            assert left == whole, f"no {kind} was refused, and the run is not whole: {left}"
-            return at - 1
-        assert KINDS[kind](left, whole), f"{kind} refused at {at}{' and on' if on else ''}: {left}"
+            if left != whole:
+                raise Wrong(f"no {kind} was refused, and the run is not whole: {left}")
+            if at == 1:
+                raise Wrong(f"no {kind} was refused")
+            return f"{at - 1} runs"
+        if not KINDS[kind](left, whole):
+            raise Wrong(f"{kind} refused at {at}{' and on' if on else ''}: {left}")
         at += 1
 
 
@@ -171,14 +178,16 @@ def main():
     with tempfile.TemporaryDirectory() as folder:
         source, shim = f"{folder}/shim.c", f"{folder}/shim.so"
         pathlib.Path(source).write_text(SHIM)
-        subprocess.run(["cc", "-shared", "-fPIC", "-o", shim, source, "-ldl"], check=True)
+        subprocess.run([os.environ.get("CC", "cc"), "-shared", "-fPIC", "-o", shim, source, "-ldl"], check=True)
         whole, _ = run(program, shim, {})
-        assert whole.status == 0 and whole.undo and whole.new and whole.report, whole
+        if whole.status != 0 or not (whole.undo and whole.new and whole.report):
+            sys.exit(f"refusals: the run is not whole where nothing is refused: {whole}")
+        trials = []
         for kind in KINDS:
             for on in (False, True):
-                calls = refuse_in_turn(program, shim, whole, kind, on)
-                assert calls > 0, f"no {kind} was refused"
-                print(f"{kind}{', and all after it' if on else ''}: {calls} runs")
+                name = f"{kind} refused{', and all after it' if on else ''}"
+                trials.append((name, lambda kind=kind, on=on: refuse_in_turn(program, shim, whole, kind, on)))
+        sys.exit(checks.run("refusals", trials))
 
 
 main()

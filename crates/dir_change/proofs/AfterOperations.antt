@@ -13,9 +13,9 @@ use Rattle.dir_names.specs.Orders.{dn_key_cmp, dn_key_cmp_total, dn_key_cmp_exac
 use Rattle.dir_names.specs.Results.{option_collect, option_cons, and_then}
 use Rattle.dir_names.specs.Described.{Described}
 use Rattle.dir_tree.specs.Content.{Content, StoredAttributes}
-use Rattle.dir_tree.specs.Dir.{Dir, HasChild, IsClosed, entry_at, has_parent, is_there, put_entry, remove_entry}
+use Rattle.dir_tree.specs.Dir.{Dir, HasChild, IsClosed, entry_at, has_child, has_parent, is_there, put_entry, remove_entry}
 use Rattle.dir_tree.specs.SpelledNames as spelled
-use Rattle.dir_tree.specs.SpelledNames.{own_name_at, spelled_name}
+use Rattle.dir_tree.specs.SpelledNames.{own_name_at, own_rdns, spelled_name}
 use Rattle.dir_tree.specs.NewEntry.{attributes_of, exceeds_single_value, leaf_key, leaf_lines, new_entry, ok_unless_exceeding, with_missing_of}
 use Rattle.dir_tree.specs.WellFormed.{IsWellFormed, all_lines, own_part}
 use Rattle.dir_tree.specs.declared.fault.EntryFault.{EntryFault}
@@ -26,10 +26,11 @@ use Rattle.dir_ldif.specs.declared.records.ChangeKind.TheVariants as kind
 use Rattle.dir_tree.proofs.DirLemmas.{closed_put, get_put, get_without, parent_child, same_key}
 use Rattle.dir_tree.proofs.SpelledLemmas.{by_last, spelled_below, spelled_child, spelled_put_apart, spelled_suffix}
 use Rattle.dir_change.specs.declared.result_code.ResultCode.TheVariants.{NoSuchObject, NotAllowedOnNonLeaf, EntryAlreadyExists}
-use Rattle.dir_change.specs.Operation.{directory_after, directory_after_add, directory_after_delete, has_child, is_at_or_below, own_rdns, step, step_at, unless, with_new_entry}
+use Rattle.dir_change.specs.Operation.{directory_after, directory_after_add, directory_after_delete, step, step_at, unless, with_new_entry}
 use Rattle.dir_change.specs.Undo.{TakesBack, lines_of_entry, name_of_parent, spelled_name_or_empty, undo_of}
 use Rattle.dir_change.proofs.Conditions.{add_placed, below_is, below_true, child_false, delete_leaf, parent_snoc}
 use Rattle.dir_names.proofs.Collected.{collect_append, collect_length}
+use Rattle.dir_names.specs.Below.{is_at_or_below}
 
 same_dir : (d e : Dir) → d.suffix ≡ e.suffix → ((q : DnKeys) → entry_at d q ≡ entry_at e q) → d ≡ e
 same_dir d e s h = let entries = same_map dn_key_cmp_total dn_key_cmp_exact d.entries e.entries h in λ i. record { suffix = s i; entries = entries i }

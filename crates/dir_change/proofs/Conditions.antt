@@ -12,10 +12,12 @@ use Rattle.dir_names.specs.Orders.{dn_key_cmp, dn_key_cmp_total, dn_key_eq_decid
 use Rattle.dir_names.specs.declared.schema.TypeRow.{TypeRow}
 use Rattle.dir_names.specs.Described.{Described}
 use Rattle.dir_names.specs.Names.{SpelledName}
-use Rattle.dir_tree.specs.Dir.{Dir, HasChild, entry_at, has_parent, remove_entry}
+use Rattle.dir_names.specs.Below.{is_at_or_below}
+use Rattle.dir_tree.specs.Dir.{Dir, HasChild, entry_at, has_child, has_parent, is_key, remove_entry}
 use Rattle.dir_tree.specs.NewEntry.{new_entry}
 use Rattle.dir_tree.proofs.DirLemmas.{parent_child, same_key}
-use Rattle.dir_change.specs.Operation.{directory_after_add, directory_after_delete, has_child, is_at_or_below, is_key, own_rdns, unless, with_new_entry}
+use Rattle.dir_tree.specs.SpelledNames.{own_rdns}
+use Rattle.dir_change.specs.Operation.{directory_after_add, directory_after_delete, unless, with_new_entry}
 use Rattle.dir_change.specs.declared.result_code.ResultCode.TheVariants.{NoSuchObject, NotAllowedOnNonLeaf, EntryAlreadyExists}
 
 pub below_true : (k above : DnKeys) → IsAtOrBelow k above → is_at_or_below k above ≡ true

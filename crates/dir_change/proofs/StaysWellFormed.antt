@@ -24,12 +24,13 @@ use Rattle.dir_ldif.specs.declared.records.ChangeKind.TheVariants as kind
 use Rattle.dir_ldif.specs.SoundRecords.{IsSoundKind, ValuesAreBytes}
 use Rattle.dir_ldif.specs.LegalRecords.{has_this_key, is_legal_kind, is_legal_line, is_read_under, is_short}
 use Rattle.dir_tree.specs.Content.{Content}
-use Rattle.dir_tree.specs.Dir.{Dir, entry_at, has_parent, put_entry, remove_entry}
+use Rattle.dir_tree.specs.Dir.{Dir, entry_at, has_child, has_parent, put_entry, remove_entry}
 use Rattle.dir_tree.specs.NewEntry.{leaf_of}
 use Rattle.dir_tree.specs.WellFormed.{Each, are_bytes, IsLegalLine, IsLegalPair, IsSoundEntry, IsWellFormed, own_part}
 use Rattle.dir_tree.proofs.DirLemmas.{closed_put, closed_without, get_put, get_without, same_key}
 use Rattle.dir_tree.proofs.SoundMade.{made_sound}
-use Rattle.dir_change.specs.Operation.{directory_after, has_child, own_rdns, step, step_at}
+use Rattle.dir_tree.specs.SpelledNames.{own_rdns}
+use Rattle.dir_change.specs.Operation.{directory_after, step, step_at}
 use Rattle.dir_change.specs.SoundChange.{IsSoundChange}
 use Rattle.dir_change.proofs.Conditions.{child_true}
 use Rattle.dir_change.proofs.AfterOperations.{added_is, deleted_is, made_own, own_named}

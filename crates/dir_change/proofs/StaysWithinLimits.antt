@@ -10,9 +10,9 @@ use Rattle.dir_names.specs.declared.value.ValueKey.{ValueKey}
 use Rattle.dir_names.specs.Attr.{Attr}
 use Rattle.dir_names.specs.Described.{Described}
 use Rattle.dir_names.specs.Keys.{DnKeys}
-use Rattle.dir_names.specs.Names.{SpelledName, SpelledRdn}
+use Rattle.dir_names.specs.Names.{SpelledRdn}
 use Rattle.dir_names.specs.NameKeys.{name_key}
-use Rattle.dir_names.specs.Orders.{dn_key_cmp, dn_key_eq}
+use Rattle.dir_names.specs.Orders.{dn_key_cmp}
 use Rattle.dir_names.specs.Names.Limits.{is_rdn_within_limit, is_within_limits}
 use Rattle.dir_names.specs.Names.Sound.{is_sound_name, is_sound_rdn}
 use Rattle.dir_ldif.specs.declared.records.Change.{Change}
@@ -22,11 +22,12 @@ use Rattle.dir_ldif.specs.SoundRecords.{IsSoundName, ValuesAreBytes}
 use Rattle.dir_tree.specs.Content.{Content, Stored}
 use Rattle.dir_tree.specs.Dir.{Dir, entry_at, put_entry}
 use Rattle.dir_tree.specs.SpelledNames as spelled
-use Rattle.dir_tree.specs.SpelledNames.{own_name_at, prefixes, spelled_name}
+use Rattle.dir_tree.specs.SpelledNames.{own_name_at, own_rdns, prefixes, spelled_name}
 use Rattle.dir_tree.specs.WellFormed.{Each, IsSoundAttribute, IsSoundValue, IsWellFormed, IsWithinLimits, are_bytes, attribute_lines}
+use Rattle.dir_tree.proofs.OwnNames.{all_own_of}
 use Rattle.dir_ldif.specs.LegalRecords.{is_legal}
 use Rattle.dir_tree.proofs.DirLemmas.{get_put, get_without, same_key}
-use Rattle.dir_change.specs.Operation.{directory_after, own_rdns, step, step_at}
+use Rattle.dir_change.specs.Operation.{directory_after, step, step_at}
 use Rattle.dir_change.specs.Runs.{group_at, group_of}
 use Rattle.dir_change.specs.SoundChange.{IsSoundChange}
 use Rattle.dir_change.specs.Undo.{lines_of_entry, undo_of}
@@ -64,17 +65,6 @@ name_sound rows d well within k e there =
         let same : length (spelled_name d k) ≡ length k = key_length rows (spelled_name d k) k (spelled_key rows d well.1 (λ q x h. (well.2 q x h).1) k (ap is_some there)) in
         let low = (within k e there).0 in
         grind (arith, nat_tests)
-
-all_own_of : (p : SpelledRdn → Bool) (suffix k : DnKeys) (name : SpelledName) → list_all p name ≡ true → list_all p (own_rdns suffix k name) ≡ true
-all_own_of p suffix k name e = by (dn_key_eq k suffix)
-  where
-    first : (name : SpelledName) → list_all p name ≡ true → list_all p (take 1 name) ≡ true
-    first [] h = refl
-    first (x ∷ xs) h = ap (λ b. b && true) (left (p x) (list_all p xs) h)
-
-    by : (b : Bool) → list_all p (cond b name (take 1 name)) ≡ true
-    by true = e
-    by false = first name e
 
 pub step_within : (rows : List TypeRow) (d : Dir) (change : Change) → IsWithinLimits d → IsSoundChange rows change → (new : Dir) → step rows d change ≡ Ok new → IsWithinLimits new
 step_within rows d change within sound new is = by (name_key rows change.dn) refl is

@@ -1,21 +1,20 @@
 -- The update operations (RFC 4511, sections 4.7 and 4.8): the directory after a change, or the result code of the first test that refuses it.
-use Rattle.std.specs.Prelude.{◌≡◌, ℕ, Bool, false, cond, not, List, length, take, Option, None, Some, is_some, Result, Ok, Err, ⊤}
-use Rattle.std.specs.List.{list_any}
-use Rattle.std.specs.FinMap as fin
+use Rattle.std.specs.Prelude.{◌≡◌, ℕ, Bool, cond, not, List, Option, None, Some, is_some, Result, Ok, Err, ⊤}
 use Rattle.dir_names.specs.declared.schema.TypeRow.{TypeRow}
 use Rattle.dir_names.specs.Described.{Described}
-use Rattle.dir_names.specs.Keys.{DnKeys, parent_of}
+use Rattle.dir_names.specs.Keys.{DnKeys}
 use Rattle.dir_names.specs.Names.{SpelledName}
 use Rattle.dir_names.specs.NameKeys.{name_key}
-use Rattle.dir_names.specs.Orders.{dn_key_eq}
+use Rattle.dir_names.specs.Below.{is_at_or_below}
 use Rattle.dir_ldif.specs.declared.records.Change.{Change}
 use Rattle.dir_ldif.specs.declared.records.ChangeKind.{ChangeKind}
 use Rattle.dir_ldif.specs.declared.records.ChangeKind.TheVariants as kind
 use Rattle.dir_tree.specs.Content.{Content}
-use Rattle.dir_tree.specs.Dir.{Dir, entry_at, has_parent, put_entry, remove_entry}
+use Rattle.dir_tree.specs.Dir.{Dir, entry_at, has_child, has_parent, put_entry, remove_entry}
 use Rattle.dir_tree.specs.NewEntry.{new_entry}
 use Rattle.dir_tree.specs.declared.fault.EntryFault.{EntryFault}
 use Rattle.dir_tree.specs.declared.fault.EntryFault.TheVariants as entry
+use Rattle.dir_tree.specs.SpelledNames.{own_rdns}
 use Rattle.dir_change.specs.declared.operation.Refusal.{Refusal}
 use Rattle.dir_change.specs.declared.operation.Refusal.TheVariants as refusal
 use Rattle.dir_change.specs.declared.result_code.ResultCode.{ResultCode}
@@ -24,18 +23,6 @@ use Rattle.dir_change.specs.declared.result_code.ResultCode.TheVariants.{NoSuchO
 -- the result code where the test refuses, else what follows
 abbrev pub unless : {A : Type 0} → Bool → ResultCode → Result A ResultCode → Result A ResultCode
 unless refused code answer = cond refused (Err code) answer
-
--- the key begins with the other
-abbrev pub is_at_or_below : DnKeys → DnKeys → Bool
-is_at_or_below k above = dn_key_eq (take (length above) k) above
-
-abbrev pub is_key : DnKeys → Option DnKeys → Bool
-is_key k None = false
-is_key k (Some p) = dn_key_eq p k
-
--- some entry is directly below the key
-abbrev pub has_child : Dir → DnKeys → Bool
-has_child d k = list_any (λ q. is_key k (parent_of q)) (fin.keys d.entries)
 
 -- the result code of an entry that can't be made. No definition answers out of memory
 abbrev pub entry_refusal : EntryFault → Refusal
@@ -53,10 +40,6 @@ code_of refusal.Memory = UnwillingToPerform
 abbrev pub with_new_entry : Dir → DnKeys → Result Content EntryFault → Result Dir ResultCode
 with_new_entry d k (Ok e) = Ok (put_entry d k e)
 with_new_entry d k (Err fault) = Err (code_of (entry_refusal fault))
-
--- what an entry keeps of its name: all RDNs for the suffix's entry, else the leaf RDN
-abbrev pub own_rdns : DnKeys → DnKeys → SpelledName → SpelledName
-own_rdns suffix k name = cond (dn_key_eq k suffix) name (take 1 name)
 
 -- add (RFC 4511, section 4.7): the name is the suffix or below it; it is free; its parent is there; and the values make an entry
 abbrev pub directory_after_add : List TypeRow → Dir → DnKeys → SpelledName → List (Described × List ℕ) → Result Dir ResultCode

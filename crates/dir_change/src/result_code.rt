@@ -45,6 +45,8 @@ impl ResultCode {
 impl fmt::Display for ResultCode {
     ghost output = { λ code. Some (result_code_text code) };
 
+    ghost styled_output = { λ code _. Some (result_code_text code) };
+
     fn fmt<W: fmt::Write>(&self, f: &mut fmt::Formatter<W>) -> fmt::Result {
         f.write_str(self.text())
     }

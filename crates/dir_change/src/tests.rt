@@ -166,7 +166,33 @@ fn refusals_come_in_the_order_of_the_operation(rt: HostRuntime) -> Result<(), Fa
 }
 
 #[test]
-fn a_result_code_has_its_number_and_name(rt: HostRuntime) {
-    assert_eq!(rt; ResultCode::NoSuchObject.text(), "32 noSuchObject");
-    assert_eq!(rt; ResultCode::NotAllowedOnRdn.text(), "67 notAllowedOnRDN");
+fn each_result_code_shows_its_number_and_name(rt: HostRuntime) -> Result<(), Fail> {
+    let alloc = rt.alloc();
+    let rows = [
+        (ResultCode::ProtocolError, "2 protocolError"),
+        (ResultCode::AdminLimitExceeded, "11 adminLimitExceeded"),
+        (ResultCode::NoSuchAttribute, "16 noSuchAttribute"),
+        (ResultCode::ConstraintViolation, "19 constraintViolation"),
+        (
+            ResultCode::AttributeOrValueExists,
+            "20 attributeOrValueExists",
+        ),
+        (
+            ResultCode::InvalidAttributeSyntax,
+            "21 invalidAttributeSyntax",
+        ),
+        (ResultCode::NoSuchObject, "32 noSuchObject"),
+        (ResultCode::UnwillingToPerform, "53 unwillingToPerform"),
+        (ResultCode::NotAllowedOnNonLeaf, "66 notAllowedOnNonLeaf"),
+        (ResultCode::NotAllowedOnRdn, "67 notAllowedOnRDN"),
+        (ResultCode::EntryAlreadyExists, "68 entryAlreadyExists"),
+    ];
+    for (code, want) in rows {
+        assert_eq!(rt; code.text(), want);
+        let text = format!(in alloc; "{code}")?;
+        assert_eq!(rt; text.as_str(), want);
+        let text = format!(in alloc; "{code:#}")?;
+        assert_eq!(rt; text.as_str(), want);
+    }
+    Ok(())
 }

@@ -1,4 +1,4 @@
--- What a `NameFault` shows: its number and its name.
+-- What a fault shows: a `NameFault` its number and its name.
 use Rattle.std.specs.Prelude.{ℕ, List, codes}
 use Rattle.dir_names.specs.declared.fault.NameFault.{NameFault}
 use Rattle.dir_names.specs.declared.fault.NameFault.TheVariants.{BadDescription, ReservedName, BadValue, BadDn, NameLimit, Memory}
@@ -10,3 +10,6 @@ name_fault_text BadValue = codes "N3 BadValue"
 name_fault_text BadDn = codes "N4 BadDn"
 name_fault_text NameLimit = codes "N5 NameLimit"
 name_fault_text Memory = codes "N6 Memory"
+
+abbrev pub memory_text : List ℕ
+memory_text = codes "out of memory"

@@ -1,5 +1,6 @@
 pub mod Ascii
 pub mod Attr
+pub mod Below
 pub mod Covers
 pub mod Cut
 pub mod Described

@@ -3,7 +3,8 @@
 --     Reading     the same as a computation
 --     Printing    the text of a name
 --     Limits      how long a name may be
---     Sound       what holds of every `Rdn` and `Dn`
+--     Sound       which lists are names
+-- Every `Rdn` and `Dn` is sound and within the limits.
 pub mod Escapes
 pub mod Limits
 pub mod Printing

@@ -32,6 +32,8 @@ pub enum NameFault {
 impl fmt::Display for NameFault {
     ghost output = { λ fault. Some (name_fault_text fault) };
 
+    ghost styled_output = { λ fault _. Some (name_fault_text fault) };
+
     fn fmt<W: fmt::Write>(&self, f: &mut fmt::Formatter<W>) -> fmt::Result {
         f.write_str(match self {
             NameFault::BadDescription => "N1 BadDescription",

@@ -44,11 +44,12 @@ impl Model for Rdn {
 
     ghost use Rattle.std.specs.Prelude.{IsTrue};
     ghost use Rattle.dir_names.specs.Inside.Few.{few_items};
+    ghost use Rattle.dir_names.specs.Names.Limits.{is_rdn_within_limit};
     ghost use Rattle.dir_names.specs.Names.Sound.{is_sound_rdn};
 
     ghost view = { λ rdn. few_items rdn.pairs.value };
 
-    ghost invariant = { λ rdn. IsTrue (is_sound_rdn (few_items rdn.pairs.value)) };
+    ghost invariant = { λ rdn. IsTrue (is_sound_rdn (few_items rdn.pairs.value)) × IsTrue (is_rdn_within_limit (few_items rdn.pairs.value)) };
 }
 
 impl Rdn {
@@ -72,6 +73,7 @@ impl Rdn {
         ensures text { Gives (λ text. text.items) result (Ok (printed_rdn self.now)) }
         ensures ascii { IsTrue (is_ascii (printed_rdn self.now)) }
         ensures back { only_rdn_of (printed_rdn self.now) ≡ Some self.now }
+        ensures read_back { rdn_within_limit (printed_rdn self.now) ≡ Ok self.now }
         ensures spells { SpellsRdn (printed_rdn self.now) self.now }
     {
         let mut out = Vec::new(alloc);
@@ -117,6 +119,7 @@ impl Rdn {
     pub fn pairs(&self) -> &[(Bytes, Bytes)]
         ensures value { result.now ≡ self.now }
         ensures sound { IsTrue (is_sound_rdn self.now) }
+        ensures within_limit { IsTrue (is_rdn_within_limit self.now) }
     {
         self.pairs.as_slice()
     }
@@ -131,7 +134,8 @@ impl Rdn {
     }
 
     pub(crate) fn from_pairs(alloc: Global, pairs: Few<(Bytes, Bytes)>) -> Result<Rdn, NameFault>
-        requires { IsTrue (is_sound_rdn (few_items pairs)) }
+        requires sound { IsTrue (is_sound_rdn (few_items pairs)) }
+        requires within_limit { IsTrue (is_rdn_within_limit (few_items pairs)) }
         ensures { Gives (λ rdn. rdn) result (Ok (few_items pairs)) }
     {
         Ok(Rdn {
@@ -184,9 +188,10 @@ impl Model for Dn {
     ghost view = { λ name. name.rdns.items };
 
     ghost use Rattle.std.specs.Prelude.{IsTrue};
+    ghost use Rattle.dir_names.specs.Names.Limits.{is_within_limits};
     ghost use Rattle.dir_names.specs.Names.Sound.{is_sound_name};
 
-    ghost invariant = { λ name. IsTrue (is_sound_name name.rdns.items) };
+    ghost invariant = { λ name. IsTrue (is_sound_name name.rdns.items) × IsTrue (is_within_limits name.rdns.items) };
 }
 
 impl Dn {
@@ -222,6 +227,7 @@ impl Dn {
         ensures text { Gives (λ text. text.items) result (Ok (printed_name self.now)) }
         ensures ascii { IsTrue (is_ascii (printed_name self.now)) }
         ensures back { name_of (printed_name self.now) ≡ Some self.now }
+        ensures read_back { name_within_limits (printed_name self.now) ≡ Ok self.now }
         ensures spells { Spells (printed_name self.now) self.now }
     {
         let mut out = Vec::new(alloc);
@@ -262,6 +268,7 @@ impl Dn {
     pub fn rdns(&self) -> &[Rdn]
         ensures value { result.now ≡ self.now }
         ensures sound { IsTrue (is_sound_name self.now) }
+        ensures within_limits { IsTrue (is_within_limits self.now) }
     {
         self.rdns.as_slice()
     }

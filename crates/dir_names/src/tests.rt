@@ -397,6 +397,100 @@ fn a_name_past_a_limit_is_first_a_name(rt: HostRuntime) -> Result<(), Fail> {
     Ok(())
 }
 
+/// The text of a name of this many RDNs.
+fn name_text(alloc: Global, count: usize) -> Result<String, Fail> {
+    let mut text = format!(in alloc; "dc=com")?;
+    for level in 1..count {
+        text = format!(in alloc; "ou={level},{text}")?;
+    }
+    Ok(text)
+}
+
+#[test]
+fn a_name_has_at_most_64_rdns(rt: HostRuntime) -> Result<(), Fail> {
+    let alloc = rt.alloc();
+    let schema = Schema::builtin(alloc)?;
+    for (count, count_above) in [(63, 62), (64, 63)] {
+        let text = name_text(alloc, count)?;
+        let name = Dn::read(alloc, text.as_bytes())?;
+        let printed = name.print(alloc)?;
+        assert_eq!(rt; printed.as_slice(), text.as_bytes());
+        let key = name.key(alloc, &schema)?;
+        assert_eq!(rt; key.depth(), count);
+        let text_above = name_text(alloc, count_above)?;
+        let above = Dn::read(alloc, text_above.as_bytes())?.key(alloc, &schema)?;
+        let leaf = name.rdns().first().ok_or("no RDN")?.key(alloc, &schema)?;
+        assert!(rt; above.child(alloc, &leaf)? == key);
+        assert!(rt; above.is_parent_of(&key));
+        let again = Dn::from_rdns(name.into_rdns())?;
+        let printed = again.print(alloc)?;
+        assert_eq!(rt; printed.as_slice(), text.as_bytes());
+    }
+    let text = name_text(alloc, 65)?;
+    let fault = Dn::read(alloc, text.as_bytes()).err();
+    assert_eq!(rt; fault, Some(NameFault::NameLimit));
+    let text = name_text(alloc, 64)?;
+    let name = Dn::read(alloc, text.as_bytes())?;
+    let leaf = Rdn::read(alloc, b"cn=a")?;
+    // A key alone has no limit.
+    let below = name
+        .key(alloc, &schema)?
+        .child(alloc, &leaf.key(alloc, &schema)?)?;
+    assert_eq!(rt; below.depth(), 65);
+    let mut rdns = name.into_rdns();
+    rdns.push(leaf)?;
+    assert_eq!(rt; Dn::from_rdns(rdns).err(), Some(NameFault::NameLimit));
+    Ok(())
+}
+
+#[test]
+fn a_long_rdn_is_told_once_the_whole_text_is_read(rt: HostRuntime) -> Result<(), Fail> {
+    let alloc = rt.alloc();
+    for (end, want) in [
+        (",dc=com", Some(NameFault::NameLimit)),
+        (",dc=com,", Some(NameFault::BadDn)),
+    ] {
+        for (count, is_long) in [(4093, false), (4094, true)] {
+            let mut text = b"cn=".to_vec(alloc)?;
+            for _ in 0..count {
+                text.push(b'a')?;
+            }
+            text.extend_from_slice(end.as_bytes())?;
+            let fault = Dn::read(alloc, text.as_slice()).err();
+            if is_long || want == Some(NameFault::BadDn) {
+                assert_eq!(rt; fault, want);
+            } else {
+                assert_eq!(rt; fault, None);
+            }
+        }
+    }
+    Ok(())
+}
+
+#[test]
+fn each_fault_shows_its_text(rt: HostRuntime) -> Result<(), Fail> {
+    let alloc = rt.alloc();
+    let rows = [
+        (NameFault::BadDescription, "N1 BadDescription"),
+        (NameFault::ReservedName, "N2 ReservedName"),
+        (NameFault::BadValue, "N3 BadValue"),
+        (NameFault::BadDn, "N4 BadDn"),
+        (NameFault::NameLimit, "N5 NameLimit"),
+        (NameFault::Memory, "N6 Memory"),
+    ];
+    for (fault, want) in rows {
+        let text = format!(in alloc; "{fault}")?;
+        assert_eq!(rt; text.as_str(), want);
+        let text = format!(in alloc; "{fault:#}")?;
+        assert_eq!(rt; text.as_str(), want);
+    }
+    let text = format!(in alloc; "{Memory}")?;
+    assert_eq!(rt; text.as_str(), "out of memory");
+    let text = format!(in alloc; "{Memory:#}")?;
+    assert_eq!(rt; text.as_str(), "out of memory");
+    Ok(())
+}
+
 #[test]
 fn types_have_the_rules_of_their_standards(rt: HostRuntime) -> Result<(), Fail> {
     let alloc = rt.alloc();

@@ -19,13 +19,12 @@ use Rattle.dir_ldif.specs.Records.{Answer, records_of}
 use Rattle.dir_tree.specs.Content.{Content}
 use Rattle.dir_tree.specs.Dir.{Dir, entry_at, has_parent}
 use Rattle.dir_tree.specs.NewEntry.{new_entry}
-use Rattle.dir_tree.specs.SpelledNames.{spelled_name}
+use Rattle.dir_tree.specs.SpelledNames.{own_rdns, spelled_name}
 use Rattle.dir_tree.specs.WellFormed.{Each, IsWellFormed, IsWithinLimits, all_lines}
 use Rattle.dir_tree.proofs.MadeAgain.{made_again}
 use Rattle.dir_tree.proofs.Relisted.{are_new, inserted, inserted_whole, new_whole}
 use Rattle.dir_tree.proofs.Walk.{Entries, Rising, find_here, find_later, rising}
 use Rattle.dir_change.specs.declared.result_code.ResultCode.TheVariants.{NoSuchObject, EntryAlreadyExists}
-use Rattle.dir_change.specs.Operation.{own_rdns}
 use Rattle.dir_change.proofs.LegalUndo.{legal_attributes}
 use Rattle.dir_change.proofs.AfterOperations.{own_spelled, spelled_key, stands_below}
 use Rattle.dir_change.proofs.StaysWithinLimits.{bytes_all, name_sound}

@@ -15,10 +15,11 @@ use Rattle.dir_tree.specs.Dir.{Dir, entry_at}
 use Rattle.dir_tree.specs.NewEntry.{IsEntryFaultOf as FailsToMake, new_entry}
 use Rattle.dir_tree.specs.declared.fault.EntryFault.{EntryFault}
 use Rattle.dir_tree.specs.declared.fault.EntryFault.TheVariants as entry
+use Rattle.dir_tree.specs.SpelledNames.{own_rdns}
 use Rattle.dir_change.specs.declared.operation.Refusal.TheVariants as refusal
 use Rattle.dir_change.specs.declared.result_code.ResultCode.{ResultCode}
 use Rattle.dir_change.specs.declared.result_code.ResultCode.TheVariants.{NoSuchObject, EntryAlreadyExists}
-use Rattle.dir_change.specs.Operation.{code_of, entry_refusal, is_at_or_below, own_rdns}
+use Rattle.dir_change.specs.Operation.{code_of, entry_refusal}
 use Rattle.dir_tools.specs.declared.copy.loading.Loading.{Loading}
 use Rattle.dir_tools.specs.declared.copy.loading.Waiting.{Waiting}
 use Rattle.dir_tools.specs.declared.fault.Cause.{Cause}
@@ -28,6 +29,7 @@ use Rattle.dir_tools.specs.declared.fault.ToolFault.{ToolFault}
 use Rattle.dir_tools.specs.declared.fault.ToolFault.TheVariants as tool
 use Rattle.dir_tools.specs.CopyOf.{LoadedCopy, copy_of, empty_copy, refused_if, whole_directory, with_content, with_entry, with_record, with_records}
 use Rattle.dir_names.specs.Results.{and_then}
+use Rattle.dir_names.specs.Below.{is_at_or_below}
 use Rattle.dir_tools.specs.Inside.Loading.{IsCopyFault, IsLoaded, IsMadeOf, IsRecordFault, LoadsOver, LoadsTo, StopsLoading, TakesRecord, copy_fault, waiting_or}
 use Rattle.dir_tools.specs.CopyFaults.{HasNoEntries, IsCopyFaultCause}
 use Rattle.dir_tools.specs.ReadCalls.{FillsReadCalls}

@@ -18,12 +18,13 @@ use Rattle.dir_tree.specs.Dir.{Dir, IsClosed, entry_at, has_parent, put_entry}
 use Rattle.dir_tree.specs.NewEntry.{new_entry}
 use Rattle.dir_tree.proofs.DirLemmas.{closed_empty, closed_put, get_put, same_key}
 use Rattle.dir_change.specs.declared.result_code.ResultCode.TheVariants.{NoSuchObject, EntryAlreadyExists}
-use Rattle.dir_change.specs.Operation.{is_at_or_below, own_rdns}
 use Rattle.dir_tools.specs.declared.copy.loading.Loading.{Loading}
 use Rattle.dir_tools.specs.declared.copy.loading.Waiting.{Waiting}
 use Rattle.dir_tools.specs.CopyOf.{LoadedCopy, copy_of, empty_copy, refused_if, whole_directory, with_content, with_entry, with_records}
 use Rattle.dir_names.specs.Results.{and_then}
+use Rattle.dir_names.specs.Below.{is_at_or_below}
 use Rattle.dir_tree.specs.WellFormed.{IsWellFormed, IsWithinLimits}
+use Rattle.dir_tree.specs.SpelledNames.{own_rdns}
 use Rattle.dir_tools.proofs.CopySound.{order_taken, order_whole}
 use Rattle.dir_tools.specs.Inside.Loading.{AllWait, AreSoundInPlace, IsLoaded, IsMadeOf, IsPut, KeepsSound, LoadsOver, LoadsTo, TakesRecord, waiting_or}
 use Rattle.dir_tools.specs.CopyFaults.{HasNoEntries, HasRdn}

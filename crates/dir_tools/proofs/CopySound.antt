@@ -1,16 +1,17 @@
 -- The entries of a copy of sound records are sound.
-use Rattle.std.proofs.Common.{◌≡◌, ℕ, ◌≤◌, Bool, true, false, cond, not, ◌&&◌, nat_le, List, [], ◌∷◌, length, take, Option, None, Some, is_some, Result, Ok, Err, refl, sym, ap, subst, ◌∙◌, arith}
+use Rattle.std.proofs.Common.{◌≡◌, ℕ, ◌≤◌, Bool, true, false, cond, not, ◌&&◌, nat_le, List, [], ◌∷◌, length, Option, None, Some, is_some, Result, Ok, Err, refl, sym, ap, subst, ◌∙◌, arith}
 use Rattle.std.specs.List.{list_all}
 use Rattle.std.specs.Ordering.{eq_by_cmp}
 use Rattle.std.proofs.lemmas.Bool.Decides.{nat_tests}
 use Rattle.dir_names.specs.declared.schema.TypeRow.{TypeRow}
 use Rattle.dir_names.specs.Described.{Described}
 use Rattle.dir_names.specs.Keys.{DnKeys}
-use Rattle.dir_names.specs.Names.{SpelledName, SpelledRdn}
+use Rattle.dir_names.specs.Names.{SpelledName}
 use Rattle.dir_names.specs.NameKeys.{name_key}
-use Rattle.dir_names.specs.Orders.{dn_key_cmp, dn_key_eq}
+use Rattle.dir_names.specs.Orders.{dn_key_cmp}
 use Rattle.dir_names.specs.Names.Limits.{is_rdn_within_limit}
 use Rattle.dir_names.specs.Names.Sound.{is_sound_rdn}
+use Rattle.dir_names.specs.Below.{is_at_or_below}
 use Rattle.dir_ldif.specs.declared.faults.RecordFault.{RecordFault}
 use Rattle.dir_ldif.specs.declared.records.Record.{Record}
 use Rattle.dir_ldif.specs.declared.records.Record.TheVariants as form
@@ -23,24 +24,14 @@ use Rattle.dir_tree.specs.WellFormed.{IsWellFormed, IsWithinLimits}
 use Rattle.dir_tree.specs.declared.fault.EntryFault.{EntryFault}
 use Rattle.dir_tree.proofs.DirLemmas.{get_put, same_key}
 use Rattle.dir_tree.proofs.SoundMade.{made_sound}
+use Rattle.dir_tree.proofs.OwnNames.{all_own_of}
+use Rattle.dir_tree.specs.SpelledNames.{own_rdns}
 use Rattle.dir_change.specs.declared.result_code.ResultCode.TheVariants.{NoSuchObject, EntryAlreadyExists}
-use Rattle.dir_change.specs.Operation.{is_at_or_below, own_rdns}
 use Rattle.dir_change.proofs.StaysWellFormed.{legal_leaf, legal_lines}
 use Rattle.dir_change.proofs.AfterOperations.{key_length, made_own, own_named}
 use Rattle.dir_tools.specs.CopyOf.{LoadedCopy, refused_if, with_content, with_entry, with_record}
 use Rattle.dir_tools.specs.Inside.Loading.{AreSoundInPlace, IsSoundAt}
 use Rattle.dir_tools.proofs.Small.{left, right}
-
-all_own_of : (p : SpelledRdn → Bool) (suffix k : DnKeys) (name : SpelledName) → list_all p name ≡ true → list_all p (own_rdns suffix k name) ≡ true
-all_own_of p suffix k name e = by (dn_key_eq k suffix)
-  where
-    first : (name : SpelledName) → list_all p name ≡ true → list_all p (take 1 name) ≡ true
-    first [] h = refl
-    first (x ∷ xs) h = ap (λ b. b && true) (left (p x) (list_all p xs) h)
-
-    by : (b : Bool) → list_all p (cond b name (take 1 name)) ≡ true
-    by true = e
-    by false = first name e
 
 order_one : (rows : List TypeRow) (suffix k : DnKeys) (name : SpelledName) (lines : List (Described × List ℕ)) (e : Content)
     → name_key rows name ≡ Some k → IsSoundName name → list_all (is_legal_line rows) lines ≡ true → ValuesAreBytes lines → new_entry rows (own_rdns suffix k name) lines ≡ Ok e → IsSoundAt rows suffix k e

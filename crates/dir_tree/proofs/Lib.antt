@@ -8,6 +8,7 @@ pub mod NewEntryHolds
 pub mod NextKey
 pub mod Orderless
 pub mod OwnLines
+pub mod OwnNames
 pub mod Relisted
 pub mod SortedVecs
 pub mod SoundMade

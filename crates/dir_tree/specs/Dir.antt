@@ -1,5 +1,6 @@
 -- A directory (RFC 4512, section 2.1): a suffix, and a finite map from the keys of names to the contents of entries.
 use Rattle.std.specs.Prelude.{Bool, false, ◌||◌, List, [], ◌∷◌, ◌++◌, Option, Some, None, is_some, IsSome, IsTrue}
+use Rattle.std.specs.List.{list_any}
 use Rattle.std.specs.FinMap as fin
 use Rattle.dir_names.specs.Keys.{DnKeys, RdnKeys, parent_of}
 use Rattle.dir_names.specs.Orders.{dn_key_cmp, dn_key_eq}
@@ -41,3 +42,11 @@ IsClosed d = (k : DnKeys) → IsSome (entry_at d k) → IsTrue (has_parent d k)
 -- there is an entry directly below the key
 abbrev pub HasChild : Dir → DnKeys → Type 0
 HasChild d k = (part : RdnKeys) × IsSome (entry_at d (k ++ part ∷ []))
+
+abbrev pub is_key : DnKeys → Option DnKeys → Bool
+is_key k None = false
+is_key k (Some p) = dn_key_eq p k
+
+-- the same as a test
+abbrev pub has_child : Dir → DnKeys → Bool
+has_child d k = list_any (λ q. is_key k (parent_of q)) (fin.keys d.entries)

@@ -1,9 +1,10 @@
 -- The name of an entry as spelled: an entry has only its own name, and the entries above it have the rest.
-use Rattle.std.specs.Prelude.{◌+◌, List, [], map, reverse, take, length, Option, Some, None}
+use Rattle.std.specs.Prelude.{◌+◌, cond, List, [], map, reverse, take, length, Option, Some, None}
 use Rattle.std.specs.List.{flat_map, range_with_len}
 use Rattle.std.specs.FinMap as fin
 use Rattle.dir_names.specs.Keys.{DnKeys}
 use Rattle.dir_names.specs.Names.{SpelledName}
+use Rattle.dir_names.specs.Orders.{dn_key_eq}
 use Rattle.dir_tree.specs.Content.{Content}
 use Rattle.dir_tree.specs.Dir.{Dir, entry_at}
 
@@ -27,3 +28,7 @@ spelled_name d k = flat_map (own_name_at d) (prefixes k)
 -- every entry with its name as spelled, in order of keys
 abbrev pub named_entries : Dir → List (SpelledName × Content)
 named_entries d = map (λ p. (spelled_name d p.0, p.1)) (fin.entries d.entries)
+
+-- what an entry keeps of its name: all RDNs for the suffix's entry, else the leaf RDN
+abbrev pub own_rdns : DnKeys → DnKeys → SpelledName → SpelledName
+own_rdns suffix k name = cond (dn_key_eq k suffix) name (take 1 name)

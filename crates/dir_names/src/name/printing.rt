@@ -4,6 +4,7 @@ ghost use Rattle.std.specs.Prelude.{◌≡◌, ◌<◌, ◌++◌, Ok, cond, flat
 ghost use Rattle.dir_names.specs.Outcome.{Gives};
 ghost use Rattle.dir_names.specs.Names.Printing.{escape_of, is_special, printed_byte, printed_name, printed_pair, printed_rdn, printed_rest, printed_value, upper_digit};
 ghost use Rattle.dir_names.specs.Names.Escapes.{is_refused_sign};
+ghost use Rattle.dir_names.specs.Names.Limits.{is_rdn_within_limit};
 ghost use Rattle.dir_names.specs.Names.Sound.{is_sound_rdn};
 
 use crate::{Bytes, NameFault, Rdn};
@@ -23,12 +24,20 @@ pub(crate) fn print_name(rdns: &[Rdn], out: &mut Vec<u8>) -> Result<(), NameFaul
     Ok(())
 }
 
-/// Appends the pairs, joined by plus signs.
+/// Appends the text of an RDN.
 pub(crate) fn print_rdn(rdn: &Rdn, out: &mut Vec<u8>) -> Result<(), NameFault>
     ensures text { Gives (λ _. out.new.items) result (Ok (out.old.items ++ printed_rdn rdn.now)) }
     ensures sound { IsTrue (is_sound_rdn rdn.now) }
+    ensures within_limit { IsTrue (is_rdn_within_limit rdn.now) }
 {
-    let Some((first, rest)) = rdn.pairs().split_first() else {
+    print_pairs(rdn.pairs(), out)
+}
+
+/// Appends the pairs, joined by plus signs.
+pub(crate) fn print_pairs(pairs: &[(Bytes, Bytes)], out: &mut Vec<u8>) -> Result<(), NameFault>
+    ensures { Gives (λ _. out.new.items) result (Ok (out.old.items ++ printed_rdn pairs.now)) }
+{
+    let Some((first, rest)) = pairs.split_first() else {
         return Ok(());
     };
     print_pair(first, out)?;

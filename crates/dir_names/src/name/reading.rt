@@ -1,21 +1,23 @@
 //! The name that a text spells (RFC 4514, section 3).
 
 ghost use Rattle.std.specs.List.{list_all};
-ghost use Rattle.std.specs.Prelude.{◌≡◌, ◌<◌, ◌∷◌, Ok, Some, None, false, cond, not, ◌&&◌, ◌==◌, IsTrue, IfSome, option_copied, length};
+ghost use Rattle.std.specs.Prelude.{◌≡◌, ◌<◌, [], ◌∷◌, ◌++◌, Ok, Some, None, false, cond, not, ◌&&◌, ◌==◌, IsTrue, IfOk, IfSome, OnOk, option_copied, length};
 ghost use Rattle.dir_names.specs.Ascii.{comma};
 ghost use Rattle.dir_names.specs.Outcome.{Gives};
-ghost use Rattle.dir_names.specs.Names.Reading.{begins_with_hash, name_of, name_within_limits, pair_of, pieces, rdn_of, rdn_within_limit, value_of};
+ghost use Rattle.dir_names.specs.Names.Reading.{begins_with_hash, name_within_limits, pair_of, pieces, rdn_of, rdn_within_limit, value_of};
+ghost use Rattle.dir_names.specs.Inside.Few.{few_items};
 ghost use Rattle.dir_names.specs.Inside.Left.{pieces_left};
 ghost use Rattle.dir_names.specs.Inside.Steps.{is_outside, has_digit, keeps_digit, step_of};
 ghost use Rattle.dir_names.specs.Outcome.{ok_or_bad_dn};
 ghost use Rattle.dir_names.specs.Results.{option_collect};
 ghost use Rattle.dir_names.specs.Names.Limits.{is_rdn_within_limit, ok_if_within};
 ghost use Rattle.dir_names.specs.Names.Escapes.{is_hex, hex_of, is_refused, is_escapable};
+ghost use Rattle.dir_names.specs.Names.Sound.{is_sound_rdn};
 
 use crate::attribute::{is_reserved, is_type, split_once};
 use crate::limits::MAX_RDN_TEXT;
 use crate::list::few::Few;
-use crate::name::printing::{is_refused_sign, print_rdn};
+use crate::name::printing::{is_refused_sign, print_pairs};
 use crate::value::spaces::{without_leading_spaces, without_trailing_spaces};
 use crate::{Bytes, Dn, NameFault, Rdn};
 use std::alloc::Global;
@@ -24,11 +26,10 @@ use std::alloc::Global;
 pub(crate) fn read_name(alloc: Global, text: &[u8]) -> Result<Dn, NameFault>
     ensures { Gives (λ name. name) result (name_within_limits text.now) }
 {
-    let rdns = rdns_of(alloc, text)?;
-    if !are_rdns_within_limit(alloc, rdns.as_slice())? {
-        return Err(NameFault::NameLimit);
+    if text.is_empty() {
+        return Dn::from_rdns(Vec::new(alloc));
     }
-    Dn::from_rdns(rdns)
+    Dn::from_rdns(read_rdns(alloc, text)?)
 }
 
 /// Reads exactly one RDN.
@@ -45,37 +46,25 @@ pub(crate) fn read_one_rdn(alloc: Global, text: &[u8]) -> Result<Rdn, NameFault>
 fn read_rdn_within_limit(alloc: Global, text: &[u8]) -> Result<Rdn, NameFault>
     ensures { Gives (λ rdn. rdn) result (ok_if_within is_rdn_within_limit (rdn_of text.now)) }
 {
-    let rdn = read_rdn(alloc, text)?;
+    let pairs = read_pairs(alloc, text)?;
     let mut scratch = Vec::new(alloc);
-    if is_rdn_within_limit(&rdn, &mut scratch)? {
-        Ok(rdn)
+    if is_within_limit(pairs.as_slice(), &mut scratch)? {
+        Rdn::from_pairs(alloc, pairs)
     } else {
         Err(NameFault::NameLimit)
     }
 }
 
-fn are_rdns_within_limit(alloc: Global, rdns: &[Rdn]) -> Result<bool, NameFault>
-    ensures { Gives (λ small. small) result (Ok (list_all is_rdn_within_limit rdns.now)) }
+/// Whether pairs print within the limit of an RDN. Only if their length doesn't show it, they are printed,
+/// into `scratch`.
+fn is_within_limit(pairs: &[(Bytes, Bytes)], scratch: &mut Vec<u8>) -> Result<bool, NameFault>
+    ensures { Gives (λ small. small) result (Ok (is_rdn_within_limit pairs.now)) }
 {
-    let mut scratch = Vec::new(alloc);
-    for rdn in rdns {
-        if !is_rdn_within_limit(rdn, &mut scratch)? {
-            return Ok(false);
-        }
-    }
-    Ok(true)
-}
-
-/// Whether an RDN prints within the limit. Only if its length doesn't show it, it is printed, into
-/// `scratch`.
-fn is_rdn_within_limit(rdn: &Rdn, scratch: &mut Vec<u8>) -> Result<bool, NameFault>
-    ensures { Gives (λ small. small) result (Ok (is_rdn_within_limit rdn.now)) }
-{
-    if are_short(rdn.pairs()) {
+    if are_short(pairs) {
         return Ok(true);
     }
     scratch.clear();
-    print_rdn(rdn, scratch)?;
+    print_pairs(pairs, scratch)?;
     Ok(scratch.len() <= MAX_RDN_TEXT)
 }
 
@@ -96,30 +85,51 @@ fn are_short(pairs: &[(Bytes, Bytes)]) -> bool
     true
 }
 
-fn rdns_of(alloc: Global, text: &[u8]) -> Result<Vec<Rdn>, NameFault>
-    ensures { Gives (λ rdns. rdns.items) result (ok_or_bad_dn (name_of text.now)) }
-{
-    if text.is_empty() {
-        return Ok(Vec::new(alloc));
-    }
-    read_rdns(alloc, text)
-}
-
+/// The RDNs of a text that is not empty. The whole text is read before an RDN past the limit is told, since a
+/// text that is no name is `BadDn`.
 fn read_rdns(alloc: Global, text: &[u8]) -> Result<Vec<Rdn>, NameFault>
-    ensures { Gives (λ rdns. rdns.items) result (ok_or_bad_dn (option_collect rdn_of (pieces comma false text.now))) }
+    ensures { Gives (λ rdns. rdns.items) result (ok_if_within (list_all is_rdn_within_limit) (option_collect rdn_of (pieces comma false text.now))) }
 {
     let mut rdns = Vec::new(alloc);
+    let mut scratch = Vec::new(alloc);
+    let mut are_within = true;
     let mut rest = Some(text);
     while let Some(more) = rest {
         let (piece, after) = split_once_unescaped(more, b',');
-        rdns.push(read_rdn(alloc, piece)?)?;
+        let pairs = read_pairs(alloc, piece)?;
+        let is_within = push_if_within(alloc, pairs, &mut rdns, &mut scratch)?;
+        are_within = are_within && is_within;
         rest = after;
     }
-    Ok(rdns)
+    if are_within {
+        Ok(rdns)
+    } else {
+        Err(NameFault::NameLimit)
+    }
 }
 
-fn read_rdn(alloc: Global, text: &[u8]) -> Result<Rdn, NameFault>
-    ensures { Gives (λ rdn. rdn) result (ok_or_bad_dn (rdn_of text.now)) }
+/// Appends the RDN of these pairs, if it is within the limit, and tells whether it is.
+fn push_if_within(
+    alloc: Global,
+    pairs: Few<(Bytes, Bytes)>,
+    rdns: &mut Vec<Rdn>,
+    scratch: &mut Vec<u8>,
+) -> Result<bool, NameFault>
+    requires { IsTrue (is_sound_rdn (few_items pairs)) }
+    ensures is_within { Gives (λ is_within. is_within) result (Ok (is_rdn_within_limit (few_items pairs))) }
+    ensures pushed { OnOk result (rdns.new.items ≡ cond (is_rdn_within_limit (few_items pairs)) (rdns.old.items ++ few_items pairs ∷ []) rdns.old.items) }
+{
+    if !is_within_limit(pairs.as_slice(), scratch)? {
+        return Ok(false);
+    }
+    rdns.push(Rdn::from_pairs(alloc, pairs)?)?;
+    Ok(true)
+}
+
+/// The pairs of an RDN, whatever its length.
+fn read_pairs(alloc: Global, text: &[u8]) -> Result<Few<(Bytes, Bytes)>, NameFault>
+    ensures read { Gives few_items result (ok_or_bad_dn (rdn_of text.now)) }
+    ensures sound { IfOk result (λ pairs. IsTrue (is_sound_rdn (few_items pairs))) }
 {
     let mut pairs = Few::None;
     let mut rest = Some(text);
@@ -128,7 +138,7 @@ fn read_rdn(alloc: Global, text: &[u8]) -> Result<Rdn, NameFault>
         pairs = pairs.with_last(alloc, read_pair(alloc, piece)?)?;
         rest = after;
     }
-    Rdn::from_pairs(alloc, pairs)
+    Ok(pairs)
 }
 
 /// The text before the first separator that no backslash escapes, and, if there is one, the text after it.

@@ -172,3 +172,22 @@ fn faults_of_values_come_in_their_order(rt: HostRuntime) -> Result<(), Fail> {
     assert_eq!(rt; fault, EntryFault::NotNamed);
     Ok(())
 }
+
+#[test]
+fn each_fault_shows_its_text(rt: HostRuntime) -> Result<(), Fail> {
+    let alloc = rt.alloc();
+    let rows = [
+        (EntryFault::BadValue, "E1 BadValue"),
+        (EntryFault::Twice, "E2 Twice"),
+        (EntryFault::NotNamed, "E3 NotNamed"),
+        (EntryFault::Single, "E4 Single"),
+        (EntryFault::Memory, "E5 Memory"),
+    ];
+    for (fault, want) in rows {
+        let text = format!(in alloc; "{fault}")?;
+        assert_eq!(rt; text.as_str(), want);
+        let text = format!(in alloc; "{fault:#}")?;
+        assert_eq!(rt; text.as_str(), want);
+    }
+    Ok(())
+}

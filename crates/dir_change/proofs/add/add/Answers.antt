@@ -11,10 +11,11 @@ use Rattle.dir_tree.specs.Dir.{Dir, entry_at, has_parent}
 use Rattle.dir_tree.specs.NewEntry.{IsEntryFaultOf, new_entry}
 use Rattle.dir_tree.specs.declared.fault.EntryFault.{EntryFault}
 use Rattle.dir_tree.specs.declared.fault.EntryFault.TheVariants.{BadValue, Twice, NotNamed, Single, Memory}
-use Rattle.dir_change.specs.Operation.{IsRefused, directory_after_add, entry_refusal, is_at_or_below, own_rdns, with_new_entry}
+use Rattle.dir_change.specs.Operation.{IsRefused, directory_after_add, entry_refusal, with_new_entry}
 use Rattle.dir_names.specs.Names.{SpelledName}
+use Rattle.dir_names.specs.Below.{is_at_or_below}
 use Rattle.dir_ldif.specs.declared.records.ChangeKind.TheVariants as kind
-use Rattle.dir_tree.specs.SpelledNames.{spelled_name}
+use Rattle.dir_tree.specs.SpelledNames.{own_rdns, spelled_name}
 use Rattle.dir_change.specs.Undo.{name_of_parent}
 use Rattle.dir_change.proofs.AfterOperations.{add_spelled}
 use Rattle.dir_change.proofs.Conditions.{below_true, below_false, add_outside, add_taken, add_placed}

@@ -4,10 +4,12 @@ use Rattle.std.specs.FinMap as fin
 use Rattle.dir_names.specs.Keys.{IsAtOrBelow}
 use Rattle.dir_names.specs.NameKeys.{name_key}
 use Rattle.dir_names.specs.Orders.{dn_key_cmp, dn_key_eq}
+use Rattle.dir_names.specs.Below.{is_at_or_below}
 use Rattle.dir_tree.specs.Dir.{entry_at, put_entry}
 use Rattle.dir_tree.specs.NewEntry.{IsEntryFaultOf, new_entry}
+use Rattle.dir_tree.specs.SpelledNames.{own_rdns}
 use Rattle.dir_change.specs.declared.operation.Refusal.TheVariants as refusal
-use Rattle.dir_change.specs.Operation.{entry_refusal, is_at_or_below, own_rdns}
+use Rattle.dir_change.specs.Operation.{entry_refusal}
 use Rattle.dir_change.proofs.Conditions.{below_false, below_true}
 use Rattle.dir_tools.specs.CopyOf.{with_content}
 use Rattle.dir_tools.specs.Inside.Loading.{AllWait, IsCopyFault, IsMadeOf, waiting_or}

@@ -5,7 +5,7 @@ use Rattle.dir_names.specs.Names.Reading.{pair_of}
 use Rattle.dir_names.specs.Inside.Left.{pieces_left}
 use Rattle.dir_names.specs.Results.{option_collect}
 use Rattle.dir_names.proofs.AllLemmas.{prefixed}
-use Rattle.dir_names.proofs.name.reading.read_rdn.Given as goal
+use Rattle.dir_names.proofs.name.reading.read_pairs.Given as goal
 
 abbrev pub invariant-loop-rest : goal.invariant-loop-rest
 invariant-loop-rest l = option_collect pair_of (pieces_left 43 (option_copied l.initial.rest)) ≡ prefixed (few_items l.pairs) (option_collect pair_of (pieces_left 43 (option_copied l.rest)))

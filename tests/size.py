@@ -1,0 +1,212 @@
+#!/usr/bin/env python3
+"""Runs slapkit on large inputs, each to its whole result: no contract can say that memory is there, so these runs do.
+
+usage: size.py PROGRAM
+
+Each run is followed by its undo file on the new copy, which must give the first copy's canonical text again. The
+expected texts are made here, by the rules of LDIF (RFC 2849) and of the canonical text (docs/DEFINITIONS.md).
+"""
+import base64
+import dataclasses
+import os
+import pathlib
+import random
+import subprocess
+import sys
+import tempfile
+
+import checks
+from checks import Wrong, expect
+
+ROOT = "dn: dc=com\ndc: com\n\n"
+NOTHING = "version: 1\n\n"
+
+
+# ---- the texts that are expected
+
+
+def line(name, value):
+    """A line of LDIF: in base64 where the value is not plain, folded after 76 bytes, and then after each 75."""
+    is_plain = value.isascii() and value.isprintable() and value[0] not in " :<" and value[-1] != " "
+    text = f"{name}: {value}" if is_plain else f"{name}:: {base64.b64encode(value.encode()).decode()}"
+    rest = [text[at : at + 75] for at in range(76, len(text), 75)]
+    return "\n ".join([text[:76], *rest]) + "\n"
+
+
+def block(*pairs):
+    """A record: its lines, and an empty line."""
+    return "".join(line(name, value) for name, value in pairs) + "\n"
+
+
+def added(name, *pairs):
+    return block(("dn", name), ("changetype", "add"), *pairs)
+
+
+def deleted(name):
+    return block(("dn", name), ("changetype", "delete"))
+
+
+# ---- the runs
+
+
+@dataclasses.dataclass
+class Wanted:
+    """What a run of changes must give. The copy's canonical text is what its undo file must lead back to."""
+
+    status: int
+    report: str
+    new: str
+    undo: str
+    canonical: str
+
+
+def same(found, wanted, what):
+    """Passes where two texts are equal; else tells where they differ first."""
+    if found == wanted:
+        return
+    at = next((i for i, (a, b) in enumerate(zip(found, wanted)) if a != b), min(len(found), len(wanted)))
+    near = slice(max(at - 40, 0), at + 40)
+    raise Wrong(f"{what}, of {len(found)} bytes for {len(wanted)}, differs first at byte {at}: {found[near]!r}, wanted: {wanted[near]!r}")
+
+
+def run(program, folder, copy, changes, new, undo, *options):
+    words = [program, "slapmodify", "-b", "dc=com", "--data", copy, "-l", changes, "--out", new, "--undo", undo]
+    ended = subprocess.run([*words, *options], cwd=folder, stdin=subprocess.DEVNULL, capture_output=True, timeout=120)
+    expect(ended.stderr.decode(), "", "standard error")
+    return ended.returncode, ended.stdout.decode()
+
+
+def try_run(program, copy, changes, wanted, *options):
+    """Makes the changes on the copy, and takes them back."""
+    with tempfile.TemporaryDirectory() as name:
+        folder = pathlib.Path(name)
+        folder.joinpath("copy").write_text(copy)
+        folder.joinpath("changes").write_text(changes)
+        status, report = run(program, folder, "copy", "changes", "new", "undo", *options)
+        same(report, wanted.report, "the report")
+        expect(status, wanted.status, "exit status")
+        same(folder.joinpath("new").read_text(), wanted.new, "the new copy")
+        same(folder.joinpath("undo").read_text(), wanted.undo, "the undo file")
+        status, report = run(program, folder, "new", "undo", "back", "redo")
+        count = wanted.undo.count("\nchangetype: ")
+        expect((status, report), (0, f"accepted {count}, refused 0\n"), "the undo run")
+        same(folder.joinpath("back").read_text(), wanted.canonical, "the copy that the undo run gives")
+
+
+# ---- what is tried
+
+
+def an_entry_of_2000_lines(program):
+    name = "cn=Large,dc=com"
+    values = [f"Value {i:04}" for i in range(1998)]
+    in_order = [("cn", "Large"), *(("description", value) for value in values), ("sn", "S")]
+    mixed = list(in_order)
+    random.Random(1).shuffle(mixed)
+    expect(len(mixed), 2000, "lines")
+    large = block(("dn", name), *in_order)
+    wanted = Wanted(0, "accepted 1, refused 0\n", ROOT + large, NOTHING + deleted(name), ROOT)
+    try_run(program, ROOT, added(name, *mixed), wanted)
+    wanted = Wanted(0, "accepted 1, refused 0\n", ROOT, NOTHING + added(name, *in_order), ROOT + large)
+    try_run(program, block(("dn", name), *mixed) + ROOT, deleted(name), wanted)
+
+
+def a_name_of_64_rdns(program):
+    def name(depth):
+        return ",".join([*(f"ou=Unit number {i}" for i in range(depth, 1, -1)), "dc=com"])
+
+    def entry(depth):
+        return block(("dn", name(depth)), ("ou", f"Unit number {depth}"))
+
+    parents = ROOT + "".join(entry(depth) for depth in range(2, 64))
+    leaf = ("ou", "Unit number 64")
+    # added, deleted, and added again
+    changes = added(name(64), leaf) + deleted(name(64)) + added(name(64))
+    report = "line {}: accepted\nline {}: accepted\nline {}: accepted\naccepted 3, refused 0\n"
+    first = added(name(64), leaf).count("\n") + 1
+    second = first + deleted(name(64)).count("\n")
+    undo = NOTHING + deleted(name(64)) + added(name(64), leaf) + deleted(name(64))
+    try_run(program, parents, changes, Wanted(0, report.format(1, first, second), parents + entry(64), undo, parents), "-v")
+    # one RDN more is past the limit
+    report = "line 1: refused, L9 N5 NameLimit\naccepted 0, refused 1\n"
+    try_run(program, parents, added(name(65)), Wanted(1, report, parents, NOTHING, parents))
+    # all 63 are added, and taken back from the leaf on
+    changes = "".join(added(name(depth)) for depth in range(2, 65))
+    undo = NOTHING + "".join(deleted(name(depth)) for depth in range(64, 1, -1))
+    try_run(program, ROOT, changes, Wanted(0, "accepted 63, refused 0\n", parents + entry(64), undo, ROOT))
+
+
+def refused_records_10000(program):
+    name = "cn=a{:05},ou=none,dc=com"
+    changes = "".join(deleted(name.format(i)) for i in range(10000))
+    refused = "".join(f"line {3 * i + 1}: refused, 32 noSuchObject\n" for i in range(10000))
+    report = f"{refused}accepted 0, refused 10000\n"
+    try_run(program, ROOT, changes, Wanted(1, report, ROOT, NOTHING, ROOT), "-c")
+    report = "line 1: refused, 32 noSuchObject\naccepted 0, refused 1\n"
+    try_run(program, ROOT, changes, Wanted(1, report, ROOT, NOTHING, ROOT))
+
+
+def person(number):
+    """A person of the copy of 20 MB: the name, and the values in canonical order."""
+    chance = random.Random(number)
+    words = " ".join(f"word{chance.randrange(1000)}" for _ in range(70))
+    mails = sorted(f"Person.{number:05}.{i}@example.com" for i in range(4))
+    pairs = [
+        ("cn", f"J\u00fcrgen {number:05}"),
+        ("description", words),
+        *(("mail", mail) for mail in mails),
+        *(("objectClass", name) for name in ("inetOrgPerson", "top")),
+        ("sn", f"Surname {number}"),
+        ("telephoneNumber", f"+49 555 {number:05}"),
+        ("uid", f"u{number:05}"),
+    ]
+    return f"uid=u{number:05},ou=people,dc=com", pairs
+
+
+def a_copy_of_20_mb(program):
+    people = [person(number) for number in range(26000)]
+    in_order = {name: block(("dn", name), *pairs) for name, pairs in people}
+    above = ROOT + block(("dn", "ou=people,dc=com"), ("ou", "people"))
+    canonical = above + "".join(in_order.values())
+    expect(20_000_000 <= len(canonical) <= 25_000_000, True, f"{len(canonical)} bytes of the copy")
+    # the copy: entries and values out of order, children before their parents
+    chance = random.Random(2)
+    mixed = []
+    for name, pairs in people:
+        chance.shuffle(pairs)
+        mixed.append(block(("dn", name), *pairs))
+    chance.shuffle(mixed)
+    # 500 people go, and 500 others come
+    gone = chance.sample(list(in_order), 500)
+    come = [f"uid=new{i:03},ou=people,dc=com" for i in range(500)]
+    changes = "".join(deleted(old) + added(new, ("sn", "New")) for old, new in zip(gone, come))
+    left = above + "".join(sorted([text for name, text in in_order.items() if name not in set(gone)] + [
+        block(("dn", new), ("sn", "New"), ("uid", f"new{i:03}")) for i, new in enumerate(come)
+    ]))
+    undo = NOTHING + "".join(
+        deleted(new) + in_order[old].replace("\n", "\nchangetype: add\n", 1) for old, new in reversed(list(zip(gone, come)))
+    )
+    report = "accepted 1000, refused 0\n"
+    try_run(program, "".join(mixed) + above, changes, Wanted(0, report, left, undo, canonical))
+
+
+def a_value_of_1048576_bytes(program):
+    name = "cn=a,dc=com"
+    for length in (1_048_575, 1_048_576):
+        entry = [("cn", "a"), ("description", "x" * length)]
+        new = ROOT + block(("dn", name), *entry)
+        wanted = Wanted(0, "accepted 1, refused 0\n", new, NOTHING + deleted(name), ROOT)
+        try_run(program, ROOT, added(name, *entry), wanted)
+    report = "line 1: refused, L8 ValueTooLong\naccepted 0, refused 1\n"
+    try_run(program, ROOT, added(name, ("description", "x" * 1_048_577)), Wanted(1, report, ROOT, NOTHING, ROOT))
+
+
+TRIALS = [an_entry_of_2000_lines, a_name_of_64_rdns, refused_records_10000, a_value_of_1048576_bytes, a_copy_of_20_mb]
+
+
+def main():
+    program = os.path.abspath(sys.argv[1])
+    named = [(trial.__name__.replace("_", " "), lambda trial=trial: trial(program)) for trial in TRIALS]
+    sys.exit(checks.run("size", named))
+
+
+main()

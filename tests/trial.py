@@ -1,0 +1,24 @@
+#!/usr/bin/env python3
+"""Runs every script that tries the program from outside, and the one that reads the sources.
+
+usage: trial.py PROGRAM
+"""
+import pathlib
+import subprocess
+import sys
+
+HERE = pathlib.Path(__file__).resolve().parent
+SCRIPTS = ("program.py", "refusals.py", "size.py", "memory_answers.py")
+
+
+def main():
+    failed = []
+    for script in SCRIPTS:
+        print(f"== tests/{script}", flush=True)
+        if subprocess.run([sys.executable, HERE / script, *sys.argv[1:]]).returncode:
+            failed.append(f"tests/{script}")
+    print(f"trial: FAILED: {' '.join(failed)}" if failed else f"trial: {len(SCRIPTS)} scripts passed")
+    sys.exit(1 if failed else 0)
+
+
+main()
