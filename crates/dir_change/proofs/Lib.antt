@@ -1,5 +1,6 @@
 pub mod AfterOperations
 pub mod Conditions
+pub mod Examples
 pub mod InOrder
 pub mod LegalUndo
 pub mod ReadBack

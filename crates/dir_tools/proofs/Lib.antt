@@ -4,6 +4,7 @@ pub mod CopyBack
 pub mod CopyFaults
 pub mod CopyLemmas
 pub mod CopySound
+pub mod Examples
 pub mod Orphans
 pub mod ReadCalls
 pub mod RunBack

@@ -20,7 +20,8 @@ use Rattle.dir_tree.specs.NewEntry.{new_entry}
 use Rattle.dir_tree.specs.declared.fault.EntryFault.{EntryFault}
 use Rattle.dir_tree.proofs.DirLemmas.{same_key}
 use Rattle.dir_change.specs.declared.result_code.ResultCode.TheVariants.{NoSuchObject, EntryAlreadyExists}
-use Rattle.dir_change.specs.Operation.{is_at_or_below, own_rdns}
+use Rattle.dir_names.specs.Below.{is_at_or_below}
+use Rattle.dir_tree.specs.SpelledNames.{own_rdns}
 use Rattle.dir_tools.specs.CopyOf.{CopyFault, LoadedCopy, copy_of, earlier_line, empty_copy, first_line, orphan_lines, refused_if, unless_orphan, whole_directory, with_content, with_entry, with_record, with_records}
 use Rattle.dir_tools.specs.Inside.Loading.{AreSoundInPlace}
 use Rattle.dir_tools.specs.Laws.{CopiesAreSound}

@@ -1,6 +1,7 @@
 //! Why a tool gives no answer, and the texts of these faults.
 
 ghost use Rattle.std.specs.Prelude.{◌≡◌, Some};
+ghost use Rattle.dir_tools.specs.FaultText.{input_text, item_text, output_text, tool_fault_text};
 ghost use Rattle.dir_tools.specs.Report.{cause_text};
 ghost use Rattle.dir_tools.specs.declared.fault.ToolFault.TheVariants.{Memory};
 
@@ -8,8 +9,7 @@ use dir_change::ResultCode;
 use dir_ldif::{RecordFault, StreamFault};
 use dir_names::Memory;
 use std::alloc::AllocFailed;
-use std::error::Error as StdError;
-use std::fmt;
+use std::fmt::{self, Display};
 use thiserror::Error;
 
 /// Why a tool gives no answer.
@@ -17,27 +17,36 @@ use thiserror::Error;
 pub enum ToolFault {
     /// The copy is not a directory: the line of the record that is at fault, or 0 where the text itself
     /// is, and why.
-    #[error("copy, line {0}: {1}")]
     BadCopy(u64, Cause),
     /// A reader failed.
-    #[error("cannot read {0}")]
     Read(Input),
     /// A writer failed, or took no byte of a text.
-    #[error("cannot write {0}")]
     Write(Output),
     /// Memory ran out.
-    #[error("out of memory")]
     Memory,
     /// A part of the question is not a legal name or description.
-    #[error("bad question: {0}")]
     BadQuestion(Item),
     /// The text of changes is at fault as a whole.
-    #[error("changes: {0}")]
     BadChanges(StreamFault),
 }
 
+impl Display for ToolFault {
+    ghost output = { λ fault. Some (tool_fault_text fault) };
+
+    fn fmt<W: fmt::Write>(&self, f: &mut fmt::Formatter<W>) -> fmt::Result {
+        match self {
+            ToolFault::BadCopy(line, cause) => write!(f, "copy, line {line}: {cause}"),
+            ToolFault::Read(input) => write!(f, "cannot read {input}"),
+            ToolFault::Write(output) => write!(f, "cannot write {output}"),
+            ToolFault::Memory => f.write_str("out of memory"),
+            ToolFault::BadQuestion(item) => write!(f, "bad question: {item}"),
+            ToolFault::BadChanges(fault) => write!(f, "changes: {fault}"),
+        }
+    }
+}
+
 /// Why a record is refused, or a copy.
-#[derive(Clone, Copy, PartialEq, Eq, Debug)]
+#[derive(Clone, Copy, PartialEq, Eq, Debug, Error)]
 pub enum Cause {
     /// The operation's result code.
     Code(ResultCode),
@@ -47,54 +56,85 @@ pub enum Cause {
     Ended(StreamFault),
 }
 
-impl fmt::Display for Cause {
+impl Display for Cause {
     ghost output = { λ cause. Some (cause_text cause) };
+
+    ghost styled_output = { λ cause _. Some (cause_text cause) };
 
     fn fmt<W: fmt::Write>(&self, f: &mut fmt::Formatter<W>) -> fmt::Result {
         match self {
-            Cause::Code(code) => write!(f, "{code}"),
-            Cause::Fault(fault) => write!(f, "{fault}"),
-            Cause::Ended(fault) => write!(f, "{fault}"),
+            Cause::Code(code) => code.fmt(f),
+            Cause::Fault(fault) => fault.fmt(f),
+            Cause::Ended(fault) => fault.fmt(f),
         }
     }
 }
 
-impl StdError for Cause {}
-
 /// What a tool reads.
 #[derive(Clone, Copy, PartialEq, Eq, Debug, Error)]
 pub enum Input {
-    #[error("copy")]
     Copy,
-    #[error("changes")]
     Changes,
-    #[error("config")]
     Config,
+}
+
+impl Display for Input {
+    ghost output = { λ input. Some (input_text input) };
+
+    ghost styled_output = { λ input _. Some (input_text input) };
+
+    fn fmt<W: fmt::Write>(&self, f: &mut fmt::Formatter<W>) -> fmt::Result {
+        match self {
+            Input::Copy => f.write_str("copy"),
+            Input::Changes => f.write_str("changes"),
+            Input::Config => f.write_str("config"),
+        }
+    }
 }
 
 /// What a tool writes.
 #[derive(Clone, Copy, PartialEq, Eq, Debug, Error)]
 pub enum Output {
-    #[error("undo")]
     Undo,
-    #[error("out")]
     Out,
-    #[error("report")]
     Report,
+}
+
+impl Display for Output {
+    ghost output = { λ output. Some (output_text output) };
+
+    ghost styled_output = { λ output _. Some (output_text output) };
+
+    fn fmt<W: fmt::Write>(&self, f: &mut fmt::Formatter<W>) -> fmt::Result {
+        match self {
+            Output::Undo => f.write_str("undo"),
+            Output::Out => f.write_str("out"),
+            Output::Report => f.write_str("report"),
+        }
+    }
 }
 
 /// A part of a question.
 #[derive(Clone, Copy, PartialEq, Eq, Debug, Error)]
 pub enum Item {
-    #[error("suffix")]
     Suffix,
-    #[error("base")]
     Base,
-    #[error("authcDN")]
     Authc,
     /// A word, counted from 1.
-    #[error("word {0}")]
     Word(u64),
+}
+
+impl Display for Item {
+    ghost output = { λ item. Some (item_text item) };
+
+    fn fmt<W: fmt::Write>(&self, f: &mut fmt::Formatter<W>) -> fmt::Result {
+        match self {
+            Item::Suffix => f.write_str("suffix"),
+            Item::Base => f.write_str("base"),
+            Item::Authc => f.write_str("authcDN"),
+            Item::Word(n) => write!(f, "word {n}"),
+        }
+    }
 }
 
 impl From<Memory> for ToolFault {

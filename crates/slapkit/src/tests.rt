@@ -180,8 +180,24 @@ fn each_fault_has_its_text(rt: HostRuntime) -> Result<(), Fail> {
         ),
         (Fault::Tool(ToolFault::Memory), "out of memory"),
         (
+            Fault::Tool(ToolFault::Read(Input::Config)),
+            "cannot read config",
+        ),
+        (
             Fault::Tool(ToolFault::BadQuestion(Item::Suffix)),
             "bad question: suffix",
+        ),
+        (
+            Fault::Tool(ToolFault::BadQuestion(Item::Base)),
+            "bad question: base",
+        ),
+        (
+            Fault::Tool(ToolFault::BadQuestion(Item::Authc)),
+            "bad question: authcDN",
+        ),
+        (
+            Fault::Tool(ToolFault::BadQuestion(Item::Word(12))),
+            "bad question: word 12",
         ),
         (
             Fault::Tool(ToolFault::BadChanges(StreamFault::LineTooLong)),
@@ -191,6 +207,8 @@ fn each_fault_has_its_text(rt: HostRuntime) -> Result<(), Fail> {
     for (fault, want) in rows {
         let text = format!(in alloc; "{fault}")?;
         assert_eq!(rt; text.as_str(), want);
+        let styled = format!(in alloc; "{fault:#}")?;
+        assert_eq!(rt; styled.as_str(), want);
     }
     Ok(())
 }
