@@ -50,23 +50,27 @@ fn scripts_give_pieces(rt: HostRuntime) {
 #[test]
 fn endless_scripts_give_their_text_over_and_over(rt: HostRuntime) {
     let alloc = rt.alloc();
-    let text = b"abcdefg".as_slice();
-    let mut room = [0u8; 16];
-    for size in [1usize, 2, 3, 5, 7, 8, 16] {
-        let mut script = Script::new(text).pieces(size).endless();
-        let mut expected = text.iter().cycle();
-        for _ in 0..50 {
-            let n = script.read(&mut room).expect(&rt, "no fault");
-            assert!(rt; n > 0 && n <= size);
-            for byte in &room[..n] {
-                assert_eq!(rt; Some(byte), expected.next());
-            }
-        }
+    let text = b"abc".as_slice();
+    let mut room = [0u8; 4];
+    for (mut script, want) in [
+        (
+            Script::new(text).endless().pieces(1),
+            b"|a|b|c|a|b|c|a".as_slice(),
+        ),
+        (Script::new(text).pieces(2).endless(), b"|ab|c|ab|c|ab|c|ab"),
+        (Script::new(text).endless(), b"|abc|abc|abc|abc|abc|abc|abc"),
+        (
+            Script::new(text).first_piece(1).endless(),
+            b"|a|bc|abc|abc|abc|abc|abc",
+        ),
+        (
+            Script::new(text).endless().failing_from(3),
+            b"|abc|abc!!!!!",
+        ),
+    ] {
+        let found = bytes_given(&rt, alloc, &mut script, &mut room, 7);
+        assert_eq!(rt; found.as_slice(), want);
     }
-    // A failure takes no byte, and the script goes on failing.
-    let mut script = Script::new(text).endless().failing_from(3);
-    let found = bytes_given(&rt, alloc, &mut script, &mut room, 4);
-    assert_eq!(rt; found.as_slice(), b"|abcdefg|abcdefg!!".as_slice());
 }
 
 /// A text, and a flush.
