@@ -23,7 +23,7 @@ def are_refused(crate):
         for name in ("crates.txt", "HANDLES"):
             shutil.copy(ROOT / name, copy)
         edits = copy / "crates" / crate / "must-fail"
-        shutil.rmtree(edits)
+        shutil.rmtree(edits, ignore_errors=True)
         shutil.copytree(ROOT / "bugs" / crate, edits)
         return subprocess.run(["rt", "must-fail", crate], cwd=copy).returncode == 0
 

@@ -1,5 +1,5 @@
--- The headline: a run is taken back, byte for byte, by its undo text, run on its new copy. Read it from the end: `Headline` is the theorem,
--- and what comes before it is all that it speaks of, but for the definitions of the layers below.
+-- The headline: a run is taken back, byte for byte, by its undo text, run on its new copy. `Headline`, at the end, is the theorem; above it is
+-- all that it speaks of, but for the definitions of the layers below.
 use Rattle.std.specs.Prelude.{◌≡◌, ℕ, List, length, Option, Some, None, Result, Ok, Err}
 use Rattle.dir_names.specs.declared.schema.TypeRow.{TypeRow}
 use Rattle.dir_names.specs.Keys.{DnKeys}
@@ -71,13 +71,10 @@ output_of q copy changes =
 abbrev pub canonical_copy_of : Question → List ℕ → Result (List ℕ) ToolFault
 canonical_copy_of q copy = and_then (directory_of q copy) (λ first. Ok (canonical_of first))
 
-abbrev pub with_options : Question → ModifyOptions → Question
-with_options q options = record { rows = q.rows; suffix = q.suffix; options = options }
-
 -- the undo text of an output, run on its new copy, refuses nothing, and its own new copy is this first text
 pub record IsTakenBack (q : Question) (output : RunOutput) (options : ModifyOptions) (first : List ℕ) : Type 0 where
   pub back : RunOutput
-  pub runs : output_of (with_options q options) output.texts.out output.texts.undo ≡ Ok back
+  pub runs : output_of (question q.rows q.suffix options) output.texts.out output.texts.undo ≡ Ok back
   pub refuses_nothing : back.summary.refused ≡ 0
   pub gives_first : back.texts.out ≡ first
 

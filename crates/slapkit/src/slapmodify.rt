@@ -73,7 +73,7 @@ pub fn first_repeated<'a>(words: &ModifyWords<'a>) -> Option<&'a str>
     None
 }
 
-/// Creates the files to be written, and runs over them.
+/// Creates the files to be written, and runs over them. The report goes to the standard output.
 fn with_changes<'a, R: Source, R2: Source>(
     rt: &HostRuntime,
     words: &ModifyWords<'a>,
@@ -84,50 +84,46 @@ fn with_changes<'a, R: Source, R2: Source>(
     requires changes { changes.old.path ≡ words.now.changes }
     ensures { IfErr result (NamesItsPath words.now) }
 {
-    match words.files {
+    let alloc = rt.alloc();
+    let mut report = Writer::new(io::writer(rt));
+    let answer = match words.files {
         Some(files) => {
             let mut undo = create(rt, files.undo)?;
             let mut out = create(rt, files.out)?;
-            with_files(rt, words, copy, changes, &mut undo, &mut out)
+            with_files(
+                alloc,
+                words,
+                copy,
+                changes,
+                &mut undo,
+                &mut out,
+                &mut report,
+            )
         }
         None => {
             let mut undo = dropped();
             let mut out = dropped();
-            with_files(rt, words, copy, changes, &mut undo, &mut out)
+            with_files(
+                alloc,
+                words,
+                copy,
+                changes,
+                &mut undo,
+                &mut out,
+                &mut report,
+            )
         }
-    }
-}
-
-/// Runs over opened files, with the built-in types, and reports to the standard output.
-fn with_files<'a, R: Source, R2: Source, W: Sink, W2: Sink>(
-    rt: &HostRuntime,
-    words: &ModifyWords<'a>,
-    copy: &mut Opened<'a, R>,
-    changes: &mut Opened<'a, R2>,
-    undo: &mut Opened<'a, W>,
-    out: &mut Opened<'a, W2>,
-) -> Result<Summary, Fault<'a>>
-    requires copy { copy.old.path ≡ Some words.now.data }
-    requires changes { changes.old.path ≡ words.now.changes }
-    requires undo { undo.old.path ≡ undo_path words.now.files }
-    requires out { out.old.path ≡ out_path words.now.files }
-    ensures { IfErr result (NamesItsPath words.now) }
-{
-    let alloc = rt.alloc();
-    let Ok(schema) = Schema::builtin(alloc) else {
-        return Err(Fault::Tool(ToolFault::Memory));
     };
-    let mut report = Writer::new(io::writer(rt));
-    match run_over(alloc, &schema, words, copy, changes, undo, out, &mut report) {
+    match answer {
         Ok(summary) => Ok(summary),
         Err(fault) => Err(Fault::Tool(fault)),
     }
 }
 
-/// Runs what the words ask for: each device is the one of its path, and each text goes to its own.
-fn run_over<'a, R: Source, R2: Source, W: Sink, W2: Sink, W3: Sink>(
+/// Runs what the words ask for, with the built-in types: each device is the one of its path, and each text
+/// goes to its own.
+fn with_files<'a, R: Source, R2: Source, W: Sink, W2: Sink, W3: Sink>(
     alloc: Global,
-    schema: &Schema,
     words: &ModifyWords<'a>,
     copy: &mut Opened<'a, R>,
     changes: &mut Opened<'a, R2>,
@@ -135,21 +131,23 @@ fn run_over<'a, R: Source, R2: Source, W: Sink, W2: Sink, W3: Sink>(
     out: &mut Opened<'a, W2>,
     report: &mut W3,
 ) -> Result<Summary, ToolFault>
-    requires schema { schema.now ≡ builtin_rows }
     requires copy { copy.old.path ≡ Some words.now.data }
     requires changes { changes.old.path ≡ words.now.changes }
     requires undo { undo.old.path ≡ undo_path words.now.files }
     requires out { out.old.path ≡ out_path words.now.files }
     ensures headline { (output : RunOutput)
         × WroteInOrder words.now.options.dry result output.texts (W.taken undo.old.device, W.taken undo.new.device) (W2.taken out.old.device, W2.taken out.new.device) (W3.taken report.old, W3.taken report.new)
-        × AnswersRun (question schema.now words.now.suffix.now words.now.options) (sources (R.left copy.old.device) (R2.left changes.old.device)) result output
-        × IsWholeRun (question schema.now words.now.suffix.now words.now.options) (sources (R.left copy.old.device) (R2.left changes.old.device)) result output }
-    ensures first { IfErr result (HeldBefore (question schema.now words.now.suffix.now words.now.options) (R.left copy.old.device, R.left copy.new.device) (R2.left changes.old.device, R2.left changes.new.device)) }
+        × AnswersRun (question builtin_rows words.now.suffix.now words.now.options) (sources (R.left copy.old.device) (R2.left changes.old.device)) result output
+        × IsWholeRun (question builtin_rows words.now.suffix.now words.now.options) (sources (R.left copy.old.device) (R2.left changes.old.device)) result output }
+    ensures first { IfErr result (HeldBefore (question builtin_rows words.now.suffix.now words.now.options) (R.left copy.old.device, R.left copy.new.device) (R2.left changes.old.device, R2.left changes.new.device)) }
     ensures flushed { FlushedInOrder words.now.options.dry result (W.is_flushed undo.new.device) (W2.is_flushed out.new.device) (W3.is_flushed report.new) }
 {
+    let Ok(schema) = Schema::builtin(alloc) else {
+        return Err(ToolFault::Memory);
+    };
     run_modify(
         alloc,
-        schema,
+        &schema,
         words.suffix.as_bytes(),
         words.options,
         &mut copy.device,
