@@ -1,5 +1,6 @@
 pub mod Climb
 pub mod DirLemmas
+pub mod EachEntry
 pub mod Faults
 pub mod KeyPlaces
 pub mod MadeAgain
@@ -9,6 +10,7 @@ pub mod NextKey
 pub mod Orderless
 pub mod OwnLines
 pub mod OwnNames
+pub mod OwnValues
 pub mod Relisted
 pub mod SortedVecs
 pub mod SoundMade

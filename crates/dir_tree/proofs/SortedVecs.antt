@@ -6,12 +6,12 @@ use Rattle.std.specs.Ordering.{match_ordering}
 use Rattle.std.specs.Cmp.{IsTotalOrder}
 use Rattle.std.specs.FinMap as fin
 use Rattle.std.specs.FinMap.{IsAntisymmetric, same_map, get-from_sorted, get-empty, entries-from_sorted, len-entries}
-use Rattle.std.specs.List.{insert}
+use Rattle.std.specs.List.{insert, remove}
 use Rattle.std.specs.List.Sorted.{IsBinarySearchResult, IsSearchInRange}
 use Rattle.std.proofs.lemmas.List.{length-map}
 use Rattle.dir_names.specs.Sorted.{rises, place, later}
 use Rattle.dir_names.proofs.Placed.{so, place_from_search, is_sorted-keys, keys_of}
-use Rattle.dir_names.proofs.Maps.{got_ok, got_err, put_err, put_ok, sorted_put_err, sorted_put_ok}
+use Rattle.dir_names.proofs.Maps.{gone_err, gone_ok, got_ok, got_err, put_err, put_ok, sorted_gone, sorted_put_err, sorted_put_ok}
 
 truth : {b : Bool} → T b → b ≡ true
 truth {b} t = elim b as (λ b. T b → b ≡ true) [ true ↦ λ _. refl | _ ↦ λ f. absurd f ] t
@@ -60,6 +60,15 @@ module _ {I K X : Type 0} {R : K → K → Ordering} (o : IsTotalOrder R) (pair 
 
       pub still_rises : r ≡ Err i → (item : I) → (pair item).0 ≡ k → IsTrue (rises R (keys_in (insert items i item)))
       still_rises is item same = truth (sorted_put_err o pair items (so _ in_order) k i item (sym at ∙ is) same)
+
+      pub gone : IsAntisymmetric R → r ≡ Ok i → fin.remove (map_in items) k ≡ map_in (remove items i)
+      gone exact is = gone_ok o pair items (so _ in_order) k exact i (sym at ∙ is)
+
+      pub none_gone : IsAntisymmetric R → r ≡ Err i → fin.remove (map_in items) k ≡ map_in items
+      none_gone exact is = gone_err o pair items (so _ in_order) k exact i (sym at ∙ is)
+
+      pub rises_gone : r ≡ Ok i → IsTrue (rises R (keys_in (remove items i)))
+      rises_gone is = truth (sorted_gone o pair items (so _ in_order) k i (sym at ∙ is))
 
   pub one_in : IsAntisymmetric R → (item : I) → map_in (item ∷ []) ≡ fin.insert fin.empty (pair item).0 (pair item).1
   one_in exact item = sym (put [] refl (pair item).0 (Err 0) refl 0 refl item refl) ∙ ap (λ m. fin.insert m (pair item).0 (pair item).1) (map_in_none exact)

@@ -43,10 +43,10 @@ module _ {K X : Type 0} {R : K → K → Ordering} (o : IsTotalOrder R) (exact :
       by Equal t rest = (subst (λ z. P (z, v)) (exact k e.0 t) p, each.1)
       by Greater t rest = (each.0, rest)
 
-  each_insert : (m : fin.FinMap R X) (k : K) (v : X) → P (k, v) → Each P (fin.entries m) → Each P (fin.entries (fin.insert m k v))
+  pub each_insert : (m : fin.FinMap R X) (k : K) (v : X) → P (k, v) → Each P (fin.entries m) → Each P (fin.entries (fin.insert m k v))
   each_insert m k v p each = subst (Each P) (sym (entries-insert o m k v)) (each_put k v (fin.entries m) p each)
 
-  each_find : (k : K) (v : X) (es : List (K × X)) → Each P es → find R k es ≡ Some v → P (k, v)
+  pub each_find : (k : K) (v : X) (es : List (K × X)) → Each P es → find R k es ≡ Some v → P (k, v)
   each_find k v [] each e = absurd (cc)
   each_find k v (x ∷ es) each e = by (eq_by_cmp R k x.0) refl e (each_find k v es each.1)
     where
@@ -69,7 +69,7 @@ module _ {K X : Type 0} {R : K → K → Ordering} (o : IsTotalOrder R) (exact :
       by Equal h = cc
       by Greater h = cc
 
-  insert_some : (m : fin.FinMap R X) (k : K) (v : X) → fin.entries (fin.insert m k v) ≡ [] → ⊥
+  pub insert_some : (m : fin.FinMap R X) (k : K) (v : X) → fin.entries (fin.insert m k v) ≡ [] → ⊥
   insert_some m k v e = put_some k v (fin.entries m) (sym (entries-insert o m k v) ∙ e)
 
 pub entries_of_none : {K X : Type 0} (R : K → K → Ordering) → fin.entries (fin.empty {K = K} {X = X} {R = R}) ≡ []

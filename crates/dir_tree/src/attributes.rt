@@ -1,6 +1,6 @@
 //! The attributes of an entry, as an ordered map from the keys of their descriptions.
 
-ghost use Rattle.std.specs.Prelude.{◌≡◌, ◌&&◌, IfErr, IfOk, IfSome, IsSome, IsTrue, OnOk, Some, false, length, map, nat_lt, option_copied};
+ghost use Rattle.std.specs.Prelude.{◌≡◌, ◌&&◌, ◌==◌, IfErr, IfOk, IfSome, IsSome, IsTrue, OnErr, OnOk, Some, false, length, map, nat_lt, option_copied};
 ghost use Rattle.std.specs.List.{list_any};
 ghost use Rattle.dir_names.specs.Names.Sound.{is_sound_pair};
 ghost use Rattle.dir_names.specs.declared.value.ValueKey.TheVariants.{Text};
@@ -54,6 +54,30 @@ impl Attribute {
         self.values.iter()
     }
 
+    /// The attribute of this description, still without values. An entry has no attribute without values.
+    pub fn new(alloc: Global, description: Description) -> Attribute
+        ensures { result ≡ record { key = description.key; stored = record { spelling = description.spelling; values = fin.empty } } }
+    {
+        Attribute {
+            description,
+            values: ValueMap::empty(alloc),
+        }
+    }
+
+    /// The stored bytes of the value with this key.
+    pub fn get(&self, key: &ValueKey) -> Option<&Bytes>
+        ensures { option_copied result ≡ fin.get self.now.stored.values key.now }
+    {
+        self.values.get(key)
+    }
+
+    /// Whether there are no values.
+    pub fn is_empty(&self) -> bool
+        ensures { result ≡ (fin.len self.now.stored.values == 0) }
+    {
+        self.values.is_empty()
+    }
+
     pub fn try_clone(&self, alloc: Global) -> Result<Attribute, Memory>
         ensures { IfOk result (λ a. a ≡ self.now) }
     {
@@ -66,7 +90,8 @@ impl Attribute {
         })
     }
 
-    pub(crate) fn has(&self, key: &ValueKey) -> bool
+    /// Whether there is a value with this key.
+    pub fn has(&self, key: &ValueKey) -> bool
         ensures { result ≡ fin.contains_key self.now.stored.values key.now }
     {
         self.values.contains_key(key)
@@ -78,13 +103,27 @@ impl Attribute {
         self.values.has_text(text)
     }
 
-    fn add(&mut self, alloc: Global, key: ValueKey, bytes: Bytes) -> Result<(), EntryFault>
+    /// Adds a value.
+    ///
+    /// # Errors
+    ///
+    /// `Twice` if its key is there already. `Memory` if memory runs out. Then the attribute is as it was.
+    pub fn add(&mut self, alloc: Global, key: ValueKey, bytes: Bytes) -> Result<(), EntryFault>
         ensures key { self.new.key ≡ self.old.key }
         ensures ok { OnOk result (self.new.stored ≡ record { spelling = self.old.stored.spelling; values = fin.insert self.old.stored.values key bytes }) }
         ensures free { OnOk result (fin.contains_key self.old.stored.values key ≡ false) }
+        ensures err { OnErr result (self.new ≡ self.old) }
         ensures fault { IfErr result (λ e. IsTwiceFaultOf e (fin.contains_key self.old.stored.values key)) }
     {
         self.values.insert(alloc, key, bytes)
+    }
+
+    /// Removes a value, and returns its stored bytes. The call doesn't allocate.
+    pub fn remove(&mut self, alloc: Global, key: &ValueKey) -> Option<Bytes>
+        ensures value { result ≡ fin.get self.old.stored.values key.now }
+        ensures rest { self.new ≡ record { key = self.old.key; stored = record { spelling = self.old.stored.spelling; values = fin.remove self.old.stored.values key.now } } }
+    {
+        self.values.remove(alloc, key)
     }
 
     /// Whether there is more than one value.
@@ -153,6 +192,40 @@ impl AttributeMap {
             items.push(attribute.try_clone(alloc)?)?;
         }
         Ok(AttributeMap { items })
+    }
+
+    /// Takes an attribute out of the map. The call doesn't allocate.
+    pub fn take(&mut self, key: &AttrKey) -> Option<Attribute>
+        ensures attribute { option_map (λ a. a.stored) result ≡ fin.get self.old key.now }
+        ensures key { IfSome result (λ a. a.key ≡ key.now) }
+        ensures rest { self.new ≡ fin.remove self.old key.now }
+    {
+        match place_of(self.items.as_slice(), key) {
+            Ok(at) => Some(self.items.remove(at)),
+            Err(_) => None,
+        }
+    }
+
+    /// Puts an attribute into the map, in place of one with the same key. An entry's attributes have values
+    /// (`Parts`).
+    ///
+    /// # Errors
+    ///
+    /// `Memory`. Then the map is as it was.
+    pub fn put(&mut self, attribute: Attribute) -> Result<(), Memory>
+        ensures ok { OnOk result (self.new ≡ fin.insert self.old attribute.key attribute.stored) }
+        ensures err { OnErr result (self.new ≡ self.old) }
+    {
+        match place_of(self.items.as_slice(), attribute.description().key()) {
+            Ok(at) => {
+                self.items[at] = attribute;
+                Ok(())
+            }
+            Err(at) => {
+                self.items.insert(at, attribute)?;
+                Ok(())
+            }
+        }
     }
 
     /// Adds a value. A new attribute is spelled as in `description`.

@@ -1,7 +1,7 @@
 //! The values of an attribute as a list. A single value needs no memory of its own.
 
-ghost use Rattle.std.specs.List.{insert};
-ghost use Rattle.std.specs.Prelude.{◌≡◌, ◌≤◌, [], ◌∷◌, IfErr, IfOk, OnErr, OnOk, length};
+ghost use Rattle.std.specs.List.{insert, remove};
+ghost use Rattle.std.specs.Prelude.{◌≡◌, ◌≤◌, ◌<◌, [], ◌∷◌, IfErr, IfOk, OnErr, OnOk, get_or, length};
 ghost use Rattle.dir_tree.specs.Inside.ValueLists.{list_values};
 
 use crate::stored::{OneOrMany, StoredValue};
@@ -86,6 +86,22 @@ impl ValueList {
             Err(kept) => {
                 self.kept = kept;
                 Err(Memory)
+            }
+        }
+    }
+
+    /// Removes the value at an index. The call doesn't allocate.
+    pub(crate) fn remove(&mut self, alloc: Global, at: usize) -> StoredValue
+        requires { at < length self.old }
+        ensures value { result ≡ get_or self.old at result }
+        ensures rest { self.new ≡ remove self.old at }
+    {
+        match mem::replace(&mut self.kept, OneOrMany::Many(Vec::new(alloc))) {
+            OneOrMany::One(value) => value,
+            OneOrMany::Many(mut values) => {
+                let value = values.remove(at);
+                self.kept = OneOrMany::Many(values);
+                value
             }
         }
     }

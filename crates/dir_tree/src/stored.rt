@@ -67,6 +67,19 @@ impl StoredValue {
         }
     }
 
+    pub(crate) fn into_bytes(self) -> Bytes
+        ensures { result ≡ self.1 }
+    {
+        let StoredValue { key, bytes } = self;
+        match bytes {
+            Some(bytes) => bytes,
+            None => match key {
+                ValueKey::Text(text) => text,
+                ValueKey::Name(_) => unreachable!(),
+            },
+        }
+    }
+
     pub(crate) fn try_clone(&self, alloc: Global) -> Result<StoredValue, Memory>
         ensures { IfOk result (λ value. value ≡ self.now) }
     {

@@ -1,6 +1,6 @@
 //! The values of an attribute, as an ordered map from their keys to their bytes.
 
-ghost use Rattle.std.specs.Prelude.{◌≡◌, IfErr, IfOk, IsTrue, OnErr, OnOk, false, length, map, option_copied};
+ghost use Rattle.std.specs.Prelude.{◌≡◌, ◌==◌, IfErr, IfOk, IsTrue, OnErr, OnOk, false, length, map, option_copied};
 ghost use Rattle.std.specs.FinMap as fin;
 ghost use Rattle.std.specs.List.Sorted.{IsSearchInRange};
 ghost use Rattle.dir_names.specs.Sorted.{place};
@@ -64,6 +64,12 @@ impl ValueMap {
         self.items.as_slice().len()
     }
 
+    pub fn is_empty(&self) -> bool
+        ensures { result ≡ (fin.len self.now == 0) }
+    {
+        self.len() == 0
+    }
+
     /// The stored bytes of the value with this key.
     pub fn get(&self, key: &ValueKey) -> Option<&Bytes>
         ensures { option_copied result ≡ fin.get self.now key.now }
@@ -109,6 +115,17 @@ impl ValueMap {
                 self.items.insert(alloc, at, StoredValue::new(key, bytes))?;
                 Ok(())
             }
+        }
+    }
+
+    /// Removes a value, and returns its stored bytes. The call doesn't allocate.
+    pub(crate) fn remove(&mut self, alloc: Global, key: &ValueKey) -> Option<Bytes>
+        ensures value { result ≡ fin.get self.old key.now }
+        ensures rest { self.new ≡ fin.remove self.old key.now }
+    {
+        match place_of(self.items.as_slice(), key) {
+            Ok(at) => Some(self.items.remove(alloc, at).into_bytes()),
+            Err(_) => None,
         }
     }
 

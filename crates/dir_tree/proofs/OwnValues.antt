@@ -1,0 +1,119 @@
+-- The values of an entry's own RDN, by its pairs and by its key.
+use Rattle.std.proofs.Common.{◌≡◌, ℕ, Bool, true, false, cond, ◌&&◌, List, [], ◌∷◌, Option, Some, None, option_map, refl, sym, ap, ◌∙◌}
+use Rattle.std.specs.List.{fold, list_all}
+use Rattle.std.specs.FinMap.{IsAntisymmetric}
+use Rattle.std.specs.Option.{option_and_then}
+use Rattle.std.specs.Ordering.{match_ordering}
+use Rattle.std.specs.declared.cmp.Ordering.{Ordering}
+use Rattle.std.specs.declared.cmp.Ordering.TheVariants.{Less, Equal, Greater}
+use Rattle.dir_names.specs.declared.schema.TypeRow.{TypeRow}
+use Rattle.dir_names.specs.declared.value.ValueKey.TheVariants as key
+use Rattle.dir_names.specs.Attr.{Attr}
+use Rattle.dir_names.specs.Keys.{RdnKeys}
+use Rattle.dir_names.specs.Names.{SpelledName, SpelledPair, SpelledRdn}
+use Rattle.dir_names.specs.NameKeys.{have_distinct_types, pair_key, rdn_key, set_if_distinct}
+use Rattle.dir_names.specs.Orders.{pair_cmp, pair_cmp_exact}
+use Rattle.dir_names.specs.Results.{option_collect, option_cons}
+use Rattle.dir_names.specs.Sorted.{set_of, with_member}
+use Rattle.dir_tree.specs.declared.lines.KeyedLine.{KeyedLine}
+use Rattle.dir_tree.specs.ChangedEntry.{has_own_values}
+use Rattle.dir_tree.specs.Content.{Content, StoredAttributes, has_value}
+use Rattle.dir_tree.specs.NewEntry.{leaf_key, leaf_lines, leaf_of, pair_line, rdn_lines}
+use Rattle.dir_tree.specs.WellFormed.{has_each}
+
+-- ---- what holds of all members of a set
+
+module _ {K : Type 0} (R : K → K → Ordering) (exact : IsAntisymmetric R) (test : K → Bool) where
+  and_again : (a b : Bool) → (a && (a && b)) ≡ (a && b)
+  and_again true b = refl
+  and_again false b = refl
+
+  and_swap : (a b c : Bool) → (a && (b && c)) ≡ (b && (a && c))
+  and_swap true true c = refl
+  and_swap true false c = refl
+  and_swap false true c = refl
+  and_swap false false c = refl
+
+  and_true : (a : Bool) → (a && true) ≡ a
+  and_true true = refl
+  and_true false = refl
+
+  and_assoc : (a b c : Bool) → ((a && b) && c) ≡ (a && (b && c))
+  and_assoc true b c = refl
+  and_assoc false b c = refl
+
+  all_with : (k : K) (ks : List K) → list_all test (with_member R k ks) ≡ (test k && list_all test ks)
+  all_with k [] = refl
+  all_with k (x ∷ xs) = by (R k x) refl (all_with k xs)
+    where
+      by : (r : Ordering) → R k x ≡ r → list_all test (with_member R k xs) ≡ (test k && list_all test xs) →
+          list_all test (match_ordering r (k ∷ x ∷ xs) (x ∷ xs) (x ∷ with_member R k xs)) ≡ (test k && (test x && list_all test xs))
+      by Less t rest = refl
+      by Equal t rest = sym (ap (λ z. test z && (test x && list_all test xs)) (exact k x t) ∙ and_again (test x) (list_all test xs))
+      by Greater t rest = ap (λ b. test x && b) rest ∙ and_swap (test x) (test k) (list_all test xs)
+
+  all_fold : (set xs : List K) → list_all test (fold (λ s x. with_member R x s) set xs) ≡ (list_all test xs && list_all test set)
+  all_fold set [] = refl
+  all_fold set (x ∷ xs) =
+      all_fold (with_member R x set) xs
+      ∙ ap (λ b. list_all test xs && b) (all_with x set)
+      ∙ and_swap (list_all test xs) (test x) (list_all test set)
+      ∙ sym (and_assoc (test x) (list_all test xs) (list_all test set))
+
+  all_in_set : (xs : List K) → list_all test (set_of R xs) ≡ list_all test xs
+  all_in_set xs = all_fold [] xs ∙ and_true (list_all test xs)
+
+module _ (rows : List TypeRow) (xs : StoredAttributes) where
+  abbrev has_pair : Attr × List ℕ → Bool
+  has_pair p = has_value xs p.0 (key.Text p.1)
+
+  abbrev has_keys : Option (List (Attr × List ℕ)) → Bool
+  has_keys None = false
+  has_keys (Some keys) = list_all has_pair keys
+
+  abbrev line_of : SpelledPair → Option (Attr × List ℕ) → Option KeyedLine
+  line_of p o = option_map (λ (k : Attr × List ℕ). record { description = record { spelling = p.0; key = k.0 }; key = key.Text k.1; bytes = p.1 }) o
+
+  by_pairs : (rdn : SpelledRdn) → has_each xs (rdn_lines rows rdn) ≡ has_keys (option_collect (pair_key rows) rdn)
+  by_pairs [] = refl
+  by_pairs (p ∷ ps) = by (pair_key rows p) (rdn_lines rows ps) (option_collect (pair_key rows) ps) (by_pairs ps)
+    where
+      by : (o : Option (Attr × List ℕ)) (ls : Option (List KeyedLine)) (ks : Option (List (Attr × List ℕ))) → has_each xs ls ≡ has_keys ks →
+          has_each xs (option_cons (line_of p o) ls) ≡ has_keys (option_cons o ks)
+      by None ls ks e = refl
+      by (Some k) None None e = refl
+      by (Some k) None (Some ks) e = none_left k ks e
+        where
+          none_left : (k : Attr × List ℕ) (ks : List (Attr × List ℕ)) → false ≡ list_all has_pair ks → false ≡ (has_pair k && list_all has_pair ks)
+          none_left k ks e = by_head (has_pair k)
+            where
+              by_head : (b : Bool) → false ≡ (b && list_all has_pair ks)
+              by_head true = e
+              by_head false = refl
+      by (Some k) (Some ls) None e = by_head (has_pair k)
+        where
+          by_head : (b : Bool) → (b && list_all (λ l. has_value xs l.description.key l.key) ls) ≡ false
+          by_head true = e
+          by_head false = refl
+      by (Some k) (Some ls) (Some ks) e = ap (λ b. has_pair k && b) e
+
+  by_rdn_key : (rdn : SpelledRdn) (keys : RdnKeys) → rdn_key rows rdn ≡ Some keys → has_each xs (rdn_lines rows rdn) ≡ list_all has_pair keys
+  by_rdn_key rdn keys e = by_pairs rdn ∙ by (option_collect (pair_key rows) rdn) e
+    where
+      by_set : (ks : List (Attr × List ℕ)) (b : Bool) → cond b (Some (set_of pair_cmp ks)) None ≡ Some keys → list_all has_pair ks ≡ list_all has_pair keys
+      by_set ks false h = absurd (cc)
+      by_set ks true h =
+          let same : set_of pair_cmp ks ≡ keys = cc in
+          sym (all_in_set pair_cmp pair_cmp_exact has_pair ks) ∙ ap (list_all has_pair) same
+
+      by : (o : Option (List (Attr × List ℕ))) → option_and_then set_if_distinct o ≡ Some keys → has_keys o ≡ list_all has_pair keys
+      by None h = absurd (cc)
+      by (Some ks) h = by_set ks (have_distinct_types ks) h
+
+-- an entry has the lines of its own RDN exactly if it has the values of the RDN's key
+pub own_values : (rows : List TypeRow) (e : Content) → leaf_key rows e.own ≡ Some e.key → has_each e.attributes (leaf_lines rows e.own) ≡ has_own_values e
+own_values rows e named = by (leaf_of e.own) named
+  where
+    by : (o : Option SpelledRdn) → option_and_then (rdn_key rows) o ≡ Some e.key → has_each e.attributes (option_and_then (rdn_lines rows) o) ≡ has_own_values e
+    by None h = absurd (cc)
+    by (Some leaf) h = by_rdn_key rows e.attributes leaf e.key h
