@@ -26,7 +26,8 @@ use Rattle.dir_ldif.specs.declared.records.ChangeKind.TheVariants as kind
 use Rattle.dir_tree.proofs.DirLemmas.{closed_put, get_put, get_without, parent_child, same_key}
 use Rattle.dir_tree.proofs.SpelledLemmas.{by_last, spelled_below, spelled_child, spelled_put_apart, spelled_suffix}
 use Rattle.dir_change.specs.declared.result_code.ResultCode.TheVariants.{NoSuchObject, NotAllowedOnNonLeaf, EntryAlreadyExists}
-use Rattle.dir_change.specs.Operation.{directory_after, directory_after_add, directory_after_delete, step, step_at, unless, with_new_entry}
+use Rattle.dir_change.specs.Operation.{directory_after, directory_after_add, directory_after_delete, step, step_at, with_new_entry}
+use Rattle.dir_change.specs.Refusals.{unless}
 use Rattle.dir_change.specs.Undo.{TakesBack, lines_of_entry, name_of_parent, spelled_name_or_empty, undo_of}
 use Rattle.dir_change.proofs.Conditions.{add_placed, below_is, below_true, child_false, delete_leaf, parent_snoc}
 use Rattle.dir_names.proofs.Collected.{collect_append, collect_length}

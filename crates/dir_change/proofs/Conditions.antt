@@ -17,7 +17,8 @@ use Rattle.dir_tree.specs.Dir.{Dir, HasChild, entry_at, has_child, has_parent, i
 use Rattle.dir_tree.specs.NewEntry.{new_entry}
 use Rattle.dir_tree.proofs.DirLemmas.{parent_child, same_key}
 use Rattle.dir_tree.specs.SpelledNames.{own_rdns}
-use Rattle.dir_change.specs.Operation.{directory_after_add, directory_after_delete, unless, with_new_entry}
+use Rattle.dir_change.specs.Operation.{directory_after_add, directory_after_delete, with_new_entry}
+use Rattle.dir_change.specs.Refusals.{unless}
 use Rattle.dir_change.specs.declared.result_code.ResultCode.TheVariants.{NoSuchObject, NotAllowedOnNonLeaf, EntryAlreadyExists}
 
 pub below_true : (k above : DnKeys) → IsAtOrBelow k above → is_at_or_below k above ≡ true

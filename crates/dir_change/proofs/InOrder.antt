@@ -13,6 +13,7 @@ use Rattle.dir_change.specs.Operation.{directory_after, step, step_at}
 use Rattle.dir_change.specs.Runs.{Ending, RunsStayInOrder, StaysInOrder, accepted_or, group_of, run_to_end, run_to_refusal, with_group_first}
 use Rattle.dir_change.specs.SoundChange.{IsSoundChange}
 use Rattle.dir_change.proofs.AfterOperations.{added_is, deleted_is}
+use Rattle.dir_change.proofs.ModifyBack.{modified_at}
 use Rattle.dir_change.proofs.StaysWellFormed.{step_keeps}
 use Rattle.dir_change.proofs.StaysWithinLimits.{step_within}
 
@@ -23,7 +24,7 @@ step_suffix rows d new change is = by (name_key rows change.dn) is
     done : (k : DnKeys) (c : ChangeKind) → directory_after rows d k change.dn c ≡ Ok new → new.suffix ≡ d.suffix
     done k (kind.Add lines) h = ap (λ (e : Dir). e.suffix) (added_is rows d k change.dn lines new h).5
     done k kind.Delete h = ap (λ (e : Dir). e.suffix) (deleted_is d k new h).3
-    done k (kind.Modify mods) h = absurd (cc)
+    done k (kind.Modify mods) h = ap (λ (e : Dir). e.suffix) (modified_at rows d k mods new h).is
     done k (kind.Rename rdn delete_old superior) h = absurd (cc)
 
     by : (o : Option DnKeys) → step_at rows d change o ≡ Ok new → new.suffix ≡ d.suffix

@@ -12,13 +12,24 @@ use Rattle.dir_names.specs.Orders.{attr_eq_decides}
 use Rattle.dir_ldif.specs.declared.records.Change.{Change}
 use Rattle.dir_ldif.specs.declared.records.ChangeKind.{ChangeKind}
 use Rattle.dir_ldif.specs.declared.records.ChangeKind.TheVariants as kind
-use Rattle.dir_ldif.specs.LegalRecords.{has_this_key, is_legal, is_legal_line, is_read_under, is_short}
+use Rattle.dir_ldif.specs.LegalRecords.{has_this_key, is_legal, is_legal_kind, is_legal_line, is_legal_mod, is_read_under, is_short}
 use Rattle.dir_tree.specs.Content.{Stored}
-use Rattle.dir_tree.specs.Dir.{Dir}
+use Rattle.dir_ldif.specs.SoundRecords.{IsSoundKind}
+use Rattle.dir_ldif.specs.declared.records.Mod.{Mod}
+use Rattle.dir_names.proofs.Both.{right}
+use Rattle.dir_tree.specs.Dir.{Dir, entry_at}
+use Rattle.dir_tree.specs.SpelledNames.{spelled_name}
 use Rattle.dir_tree.specs.WellFormed.{Each, IsSoundAttribute, IsSoundValue, IsWellFormed, attribute_lines}
 use Rattle.dir_change.specs.Operation.{directory_after, step, step_at}
 use Rattle.dir_change.specs.Runs.{group_at, group_of}
-use Rattle.dir_change.specs.Undo.{lines_of_entry, undo_of}
+use Rattle.dir_change.specs.Difference.{difference}
+use Rattle.dir_change.specs.SoundChange.{IsSoundChange}
+use Rattle.dir_change.specs.Undo.{attributes_of_entry, entry_difference, lines_of_entry, modify_if_any, undo_of}
+use Rattle.dir_change.proofs.LegalDifference.{difference_legal}
+use Rattle.dir_change.proofs.LegalValues.{legal_mods}
+use Rattle.dir_change.proofs.ModifiedEntry.{slots_of_entry}
+use Rattle.dir_change.proofs.ModifyBack.{ModifiedAt, modified_at, modified_key, new_there}
+use Rattle.dir_change.proofs.StaysWellFormed.{step_keeps}
 use Rattle.dir_change.proofs.AfterOperations.{added_key, deleted_is, spelled_key}
 
 module _ (rows : List TypeRow) where
@@ -45,19 +56,37 @@ module _ (rows : List TypeRow) where
   legal_attributes [] sound = refl
   legal_attributes (a ∷ es) sound = all_append (is_legal_line rows) (attribute_lines a) (flat_map attribute_lines es) (legal_attribute a sound.0) (legal_attributes es sound.1)
 
-  pub group_legal : (d : Dir) (change : Change) → IsWellFormed rows d → (new : Dir) → step rows d change ≡ Ok new → Each (λ c. is_legal rows c ≡ true) (group_of rows d new change)
-  group_legal d change well new is = by (name_key rows change.dn) refl is
+  pub group_legal : (d : Dir) (change : Change) → IsWellFormed rows d → IsSoundChange rows change → (new : Dir) → step rows d change ≡ Ok new → Each (λ c. is_legal rows c ≡ true) (group_of rows d new change)
+  group_legal d change well sound new is = by (name_key rows change.dn) refl is
     where
-      done : (k : DnKeys) → name_key rows change.dn ≡ Some k → (c : ChangeKind) → directory_after rows d k change.dn c ≡ Ok new → Each (λ c. is_legal rows c ≡ true) (undo_of d new k c)
-      done k t (kind.Add lines) h = (ap (λ o. is_some o && true) (added_key rows d well.1 (λ q x there. (well.2 q x there).1) k change.dn lines t new h), tt)
-      done k t kind.Delete h =
+      done : (k : DnKeys) → name_key rows change.dn ≡ Some k → (c : ChangeKind) → is_legal_kind rows c ≡ true → IsSoundKind c → directory_after rows d k change.dn c ≡ Ok new → Each (λ c. is_legal rows c ≡ true) (undo_of d new k c)
+      done k t (kind.Add lines) legal bytes h = (ap (λ o. is_some o && true) (added_key rows d well.1 (λ q x there. (well.2 q x there).1) k change.dn lines t new h), tt)
+      done k t kind.Delete legal bytes h =
           let known = deleted_is d k new h in
           let key = spelled_key rows d well.1 (λ q x there. (well.2 q x there).1) k (ap is_some known.1) in
           let lines = ap (list_all (is_legal_line rows)) (ap lines_of_entry known.1) ∙ legal_attributes (fin.entries known.0.attributes) (well.2 k known.0 known.1).0.1 in
           (λ i. is_some (key i) && lines i, tt)
-      done k t (kind.Modify mods) h = absurd (cc)
-      done k t (kind.Rename rdn delete_old superior) h = absurd (cc)
+      done k t (kind.Modify mods) legal bytes h = back (entry_difference new d k) legal_back
+        where
+          kept : IsWellFormed rows new
+          kept = step_keeps rows d change well sound new is
+
+          changed : ModifiedAt rows d k mods new
+          changed = modified_at rows d k mods new h
+
+          there : entry_at new k ≡ Some changed.new_entry
+          there = new_there rows d well k mods (legal_mods rows mods legal bytes) new kept h
+
+          legal_back : list_all (is_legal_mod rows) (entry_difference new d k) ≡ true
+          legal_back =
+              (λ i. list_all (is_legal_mod rows) (difference (attributes_of_entry (there i)) (attributes_of_entry (changed.there i))))
+              ∙ (difference_legal rows changed.new_entry.attributes changed.old_entry.attributes (slots_of_entry rows changed.new_entry (kept.2 k changed.new_entry there).0) (slots_of_entry rows changed.old_entry (well.2 k changed.old_entry changed.there).0)).0
+
+          back : (ms : List Mod) → list_all (is_legal_mod rows) ms ≡ true → Each (λ c. is_legal rows c ≡ true) (modify_if_any (spelled_name new k) ms)
+          back [] e = tt
+          back (m ∷ ms) e = (λ i. is_some (modified_key rows d well k mods (legal_mods rows mods legal bytes) new kept h i) && e i, tt)
+      done k t (kind.Rename rdn delete_old superior) legal bytes h = absurd (cc)
 
       by : (o : Option DnKeys) → name_key rows change.dn ≡ o → step_at rows d change o ≡ Ok new → Each (λ c. is_legal rows c ≡ true) (group_at d new change o)
       by None t h = absurd (cc)
-      by (Some k) t h = done k t change.kind h
+      by (Some k) t h = done k t change.kind (right (is_some (name_key rows change.dn)) (is_legal_kind rows change.kind) sound.0) sound.1.1 h

@@ -34,49 +34,10 @@ use Rattle.dir_change.specs.Operation.{directory_after, step, step_at}
 use Rattle.dir_change.specs.SoundChange.{IsSoundChange}
 use Rattle.dir_change.proofs.Conditions.{child_true}
 use Rattle.dir_change.proofs.AfterOperations.{added_is, deleted_is, made_own, own_named}
+use Rattle.dir_change.proofs.LegalValues.{legal_lines, legal_mods}
+use Rattle.dir_change.proofs.ModifiedEntry.{modified_is, modified_sound}
+use Rattle.dir_change.proofs.ModifyBack.{modified_at}
 use Rattle.dir_names.proofs.Both.{left, right}
-
--- ---- lines
-
--- a description that was read is spelled as the text
-spelled_as_read : (rows : List TypeRow) (text : List ℕ) (d : Described) → description_of rows text ≡ Ok d → d.spelling ≡ text
-spelled_as_read rows text d e = by (nat_le (length text) 512) (parts_at 59 text) e
-  where
-    ok : (kind : List ℕ) (options : List (List ℕ)) (a b : Bool) (k : Attr) → cond a (cond b (Err ReservedName) (Ok (record { spelling = text; key = k }))) (Err BadDescription) ≡ Ok d → d.spelling ≡ text
-    ok kind options false b k h = absurd (cc)
-    ok kind options true true k h = absurd (cc)
-    ok kind options true false k h =
-        let whole : Described = record { spelling = text; key = k } in
-        let same : whole ≡ d = cc in
-        ap (λ (d : Described). d.spelling) (sym same)
-
-    by : (b : Bool) (parts : List (List ℕ)) → cond b (description_from rows text parts) (Err BadDescription) ≡ Ok d → d.spelling ≡ text
-    by false parts h = absurd (cc)
-    by true [] h = absurd (cc)
-    by true (kind ∷ options) h = ok kind options (is_type kind && list_all is_option options) (is_reserved kind) _ h
-
-read_under : (rows : List TypeRow) (d : Described) → is_read_under rows d ≡ true → description_of rows d.spelling ≡ Ok d
-read_under rows d e = by (description_of rows d.spelling) refl e
-  where
-    by : (r : Result Described NameFault) → description_of rows d.spelling ≡ r → has_this_key d.key r ≡ true → r ≡ Ok d
-    by (Ok x) t h =
-        let spelling = spelled_as_read rows d.spelling x t in
-        let key = (attr_eq_decides x.key d.key).0 h in
-        λ i. Ok (record { spelling = spelling i; key = key i })
-    by (Err fault) t h = absurd (true≢false (sym h))
-
-bytes_test : (bs : List ℕ) → ((i : ℕ) → slice_index bs i < 256) → are_bytes bs ≡ true
-bytes_test [] h = refl
-bytes_test (b ∷ bs) h =
-    let low : b < 256 = h zero in
-    let first : nat_lt b 256 ≡ true = grind (arith, nat_tests) in
-    λ i. first i && bytes_test bs (λ n. h (suc n)) i
-
-pub legal_lines : (rows : List TypeRow) (lines : List (Described × List ℕ)) → list_all (is_legal_line rows) lines ≡ true → ValuesAreBytes lines → Each (IsLegalLine rows) lines
-legal_lines rows [] e bytes = tt
-legal_lines rows (line ∷ lines) e bytes =
-    let first = left (is_legal_line rows line) _ e in
-    ((read_under rows line.0 (right (is_short line.1) _ first), grind (arith, nat_tests), bytes_test line.1 bytes.0), legal_lines rows lines (right (is_legal_line rows line) _ e) bytes.1)
 
 -- ---- pairs
 
@@ -188,7 +149,11 @@ step_keeps rows d change well sound new is = by (name_key rows change.dn) refl i
     done k t kind.Delete legal bytes h =
         let known = deleted_is d k new h in
         subst (IsWellFormed rows) (sym known.3) (keeps_without rows d k well known.2)
-    done k t (kind.Modify mods) legal bytes h = absurd (cc)
+    done k t (kind.Modify mods) legal bytes h =
+        let known = modified_at rows d k mods new h in
+        let before = well.2 k known.old_entry known.there in
+        let named = ap (λ (e : Content). name_key rows e.own) (modified_is rows known.old_entry mods known.new_entry known.after).is ∙ before.1 in
+        subst (IsWellFormed rows) (sym known.is) (keeps_put rows d k known.new_entry well (well.1 k (ap is_some known.there)) (modified_sound rows known.old_entry mods known.new_entry (legal_mods rows mods legal bytes) before.0 known.after) named)
     done k t (kind.Rename rdn delete_old superior) legal bytes h = absurd (cc)
 
     by : (o : Option DnKeys) → name_key rows change.dn ≡ o → step_at rows d change o ≡ Ok new → IsWellFormed rows new

@@ -18,19 +18,25 @@ use Rattle.dir_names.specs.Names.Sound.{is_sound_name, is_sound_rdn}
 use Rattle.dir_ldif.specs.declared.records.Change.{Change}
 use Rattle.dir_ldif.specs.declared.records.ChangeKind.{ChangeKind}
 use Rattle.dir_ldif.specs.declared.records.ChangeKind.TheVariants as kind
-use Rattle.dir_ldif.specs.SoundRecords.{IsSoundName, ValuesAreBytes}
+use Rattle.dir_ldif.specs.declared.records.Mod.{Mod}
+use Rattle.dir_ldif.specs.SoundRecords.{IsSoundKind, IsSoundName, ModsAreBytes, ValuesAreBytes}
 use Rattle.dir_tree.specs.Content.{Content, Stored}
 use Rattle.dir_tree.specs.Dir.{Dir, entry_at, put_entry}
 use Rattle.dir_tree.specs.SpelledNames as spelled
 use Rattle.dir_tree.specs.SpelledNames.{own_name_at, own_rdns, prefixes, spelled_name}
 use Rattle.dir_tree.specs.WellFormed.{Each, IsSoundAttribute, IsSoundValue, IsWellFormed, IsWithinLimits, are_bytes, attribute_lines}
 use Rattle.dir_tree.proofs.OwnNames.{all_own_of}
-use Rattle.dir_ldif.specs.LegalRecords.{is_legal}
+use Rattle.dir_ldif.specs.LegalRecords.{is_legal, is_legal_kind}
 use Rattle.dir_tree.proofs.DirLemmas.{get_put, get_without, same_key}
 use Rattle.dir_change.specs.Operation.{directory_after, step, step_at}
 use Rattle.dir_change.specs.Runs.{group_at, group_of}
 use Rattle.dir_change.specs.SoundChange.{IsSoundChange}
-use Rattle.dir_change.specs.Undo.{lines_of_entry, undo_of}
+use Rattle.dir_change.specs.Difference.{difference}
+use Rattle.dir_change.specs.Undo.{attributes_of_entry, entry_difference, lines_of_entry, modify_if_any, undo_of}
+use Rattle.dir_change.proofs.LegalDifference.{difference_legal}
+use Rattle.dir_change.proofs.LegalValues.{legal_mods}
+use Rattle.dir_change.proofs.ModifiedEntry.{modified_is, slots_of_entry}
+use Rattle.dir_change.proofs.ModifyBack.{ModifiedAt, modified_at, new_there}
 use Rattle.dir_change.proofs.StaysWellFormed.{step_keeps}
 use Rattle.dir_change.proofs.LegalUndo.{group_legal}
 use Rattle.dir_change.proofs.AfterOperations.{added_is, deleted_is, itself, key_length, made_own, spelled_key}
@@ -66,6 +72,16 @@ name_sound rows d well within k e there =
         let low = (within k e there).0 in
         grind (arith, nat_tests)
 
+put_within : (d : Dir) → IsWithinLimits d → (k : DnKeys) (e : Content) → (length k ≤ 64) × (is_sound_name e.own ≡ true) × (list_all is_rdn_within_limit e.own ≡ true) → IsWithinLimits (put_entry d k e)
+put_within d within k e one q x there = by (eq_by_cmp dn_key_cmp q k) refl (sym (get_put d k e q) ∙ there)
+  where
+    by : (b : Bool) → eq_by_cmp dn_key_cmp q k ≡ b → cond b (Some e) (entry_at d q) ≡ Some x → (length q ≤ 64) × (is_sound_name x.own ≡ true) × (list_all is_rdn_within_limit x.own ≡ true)
+    by false t h = within q x h
+    by true t h =
+        let same : e ≡ x = cc in
+        let here : q ≡ k = same_key q k t in
+        (subst (λ z. length z ≤ 64) (sym here) one.0, ap (λ (c : Content). is_sound_name c.own) (sym same) ∙ one.1, ap (λ (c : Content). list_all is_rdn_within_limit c.own) (sym same) ∙ one.2)
+
 pub step_within : (rows : List TypeRow) (d : Dir) (change : Change) → IsWithinLimits d → IsSoundChange rows change → (new : Dir) → step rows d change ≡ Ok new → IsWithinLimits new
 step_within rows d change within sound new is = by (name_key rows change.dn) refl is
   where
@@ -85,17 +101,7 @@ step_within rows d change within sound new is = by (name_key rows change.dn) ref
           ap is_sound_name own ∙ all_own_of is_sound_rdn d.suffix k change.dn name.0,
           ap (list_all is_rdn_within_limit) own ∙ all_own_of is_rdn_within_limit d.suffix k change.dn (right (nat_le (length change.dn) 64) _ name.1),
         ) in
-        subst IsWithinLimits (sym known.5) (put_within k e one)
-      where
-        put_within : (k : DnKeys) (e : Content) → (length k ≤ 64) × (is_sound_name e.own ≡ true) × (list_all is_rdn_within_limit e.own ≡ true) → IsWithinLimits (put_entry d k e)
-        put_within k e one q x there = by (eq_by_cmp dn_key_cmp q k) refl (sym (get_put d k e q) ∙ there)
-          where
-            by : (b : Bool) → eq_by_cmp dn_key_cmp q k ≡ b → cond b (Some e) (entry_at d q) ≡ Some x → (length q ≤ 64) × (is_sound_name x.own ≡ true) × (list_all is_rdn_within_limit x.own ≡ true)
-            by false t h = within q x h
-            by true t h =
-                let same : e ≡ x = cc in
-                let here : q ≡ k = same_key q k t in
-                (subst (λ z. length z ≤ 64) (sym here) one.0, ap (λ (c : Content). is_sound_name c.own) (sym same) ∙ one.1, ap (λ (c : Content). list_all is_rdn_within_limit c.own) (sym same) ∙ one.2)
+        subst IsWithinLimits (sym known.5) (put_within d within k e one)
     done k t kind.Delete h =
         let known = deleted_is d k new h in
         subst IsWithinLimits (sym known.3) (λ q x there. by q x (eq_by_cmp dn_key_cmp q k) (sym (get_without d k q) ∙ there))
@@ -103,7 +109,11 @@ step_within rows d change within sound new is = by (name_key rows change.dn) ref
         by : (q : DnKeys) (x : Content) (b : Bool) → cond b None (entry_at d q) ≡ Some x → (length q ≤ 64) × (is_sound_name x.own ≡ true) × (list_all is_rdn_within_limit x.own ≡ true)
         by q x true h = absurd (cc)
         by q x false h = within q x h
-    done k t (kind.Modify mods) h = absurd (cc)
+    done k t (kind.Modify mods) h =
+        let known = modified_at rows d k mods new h in
+        let own = ap (λ (e : Content). e.own) (modified_is rows known.old_entry mods known.new_entry known.after).is in
+        let before = within k known.old_entry known.there in
+        subst IsWithinLimits (sym known.is) (put_within d within k known.new_entry (before.0, ap is_sound_name own ∙ before.1, ap (list_all is_rdn_within_limit) own ∙ before.2))
     done k t (kind.Rename rdn delete_old superior) h = absurd (cc)
 
     by : (o : Option DnKeys) → name_key rows change.dn ≡ o → step_at rows d change o ≡ Ok new → IsWithinLimits new
@@ -132,20 +142,38 @@ module _ (rows : List TypeRow) where
 
   -- the changes that take a change back are sound
   pub group_sound : (d : Dir) (change : Change) → IsWellFormed rows d → IsWithinLimits d → IsSoundChange rows change → (new : Dir) → step rows d change ≡ Ok new → Each (IsSoundChange rows) (group_of rows d new change)
-  group_sound d change well within sound new is = by (name_key rows change.dn) refl is (group_legal rows d change well new is)
+  group_sound d change well within sound new is = by (name_key rows change.dn) refl is (group_legal rows d change well sound new is)
     where
-      done : (k : DnKeys) → name_key rows change.dn ≡ Some k → (c : ChangeKind) → directory_after rows d k change.dn c ≡ Ok new → Each (λ x. is_legal rows x ≡ true) (undo_of d new k c) → Each (IsSoundChange rows) (undo_of d new k c)
-      done k t (kind.Add lines) h legal =
+      done : (k : DnKeys) → name_key rows change.dn ≡ Some k → (c : ChangeKind) → directory_after rows d k change.dn c ≡ Ok new → is_legal_kind rows c ≡ true → IsSoundKind c → Each (λ x. is_legal rows x ≡ true) (undo_of d new k c) → Each (IsSoundChange rows) (undo_of d new k c)
+      done k t (kind.Add lines) h legal_kind bytes legal =
           let known = added_is rows d k change.dn lines new h in
           let there : entry_at new k ≡ Some known.3 = ap (λ z. entry_at z k) known.5 ∙ get_put d k known.3 k ∙ ap (λ b. cond b (Some known.3) (entry_at d k)) (itself k) in
           ((legal.0, (name_sound rows new (step_keeps rows d change well sound new is) (step_within rows d change within sound new is) k known.3 there, tt)), tt)
-      done k t kind.Delete h legal =
+      done k t kind.Delete h legal_kind bytes legal =
           let known = deleted_is d k new h in
           let values : ValuesAreBytes (lines_of_entry (entry_at d k)) = subst (λ o. ValuesAreBytes (lines_of_entry o)) (sym known.1) (bytes_all (fin.entries known.0.attributes) (well.2 k known.0 known.1).0.1) in
           ((legal.0, (name_sound rows d well within k known.0 known.1, values)), tt)
-      done k t (kind.Modify mods) h legal = absurd (cc)
-      done k t (kind.Rename rdn delete_old superior) h legal = absurd (cc)
+      done k t (kind.Modify mods) h legal_kind bytes legal = back (entry_difference new d k) bytes_back legal
+        where
+          kept : IsWellFormed rows new
+          kept = step_keeps rows d change well sound new is
+
+          changed : ModifiedAt rows d k mods new
+          changed = modified_at rows d k mods new h
+
+          there : entry_at new k ≡ Some changed.new_entry
+          there = new_there rows d well k mods (legal_mods rows mods legal_kind bytes) new kept h
+
+          bytes_back : ModsAreBytes (entry_difference new d k)
+          bytes_back =
+              subst ModsAreBytes (sym (λ i. difference (attributes_of_entry (there i)) (attributes_of_entry (changed.there i))))
+              (difference_legal rows changed.new_entry.attributes changed.old_entry.attributes (slots_of_entry rows changed.new_entry (kept.2 k changed.new_entry there).0) (slots_of_entry rows changed.old_entry (well.2 k changed.old_entry changed.there).0)).1
+
+          back : (ms : List Mod) → ModsAreBytes ms → Each (λ x. is_legal rows x ≡ true) (modify_if_any (spelled_name new k) ms) → Each (IsSoundChange rows) (modify_if_any (spelled_name new k) ms)
+          back [] b e = tt
+          back (m ∷ ms) b e = ((e.0, (name_sound rows new kept (step_within rows d change within sound new is) k changed.new_entry there, b)), tt)
+      done k t (kind.Rename rdn delete_old superior) h legal_kind bytes legal = absurd (cc)
 
       by : (o : Option DnKeys) → name_key rows change.dn ≡ o → step_at rows d change o ≡ Ok new → Each (λ x. is_legal rows x ≡ true) (group_at d new change o) → Each (IsSoundChange rows) (group_at d new change o)
       by None t h legal = absurd (cc)
-      by (Some k) t h legal = done k t change.kind h legal
+      by (Some k) t h legal = done k t change.kind h (right (is_some (name_key rows change.dn)) (is_legal_kind rows change.kind) sound.0) sound.1.1 legal

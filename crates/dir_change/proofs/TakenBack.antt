@@ -1,5 +1,5 @@
 -- The groups of a run, the last first, lead back to its beginning.
-use Rattle.std.proofs.Common.{◌≡◌, List, [], ◌∷◌, ◌++◌, reverse, Option, Some, None, Result, Ok, Err, refl, sym, ap, ◌∙◌, append_assoc}
+use Rattle.std.proofs.Common.{◌≡◌, true, List, [], ◌∷◌, ◌++◌, reverse, Option, Some, None, is_some, Result, Ok, Err, refl, sym, ap, ◌∙◌, append_assoc}
 use Rattle.std.proofs.lemmas.List.{append-nil, reverse-append}
 use Rattle.std.specs.List.{flat_map}
 use Rattle.dir_names.specs.declared.schema.TypeRow.{TypeRow}
@@ -8,6 +8,9 @@ use Rattle.dir_names.specs.NameKeys.{name_key}
 use Rattle.dir_ldif.specs.declared.records.Change.{Change}
 use Rattle.dir_ldif.specs.declared.records.ChangeKind.{ChangeKind}
 use Rattle.dir_ldif.specs.declared.records.ChangeKind.TheVariants as kind
+use Rattle.dir_ldif.specs.LegalRecords.{is_legal_kind}
+use Rattle.dir_ldif.specs.SoundRecords.{IsSoundKind}
+use Rattle.dir_names.proofs.Both.{right}
 use Rattle.dir_tree.specs.Dir.{Dir}
 use Rattle.dir_tree.specs.WellFormed.{Each, IsWellFormed}
 use Rattle.dir_change.specs.declared.result_code.ResultCode.{ResultCode}
@@ -16,6 +19,8 @@ use Rattle.dir_change.specs.Runs.{Ending, LeadsBack, RunsAreTakenBack, accepted_
 use Rattle.dir_change.specs.SoundChange.{IsSoundChange}
 use Rattle.dir_names.specs.Results.{and_then}
 use Rattle.dir_change.specs.Undo.{TakesBack, directory_after_all, undo_of}
+use Rattle.dir_change.proofs.LegalValues.{legal_mods}
+use Rattle.dir_change.proofs.ModifyBack.{modify_taken_back}
 use Rattle.dir_change.proofs.StaysWellFormed.{step_keeps}
 use Rattle.dir_change.proofs.AfterOperations.{add_taken_back, delete_taken_back}
 
@@ -40,18 +45,18 @@ module _ (rows : List TypeRow) where
       ∙ ap (λ z. undo_changes ending ++ z) (append-nil group)
 
   -- the group of an accepted change
-  pub group_back : (d : Dir) (change : Change) → IsWellFormed rows d → (new : Dir) → step rows d change ≡ Ok new → TakesBack rows d new (group_of rows d new change)
-  group_back d change well new is = by (name_key rows change.dn) refl is
+  pub group_back : (d : Dir) (change : Change) → IsWellFormed rows d → IsSoundChange rows change → (new : Dir) → step rows d change ≡ Ok new → TakesBack rows d new (group_of rows d new change)
+  group_back d change well sound new is = by (name_key rows change.dn) refl is
     where
-      done : (k : DnKeys) → name_key rows change.dn ≡ Some k → (c : ChangeKind) → directory_after rows d k change.dn c ≡ Ok new → TakesBack rows d new (undo_of d new k c)
-      done k t (kind.Add lines) h = add_taken_back rows d well.1 (λ q x there. (well.2 q x there).1) k change.dn lines t new h
-      done k t kind.Delete h = delete_taken_back rows d well k new h
-      done k t (kind.Modify mods) h = absurd (cc)
-      done k t (kind.Rename rdn delete_old superior) h = absurd (cc)
+      done : (k : DnKeys) → name_key rows change.dn ≡ Some k → (c : ChangeKind) → is_legal_kind rows c ≡ true → IsSoundKind c → directory_after rows d k change.dn c ≡ Ok new → TakesBack rows d new (undo_of d new k c)
+      done k t (kind.Add lines) legal bytes h = add_taken_back rows d well.1 (λ q x there. (well.2 q x there).1) k change.dn lines t new h
+      done k t kind.Delete legal bytes h = delete_taken_back rows d well k new h
+      done k t (kind.Modify mods) legal bytes h = modify_taken_back rows d well k mods (legal_mods rows mods legal bytes) new (step_keeps rows d change well sound new is) h
+      done k t (kind.Rename rdn delete_old superior) legal bytes h = absurd (cc)
 
       by : (o : Option DnKeys) → name_key rows change.dn ≡ o → step_at rows d change o ≡ Ok new → TakesBack rows d new (group_at d new change o)
       by None t h = absurd (cc)
-      by (Some k) t h = done k t change.kind h
+      by (Some k) t h = done k t change.kind (right (is_some (name_key rows change.dn)) (is_legal_kind rows change.kind) sound.0) sound.1.1 h
 
   -- what leads back to the directory after an accepted change, and then takes that change back, leads back to the directory before it
   more_back : (d e : Dir) (group : List Change) (ending : Ending) → TakesBack rows d e group → LeadsBack rows e ending → LeadsBack rows d (with_group_first group ending)
@@ -67,7 +72,7 @@ module _ (rows : List TypeRow) where
     where
       by : (r : Result Dir ResultCode) → step rows d c ≡ r → ((e : Dir) → IsWellFormed rows e → LeadsBack rows e (run_to_end rows e cs)) →
           LeadsBack rows d (accepted_or r (λ e. with_group_first (group_of rows d e c) (run_to_end rows e cs)) (run_to_end rows d cs))
-      by (Ok e) t rest = more_back d e (group_of rows d e c) (run_to_end rows e cs) (group_back d c well e t) (rest e (step_keeps rows d c well sound.0 e t))
+      by (Ok e) t rest = more_back d e (group_of rows d e c) (run_to_end rows e cs) (group_back d c well sound.0 e t) (rest e (step_keeps rows d c well sound.0 e t))
       by (Err code) t rest = rest d well
 
   stop_back : (d : Dir) (changes : List Change) → IsWellFormed rows d → Each (IsSoundChange rows) changes → LeadsBack rows d (run_to_refusal rows d changes)
@@ -76,8 +81,8 @@ module _ (rows : List TypeRow) where
     where
       by : (r : Result Dir ResultCode) → step rows d c ≡ r → ((e : Dir) → IsWellFormed rows e → LeadsBack rows e (run_to_refusal rows e cs)) →
           LeadsBack rows d (accepted_or r (λ e. with_group_first (group_of rows d e c) (run_to_refusal rows e cs)) (record { end = d; groups = [] }))
-      by (Ok e) t rest = more_back d e (group_of rows d e c) (run_to_refusal rows e cs) (group_back d c well e t) (rest e (step_keeps rows d c well sound.0 e t))
+      by (Ok e) t rest = more_back d e (group_of rows d e c) (run_to_refusal rows e cs) (group_back d c well sound.0 e t) (rest e (step_keeps rows d c well sound.0 e t))
       by (Err code) t rest = refl
 
 pub taken_back : RunsAreTakenBack
-taken_back rows d changes well sound = (on_back rows d changes well sound, stop_back rows d changes well sound)
+taken_back rows d changes well within sound = (on_back rows d changes well sound, stop_back rows d changes well sound)

@@ -1,5 +1,5 @@
--- The update operations (RFC 4511, sections 4.7 and 4.8): the directory after a change, or the result code of the first test that refuses it.
-use Rattle.std.specs.Prelude.{◌≡◌, ℕ, Bool, cond, not, List, Option, None, Some, is_some, Result, Ok, Err, ⊤}
+-- The update operations (RFC 4511, sections 4.6 to 4.8): the directory after a change, or the result code of the first test that refuses it.
+use Rattle.std.specs.Prelude.{◌≡◌, ℕ, not, List, Option, None, Some, is_some, Result, Ok, Err, ⊤}
 use Rattle.dir_names.specs.declared.schema.TypeRow.{TypeRow}
 use Rattle.dir_names.specs.Described.{Described}
 use Rattle.dir_names.specs.Keys.{DnKeys}
@@ -13,33 +13,19 @@ use Rattle.dir_tree.specs.Content.{Content}
 use Rattle.dir_tree.specs.Dir.{Dir, entry_at, has_child, has_parent, put_entry, remove_entry}
 use Rattle.dir_tree.specs.NewEntry.{new_entry}
 use Rattle.dir_tree.specs.declared.fault.EntryFault.{EntryFault}
-use Rattle.dir_tree.specs.declared.fault.EntryFault.TheVariants as entry
 use Rattle.dir_tree.specs.SpelledNames.{own_rdns}
+use Rattle.dir_ldif.specs.declared.records.Mod.{Mod}
+use Rattle.dir_names.specs.Results.{and_then}
+use Rattle.dir_change.specs.Modify.{entry_after}
+use Rattle.dir_change.specs.Refusals.{entry_or_code, unless}
 use Rattle.dir_change.specs.declared.operation.Refusal.{Refusal}
 use Rattle.dir_change.specs.declared.operation.Refusal.TheVariants as refusal
 use Rattle.dir_change.specs.declared.result_code.ResultCode.{ResultCode}
-use Rattle.dir_change.specs.declared.result_code.ResultCode.TheVariants.{NoSuchObject, NotAllowedOnNonLeaf, EntryAlreadyExists, InvalidAttributeSyntax, AttributeOrValueExists, ConstraintViolation, NotAllowedOnRdn, UnwillingToPerform}
-
--- the result code where the test refuses, else what follows
-abbrev pub unless : {A : Type 0} → Bool → ResultCode → Result A ResultCode → Result A ResultCode
-unless refused code answer = cond refused (Err code) answer
-
--- the result code of an entry that can't be made. No definition answers out of memory
-abbrev pub entry_refusal : EntryFault → Refusal
-entry_refusal entry.BadValue = refusal.Code InvalidAttributeSyntax
-entry_refusal entry.Twice = refusal.Code AttributeOrValueExists
-entry_refusal entry.NotNamed = refusal.Code NotAllowedOnRdn
-entry_refusal entry.Single = refusal.Code ConstraintViolation
-entry_refusal entry.Memory = refusal.Memory
-
-abbrev pub code_of : Refusal → ResultCode
-code_of (refusal.Code code) = code
-code_of refusal.Memory = UnwillingToPerform
+use Rattle.dir_change.specs.declared.result_code.ResultCode.TheVariants.{NoSuchObject, NotAllowedOnNonLeaf, EntryAlreadyExists, UnwillingToPerform}
 
 -- the directory with the new entry at the key, or its fault's result code
 abbrev pub with_new_entry : Dir → DnKeys → Result Content EntryFault → Result Dir ResultCode
-with_new_entry d k (Ok e) = Ok (put_entry d k e)
-with_new_entry d k (Err fault) = Err (code_of (entry_refusal fault))
+with_new_entry d k made = and_then (entry_or_code made) (λ e. Ok (put_entry d k e))
 
 -- add (RFC 4511, section 4.7): the name is the suffix or below it; it is free; its parent is there; and the values make an entry
 abbrev pub directory_after_add : List TypeRow → Dir → DnKeys → SpelledName → List (Described × List ℕ) → Result Dir ResultCode
@@ -56,10 +42,18 @@ directory_after_delete d k =
     (unless (has_child d k) NotAllowedOnNonLeaf
     (Ok (remove_entry d k)))
 
+-- modify (RFC 4511, section 4.6): the entry is there, and none of the modifications, nor the entry after them, is refused
+abbrev pub with_modified_entry : List TypeRow → Dir → DnKeys → List Mod → Option Content → Result Dir ResultCode
+with_modified_entry rows d k mods None = Err NoSuchObject
+with_modified_entry rows d k mods (Some e) = and_then (entry_after rows e mods) (λ y. Ok (put_entry d k y))
+
+abbrev pub directory_after_modify : List TypeRow → Dir → DnKeys → List Mod → Result Dir ResultCode
+directory_after_modify rows d k mods = with_modified_entry rows d k mods (entry_at d k)
+
 abbrev pub directory_after : List TypeRow → Dir → DnKeys → SpelledName → ChangeKind → Result Dir ResultCode
 directory_after rows d k name (kind.Add lines) = directory_after_add rows d k name lines
 directory_after rows d k name kind.Delete = directory_after_delete d k
-directory_after rows d k name (kind.Modify mods) = Err UnwillingToPerform
+directory_after rows d k name (kind.Modify mods) = directory_after_modify rows d k mods
 directory_after rows d k name (kind.Rename rdn delete_old superior) = Err UnwillingToPerform
 
 -- a name that has no key names no entry
@@ -67,7 +61,7 @@ abbrev pub step_at : List TypeRow → Dir → Change → Option DnKeys → Resul
 step_at rows d change None = Err NoSuchObject
 step_at rows d change (Some k) = directory_after rows d k change.dn change.kind
 
--- the directory after one change, or its result code. Modify and rename are refused for now
+-- the directory after one change, or its result code. A rename is refused for now
 abbrev pub step : List TypeRow → Dir → Change → Result Dir ResultCode
 step rows d change = step_at rows d change (name_key rows change.dn)
 

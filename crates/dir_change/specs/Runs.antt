@@ -24,9 +24,9 @@ group_at before after change (Some k) = undo_of before after k change.kind
 abbrev pub group_of : List TypeRow → Dir → Dir → Change → List Change
 group_of rows before after change = group_at before after change (name_key rows change.dn)
 
--- the group of a change on a well-formed directory is an undo of it
+-- the group of a sound change on a well-formed directory within the limits is an undo of it
 abbrev pub GroupsUndo : Type 0
-GroupsUndo = (rows : List TypeRow) (before after : Dir) (change : Change) → IsWellFormed rows before → step rows before change ≡ Ok after → IsUndo rows before after change (group_of rows before after change)
+GroupsUndo = (rows : List TypeRow) (before after : Dir) (change : Change) → IsWellFormed rows before → IsWithinLimits before → IsSoundChange rows change → step rows before change ≡ Ok after → IsUndo rows before after change (group_of rows before after change)
 
 -- where a run of changes ends, and the groups of the accepted changes in their order
 pub record Ending : Type 0 where
@@ -59,7 +59,7 @@ abbrev pub LeadsBack : List TypeRow → Dir → Ending → Type 0
 LeadsBack rows d ending = directory_after_all rows ending.end (undo_changes ending) ≡ Ok d
 
 abbrev pub RunsAreTakenBack : Type 0
-RunsAreTakenBack = (rows : List TypeRow) (d : Dir) (changes : List Change) → IsWellFormed rows d → Each (IsSoundChange rows) changes → LeadsBack rows d (run_to_end rows d changes) × LeadsBack rows d (run_to_refusal rows d changes)
+RunsAreTakenBack = (rows : List TypeRow) (d : Dir) (changes : List Change) → IsWellFormed rows d → IsWithinLimits d → Each (IsSoundChange rows) changes → LeadsBack rows d (run_to_end rows d changes) × LeadsBack rows d (run_to_refusal rows d changes)
 
 -- the records of the undo text are the changes of the groups, the last accepted change's first, and none is faulty
 abbrev pub ReadsBack : List TypeRow → Ending → Type 0

@@ -1,20 +1,25 @@
 -- What takes a change back: a group of changes that leads from the directory after it to the directory before it.
-use Rattle.std.specs.Prelude.{◌≡◌, ℕ, Bool, true, false, cond, List, [], ◌∷◌, Option, None, Some, Result, Ok}
+use Rattle.std.specs.Prelude.{◌≡◌, ℕ, Bool, true, false, cond, ◌&&◌, List, [], ◌∷◌, ◌++◌, map, Option, None, Some, option_and_then, Result, Ok, ⊤}
+use Rattle.std.specs.List.{list_all, list_any}
+use Rattle.std.specs.FinMap as fin
 use Rattle.dir_names.specs.declared.schema.TypeRow.{TypeRow}
 use Rattle.dir_names.specs.Described.{Described}
-use Rattle.dir_names.specs.Keys.{DnKeys, parent_of}
+use Rattle.dir_names.specs.Attr.{Attr}
+use Rattle.dir_names.specs.Keys.{DnKeys, RdnKeys, parent_of}
 use Rattle.dir_names.specs.Names.{SpelledName}
-use Rattle.dir_names.specs.NameKeys.{name_key}
-use Rattle.dir_names.specs.Orders.{dn_key_eq}
+use Rattle.dir_names.specs.NameKeys.{name_key, rdn_key}
+use Rattle.dir_names.specs.Orders.{attr_eq, dn_key_eq}
 use Rattle.dir_ldif.specs.declared.records.Change.{Change}
 use Rattle.dir_ldif.specs.declared.records.ChangeKind.{ChangeKind}
 use Rattle.dir_ldif.specs.declared.records.ChangeKind.TheVariants as kind
+use Rattle.dir_ldif.specs.declared.records.Mod.{Mod}
 use Rattle.dir_ldif.specs.LegalRecords.{is_legal}
-use Rattle.dir_tree.specs.Content.{Content}
+use Rattle.dir_tree.specs.Content.{Content, StoredAttributes}
 use Rattle.dir_tree.specs.Dir.{Dir, entry_at}
 use Rattle.dir_tree.specs.SpelledNames.{spelled_name}
 use Rattle.dir_tree.specs.WellFormed.{Each, all_lines}
 use Rattle.dir_names.specs.Results.{and_then}
+use Rattle.dir_change.specs.Difference.{difference}
 use Rattle.dir_change.specs.Operation.{step}
 use Rattle.dir_change.specs.declared.result_code.ResultCode.{ResultCode}
 
@@ -32,13 +37,54 @@ abbrev pub Undoes : List TypeRow → Dir → Dir → Change → List Change → 
 Undoes rows before after change group =
     (step rows before change ≡ Ok after) × Each (λ c. is_legal rows c ≡ true) group × TakesBack rows before after group
 
--- a delete is the opposite of an add, and an add of a delete
-abbrev pub is_opposite : ChangeKind → ChangeKind → Bool
-is_opposite (kind.Add lines) kind.Delete = true
-is_opposite kind.Delete (kind.Add lines) = true
-is_opposite asked given = false
+-- the record is a delete, or an add
+abbrev pub is_delete : ChangeKind → Bool
+is_delete kind.Delete = true
+is_delete other = false
 
--- the directory that has the entry of a record, which leads from one directory to another: the second for an add, the first for any other
+abbrev pub is_add : ChangeKind → Bool
+is_add (kind.Add lines) = true
+is_add other = false
+
+-- the record is a rename that deletes the values of the old RDN
+abbrev pub is_full_rename : ChangeKind → Bool
+is_full_rename (kind.Rename rdn delete_old superior) = delete_old
+is_full_rename other = false
+
+-- the record is a modify of these keys alone
+abbrev pub is_modify_of : List Attr → ChangeKind → Bool
+is_modify_of keys (kind.Modify mods) = list_all (λ m. list_any (attr_eq m.description.key) keys) mods
+is_modify_of keys other = false
+
+-- at most one record, a modify of these keys alone
+abbrev pub is_modify_at_most : List Attr → List Change → Bool
+is_modify_at_most keys [] = true
+is_modify_at_most keys (c ∷ []) = is_modify_of keys c.kind
+is_modify_at_most keys (c ∷ more) = false
+
+-- the types of an RDN, if it has a key
+abbrev pub types_in : Option RdnKeys → List Attr
+types_in None = []
+types_in (Some key) = map (λ p. p.0) key
+
+abbrev pub own_types : Option Content → List Attr
+own_types None = []
+own_types (Some e) = map (λ p. p.0) e.key
+
+-- how large an undo is, by the operation that it takes back: for an add one delete; for a delete one add; for a modify at most one modify, of keys that the change names;
+-- for a rename one rename that deletes the old values, and then at most one modify, of types of the two RDNs
+abbrev pub has_undo_size : List TypeRow → Option Content → ChangeKind → List Change → Bool
+has_undo_size rows before (kind.Add lines) (c ∷ []) = is_delete c.kind
+has_undo_size rows before kind.Delete (c ∷ []) = is_add c.kind
+has_undo_size rows before (kind.Modify mods) group = is_modify_at_most (map (λ m. m.description.key) mods) group
+has_undo_size rows before (kind.Rename rdn delete_old superior) (c ∷ more) = is_full_rename c.kind && is_modify_at_most (own_types before ++ types_in (rdn_key rows rdn)) more
+has_undo_size rows before other group = false
+
+-- the entry that a change names, before it
+abbrev pub entry_named : List TypeRow → Dir → Change → Option Content
+entry_named rows d change = option_and_then (entry_at d) (name_key rows change.dn)
+
+-- the directory in which a record that leads from one directory to another finds the entry that it names: for an add the second, for any other the first
 abbrev pub directory_that_names : ChangeKind → Dir → Dir → Dir
 directory_that_names (kind.Add lines) from to = to
 directory_that_names other from to = from
@@ -47,14 +93,15 @@ directory_that_names other from to = from
 abbrev pub NamesAsSpelled : List TypeRow → Dir → Change → Type 0
 NamesAsSpelled rows d change = (k : DnKeys) × (name_key rows change.dn ≡ Some k) × (change.dn ≡ spelled_name d k)
 
--- the size of an undo: one record of the opposite kind, which names the entry as it is spelled in the directory
-abbrev pub HasShape : List TypeRow → Dir → Dir → Change → List Change → Type 0
-HasShape rows before after change (back ∷ []) = (is_opposite change.kind back.kind ≡ true) × NamesAsSpelled rows (directory_that_names back.kind after before) back
-HasShape rows before after change group = ⊥
+-- each record of the group, applied one after the other, names an entry as it is spelled then
+abbrev pub AreNamedAsSpelled : List TypeRow → Dir → List Change → Type 0
+AreNamedAsSpelled rows d [] = ⊤
+AreNamedAsSpelled rows d (c ∷ cs) = (e : Dir) → step rows d c ≡ Ok e → NamesAsSpelled rows (directory_that_names c.kind d e) c × AreNamedAsSpelled rows e cs
 
--- an undo of a change: a group that undoes it, of that size
+-- an undo of a change: a group that undoes it, of that size, which names the entries as they are spelled
 abbrev pub IsUndo : List TypeRow → Dir → Dir → Change → List Change → Type 0
-IsUndo rows before after change group = Undoes rows before after change group × HasShape rows before after change group
+IsUndo rows before after change group =
+    Undoes rows before after change group × (has_undo_size rows (entry_named rows before change) change.kind group ≡ true) × AreNamedAsSpelled rows after group
 
 -- ---- the group that a run writes
 
@@ -70,9 +117,22 @@ abbrev pub lines_of_entry : Option Content → List (Described × List ℕ)
 lines_of_entry None = []
 lines_of_entry (Some e) = all_lines e.attributes
 
--- an add is taken back by one delete, and a delete by one add of all values, each of the entry's name as spelled
+abbrev pub attributes_of_entry : Option Content → StoredAttributes
+attributes_of_entry None = fin.empty
+attributes_of_entry (Some e) = e.attributes
+
+-- the modifications that lead from the entry at the key in one directory to the entry there in the other
+abbrev pub entry_difference : Dir → Dir → DnKeys → List Mod
+entry_difference from to k = difference (attributes_of_entry (entry_at from k)) (attributes_of_entry (entry_at to k))
+
+-- a modify of this name, if there is a modification
+abbrev pub modify_if_any : SpelledName → List Mod → List Change
+modify_if_any name [] = []
+modify_if_any name (m ∷ mods) = record { dn = name; kind = kind.Modify (m ∷ mods) } ∷ []
+
+-- an add is taken back by one delete, a delete by one add of all values, and a modify by the modifications that lead back, each of the entry's name as spelled
 abbrev pub undo_of : Dir → Dir → DnKeys → ChangeKind → List Change
 undo_of before after k (kind.Add lines) = record { dn = spelled_name after k; kind = kind.Delete } ∷ []
 undo_of before after k kind.Delete = record { dn = spelled_name before k; kind = kind.Add (lines_of_entry (entry_at before k)) } ∷ []
-undo_of before after k (kind.Modify mods) = []
+undo_of before after k (kind.Modify mods) = modify_if_any (spelled_name after k) (entry_difference after before k)
 undo_of before after k (kind.Rename rdn delete_old superior) = []

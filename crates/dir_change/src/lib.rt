@@ -3,8 +3,10 @@
 
 mod add;
 mod delete;
+mod difference;
 mod history;
 mod laws;
+mod modify;
 mod operation;
 mod result_code;
 mod undo;

@@ -2,7 +2,8 @@
 
 ghost use Rattle.std.specs.Prelude.{◌≡◌, IfErr, IfOk, IsOk, IsTrue, Ok, OnErr, OnOk, Some};
 ghost use Rattle.dir_change.specs.declared.operation.Refusal.TheVariants.{Memory};
-ghost use Rattle.dir_change.specs.Operation.{IsRefused, IsRefusedWithoutKey, directory_after, entry_refusal, step};
+ghost use Rattle.dir_change.specs.Operation.{IsRefused, IsRefusedWithoutKey, directory_after, step};
+ghost use Rattle.dir_change.specs.Refusals.{entry_refusal};
 ghost use Rattle.dir_names.specs.NameKeys.{name_key};
 ghost use Rattle.dir_tree.specs.WellFormed.{Each, IsWellFormed, IsWithinLimits};
 ghost use Rattle.dir_change.specs.Runs.{group_of};
@@ -11,6 +12,7 @@ ghost use Rattle.dir_change.specs.Undo.{IsUndo, undo_of};
 
 use crate::add::add;
 use crate::delete::delete;
+use crate::modify::modify;
 use crate::{ResultCode, Undo};
 use dir_ldif::{Change, ChangeKind};
 use dir_names::{Dn, DnKey, Memory, NameFault, Schema};
@@ -26,11 +28,11 @@ pub enum Refusal {
     Memory,
 }
 
-/// Applies one change as the root identity (RFC 4511, sections 4.7 and 4.8): an add or a delete; a
-/// modify or a rename is refused with 53 for now. Answers the changes that take it back.
+/// Applies one change as the root identity (RFC 4511, sections 4.6 to 4.8): an add, a delete or a
+/// modify; a rename is refused with 53 for now. Answers the changes that take it back.
 ///
-/// A refused change leaves the directory as it was. On a well-formed directory the answer takes the
-/// change back; a sound change leaves the directory well formed and within the limits.
+/// A refused change leaves the directory as it was. A sound change leaves a well-formed directory
+/// within the limits so, and the answer takes it back.
 ///
 /// # Errors
 ///
@@ -49,7 +51,8 @@ pub fn apply<D: Directory>(
     ensures undo { IfOk result (λ undo. undo ≡ group_of schema.now (D.state directory.old) (D.state directory.new) change.now) }
     ensures sound { IfOk result (λ undo. IsWellFormed schema.now (D.state directory.old) → IsWithinLimits (D.state directory.old) → IsSoundChange schema.now change.now →
         Each (IsSoundChange schema.now) undo) }
-    ensures undoes { IfOk result (λ undo. IsWellFormed schema.now (D.state directory.old) → IsUndo schema.now (D.state directory.old) (D.state directory.new) change.now undo) }
+    ensures undoes { IfOk result (λ undo. IsWellFormed schema.now (D.state directory.old) → IsWithinLimits (D.state directory.old) → IsSoundChange schema.now change.now →
+        IsUndo schema.now (D.state directory.old) (D.state directory.new) change.now undo) }
 {
     let key = key_of(alloc, schema, &change.dn)?;
     perform(alloc, schema, directory, change, &key)
@@ -71,9 +74,8 @@ fn perform<D: Directory>(
     match &change.kind {
         ChangeKind::Add(lines) => add(alloc, schema, directory, &change.dn, key, lines),
         ChangeKind::Delete => delete(alloc, directory, key),
-        ChangeKind::Modify(_) | ChangeKind::Rename { .. } => Err(Refusal::Code(
-            ResultCode::UnwillingToPerform,
-        )),
+        ChangeKind::Modify(mods) => modify(alloc, schema, directory, key, mods.as_slice()),
+        ChangeKind::Rename { .. } => Err(Refusal::Code(ResultCode::UnwillingToPerform)),
     }
 }
 

@@ -1,9 +1,10 @@
 //! The changes that take one change back.
 
 ghost use Rattle.std.specs.Prelude.{◌≡◌, [], ◌∷◌, IfOk};
+ghost use Rattle.dir_change.specs.Undo.{modify_if_any};
 
-use dir_ldif::Change;
-use dir_names::Memory;
+use dir_ldif::{Change, ChangeKind, Mod, Mods};
+use dir_names::{Dn, Memory};
 use std::alloc::Global;
 use std::marker::Model;
 
@@ -33,6 +34,17 @@ impl Undo {
         ensures { result ≡ records.items }
     {
         Undo { records }
+    }
+
+    /// A modify of this name, if there is a modification.
+    pub(crate) fn modify(alloc: Global, dn: Dn, mods: Vec<Mod>) -> Result<Undo, Memory>
+        ensures { IfOk result (λ u. u ≡ modify_if_any dn mods.items) }
+    {
+        if mods.is_empty() {
+            return Ok(Undo::new(Vec::new(alloc)));
+        }
+        let kind = ChangeKind::Modify(Mods::new(mods));
+        Undo::one(alloc, Change { dn, kind })
     }
 
     pub(crate) fn one(alloc: Global, change: Change) -> Result<Undo, Memory>

@@ -72,7 +72,7 @@ module _ (undo : GroupsUndo) (order : RunsStayInOrder) (rows : List TypeRow) whe
       by : ((e : Dir) → IsWellFormed rows e → IsWithinLimits e → EndsUndone e (run_to_end rows e cs)) → (r : Result Dir ResultCode) → step rows d c ≡ r → EndsUndone d (run_to_end rows d (c ∷ cs))
       by later (Ok e) is =
           let stays : StaysInOrder rows d (record { end = e; groups = group_of rows d e c ∷ [] }) = subst (StaysInOrder rows d) (one_further rows d e c is) (order rows d (c ∷ []) well within (sound.0, tt)).0 in
-          subst (EndsUndone d) (sym (goes_on_step rows d c cs (Ok e) is)) (c, e, sound.0, undo rows d e c well is, later e stays.0 stays.1)
+          subst (EndsUndone d) (sym (goes_on_step rows d c cs (Ok e) is)) (c, e, sound.0, undo rows d e c well within sound.0 is, later e stays.0 stays.1)
       by later (Err code) is = subst (EndsUndone d) (sym (goes_on_step rows d c cs (Err code) is)) (later d well within)
 
   pub groups_undone : (d : Dir) (ran : RunEnd) → IsWellFormed rows d → IsWithinLimits d → HasAccepted rows d ran.outcomes ran.end → AreUndos rows d (groups_in ran.outcomes) ran.end

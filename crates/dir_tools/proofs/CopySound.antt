@@ -27,7 +27,8 @@ use Rattle.dir_tree.proofs.SoundMade.{made_sound}
 use Rattle.dir_tree.proofs.OwnNames.{all_own_of}
 use Rattle.dir_tree.specs.SpelledNames.{own_rdns}
 use Rattle.dir_change.specs.declared.result_code.ResultCode.TheVariants.{NoSuchObject, EntryAlreadyExists}
-use Rattle.dir_change.proofs.StaysWellFormed.{legal_leaf, legal_lines}
+use Rattle.dir_change.proofs.LegalValues.{legal_lines}
+use Rattle.dir_change.proofs.StaysWellFormed.{legal_leaf}
 use Rattle.dir_change.proofs.AfterOperations.{key_length, made_own, own_named}
 use Rattle.dir_tools.specs.CopyOf.{LoadedCopy, refused_if, with_content, with_entry, with_record}
 use Rattle.dir_tools.specs.Inside.Loading.{AreSoundInPlace, IsSoundAt}

@@ -56,7 +56,7 @@ module _ (rows : List TypeRow) (go_on : Bool) where
 pub runs_back : CanonicalTextsReadBack → RunsAreTakenBack → RunsStayInOrder → UndoTextsReadBack → WrittenRunsAreTakenBack
 runs_back canonical back order undo rows d ran well within was =
     let ending : Ending = record { end = ran.end; groups = groups_in ran.outcomes } in
-    let leads : LeadsBack rows d ending = subst (LeadsBack rows d) was.2 (back rows d was.0 well was.1).0 in
+    let leads : LeadsBack rows d ending = subst (LeadsBack rows d) was.2 (back rows d was.0 well within was.1).0 in
     let reads : ReadsBack rows ending = subst (ReadsBack rows) was.2 (undo rows d was.0 well within was.1).0 in
     let stays : StaysInOrder rows d ending = subst (StaysInOrder rows d) was.2 (order rows d was.0 well within was.1).0 in
     (reads, λ go_on. by go_on (all_accepted rows go_on (undo_changes ending) ran.end d (records_of rows (undo_text_of (groups_in ran.outcomes))) reads leads) stays)

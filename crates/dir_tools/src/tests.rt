@@ -2,6 +2,7 @@
 
 mod devices;
 mod faults;
+mod modifies;
 mod runs;
 mod taken_back;
 

@@ -43,7 +43,7 @@ fn a_dry_run_reports_and_writes_nothing_else(rt: HostRuntime) -> Result<(), Fail
 
 #[test]
 fn what_is_refused_stays_as_it_was(rt: HostRuntime) -> Result<(), Fail> {
-    let rows: [(&[u8], &str); 10] = [
+    let rows: [(&[u8], &str); 9] = [
         (
             b"dn: dc=com\nchangetype: delete\n",
             "66 notAllowedOnNonLeaf",
@@ -72,10 +72,6 @@ fn what_is_refused_stays_as_it_was(rt: HostRuntime) -> Result<(), Fail> {
         (
             b"dn: uidNumber=1,dc=com\nchangetype: add\nuidNumber: 2\n",
             "19 constraintViolation",
-        ),
-        (
-            b"dn: cn=e,dc=com\nchangetype: modify\nadd: sn\nsn: x\n-\n",
-            "53 unwillingToPerform",
         ),
         (
             b"dn: cn=e,dc=com\nchangetype: modrdn\nnewrdn: cn=f\ndeleteoldrdn: 1\n",

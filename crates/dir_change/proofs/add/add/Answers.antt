@@ -11,7 +11,8 @@ use Rattle.dir_tree.specs.Dir.{Dir, entry_at, has_parent}
 use Rattle.dir_tree.specs.NewEntry.{IsEntryFaultOf, new_entry}
 use Rattle.dir_tree.specs.declared.fault.EntryFault.{EntryFault}
 use Rattle.dir_tree.specs.declared.fault.EntryFault.TheVariants.{BadValue, Twice, NotNamed, Single, Memory}
-use Rattle.dir_change.specs.Operation.{IsRefused, directory_after_add, entry_refusal, with_new_entry}
+use Rattle.dir_change.specs.Operation.{IsRefused, directory_after_add, with_new_entry}
+use Rattle.dir_change.specs.Refusals.{entry_refusal}
 use Rattle.dir_names.specs.Names.{SpelledName}
 use Rattle.dir_names.specs.Below.{is_at_or_below}
 use Rattle.dir_ldif.specs.declared.records.ChangeKind.TheVariants as kind

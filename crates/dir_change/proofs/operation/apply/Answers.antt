@@ -43,8 +43,8 @@ returns-clause-undoes g c =
     let new = g.D.Directory.state c.perform.new.directory in
     let change = c.args.change.now in
     let named = c.in_ok-key.ensures.ok in
-    if_both c.perform.result c.perform.ensures.ok c.perform.ensures.undo (λ undo led group well.
-    subst (IsUndo rows d new change) (ap (group_at d new change) named ∙ sym group) (groups_undo rows d new change well (ap (step_at rows d change) named ∙ led)))
+    if_both c.perform.result c.perform.ensures.ok c.perform.ensures.undo (λ undo led group well within sound.
+    subst (IsUndo rows d new change) (ap (group_at d new change) named ∙ sym group) (groups_undo rows d new change well within sound (ap (step_at rows d change) named ∙ led)))
 
 pub returns-clause-sound : goal.returns-clause-sound
 returns-clause-sound g c =

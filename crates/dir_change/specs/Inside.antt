@@ -1,0 +1,2 @@
+-- What the private functions of this crate meet. A reader of the public contracts needs none of it.
+pub mod ValuesInTurn

@@ -1,0 +1,282 @@
+//! The modify operation (RFC 4511, section 4.6) and the modify that takes it back.
+
+ghost use Rattle.std.specs.Prelude.{◌≡◌, IfErr, IfOk, IfSome, Ok, OnErr, OnOk, Option, Some, is_none, not, true};
+ghost use Rattle.std.specs.Option.{option_map};
+ghost use Rattle.std.specs.FinMap as fin;
+ghost use Rattle.dir_ldif.specs.declared.records.ChangeKind.TheVariants as kind;
+ghost use Rattle.dir_ldif.specs.declared.records.ModOp.TheVariants as op;
+ghost use Rattle.dir_tree.specs.Content.{Stored};
+ghost use Rattle.dir_tree.specs.Slots.{slot_of, spelling_or, values_of};
+ghost use Rattle.dir_change.specs.Inside.ValuesInTurn.{are_new, are_there, without_each};
+ghost use Rattle.dir_change.specs.Modify.{attributes_after, attributes_after_one, entry_after, keyed_value, keyed_values, slot_after, slot_after_op, values_with};
+ghost use Rattle.dir_change.specs.Operation.{IsRefused, directory_after_modify};
+ghost use Rattle.dir_change.specs.Refusals.{IsRefusedWith};
+ghost use Rattle.dir_change.specs.Undo.{undo_of};
+ghost use Rattle.dir_change.specs.declared.operation.Refusal.TheVariants as refusal;
+ghost use Rattle.dir_change.specs.declared.result_code.ResultCode.TheVariants as code;
+
+use crate::difference::difference;
+use crate::{Refusal, ResultCode, Undo};
+use dir_ldif::{Mod, ModOp};
+use dir_names::{AttrKey, Bytes, DnKey, NameFault, Schema, ValueKey};
+use dir_tree::{Attribute, AttributeMap, Directory, Entry};
+use std::alloc::Global;
+
+/// Modifies an entry (RFC 4511, section 4.6): 32 where it is missing; then the first refusal of a
+/// modification; then 67 where a value of the own RDN is missing, and 19 where a single type has more than
+/// one value. A modify of the keys that differ takes it back.
+pub(crate) fn modify<D: Directory>(
+    alloc: Global,
+    schema: &Schema,
+    directory: &mut D,
+    key: &DnKey,
+    mods: &[Mod],
+) -> Result<Undo, Refusal>
+    ensures ok { OnOk result (directory_after_modify schema.now (D.state directory.old) key.now mods.now ≡ Ok (D.state directory.new)) }
+    ensures refused { IfErr result (λ e. IsRefused e (directory_after_modify schema.now (D.state directory.old) key.now mods.now)) }
+    ensures err { OnErr result (D.state directory.new ≡ D.state directory.old) }
+    ensures undo { IfOk result (λ undo. undo ≡ undo_of (D.state directory.old) (D.state directory.new) key.now (kind.Modify mods.now)) }
+{
+    let Some(entry) = directory.get(key) else {
+        return Err(Refusal::Code(ResultCode::NoSuchObject));
+    };
+    let modified = modified_entry(alloc, schema, entry, mods)?;
+    let back = difference(alloc, &modified, entry, mods)?;
+    let undo = Undo::modify(alloc, directory.spelled(key)?, back)?;
+    let _ = directory.replace(key, modified);
+    Ok(undo)
+}
+
+/// A copy of the entry with all modifications, if none of them, nor the entry after them, is refused.
+fn modified_entry(
+    alloc: Global,
+    schema: &Schema,
+    entry: &Entry,
+    mods: &[Mod],
+) -> Result<Entry, Refusal>
+    ensures ok { IfOk result (λ modified. entry_after schema.now entry.now mods.now ≡ Ok modified) }
+    ensures refused { IfErr result (λ e. IsRefused e (entry_after schema.now entry.now mods.now)) }
+{
+    let mut parts = entry.try_clone(alloc)?.into_parts();
+    apply_all(alloc, schema, &mut parts.attributes, mods)?;
+    match parts.close(schema) {
+        Ok(modified) => Ok(modified),
+        Err((_, fault)) => Err(Refusal::from(fault)),
+    }
+}
+
+fn apply_all(
+    alloc: Global,
+    schema: &Schema,
+    attributes: &mut AttributeMap,
+    mods: &[Mod],
+) -> Result<(), Refusal>
+    ensures ok { OnOk result (attributes_after schema.now attributes.old mods.now ≡ Ok attributes.new) }
+    ensures refused { IfErr result (λ e. IsRefused e (attributes_after schema.now attributes.old mods.now)) }
+{
+    for m in mods {
+        apply_one(alloc, schema, attributes, m)?;
+    }
+    Ok(())
+}
+
+fn apply_one(
+    alloc: Global,
+    schema: &Schema,
+    attributes: &mut AttributeMap,
+    m: &Mod,
+) -> Result<(), Refusal>
+    ensures ok { OnOk result (attributes_after_one schema.now attributes.old m.now ≡ Ok attributes.new) }
+    ensures refused { IfErr result (λ e. IsRefused e (attributes_after_one schema.now attributes.old m.now)) }
+{
+    let attribute = attributes.take(m.description.key());
+    if let Some(modified) = modified_attribute(alloc, schema, m, attribute)? {
+        attributes.put(modified)?;
+    }
+    Ok(())
+}
+
+/// The attribute after a modification of its key, if it still has a value.
+fn modified_attribute(
+    alloc: Global,
+    schema: &Schema,
+    m: &Mod,
+    attribute: Option<Attribute>,
+) -> Result<Option<Attribute>, Refusal>
+    requires { IfSome attribute (λ a. a.key ≡ m.now.description.key) }
+    ensures ok { IfOk result (λ modified. slot_after schema.now m.now (option_map (λ a. a.stored) attribute) ≡ Ok (option_map (λ a. a.stored) modified)) }
+    ensures key { IfOk result (λ modified. IfSome modified (λ a. a.key ≡ m.now.description.key)) }
+    ensures refused { IfErr result (λ e. IsRefused e (slot_after schema.now m.now (option_map (λ a. a.stored) attribute))) }
+{
+    match m.op {
+        ModOp::Add => with_values(alloc, schema, m, attribute),
+        ModOp::Delete => without_values(alloc, schema, m, attribute),
+        ModOp::Replace => replaced(alloc, schema, m),
+    }
+}
+
+/// Adds the values of a modification. An attribute that is missing is made, spelled as in the
+/// modification.
+fn with_values(
+    alloc: Global,
+    schema: &Schema,
+    m: &Mod,
+    attribute: Option<Attribute>,
+) -> Result<Option<Attribute>, Refusal>
+    requires { IfSome attribute (λ a. a.key ≡ m.now.description.key) }
+    ensures ok { IfOk result (λ modified. slot_after_op schema.now m.now op.Add m.now.values (option_map (λ a. a.stored) attribute) ≡ Ok (option_map (λ a. a.stored) modified)) }
+    ensures key { IfOk result (λ modified. IfSome modified (λ a. a.key ≡ m.now.description.key)) }
+    ensures refused { IfErr result (λ e. IsRefused e (slot_after_op schema.now m.now op.Add m.now.values (option_map (λ a. a.stored) attribute))) }
+{
+    if m.values.as_slice().is_empty() {
+        return Err(Refusal::Code(ResultCode::ProtocolError));
+    }
+    let given = keyed_values(alloc, schema, m)?;
+    let mut attribute = attribute_or_new(alloc, m, attribute)?;
+    add_all(alloc, &mut attribute, given)?;
+    Ok(if_any(attribute))
+}
+
+/// Removes the values of a modification, or the whole attribute if it gives none.
+fn without_values(
+    alloc: Global,
+    schema: &Schema,
+    m: &Mod,
+    attribute: Option<Attribute>,
+) -> Result<Option<Attribute>, Refusal>
+    requires { IfSome attribute (λ a. a.key ≡ m.now.description.key) }
+    ensures ok { IfOk result (λ modified. slot_after_op schema.now m.now op.Delete m.now.values (option_map (λ a. a.stored) attribute) ≡ Ok (option_map (λ a. a.stored) modified)) }
+    ensures key { IfOk result (λ modified. IfSome modified (λ a. a.key ≡ m.now.description.key)) }
+    ensures refused { IfErr result (λ e. IsRefused e (slot_after_op schema.now m.now op.Delete m.now.values (option_map (λ a. a.stored) attribute))) }
+{
+    if m.values.as_slice().is_empty() {
+        return match attribute {
+            Some(_) => Ok(None),
+            None => Err(Refusal::Code(ResultCode::NoSuchAttribute)),
+        };
+    }
+    let given = keyed_values(alloc, schema, m)?;
+    let Some(attribute) = attribute else {
+        return Err(Refusal::Code(ResultCode::NoSuchAttribute));
+    };
+    let mut attribute = attribute;
+    if !remove_all(alloc, &mut attribute, given.as_slice()) {
+        return Err(Refusal::Code(ResultCode::NoSuchAttribute));
+    }
+    Ok(if_any(attribute))
+}
+
+/// The attribute with the values of a modification alone, spelled as there.
+fn replaced(alloc: Global, schema: &Schema, m: &Mod) -> Result<Option<Attribute>, Refusal>
+    ensures ok { IfOk result (λ modified. (slot : Option Stored) → slot_after_op schema.now m.now op.Replace m.now.values slot ≡ Ok (option_map (λ a. a.stored) modified)) }
+    ensures key { IfOk result (λ modified. IfSome modified (λ a. a.key ≡ m.now.description.key)) }
+    ensures refused { IfErr result (λ e. (slot : Option Stored) → IsRefused e (slot_after_op schema.now m.now op.Replace m.now.values slot)) }
+{
+    if m.values.as_slice().is_empty() {
+        return Ok(None);
+    }
+    let given = keyed_values(alloc, schema, m)?;
+    let mut attribute = new_attribute(alloc, m)?;
+    add_all(alloc, &mut attribute, given)?;
+    Ok(if_any(attribute))
+}
+
+/// The attribute, or one that is spelled as in the modification and still has no values.
+fn attribute_or_new(
+    alloc: Global,
+    m: &Mod,
+    attribute: Option<Attribute>,
+) -> Result<Attribute, Refusal>
+    requires { IfSome attribute (λ a. a.key ≡ m.now.description.key) }
+    ensures ok { IfOk result (λ a. a ≡ record { key = m.now.description.key; stored = record { spelling = spelling_or m.now.description.spelling (option_map (λ a. a.stored) attribute); values = values_of (option_map (λ a. a.stored) attribute) } }) }
+    ensures memory { IfErr result (λ e. e ≡ refusal.Memory) }
+{
+    match attribute {
+        Some(attribute) => Ok(attribute),
+        None => new_attribute(alloc, m),
+    }
+}
+
+/// The attribute of a modification, still without values.
+fn new_attribute(alloc: Global, m: &Mod) -> Result<Attribute, Refusal>
+    ensures ok { IfOk result (λ a. a ≡ record { key = m.now.description.key; stored = record { spelling = m.now.description.spelling; values = fin.empty } }) }
+    ensures memory { IfErr result (λ e. e ≡ refusal.Memory) }
+{
+    match m.description.try_clone(alloc) {
+        Ok(description) => Ok(Attribute::new(alloc, description)),
+        Err(_) => Err(Refusal::Memory),
+    }
+}
+
+/// The attribute, unless it has no value.
+fn if_any(attribute: Attribute) -> Option<Attribute>
+    ensures slot { option_map (λ a. a.stored) result ≡ slot_of attribute.stored.spelling attribute.stored.values }
+    ensures key { IfSome result (λ a. a.key ≡ attribute.key) }
+{
+    if attribute.is_empty() {
+        None
+    } else {
+        Some(attribute)
+    }
+}
+
+/// The values of a modification with their keys. 21 where one has no key.
+fn keyed_values(alloc: Global, schema: &Schema, m: &Mod) -> Result<Vec<(ValueKey, Bytes)>, Refusal>
+    ensures ok { IfOk result (λ given. keyed_values schema.now m.now.description.key m.now.values ≡ Some given.items) }
+    ensures refused { IfErr result (λ e. IsRefusedWith code.InvalidAttributeSyntax (is_none (keyed_values schema.now m.now.description.key m.now.values)) e) }
+{
+    let mut given = Vec::with_capacity(alloc, m.values.as_slice().len())?;
+    for value in m.values.as_slice() {
+        let key = value_key(alloc, schema, m.description.key(), value)?;
+        let Ok(bytes) = value.try_clone(alloc) else {
+            return Err(Refusal::Memory);
+        };
+        given.push((key, bytes))?;
+    }
+    Ok(given)
+}
+
+fn value_key(
+    alloc: Global,
+    schema: &Schema,
+    attr: &AttrKey,
+    value: &Bytes,
+) -> Result<ValueKey, Refusal>
+    ensures ok { IfOk result (λ key. keyed_value schema.now attr.now value.now ≡ Some (key, value.now)) }
+    ensures refused { IfErr result (λ e. IsRefusedWith code.InvalidAttributeSyntax (is_none (keyed_value schema.now attr.now value.now)) e) }
+{
+    match schema.value_key(alloc, attr, value.as_slice()) {
+        Ok(key) => Ok(key),
+        Err(NameFault::Memory) => Err(Refusal::Memory),
+        Err(_) => Err(Refusal::Code(ResultCode::InvalidAttributeSyntax)),
+    }
+}
+
+/// Adds values. 20 where one is there already or comes twice.
+fn add_all(
+    alloc: Global,
+    attribute: &mut Attribute,
+    given: Vec<(ValueKey, Bytes)>,
+) -> Result<(), Refusal>
+    ensures ok { OnOk result (attribute.new ≡ record { key = attribute.old.key; stored = record { spelling = attribute.old.stored.spelling; values = values_with attribute.old.stored.values given.items } }) }
+    ensures new { OnOk result (are_new attribute.old.stored.values given.items ≡ true) }
+    ensures refused { IfErr result (λ e. IsRefusedWith code.AttributeOrValueExists (not (are_new attribute.old.stored.values given.items)) e) }
+{
+    for (key, bytes) in given {
+        attribute.add(alloc, key, bytes)?;
+    }
+    Ok(())
+}
+
+/// Removes values, and tells whether each was there, none of them twice.
+fn remove_all(alloc: Global, attribute: &mut Attribute, given: &[(ValueKey, Bytes)]) -> bool
+    ensures there { result ≡ are_there attribute.old.stored.values given.now }
+    ensures rest { result ≡ true → attribute.new ≡ record { key = attribute.old.key; stored = record { spelling = attribute.old.stored.spelling; values = without_each attribute.old.stored.values given.now } } }
+{
+    for value in given {
+        if attribute.remove(alloc, &value.0).is_none() {
+            return false;
+        }
+    }
+    true
+}
