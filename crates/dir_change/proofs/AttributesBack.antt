@@ -1,9 +1,8 @@
 -- The difference of two entries' attributes leads from the first to the second.
-use Rattle.std.proofs.Common.{◌≡◌, ℕ, Bool, true, false, cond, not, ◌||◌, ◌&&◌, List, [], ◌∷◌, ◌++◌, map, Option, Some, None, is_some, Result, Ok, Err, refl, sym, ap, subst, ◌∙◌, true≢false}
-use Rattle.std.specs.Bool.{⊤}
-use Rattle.std.specs.List.{flat_map, list_all, list_any}
+use Rattle.std.proofs.Common.{◌≡◌, ℕ, Bool, true, false, cond, ◌||◌, List, [], ◌∷◌, ◌++◌, map, Option, Some, None, is_some, Result, Ok, Err, refl, sym, ap, ◌∙◌, true≢false}
+use Rattle.std.specs.List.{list_all}
 use Rattle.std.specs.FinMap as fin
-use Rattle.std.specs.FinMap.{contains_key-keys, get-entries, get-insert, get-remove, same_map}
+use Rattle.std.specs.FinMap.{contains_key-keys, get-insert, get-remove, same_map}
 use Rattle.std.specs.Ordering.{eq_by_cmp, is_eq, is_lt}
 use Rattle.std.specs.Cmp.{tied_itself}
 use Rattle.dir_names.specs.declared.schema.TypeRow.{TypeRow}
@@ -17,7 +16,7 @@ use Rattle.dir_ldif.specs.declared.records.ModOp.{ModOp}
 use Rattle.dir_ldif.specs.declared.records.ModOp.TheVariants as op
 use Rattle.dir_tree.specs.Content.{Stored, StoredAttributes}
 use Rattle.dir_tree.specs.Slots.{with_slot}
-use Rattle.dir_tree.specs.WellFormed.{Each, IsSoundAttribute}
+use Rattle.dir_tree.specs.WellFormed.{Each}
 use Rattle.dir_change.specs.Difference.{bytes_of, difference, difference_at, modification_if_any, slot_difference, values_missing_in}
 use Rattle.dir_change.specs.Modify.{attributes_after, slot_after}
 use Rattle.dir_change.specs.declared.result_code.ResultCode.{ResultCode}

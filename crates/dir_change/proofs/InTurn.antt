@@ -1,6 +1,6 @@
 -- Values that are added or removed one after the other, as sets.
-use Rattle.std.proofs.Common.{◌≡◌, ℕ, Bool, true, false, cond, not, ◌&&◌, ◌||◌, List, [], ◌∷◌, map, Option, Some, None, is_some, refl, sym, ap, ◌∙◌, true≢false}
-use Rattle.std.specs.List.{list_all, list_any}
+use Rattle.std.proofs.Common.{◌≡◌, ℕ, Bool, true, false, cond, not, ◌&&◌, ◌||◌, List, [], ◌∷◌, map, Option, Some, None, is_some, refl, sym, ap, ◌∙◌}
+use Rattle.std.specs.List.{list_any}
 use Rattle.std.specs.FinMap as fin
 use Rattle.std.specs.FinMap.{get-insert, get-remove}
 use Rattle.std.specs.FinMap.Entries.{is_some-find}
@@ -8,11 +8,10 @@ use Rattle.std.specs.Ordering.{eq_by_cmp}
 use Rattle.std.specs.Cmp.{eq_by_cmp_equiv}
 use Rattle.dir_names.specs.declared.value.ValueKey.{ValueKey}
 use Rattle.dir_names.specs.Values.{value_key_cmp, value_key_cmp_total}
-use Rattle.dir_names.proofs.Both.{left, right}
 use Rattle.dir_tree.specs.Content.{StoredValues}
 use Rattle.dir_change.specs.Inside.ValuesInTurn.{are_new, are_there, without_each}
 use Rattle.dir_change.specs.Modify.{KeyedValues, are_distinct, has_all, has_any, is_given, values_without}
-use Rattle.dir_change.proofs.ValueSets.{found, get_without, same_value, same_values}
+use Rattle.dir_change.proofs.ValueSets.{found, get_without, same_values}
 
 -- ---- added
 

@@ -1,7 +1,7 @@
 -- Sets of keys in order: their members, and what is listed for each of them.
-use Rattle.std.proofs.Common.{◌≡◌, Bool, true, false, cond, not, ◌||◌, ◌&&◌, List, [], ◌∷◌, ◌++◌, map, Option, Some, None, is_some, refl, sym, ap, subst, ◌∙◌, true≢false, T}
+use Rattle.std.proofs.Common.{◌≡◌, Bool, true, false, cond, ◌||◌, List, [], ◌∷◌, ◌++◌, map, Some, None, refl, sym, ap, ◌∙◌, true≢false, T}
 use Rattle.std.specs.Bool.{⊤}
-use Rattle.std.specs.List.{filter, flat_map, fold, list_all, list_any}
+use Rattle.std.specs.List.{flat_map, fold, list_all, list_any}
 use Rattle.std.specs.FinMap.{find}
 use Rattle.std.specs.FinMap.Entries.{find-where_key, is_sorted, is_sorted-where_key, same_entries, where_key}
 use Rattle.std.specs.Ordering.{eq_by_cmp, is_eq, is_lt, match_ordering}

@@ -1,20 +1,19 @@
 -- What a modification comes to, test by test.
-use Rattle.std.proofs.Common.{◌≡◌, ℕ, suc, Bool, true, false, cond, not, ◌&&◌, ◌||◌, ◌==◌, List, [], ◌∷◌, length, Option, Some, None, is_some, Result, Ok, Err, refl, sym, ap, ◌∙◌, true≢false, arith}
+use Rattle.std.proofs.Common.{◌≡◌, ℕ, suc, Bool, true, false, not, ◌&&◌, ◌||◌, ◌==◌, List, [], ◌∷◌, length, Option, Some, None, is_some, Result, Ok, Err, refl, sym, ap, ◌∙◌, true≢false, arith}
 use Rattle.std.specs.FinMap as fin
 use Rattle.std.specs.FinMap.{get-empty}
 use Rattle.std.specs.Option.{is_none, ok_or}
 use Rattle.std.proofs.lemmas.Bool.Decides.{nat_tests}
 use Rattle.dir_names.specs.declared.schema.TypeRow.{TypeRow}
 use Rattle.dir_names.specs.declared.value.ValueKey.{ValueKey}
-use Rattle.dir_names.specs.Attr.{Attr}
 use Rattle.dir_names.specs.Results.{and_then, option_cons}
 use Rattle.dir_names.specs.Values.{value_key_cmp}
 use Rattle.dir_ldif.specs.declared.records.Mod.{Mod}
 use Rattle.dir_ldif.specs.declared.records.ModOp.TheVariants as op
-use Rattle.dir_tree.specs.Content.{Stored, StoredValues}
+use Rattle.dir_tree.specs.Content.{Stored}
 use Rattle.dir_tree.specs.Slots.{slot_of, spelling_or, values_of}
 use Rattle.dir_change.specs.Inside.ValuesInTurn.{are_new, are_there, without_each}
-use Rattle.dir_change.specs.Modify.{KeyedValues, are_distinct, has_all, has_any, if_keyed, keyed_value, keyed_values, no_slot, slot_after_op, slot_of_given, slot_with, slot_without, values_with}
+use Rattle.dir_change.specs.Modify.{KeyedValues, are_distinct, has_any, if_keyed, keyed_value, keyed_values, no_slot, slot_after_op, slot_of_given, slot_with, slot_without, values_with}
 use Rattle.dir_change.specs.Operation.{IsRefused}
 use Rattle.dir_change.specs.Refusals.{IsRefusedWith, unless}
 use Rattle.dir_change.specs.declared.operation.Refusal.{Refusal}

@@ -1,5 +1,5 @@
 -- A modify of a directory, and the modify that takes it back.
-use Rattle.std.proofs.Common.{◌≡◌, Bool, true, false, cond, List, [], ◌∷◌, Option, Some, None, is_some, Result, Ok, Err, refl, sym, ap, subst, ◌∙◌}
+use Rattle.std.proofs.Common.{◌≡◌, Bool, true, false, cond, List, [], ◌∷◌, Option, Some, None, is_some, Result, Ok, Err, refl, sym, ap, ◌∙◌}
 use Rattle.std.specs.FinMap.{same_map}
 use Rattle.std.specs.Ordering.{eq_by_cmp}
 use Rattle.dir_names.specs.declared.schema.TypeRow.{TypeRow}
@@ -17,7 +17,7 @@ use Rattle.dir_tree.specs.WellFormed.{Each, IsWellFormed}
 use Rattle.dir_tree.proofs.DirLemmas.{get_put, same_key}
 use Rattle.dir_change.specs.Difference.{difference}
 use Rattle.dir_change.specs.Modify.{entry_after, with_attributes}
-use Rattle.dir_change.specs.Operation.{directory_after_modify, step, step_at, with_modified_entry}
+use Rattle.dir_change.specs.Operation.{directory_after_modify, step_at, with_modified_entry}
 use Rattle.dir_change.specs.Undo.{TakesBack, attributes_of_entry, entry_difference, modify_if_any, undo_of}
 use Rattle.dir_change.specs.declared.result_code.ResultCode.{ResultCode}
 use Rattle.dir_change.proofs.AfterOperations.{itself, spelled_key}

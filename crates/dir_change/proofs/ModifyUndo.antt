@@ -1,5 +1,5 @@
 -- The group of a modify is the difference at the keys that it names.
-use Rattle.std.proofs.Common.{◌≡◌, Bool, false, List, Option, Some, Result, Ok, sym, ap, map, ◌∙◌}
+use Rattle.std.proofs.Common.{◌≡◌, false, List, Some, Ok, sym, ap, map, ◌∙◌}
 use Rattle.std.specs.FinMap as fin
 use Rattle.dir_names.specs.declared.schema.TypeRow.{TypeRow}
 use Rattle.dir_names.specs.Attr.{Attr}

@@ -1,8 +1,7 @@
 -- The modifications from what is under a key to what is to be there lead to it.
-use Rattle.std.proofs.Common.{◌≡◌, ℕ, suc, Bool, true, false, cond, not, ◌&&◌, ◌||◌, ◌==◌, List, [], ◌∷◌, ◌++◌, length, map, Option, Some, None, is_some, Result, Ok, Err, refl, sym, ap, subst, ◌∙◌, true≢false, arith}
+use Rattle.std.proofs.Common.{◌≡◌, ℕ, suc, Bool, true, false, cond, not, ◌&&◌, ◌||◌, ◌==◌, List, [], ◌∷◌, ◌++◌, length, Option, Some, None, is_some, Result, Ok, Err, refl, sym, ap, subst, ◌∙◌, true≢false, arith}
 use Rattle.std.proofs.lemmas.Bool.Decides.{nat_tests}
 use Rattle.std.specs.Bool.{⊤}
-use Rattle.std.specs.List.{filter, list_all, list_any}
 use Rattle.std.specs.FinMap as fin
 use Rattle.std.specs.FinMap.{get-empty, len-entries}
 use Rattle.std.specs.Option.{ok_or}
@@ -18,7 +17,7 @@ use Rattle.dir_tree.specs.Content.{Stored, StoredValues}
 use Rattle.dir_tree.specs.Slots.{slot_of, spelling_or, values_of}
 use Rattle.dir_tree.specs.WellFormed.{Each, IsSoundAttribute, IsSoundValue}
 use Rattle.dir_change.specs.Difference.{are_bytes_of, bytes_of, has_exactly, modification, modification_if_any, slot_difference, values_missing_in}
-use Rattle.dir_change.specs.Modify.{KeyedValues, are_distinct, has_all, has_any, if_keyed, is_given, keyed_values, slot_after, slot_of_given, slot_with, slot_without, values_with, values_without}
+use Rattle.dir_change.specs.Modify.{KeyedValues, are_distinct, has_all, has_any, if_keyed, keyed_values, slot_after, slot_of_given, slot_with, slot_without, values_with, values_without}
 use Rattle.dir_change.specs.Refusals.{unless}
 use Rattle.dir_change.specs.declared.result_code.ResultCode.{ResultCode}
 use Rattle.dir_change.specs.declared.result_code.ResultCode.TheVariants.{AttributeOrValueExists, InvalidAttributeSyntax, NoSuchAttribute}

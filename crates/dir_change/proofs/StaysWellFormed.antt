@@ -1,32 +1,25 @@
 -- A sound change leaves a directory in good order.
-use Rattle.std.proofs.Common.{◌≡◌, ℕ, suc, ◌≤◌, Bool, true, false, cond, not, ◌&&◌, ◌||◌, ◌==◌, nat_le, List, [], ◌∷◌, ◌++◌, length, Option, Some, None, is_some, Result, Ok, Err, refl, sym, ap, subst, ◌∙◌, true≢false, arith, length-append, ◌<◌, nat_lt, zero}
-use Rattle.std.specs.Prelude.{slice_index}
+use Rattle.std.proofs.Common.{◌≡◌, ℕ, suc, ◌≤◌, Bool, true, false, cond, not, ◌||◌, ◌==◌, nat_le, List, [], ◌∷◌, ◌++◌, length, Option, Some, None, is_some, Ok, refl, sym, ap, subst, ◌∙◌, true≢false, arith, length-append}
 use Rattle.std.specs.List.{list_all}
 use Rattle.std.proofs.lemmas.Bool.Decides.{nat_tests}
 use Rattle.std.specs.Ordering.{eq_by_cmp}
-use Rattle.dir_names.specs.declared.fault.NameFault.{NameFault}
-use Rattle.dir_names.specs.declared.fault.NameFault.TheVariants.{BadDescription, ReservedName}
 use Rattle.dir_names.specs.declared.schema.TypeRow.{TypeRow}
-use Rattle.dir_names.specs.Attr.{Attr}
-use Rattle.dir_names.specs.Cut.{parts_at}
-use Rattle.dir_names.specs.Described.{Described}
-use Rattle.dir_names.specs.Descriptions.{description_from, description_of, is_option, is_reserved, is_type}
 use Rattle.dir_names.specs.Keys.{DnKeys}
 use Rattle.dir_names.specs.Names.{SpelledName, SpelledPair, SpelledRdn}
 use Rattle.dir_names.specs.NameKeys.{name_key}
-use Rattle.dir_names.specs.Orders.{attr_eq_decides, dn_key_cmp, dn_key_eq}
+use Rattle.dir_names.specs.Orders.{dn_key_cmp, dn_key_eq}
 use Rattle.dir_names.specs.Names.Printing.{escape_of, is_special, printed_byte, printed_pair, printed_rdn, printed_rest, printed_value}
 use Rattle.dir_names.specs.Names.Limits.{is_rdn_within_limit, is_within_limits}
 use Rattle.dir_names.specs.Names.Sound.{is_sound_name, is_sound_pair, is_sound_rdn}
 use Rattle.dir_ldif.specs.declared.records.Change.{Change}
 use Rattle.dir_ldif.specs.declared.records.ChangeKind.{ChangeKind}
 use Rattle.dir_ldif.specs.declared.records.ChangeKind.TheVariants as kind
-use Rattle.dir_ldif.specs.SoundRecords.{IsSoundKind, ValuesAreBytes}
-use Rattle.dir_ldif.specs.LegalRecords.{has_this_key, is_legal_kind, is_legal_line, is_read_under, is_short}
+use Rattle.dir_ldif.specs.SoundRecords.{IsSoundKind}
+use Rattle.dir_ldif.specs.LegalRecords.{is_legal_kind}
 use Rattle.dir_tree.specs.Content.{Content}
 use Rattle.dir_tree.specs.Dir.{Dir, entry_at, has_child, has_parent, put_entry, remove_entry}
 use Rattle.dir_tree.specs.NewEntry.{leaf_of}
-use Rattle.dir_tree.specs.WellFormed.{Each, are_bytes, IsLegalLine, IsLegalPair, IsSoundEntry, IsWellFormed, own_part}
+use Rattle.dir_tree.specs.WellFormed.{Each, IsLegalPair, IsSoundEntry, IsWellFormed, own_part}
 use Rattle.dir_tree.proofs.DirLemmas.{closed_put, closed_without, get_put, get_without, same_key}
 use Rattle.dir_tree.proofs.SoundMade.{made_sound}
 use Rattle.dir_tree.specs.SpelledNames.{own_rdns}

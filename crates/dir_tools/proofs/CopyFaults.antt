@@ -19,7 +19,7 @@ use Rattle.dir_tree.specs.SpelledNames.{own_rdns}
 use Rattle.dir_change.specs.declared.operation.Refusal.TheVariants as refusal
 use Rattle.dir_change.specs.declared.result_code.ResultCode.{ResultCode}
 use Rattle.dir_change.specs.declared.result_code.ResultCode.TheVariants.{NoSuchObject, EntryAlreadyExists}
-use Rattle.dir_change.specs.Operation.{code_of, entry_refusal}
+use Rattle.dir_change.specs.Refusals.{code_of, entry_refusal}
 use Rattle.dir_tools.specs.declared.copy.loading.Loading.{Loading}
 use Rattle.dir_tools.specs.declared.copy.loading.Waiting.{Waiting}
 use Rattle.dir_tools.specs.declared.fault.Cause.{Cause}

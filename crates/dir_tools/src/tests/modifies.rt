@@ -1,8 +1,8 @@
 //! Modifies, and the modifies that take them back.
 
 use super::{STOP, VERBOSE, Want, assert_text, assert_wrote, run_over};
-use std::process::Abort;
 use std::alloc::Global;
+use std::process::Abort;
 use std::test::Fail;
 
 /// One modify of an entry below `dc=com`: the entry, the modifications, the entry after them, and the
@@ -44,7 +44,13 @@ fn assert_taken_back(alloc: Global, rt: &impl Abort, row: &Modify<'_>) -> Result
             report: "accepted 1, refused 0\n",
         },
     );
-    let back = run_over(alloc, "dc=com", STOP, one.out.as_slice(), one.undo.as_slice())?;
+    let back = run_over(
+        alloc,
+        "dc=com",
+        STOP,
+        one.out.as_slice(),
+        one.undo.as_slice(),
+    )?;
     assert_text(rt, back.out.as_slice(), copy.as_str());
     Ok(())
 }
@@ -202,10 +208,7 @@ fn a_refused_modify_leaves_the_entry_as_it_was(rt: HostRuntime) -> Result<(), Fa
             "add: description\ndescription: FOO\n-\n",
             "20 attributeOrValueExists",
         ),
-        (
-            "add: sn\nsn: a\nsn: A\n-\n",
-            "20 attributeOrValueExists",
-        ),
+        ("add: sn\nsn: a\nsn: A\n-\n", "20 attributeOrValueExists"),
         (
             "replace: sn\nsn: a\nsn: A\n-\n",
             "20 attributeOrValueExists",
@@ -230,7 +233,9 @@ fn a_refused_modify_leaves_the_entry_as_it_was(rt: HostRuntime) -> Result<(), Fa
             &Want {
                 undo: "version: 1\n\n",
                 out: copy.as_str(),
-                report: format!(in alloc; "line 1: refused, {code}\naccepted 0, refused 1\n")?.as_str(),
+                report: format!(in alloc;
+                    "line 1: refused, {code}\naccepted 0, refused 1\n"
+                )?.as_str(),
             },
         );
     }
@@ -255,7 +260,8 @@ fn a_missing_entry_cannot_be_modified(rt: HostRuntime) -> Result<(), Fail> {
 fn a_folded_value_with_a_comment_before_it_is_added(rt: HostRuntime) -> Result<(), Fail> {
     let alloc = rt.alloc();
     let copy = copy_of(alloc, "cn=e", "cn: e\nnote: x\n")?;
-    let changes = b"# folded\r\n  comment\r\ndn: cn=e,dc=com\r\nchangetype: modify\r\nadd: description\r\ndescription: two\r\n  words \r\n";
+    let changes =
+        b"# folded\r\n  comment\r\ndn: cn=e,dc=com\r\nchangetype: modify\r\nadd: description\r\ndescription: two\r\n  words \r\n";
     let one = run_over(alloc, "dc=com", VERBOSE, copy.as_bytes(), changes)?;
     assert_wrote(
         &rt,
@@ -292,7 +298,13 @@ fn modifies_between_other_changes_are_taken_back_last_one_first(
             report: "accepted 4, refused 0\n",
         },
     );
-    let back = run_over(alloc, "dc=com", STOP, one.out.as_slice(), one.undo.as_slice())?;
+    let back = run_over(
+        alloc,
+        "dc=com",
+        STOP,
+        one.out.as_slice(),
+        one.undo.as_slice(),
+    )?;
     assert_text(&rt, back.out.as_slice(), copy.as_str());
     assert_text(&rt, back.report.as_slice(), "accepted 4, refused 0\n");
     Ok(())

@@ -2,7 +2,7 @@ use Rattle.std.proofs.Common.{◌≡◌, IfSome, Ok, Option, Some, None, sym, ap
 use Rattle.std.specs.Option.{option_map}
 use Rattle.std.specs.FinMap as fin
 use Rattle.dir_names.specs.Results.{and_then}
-use Rattle.dir_tree.specs.Content.{Keyed, Stored}
+use Rattle.dir_tree.specs.Content.{Keyed}
 use Rattle.dir_tree.specs.Slots.{with_slot}
 use Rattle.dir_change.specs.Modify.{slot_after}
 use Rattle.dir_change.proofs.AttributesBack.{slot_again}

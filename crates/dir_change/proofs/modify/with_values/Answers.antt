@@ -1,12 +1,11 @@
-use Rattle.std.proofs.Common.{◌≡◌, Bool, true, false, not, ◌==◌, length, List, Option, Some, None, Result, Ok, Err, refl, sym, ap, subst, ◌∙◌, rules}
-use Rattle.std.specs.FinMap as fin
+use Rattle.std.proofs.Common.{◌≡◌, true, false, not, ◌==◌, length, Option, Ok, sym, ap, subst, ◌∙◌, rules}
 use Rattle.std.specs.Option.{option_map}
 use Rattle.std.proofs.lemmas.Result.{err_from_is_err_and}
 use Rattle.dir_ldif.specs.declared.records.ModOp.TheVariants as op
 use Rattle.dir_tree.specs.Content.{Keyed, Stored}
-use Rattle.dir_tree.specs.Slots.{slot_of, spelling_or, values_of}
-use Rattle.dir_change.specs.Inside.ValuesInTurn.{are_new, are_there, without_each}
-use Rattle.dir_change.specs.Modify.{keyed_values, slot_after_op, values_with}
+use Rattle.dir_tree.specs.Slots.{slot_of, values_of}
+use Rattle.dir_change.specs.Inside.ValuesInTurn.{are_new}
+use Rattle.dir_change.specs.Modify.{slot_after_op, values_with}
 use Rattle.dir_change.specs.Operation.{IsRefused}
 use Rattle.dir_change.specs.Refusals.{IsRefusedWith}
 use Rattle.dir_change.specs.declared.result_code.ResultCode.TheVariants as code

@@ -1,6 +1,4 @@
-use Rattle.std.proofs.Common.{◌≡◌, ap, ◌∙◌, true≢false, Some, Result, Ok, Err, OnOk, IfOk, IsOk, sym, subst}
-use Rattle.dir_names.specs.NameKeys.{name_key}
-use Rattle.dir_ldif.specs.declared.records.Change.{Change}
+use Rattle.std.proofs.Common.{ap, ◌∙◌, true≢false, Result, Ok, Err, OnOk, IfOk, IsOk, sym, subst}
 use Rattle.dir_tree.specs.WellFormed.{Each}
 use Rattle.dir_change.specs.Operation.{step_at}
 use Rattle.dir_change.specs.Runs.{group_at}

@@ -9,7 +9,7 @@ use Rattle.dir_tree.specs.Dir.{entry_at, put_entry}
 use Rattle.dir_tree.specs.NewEntry.{IsEntryFaultOf, new_entry}
 use Rattle.dir_tree.specs.SpelledNames.{own_rdns}
 use Rattle.dir_change.specs.declared.operation.Refusal.TheVariants as refusal
-use Rattle.dir_change.specs.Operation.{entry_refusal}
+use Rattle.dir_change.specs.Refusals.{entry_refusal}
 use Rattle.dir_change.proofs.Conditions.{below_false, below_true}
 use Rattle.dir_tools.specs.CopyOf.{with_content}
 use Rattle.dir_tools.specs.Inside.Loading.{AllWait, IsCopyFault, IsMadeOf, waiting_or}
