@@ -7,8 +7,10 @@ pub mod CopySound
 pub mod Examples
 pub mod Orphans
 pub mod ReadCalls
+pub mod RoundTrips
 pub mod RunBack
 pub mod RunLemmas
+pub mod Shown
 pub mod Small
 pub mod SoundCopies
 pub mod SuffixLemmas

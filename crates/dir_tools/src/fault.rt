@@ -1,6 +1,7 @@
 //! Why a tool gives no answer, and the texts of these faults.
 
 ghost use Rattle.std.specs.Prelude.{◌≡◌, Some};
+ghost use Rattle.std.specs.Fmt.{decimal, formatter_spec, option_append, DisplaysOnOk, DisplaysStyledOnOk};
 ghost use Rattle.dir_tools.specs.FaultText.{input_text, item_text, output_text, tool_fault_text};
 ghost use Rattle.dir_tools.specs.Report.{cause_text};
 ghost use Rattle.dir_tools.specs.declared.fault.ToolFault.TheVariants.{Memory};
@@ -8,6 +9,7 @@ ghost use Rattle.dir_tools.specs.declared.fault.ToolFault.TheVariants.{Memory};
 use dir_change::ResultCode;
 use dir_ldif::{RecordFault, StreamFault};
 use dir_names::Memory;
+use itoa::Buffer;
 use std::alloc::AllocFailed;
 use std::fmt::{self, Display};
 use thiserror::Error;
@@ -33,14 +35,19 @@ pub enum ToolFault {
 impl Display for ToolFault {
     ghost output = { λ fault. Some (tool_fault_text fault) };
 
+    ghost styled_output = { λ fault _. Some (tool_fault_text fault) };
+
     fn fmt<W: fmt::Write>(&self, f: &mut fmt::Formatter<W>) -> fmt::Result {
         match self {
-            ToolFault::BadCopy(line, cause) => write!(f, "copy, line {line}: {cause}"),
-            ToolFault::Read(input) => write!(f, "cannot read {input}"),
-            ToolFault::Write(output) => write!(f, "cannot write {output}"),
+            ToolFault::BadCopy(line, cause) => {
+                show_after(f, "copy, line ", &Number(*line))?;
+                show_after(f, ": ", cause)
+            }
+            ToolFault::Read(input) => show_after(f, "cannot read ", input),
+            ToolFault::Write(output) => show_after(f, "cannot write ", output),
             ToolFault::Memory => f.write_str("out of memory"),
-            ToolFault::BadQuestion(item) => write!(f, "bad question: {item}"),
-            ToolFault::BadChanges(fault) => write!(f, "changes: {fault}"),
+            ToolFault::BadQuestion(item) => show_after(f, "bad question: ", item),
+            ToolFault::BadChanges(fault) => show_after(f, "changes: ", fault),
         }
     }
 }
@@ -127,14 +134,44 @@ pub enum Item {
 impl Display for Item {
     ghost output = { λ item. Some (item_text item) };
 
+    ghost styled_output = { λ item _. Some (item_text item) };
+
     fn fmt<W: fmt::Write>(&self, f: &mut fmt::Formatter<W>) -> fmt::Result {
         match self {
             Item::Suffix => f.write_str("suffix"),
             Item::Base => f.write_str("base"),
             Item::Authc => f.write_str("authcDN"),
-            Item::Word(n) => write!(f, "word {n}"),
+            Item::Word(n) => show_after(f, "word ", &Number(*n)),
         }
     }
+}
+
+/// A number, shown by its decimal digits alone, as `{}` shows it.
+#[derive(Drop)]
+struct Number(u64);
+
+impl Display for Number {
+    ghost output = { λ number. Some (decimal number.0) };
+
+    ghost styled_output = { λ number _. Some (decimal number.0) };
+
+    fn fmt<W: fmt::Write>(&self, f: &mut fmt::Formatter<W>) -> fmt::Result {
+        let mut digits = Buffer::new();
+        f.write_str(digits.format(self.0))
+    }
+}
+
+/// Shows a value after some words.
+fn show_after<W: fmt::Write, D: Display>(
+    f: &mut fmt::Formatter<W>,
+    words: &str,
+    value: &D,
+) -> fmt::Result
+    ensures writes { DisplaysOnOk W.write_str_gives f.old result (option_append (Some words.now) (D.output value.now)) f.new }
+    ensures styled { DisplaysStyledOnOk W.write_str_gives f.old result (option_append (Some words.now) (D.styled_output value.now (formatter_spec f.old))) f.new }
+{
+    f.write_str(words)?;
+    value.fmt(f)
 }
 
 impl From<Memory> for ToolFault {

@@ -1,12 +1,13 @@
 //! A run there and back in memory: it shows in one call what the headline says.
 
-ghost use Rattle.std.specs.Prelude.{◌≡◌, IfOk, Ok, Some, [], false};
+ghost use Rattle.std.specs.Prelude.{◌≡◌, IfErr, IfOk, Ok, Some, [], false};
 ghost use Rattle.dir_tools.specs.Headline.{canonical_copy_of, question};
 ghost use Rattle.dir_tools.specs.Inside.RunInMemory.{IsRunInMemory};
+ghost use Rattle.dir_tools.specs.RoundTrip.{IsFaultThere, IsRoundTrip, IsRoundTripFault};
 
 use crate::run::{ModifyOptions, Summary};
 use crate::{ToolFault, headline, run_modify};
-use dir_ldif::{DeviceFault, Script, Sink};
+use dir_ldif::{DeviceFault, Sink, Source};
 use dir_names::Schema;
 use std::alloc::Global;
 
@@ -27,7 +28,8 @@ pub struct RoundTrip {
 ///
 /// # Errors
 ///
-/// A fault of one of the two runs.
+/// The fault of the run there. The run back has none, but that memory may run out, also as a writer's
+/// fault, or that a text has a byte for each of the 2^40 read calls.
 pub fn run_there_and_back(
     alloc: Global,
     schema: &Schema,
@@ -37,27 +39,29 @@ pub fn run_there_and_back(
     changes: &[u8],
 ) -> Result<RoundTrip, ToolFault>
     ensures taken_back { IfOk result (λ trip. (trip.back.refused ≡ 0) × (canonical_copy_of (question schema.now suffix.now options) copy.now ≡ Ok trip.copy.items)) }
+    ensures runs { IfOk result (IsRoundTrip (question schema.now suffix.now options) copy.now changes.now) }
+    ensures fault { IfErr result (IsRoundTripFault (question schema.now suffix.now options) copy.now changes.now) }
 {
     let written = ModifyOptions {
         go_on: options.go_on,
         dry: false,
         verbose: options.verbose,
     };
-    let there = run_in_memory(alloc, schema, suffix, written, copy, changes)?;
-    let back = run_in_memory(
-        alloc,
-        schema,
-        suffix,
-        written,
-        there.out.as_slice(),
-        there.undo.as_slice(),
-    )?;
     headline();
-    Ok(RoundTrip {
-        there: there.summary,
-        back: back.summary,
-        copy: back.out,
-    })
+    let there = match run_in_memory(alloc, schema, suffix, written, copy, changes) {
+        Ok(there) => there,
+        Err(fault) => return Err(fault),
+    };
+    let new = there.out.as_slice();
+    let undo = there.undo.as_slice();
+    match run_in_memory(alloc, schema, suffix, written, new, undo) {
+        Ok(back) => Ok(RoundTrip {
+            there: there.summary,
+            back: back.summary,
+            copy: back.out,
+        }),
+        Err(fault) => Err(fault),
+    }
 }
 
 /// What a run wrote into memory, and its numbers.
@@ -77,14 +81,15 @@ fn run_in_memory(
     changes: &[u8],
 ) -> Result<RunInMemory, ToolFault>
     requires { options.dry ≡ false }
-    ensures { IfOk result (IsRunInMemory (question schema.now suffix.now options) copy.now changes.now) }
+    ensures ok { IfOk result (IsRunInMemory (question schema.now suffix.now options) copy.now changes.now) }
+    ensures fault { IfErr result (IsFaultThere (question schema.now suffix.now options) copy.now changes.now) }
 {
-    let mut copy = Script::new(copy);
-    let mut changes = Script::new(changes);
+    let mut copy = Text { rest: copy };
+    let mut changes = Text { rest: changes };
     let mut undo = Buffer::new(alloc);
     let mut out = Buffer::new(alloc);
     let mut report = Buffer::new(alloc);
-    let summary = run_modify(
+    match run_modify(
         alloc,
         schema,
         suffix,
@@ -94,12 +99,42 @@ fn run_in_memory(
         &mut undo,
         &mut out,
         &mut report,
-    )?;
-    Ok(RunInMemory {
-        undo: undo.bytes,
-        out: out.bytes,
-        summary,
-    })
+    ) {
+        Ok(summary) => Ok(RunInMemory {
+            undo: undo.bytes,
+            out: out.bytes,
+            summary,
+        }),
+        Err(fault) => Err(fault),
+    }
+}
+
+/// A source over a text in memory, which never fails.
+#[derive(Drop)]
+struct Text<'a> {
+    rest: &'a [u8],
+}
+
+impl Source for Text<'_> {
+    ghost use Rattle.std.specs.Prelude.{⊤, Some};
+
+    ghost left = { λ t. Some t.rest.now };
+
+    ghost failures = { λ _. 0 };
+
+    ghost is_same = { λ _ _. ⊤ };
+
+    ghost same_refl = { λ _. tt };
+
+    ghost same_trans = { λ _ _ _ _ _. tt };
+
+    fn read(&mut self, buffer: &mut [u8]) -> Result<usize, DeviceFault> {
+        let n = buffer.len().min(self.rest.len());
+        let (piece, rest) = self.rest.split_at(n);
+        buffer[..n].copy_from_slice(piece);
+        self.rest = rest;
+        Ok(n)
+    }
 }
 
 /// A sink that keeps in memory what it takes.

@@ -2,6 +2,7 @@
 
 use super::{GO_ON, Ran, STOP, assert_text, run_over, run_reading};
 use crate::{Cause, Input, Item, Output, Summary, ToolFault, run_modify};
+use dir_change::ResultCode;
 use dir_ldif::{RecordFault, Script, StreamFault, Tape};
 use dir_names::Schema;
 use std::alloc::Global;
@@ -281,5 +282,51 @@ fn what_comes_first_is_answered(rt: HostRuntime) -> Result<(), Fail> {
         ran.answer,
         Err(ToolFault::BadCopy(1, Cause::Fault(RecordFault::BadLine)))
     );
+    Ok(())
+}
+
+#[test]
+fn each_fault_has_its_text_whatever_the_options(rt: HostRuntime) -> Result<(), Fail> {
+    let alloc = rt.alloc();
+    let rows = [
+        (
+            ToolFault::BadCopy(7, Cause::Code(ResultCode::NoSuchObject)),
+            "copy, line 7: 32 noSuchObject",
+        ),
+        (
+            ToolFault::BadCopy(u64::MAX, Cause::Fault(RecordFault::BadLine)),
+            "copy, line 18446744073709551615: L1 BadLine",
+        ),
+        (
+            ToolFault::BadCopy(0, Cause::Ended(StreamFault::LineTooLong)),
+            "copy, line 0: L10 LineTooLong",
+        ),
+        (ToolFault::Read(Input::Copy), "cannot read copy"),
+        (ToolFault::Read(Input::Changes), "cannot read changes"),
+        (ToolFault::Read(Input::Config), "cannot read config"),
+        (ToolFault::Write(Output::Undo), "cannot write undo"),
+        (ToolFault::Write(Output::Out), "cannot write out"),
+        (ToolFault::Write(Output::Report), "cannot write report"),
+        (ToolFault::Memory, "out of memory"),
+        (ToolFault::BadQuestion(Item::Suffix), "bad question: suffix"),
+        (ToolFault::BadQuestion(Item::Base), "bad question: base"),
+        (ToolFault::BadQuestion(Item::Authc), "bad question: authcDN"),
+        (
+            ToolFault::BadQuestion(Item::Word(12)),
+            "bad question: word 12",
+        ),
+        (
+            ToolFault::BadChanges(StreamFault::BadVersion),
+            "changes: L15 BadVersion",
+        ),
+    ];
+    for (fault, want) in rows {
+        let plain = format!(in alloc; "{fault}")?;
+        assert_eq!(rt; plain.as_str(), want);
+        let styled = format!(in alloc; "{fault:#}")?;
+        assert_eq!(rt; styled.as_str(), want);
+        let padded = format!(in alloc; "{fault:<80.3}")?;
+        assert_eq!(rt; padded.as_str(), want);
+    }
     Ok(())
 }
