@@ -422,7 +422,7 @@ fn a_name_has_at_most_64_rdns(rt: HostRuntime) -> Result<(), Fail> {
         let leaf = name.rdns().first().ok_or("no RDN")?.key(alloc, &schema)?;
         assert!(rt; above.child(alloc, &leaf)? == key);
         assert!(rt; above.is_parent_of(&key));
-        let again = Dn::from_rdns(name.into_rdns())?;
+        let again = Dn::of_rdns(name.into_rdns());
         let printed = again.print(alloc)?;
         assert_eq!(rt; printed.as_slice(), text.as_bytes());
     }
@@ -432,11 +432,9 @@ fn a_name_has_at_most_64_rdns(rt: HostRuntime) -> Result<(), Fail> {
     let text = name_text(alloc, 64)?;
     let name = Dn::read(alloc, text.as_bytes())?;
     let leaf = Rdn::read(alloc, b"cn=a")?;
-    // A key alone has no limit.
-    let below = name
-        .key(alloc, &schema)?
-        .child(alloc, &leaf.key(alloc, &schema)?)?;
-    assert_eq!(rt; below.depth(), 65);
+    let key = name.key(alloc, &schema)?;
+    let below = key.child(alloc, &leaf.key(alloc, &schema)?);
+    assert_eq!(rt; below.err(), Some(NameFault::NameLimit));
     let mut rdns = name.into_rdns();
     rdns.push(leaf)?;
     assert_eq!(rt; Dn::from_rdns(rdns).err(), Some(NameFault::NameLimit));
