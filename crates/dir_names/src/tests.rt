@@ -181,6 +181,10 @@ fn names_are_made_of_rdns_and_copied(rt: HostRuntime) -> Result<(), Fail> {
     assert_eq!(rt; printed.as_slice(), b"ou=a,dc=com".as_slice());
     let copy = name.try_clone(alloc)?;
     assert!(rt; copy == name);
+    let mut root = Vec::new(alloc);
+    root.push(Rdn::read(alloc, b"dc=com")?)?;
+    assert!(rt; Dn::of_rdns(root) == Dn::read(alloc, b"dc=com")?);
+    assert!(rt; Dn::empty(alloc) == Dn::read(alloc, b"")?);
     let key = name.key(alloc, &schema)?;
     assert!(rt; key.try_clone(alloc)? == key);
     let description = described(alloc, &schema, "cn;x-a")?;
@@ -422,7 +426,7 @@ fn a_name_has_at_most_64_rdns(rt: HostRuntime) -> Result<(), Fail> {
         let leaf = name.rdns().first().ok_or("no RDN")?.key(alloc, &schema)?;
         assert!(rt; above.child(alloc, &leaf)? == key);
         assert!(rt; above.is_parent_of(&key));
-        let again = Dn::of_rdns(name.into_rdns());
+        let again = Dn::from_rdns(name.into_rdns())?;
         let printed = again.print(alloc)?;
         assert_eq!(rt; printed.as_slice(), text.as_bytes());
     }
