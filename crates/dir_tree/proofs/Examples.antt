@@ -1,22 +1,27 @@
 -- Worked examples of directories and entries, proved of the definitions: the first name of RFC 4514, section 4, UID=jsmith,DC=example,DC=net, in a
--- directory of the suffix DC=example,DC=net (RFC 4512, sections 2.1 to 2.3); and entries that an add refuses to make (RFC 4511, section 4.7).
-use Rattle.std.proofs.Common.{◌≡◌, ℕ, true, false, cond, List, [], ◌∷◌, map, length, take, Option, Some, None, is_some, Err, codes, refl, sym, ap, ◌∙◌, arith}
+-- directory of the suffix DC=example,DC=net (RFC 4512, sections 2.1 to 2.3); and entries that an add makes or refuses (RFC 4511, section 4.7).
+use Rattle.std.proofs.Common.{◌≡◌, ℕ, ◌+◌, true, false, cond, ◌&&◌, ◌||◌, nat_lt, List, [], ◌∷◌, map, length, take, Option, Some, None, is_some, Ok, Err, codes, refl, sym, ap, ◌∙◌, arith}
 use Rattle.std.specs.List.{flat_map, list_any}
 use Rattle.std.specs.FinMap as fin
 use Rattle.std.specs.Ordering.{eq_by_cmp}
+use Rattle.dir_names.specs.declared.value.ValueKey.TheVariants.{Text}
+use Rattle.dir_names.specs.Attr.{Attr}
 use Rattle.dir_names.specs.Below.{is_at_or_below}
 use Rattle.dir_names.specs.Described.{Described}
 use Rattle.dir_names.specs.Keys.{DnKeys, RdnKeys, parent_of}
 use Rattle.dir_names.specs.NameKeys.{name_key}
 use Rattle.dir_names.specs.Names.{SpelledName, SpelledRdn}
 use Rattle.dir_names.specs.Names.Reading.{name_of}
-use Rattle.dir_names.specs.Orders.{dn_key_cmp, dn_key_cmp_total}
+use Rattle.dir_names.specs.Orders.{attr_cmp, attr_cmp_total, dn_key_cmp, dn_key_cmp_total}
+use Rattle.dir_names.specs.Table.{single_of}
+use Rattle.dir_names.specs.Values.{value_key_cmp, value_key_cmp_total}
 use Rattle.dir_names.specs.Table.Builtin.{builtin_rows}
-use Rattle.dir_tree.specs.Content.{Content}
+use Rattle.dir_tree.specs.Content.{Content, Stored, StoredAttributes, has_in}
 use Rattle.dir_tree.specs.Dir.{Dir, entry_at, has_child, has_parent, is_key, put_entry, remove_entry}
-use Rattle.dir_tree.specs.NewEntry.{new_entry}
+use Rattle.dir_tree.specs.NewEntry.{exceeds_single_value, new_entry, ok_unless_exceeding, with_line, with_value}
 use Rattle.dir_tree.specs.SpelledNames.{named_entries, own_depth, own_name_at, own_name_of, own_rdns, prefixes, spelled_name}
-use Rattle.dir_tree.specs.declared.fault.EntryFault.TheVariants.{BadValue, NotNamed, Twice}
+use Rattle.dir_tree.specs.declared.fault.EntryFault.TheVariants.{BadValue, NotNamed, Single, Twice}
+use Rattle.dir_tree.specs.declared.lines.KeyedLine.{KeyedLine}
 use Rattle.dir_tree.proofs.DirLemmas.{get_put, get_without}
 
 -- ---- keys of names
@@ -158,6 +163,35 @@ walked = ap (map (λ e. (spelled_name two e.0, e.1))) in_order ∙ (λ i. (spell
 -- of an own name that is longer than its place asks for, the leaf counts
 pub one-rdn-counts : own_name_at (put_entry one jsmith (bare (rdn_of (codes "UID") (codes "jsmith") ∷ example_name) [])) jsmith ≡ rdn_of (codes "UID") (codes "jsmith") ∷ []
 one-rdn-counts = ap (λ o. take (own_depth example jsmith) (own_name_of o)) (get_put one jsmith (bare (rdn_of (codes "UID") (codes "jsmith") ∷ example_name) []) jsmith)
+
+-- ---- entries that an add makes
+
+abbrev dc : Attr
+dc = record { attr_type = codes "dc"; options = [] }
+
+-- DC: example
+abbrev own_line : KeyedLine
+own_line = record { description = record { spelling = codes "DC"; key = dc }; key = Text (codes "example"); bytes = codes "example" }
+
+-- dc takes one value, and there is one
+one_value : exceeds_single_value builtin_rows (with_line fin.empty own_line) ≡ false
+unfolding builtin_rows
+one_value =
+    let stored = with_value (fin.get fin.empty dc) own_line in
+    let none : ◌≡◌ {A = List (Attr × Stored)} (fin.entries (fin.empty {R = attr_cmp})) [] = none_of (fin.entries fin.empty) (sym (fin.len-entries fin.empty) ∙ fin.len-empty attr_cmp Stored) in
+    let one_long : fin.len (fin.insert (fin.empty {R = value_key_cmp}) own_line.key own_line.bytes) ≡ 1 =
+    fin.len-insert value_key_cmp_total fin.empty own_line.key own_line.bytes ∙ (λ i. cond (is_some (fin.get-empty {X = List ℕ} value_key_cmp own_line.key i)) (fin.len-empty value_key_cmp (List ℕ) i) (fin.len-empty value_key_cmp (List ℕ) i + 1)) in
+    ap (list_any (λ (a : Attr × Stored). nat_lt 1 (fin.len a.1.values) && single_of builtin_rows a.0)) (fin.entries-insert attr_cmp_total fin.empty dc stored ∙ ap (fin.put attr_cmp dc stored) none)
+    ∙ ap (λ o. list_any (λ (a : Attr × Stored). nat_lt 1 (fin.len a.1.values) && single_of builtin_rows a.0) ((dc, with_value o own_line) ∷ [])) (fin.get-empty attr_cmp dc)
+    ∙ ap (λ n. (nat_lt 1 n && single_of builtin_rows dc) || false) one_long
+
+-- the value of its RDN need not be given
+pub own-value-is-added : new_entry builtin_rows example_name [] ≡ Ok (record { own = example_name; key = part_of (codes "dc") (codes "example"); attributes = with_line fin.empty own_line })
+unfolding builtin_rows
+own-value-is-added =
+    let whole : StoredAttributes → Content = λ xs. record { own = example_name; key = part_of (codes "dc") (codes "example"); attributes = xs } in
+    ap (λ o. ok_unless_exceeding builtin_rows (whole (cond (has_in own_line.key o) fin.empty (with_line fin.empty own_line)))) (fin.get-empty attr_cmp dc)
+    ∙ ap (λ b. cond b (Err Single) (Ok (whole (with_line fin.empty own_line)))) one_value
 
 -- ---- entries that an add refuses to make
 

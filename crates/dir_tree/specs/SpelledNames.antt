@@ -17,11 +17,11 @@ abbrev pub own_name_of : Option Content → SpelledName
 own_name_of None = []
 own_name_of (Some e) = e.own
 
--- how many RDNs an entry adds to the name of the entry above it: the suffix's entry as many as its key has, any other one
+-- how many RDNs of an entry's own name count: for the suffix's entry as many as its key has, for any other entry one
 abbrev pub own_depth : DnKeys → DnKeys → ℕ
 own_depth suffix k = cond (dn_key_eq k suffix) (length k) 1
 
--- the own name of the entry at a key, of which so many RDNs count; nothing if there is no entry. In a well-formed directory own names have no more
+-- the own name of the entry at a key, as far as it counts; nothing if there is no entry. In a well-formed directory the whole own name counts
 abbrev pub own_name_at : Dir → DnKeys → SpelledName
 own_name_at d k = take (own_depth d.suffix k) (own_name_of (entry_at d k))
 
