@@ -26,11 +26,7 @@ ROOT = pathlib.Path(__file__).resolve().parent.parent
 HANDS_BACK = {"insert", "push", "into_vec"}
 
 # The places that answer out of memory for another reason: file, function and call; and why that does not matter.
-TOO_DEEP = "the name has more than 64 RDNs, which no directory within the limits has (docs/DECISIONS.md)"
 KNOWN = {
-    ("dir_tree/src/flat.rt", "name_of_rdns", "from_rdns"): TOO_DEEP,
-    ("dir_change/src/add.rt", "joined_name", "from_rdns"): TOO_DEEP,
-    ("dir_change/src/add.rt", "name_of_parent", "from_rdns"): "never: the name has no RDN, which is within the limits",
     ("slapkit/src/command.rt", "read_words", "subcommand_matches"): "never: clap asks for a subcommand, and there is one",
 }
 

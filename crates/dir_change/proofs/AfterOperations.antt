@@ -1,5 +1,5 @@
 -- The changes that take an add and a delete back.
-use Rattle.std.proofs.Common.{◌≡◌, ℕ, ◌+◌, Bool, true, false, cond, not, ◌||◌, List, [], ◌∷◌, ◌++◌, length, take, reverse, Option, Some, None, is_some, Result, Ok, Err, refl, sym, ap, ◌∙◌, true≢false, arith, length-append, append_assoc}
+use Rattle.std.proofs.Common.{◌≡◌, ℕ, ◌+◌, ◌≤◌, Bool, true, false, cond, not, ◌||◌, List, [], ◌∷◌, ◌++◌, length, take, reverse, Option, Some, None, is_some, Result, Ok, Err, refl, sym, ap, ◌∙◌, true≢false, arith, length-append, append_assoc}
 use Rattle.std.proofs.lemmas.List.{append-nil, reverse-append, length-reverse}
 use Rattle.std.specs.FinMap.{same_map}
 use Rattle.std.specs.Ordering.{eq_by_cmp, is_eq}
@@ -15,7 +15,7 @@ use Rattle.dir_names.specs.Described.{Described}
 use Rattle.dir_tree.specs.Content.{Content, StoredAttributes}
 use Rattle.dir_tree.specs.Dir.{Dir, HasChild, IsClosed, entry_at, has_child, has_parent, is_there, put_entry, remove_entry}
 use Rattle.dir_tree.specs.SpelledNames as spelled
-use Rattle.dir_tree.specs.SpelledNames.{own_name_at, own_rdns, spelled_name}
+use Rattle.dir_tree.specs.SpelledNames.{own_depth, own_name_at, own_rdns, spelled_name}
 use Rattle.dir_tree.specs.NewEntry.{attributes_of, exceeds_single_value, leaf_key, leaf_lines, new_entry, ok_unless_exceeding, with_missing_of}
 use Rattle.dir_tree.specs.WellFormed.{IsWellFormed, all_lines, own_part}
 use Rattle.dir_tree.specs.declared.fault.EntryFault.{EntryFault}
@@ -24,7 +24,8 @@ use Rattle.dir_tree.proofs.MadeAgain.{made_again}
 use Rattle.dir_ldif.specs.declared.records.Change.{Change}
 use Rattle.dir_ldif.specs.declared.records.ChangeKind.TheVariants as kind
 use Rattle.dir_tree.proofs.DirLemmas.{closed_put, get_put, get_without, parent_child, same_key}
-use Rattle.dir_tree.proofs.SpelledLemmas.{by_last, spelled_below, spelled_child, spelled_put_apart, spelled_suffix}
+use Rattle.dir_tree.proofs.OwnNames.{own_whole}
+use Rattle.dir_tree.proofs.SpelledLemmas.{by_last, own_here, spelled_below, spelled_child, spelled_put_apart, spelled_short, spelled_suffix, taken_short}
 use Rattle.dir_change.specs.declared.result_code.ResultCode.TheVariants.{NoSuchObject, NotAllowedOnNonLeaf, EntryAlreadyExists}
 use Rattle.dir_change.specs.Operation.{directory_after, directory_after_add, directory_after_delete, step, step_at, with_new_entry}
 use Rattle.dir_change.specs.Refusals.{unless}
@@ -78,9 +79,9 @@ spelled_key rows d closed names = by_last (λ k. is_some (entry_at d k) ≡ true
     own : (k : DnKeys) → is_some (entry_at d k) ≡ true → name_key rows (own_name_at d k) ≡ Some (own_part d.suffix k)
     own k there = by (entry_at d k) refl there
       where
-        by : (o : Option Content) → entry_at d k ≡ o → is_some o ≡ true → name_key rows (spelled.own_name_of o) ≡ Some (own_part d.suffix k)
+        by : (o : Option Content) → entry_at d k ≡ o → is_some o ≡ true → name_key rows (take (own_depth d.suffix k) (spelled.own_name_of o)) ≡ Some (own_part d.suffix k)
         by None t h = absurd (true≢false (sym h))
-        by (Some e) t h = names k e t
+        by (Some e) t h = ap (name_key rows) (own_whole rows d.suffix k e.own (names k e t)) ∙ names k e t
 
     at_suffix : (k : DnKeys) → dn_key_eq k d.suffix ≡ true → is_some (entry_at d k) ≡ true → name_key rows (spelled_name d k) ≡ Some k
     at_suffix k t there =
@@ -324,7 +325,7 @@ pub own_spelled : (rows : List TypeRow) (d : Dir) → IsWellFormed rows d → (k
 own_spelled rows d well k e known = by (dn_key_eq k d.suffix) refl
   where
     here : own_name_at d k ≡ e.own
-    here = ap spelled.own_name_of known
+    here = own_here d k e known ∙ own_whole rows d.suffix k e.own (well.2 k e known).1
 
     by : (b : Bool) → dn_key_eq k d.suffix ≡ b → cond b (spelled_name d k) (take 1 (spelled_name d k)) ≡ e.own
     by true t = spelled_suffix d well.1 k ((dn_key_eq_decides k d.suffix).0 t) ∙ here
@@ -393,10 +394,28 @@ added_key rows d closed names k name lines named new is =
     let there : is_some (entry_at (put_entry d k e) k) ≡ true = ap is_some (get_put d k e k) ∙ ap (λ b. is_some (cond b (Some e) (entry_at d k))) (itself k) in
     ap (λ z. name_key rows (spelled_name z k)) known.5 ∙ spelled_key rows (put_entry d k e) (closed_put d k e closed known.2) (names_put rows d k e names own) k there
 
--- the name of an added entry: its own RDNs, and its parent's name
-pub add_spelled : (rows : List TypeRow) (d : Dir) → IsClosed d → (k : DnKeys) (own : SpelledName) (lines : List (Described × List ℕ)) (e : Content) → has_parent d k ≡ true → new_entry rows own lines ≡ Ok e → spelled_name (put_entry d k e) k ≡ own ++ name_of_parent d k
+-- the name of an added entry: its own RDNs, as far as they count, and its parent's name
+pub add_spelled : (rows : List TypeRow) (d : Dir) → IsClosed d → (k : DnKeys) (own : SpelledName) (lines : List (Described × List ℕ)) (e : Content) → has_parent d k ≡ true → new_entry rows own lines ≡ Ok e → spelled_name (put_entry d k e) k ≡ take (own_depth d.suffix k) own ++ name_of_parent d k
 add_spelled rows d closed k own lines e parent is =
     let there : is_some (entry_at (put_entry d k e) k) ≡ true = ap is_some (get_put d k e k) ∙ ap (λ b. is_some (cond b (Some e) (entry_at d k))) (itself k) in
     let stands : entry_at (put_entry d k e) k ≡ Some e = get_put d k e k ∙ ap (λ b. cond b (Some e) (entry_at d k)) (itself k) in
     spelled_here (put_entry d k e) (closed_put d k e closed parent) k there
-    ∙ (λ i. (ap spelled.own_name_of stands ∙ made_own rows own lines e is) i ++ above_put d k e i)
+    ∙ (λ i. (own_here (put_entry d k e) k e stands ∙ ap (take (own_depth d.suffix k)) (made_own rows own lines e is)) i ++ above_put d k e i)
+
+-- the name of an added entry has no more RDNs than its key
+pub joined_fits : (d : Dir) → IsClosed d → (k : DnKeys) → has_parent d k ≡ true → (own : SpelledName) → length (take (own_depth d.suffix k) own) + length (name_of_parent d k) ≤ length k
+joined_fits d closed k parent own = by (dn_key_eq k d.suffix) refl (parent_of k) refl parent (taken_short (own_depth d.suffix k) own)
+  where
+    by : (b : Bool) → dn_key_eq k d.suffix ≡ b → (o : Option DnKeys) → parent_of k ≡ o → (b || is_there d o) ≡ true → length (take (own_depth d.suffix k) own) ≤ own_depth d.suffix k
+        → length (take (own_depth d.suffix k) own) + length (name_of_parent d k) ≤ length k
+    by true t o u h short =
+        let depth : own_depth d.suffix k ≡ length k = ap (λ b. cond b (length k) 1) t in
+        let none : length (name_of_parent d k) ≡ 0 = ap (λ b. length (cond b [] (spelled_name_or_empty d (parent_of k)))) t in
+        omega (arith, short, depth, none)
+    by false t None u h short = absurd (true≢false (sym h))
+    by false t (Some p) u h short =
+        let depth : own_depth d.suffix k ≡ 1 = ap (λ b. cond b (length k) 1) t in
+        let above : length (name_of_parent d k) ≡ length (spelled_name d p) = λ i. length (cond (t i) [] (spelled_name_or_empty d (u i))) in
+        let low = spelled_short d closed p in
+        let count = parent_shorter k p u in
+        omega (arith, short, depth, above, low, count)

@@ -52,8 +52,13 @@ all_joined : {A B : Type 0} (p : B → Bool) (f : A → List B) → ((x : A) →
 all_joined p f h [] = refl
 all_joined p f h (x ∷ xs) = all_append p (f x) (flat_map f xs) (h x) (all_joined p f h xs)
 
+all_taken : {A : Type 0} (p : A → Bool) (n : ℕ) (xs : List A) → list_all p xs ≡ true → list_all p (take n xs) ≡ true
+all_taken p zero xs e = refl
+all_taken p (suc n) [] e = refl
+all_taken p (suc n) (x ∷ xs) e = λ i. left (p x) (list_all p xs) e i && all_taken p n xs (right (p x) _ e) i
+
 all_own : (d : Dir) (p : SpelledRdn → Bool) → ((k : DnKeys) (e : Content) → entry_at d k ≡ Some e → list_all p e.own ≡ true) → (k : DnKeys) → list_all p (own_name_at d k) ≡ true
-all_own d p h k = by (entry_at d k) refl
+all_own d p h k = all_taken p (spelled.own_depth d.suffix k) (spelled.own_name_of (entry_at d k)) (by (entry_at d k) refl)
   where
     by : (o : Option Content) → entry_at d k ≡ o → list_all p (spelled.own_name_of o) ≡ true
     by None t = refl

@@ -1,6 +1,6 @@
 //! The add operation (RFC 4511, section 4.7) and the delete that takes it back.
 
-ghost use Rattle.std.specs.Prelude.{◌≡◌, ◌++◌, IfErr, IfOk, IfSome, Ok, OnErr, OnOk, is_some};
+ghost use Rattle.std.specs.Prelude.{◌≡◌, ◌≤◌, ◌+◌, ◌++◌, IfErr, IfOk, IfSome, Ok, OnErr, OnOk, is_some, length};
 ghost use Rattle.dir_ldif.specs.declared.records.ChangeKind.TheVariants as kind;
 ghost use Rattle.dir_change.specs.Undo.{name_of_parent, undo_of};
 ghost use Rattle.dir_change.specs.Operation.{IsRefused, directory_after_add};
@@ -9,7 +9,7 @@ ghost use Rattle.dir_tree.specs.Dir.{has_parent};
 use crate::{Refusal, ResultCode, Undo};
 use dir_ldif::{Change, ChangeKind};
 use dir_names::{Dn, DnKey, Lines, Rdn, Schema};
-use dir_tree::{Directory, Entry, own_rdns};
+use dir_tree::{Directory, Entry, own_rdns, spelled_own};
 use std::alloc::Global;
 
 /// Adds an entry (RFC 4511, section 4.7): 32 outside the suffix; 68 where the name is taken; 32
@@ -40,7 +40,8 @@ pub(crate) fn add<D: Directory>(
         name.try_clone(alloc).map_err(|_| Refusal::Memory)?,
         key == directory.suffix(),
     );
-    let spelled = joined_name(alloc, own.as_slice(), above)?;
+    let counted = spelled_own(directory.suffix(), key, own.as_slice());
+    let spelled = joined_name(alloc, key, counted, above)?;
     let entry = Entry::make(
         alloc,
         schema,
@@ -72,7 +73,7 @@ fn name_of_parent<D: Directory>(
     ensures memory { IfErr result (λ e. e ≡ Refusal.Memory) }
 {
     if key == directory.suffix() {
-        return Ok(Some(Dn::from_rdns(Vec::new(alloc)).map_err(|_| Refusal::Memory)?));
+        return Ok(Some(Dn::empty(alloc)));
     }
     let Some(parent) = key.parent(alloc).map_err(|_| Refusal::Memory)? else {
         return Ok(None);
@@ -84,16 +85,17 @@ fn name_of_parent<D: Directory>(
 }
 
 /// The own RDNs, and then the parent's.
-fn joined_name(alloc: Global, own: &[Rdn], above: Dn) -> Result<Dn, Refusal>
+fn joined_name(alloc: Global, key: &DnKey, own: &[Rdn], above: Dn) -> Result<Dn, Refusal>
+    requires { length own.now + length above ≤ length key.now }
     ensures ok { IfOk result (λ name. name ≡ own.now ++ above) }
     ensures memory { IfErr result (λ e. e ≡ Refusal.Memory) }
 {
-    let mut rdns = Vec::with_capacity(alloc, own.len())?;
+    let mut rdns = Vec::with_capacity(alloc, key.depth())?;
     for rdn in own {
         rdns.push(rdn.try_clone(alloc).map_err(|_| Refusal::Memory)?)?;
     }
     for rdn in above.into_rdns() {
         rdns.push(rdn)?;
     }
-    Dn::from_rdns(rdns).map_err(|_| Refusal::Memory)
+    Ok(Dn::of_rdns(rdns))
 }

@@ -4,6 +4,8 @@ use Rattle.base64.specs.GeneralPurpose.{IsBytes}
 use Rattle.dir_names.specs.declared.fault.NameFault.TheVariants.{NameLimit}
 use Rattle.dir_names.specs.Described.{Described}
 use Rattle.dir_names.specs.Names.{SpelledName, SpelledRdn}
+use Rattle.dir_names.specs.Names.Printing.{printed_name, printed_rdn}
+use Rattle.dir_names.specs.ValueKeys.{is_ascii}
 use Rattle.dir_names.specs.Names.Reading.{name_of, name_within_limits, only_rdn, only_rdn_of, pieces, rdn_of, rdn_within_limit}
 use Rattle.dir_names.specs.Results.{option_collect}
 use Rattle.dir_names.specs.Names.Limits.{is_rdn_within_limit, is_within_limits, ok_if_within}
@@ -11,6 +13,7 @@ use Rattle.dir_names.specs.Names.Sound.{is_sound_rdn}
 use Rattle.dir_names.proofs.SoundLemmas.{bytes_from_fits, sound_name}
 use Rattle.dir_ldif.specs.declared.records.Mod.{Mod}
 use Rattle.dir_ldif.specs.SoundRecords.{AreBytes, IsSoundName, IsSoundRdn, ModsAreBytes, ValuesAreBytes}
+use Rattle.dir_ldif.proofs.SoundNames.{ascii_bytes}
 use Rattle.dir_ldif.proofs.WrittenLines.{and_first}
 
 -- ---- names
@@ -42,6 +45,13 @@ pub read_rdn_sound : (text : List ℕ) (rdn : SpelledRdn) → ((i : ℕ) → get
 read_rdn_sound text rdn small e =
     let read = within is_rdn_within_limit (only_rdn_of text) rdn e in
     (and_first (is_sound_rdn rdn) true (sound_name text (rdn ∷ []) (bytes_from_fits text small) (one_rdn text rdn read.0)), read.1)
+
+-- what a call printed, and what the text reads back as, say that the name is sound
+pub printed_sound : (name : SpelledName) → is_ascii (printed_name name) ≡ true → name_within_limits (printed_name name) ≡ Ok name → IsSoundName name
+printed_sound name ascii back = read_name_sound (printed_name name) name (ascii_bytes (printed_name name) ascii) back
+
+pub printed_rdn_sound : (rdn : SpelledRdn) → is_ascii (printed_rdn rdn) ≡ true → rdn_within_limit (printed_rdn rdn) ≡ Ok rdn → IsSoundRdn rdn
+printed_rdn_sound rdn ascii back = read_rdn_sound (printed_rdn rdn) rdn (ascii_bytes (printed_rdn rdn) ascii) back
 
 -- ---- one more value
 

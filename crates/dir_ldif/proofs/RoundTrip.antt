@@ -26,7 +26,7 @@ use Rattle.dir_ldif.specs.Blocks.{blocks_from, blocks_of, version_of, version_of
 use Rattle.dir_ldif.specs.Records.{answers_on, records_of}
 use Rattle.dir_ldif.specs.RecordText.{op_word, mod_text, change_word, flag_text, superior_text, kind_text, record_text_of}
 use Rattle.dir_ldif.specs.LineText.{base64_of, fold_from, folded_line, is_plain, line_of, value_spec, written_line}
-use Rattle.dir_ldif.specs.RoundTrip.{ends_name, without_line, records_text, RecordsReadBack}
+use Rattle.dir_ldif.specs.RoundTrip.{ends_name, without_line, records_text, ReadsBackAs, RecordsReadBack}
 use Rattle.dir_ldif.specs.SoundRecords.{AreLegalAndSound, IsSoundKind, IsSoundName, IsSoundRecord, IsSoundSuperior}
 use Rattle.dir_ldif.proofs.BytesLemmas.{true_or_false}
 use Rattle.dir_ldif.proofs.WrittenBlocks.{Good, AllGood, AllBlocks, texts, block_text, blocks_text, block_reads, blocks_read, first_parts, with_first_line-empty}
@@ -252,3 +252,7 @@ records-read rows records back = (
   ap (λ t. map without_line (records_of rows t)) (records-text records) ∙ plain_read rows records back,
   ap (λ t. map without_line (records_of rows (codes "version: 1\n\n" ++ t))) (records-text records) ∙ version_read rows records back,
 )
+
+-- one sound record reads back
+pub record-read : (r : Record) → IsSoundRecord r → ReadsBackAs (record_text_of r) r
+record-read r sound rows legal = ap (λ t. map without_line (records_of rows t)) (sym (append-nil (record_text_of r))) ∙ (records-read rows (r ∷ []) (legal, sound, tt)).0

@@ -13,7 +13,7 @@ use Rattle.dir_names.proofs.ReadNames.{name_ascii, rdn_ascii, name_read_back, rd
 use Rattle.dir_ldif.specs.SoundRecords.{IsSoundName, IsSoundRdn}
 use Rattle.dir_ldif.proofs.WrittenLines.{and_first, and_second}
 
-ascii_bytes : (xs : List ℕ) → is_ascii xs ≡ true → IsBytes xs
+pub ascii_bytes : (xs : List ℕ) → is_ascii xs ≡ true → IsBytes xs
 ascii_bytes [] e i = omega arith
 ascii_bytes (x ∷ xs) e zero = let here : nat_lt x 128 ≡ true = and_first (nat_lt x 128) (is_ascii xs) e in grind (arith, nat_tests)
 ascii_bytes (x ∷ xs) e (suc i) = ascii_bytes xs (and_second (nat_lt x 128) (is_ascii xs) e) i

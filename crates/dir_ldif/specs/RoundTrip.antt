@@ -1,5 +1,5 @@
 -- What is written reads back.
-use Rattle.std.specs.Prelude.{◌≡◌, ℕ, ◌≤◌, Bool, false, ◌||◌, ◌==◌, List, [], ◌∷◌, ◌++◌, length, map, codes, Result, Ok, Err}
+use Rattle.std.specs.Prelude.{◌≡◌, ℕ, ◌≤◌, Bool, true, false, ◌||◌, ◌==◌, List, [], ◌∷◌, ◌++◌, length, map, codes, Result, Ok, Err}
 use Rattle.std.specs.List.{flat_map, list_any}
 use Rattle.base64.specs.GeneralPurpose.{IsBytes}
 use Rattle.dir_names.specs.declared.schema.TypeRow.{TypeRow}
@@ -12,6 +12,7 @@ use Rattle.dir_ldif.specs.AttrVal.{attrval_of}
 use Rattle.dir_ldif.specs.Records.{Answer, records_of}
 use Rattle.dir_ldif.specs.RecordText.{record_text_of}
 use Rattle.dir_ldif.specs.LineText.{line_of, written_line}
+use Rattle.dir_ldif.specs.LegalRecords.{is_legal_record}
 use Rattle.dir_ldif.specs.SoundRecords.{AreLegalAndSound}
 use Rattle.dir_names.specs.Ascii.{colon}
 
@@ -33,6 +34,10 @@ without_line (Err fault) = Err fault
 
 abbrev pub records_text : List Record → List ℕ
 records_text records = flat_map record_text_of records
+
+-- the text has this one record, under each schema under which the record is legal
+abbrev pub ReadsBackAs : List ℕ → Record → Type 0
+ReadsBackAs text r = (rows : List TypeRow) → is_legal_record rows r ≡ true → map without_line (records_of rows text) ≡ Ok (Ok r) ∷ []
 
 -- legal and sound records, written one after the other, read back as they are, with or without a version line before them
 abbrev pub RecordsReadBack : Type 0

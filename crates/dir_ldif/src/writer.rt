@@ -6,6 +6,8 @@ ghost use Rattle.std.specs.List.{flat_map, list_all};
 ghost use Rattle.dir_names.specs.Names.Printing.{printed_rdn};
 ghost use Rattle.dir_ldif.specs.Bytes.{ends_in};
 ghost use Rattle.dir_ldif.specs.RecordText.{change_text, change_word, flag_text, kind_text, mod_text, name_line, op_word, record_text_of, superior_text, value_text};
+ghost use Rattle.dir_ldif.specs.RoundTrip.{ReadsBackAs};
+ghost use Rattle.dir_ldif.specs.SoundRecords.{AreBytes, IsBytes, IsSoundKind, IsSoundName, IsSoundRdn, IsSoundRecord, IsSoundSuperior, ModsAreBytes, ValuesAreBytes};
 ghost use Rattle.dir_ldif.specs.LineText.{base64_of, fold_from, is_plain, is_safe, is_safe_first, value_spec, written_line};
 ghost use Rattle.dir_names.specs.Ascii.{line_feed, space};
 
@@ -19,7 +21,8 @@ const COLUMNS: usize = 76;
 
 /// The text of a record: its `dn` line, its further lines and an empty line (RFC 2849).
 pub fn record_text(alloc: Global, record: &Record) -> Result<Vec<u8>, Memory>
-    ensures { IfOk result (λ text. text.items ≡ record_text_of «record».now) }
+    ensures text { IfOk result (λ text. text.items ≡ record_text_of «record».now) }
+    ensures back { IfOk result (λ text. ReadsBackAs text.items «record».now) }
 {
     let mut out = Vec::new(alloc);
     push_record(&mut out, record)?;
@@ -29,6 +32,7 @@ pub fn record_text(alloc: Global, record: &Record) -> Result<Vec<u8>, Memory>
 /// Appends the text of a record.
 pub fn push_record(out: &mut Vec<u8>, record: &Record) -> Result<(), Memory>
     ensures text { OnOk result (out.new.items ≡ out.old.items ++ record_text_of «record».now) }
+    ensures back { OnOk result (ReadsBackAs (record_text_of «record».now) «record».now) }
     ensures kept { StartsWith out.new.items out.old.items }
 {
     match record {
@@ -39,6 +43,7 @@ pub fn push_record(out: &mut Vec<u8>, record: &Record) -> Result<(), Memory>
 
 fn push_content(out: &mut Vec<u8>, dn: &Dn, lines: &Lines) -> Result<(), Memory>
     ensures text { OnOk result (out.new.items ≡ out.old.items ++ record_text_of (Record.Content dn.now lines.now)) }
+    ensures sound { OnOk result (IsSoundRecord (Record.Content dn.now lines.now)) }
     ensures kept { StartsWith out.new.items out.old.items }
 {
     push_name(out, b"dn", dn)?;
@@ -49,6 +54,7 @@ fn push_content(out: &mut Vec<u8>, dn: &Dn, lines: &Lines) -> Result<(), Memory>
 /// Appends the text of a change record.
 pub fn push_change(out: &mut Vec<u8>, change: &Change) -> Result<(), Memory>
     ensures text { OnOk result (out.new.items ≡ out.old.items ++ change_text change.now) }
+    ensures back { OnOk result (ReadsBackAs (change_text change.now) (Record.Change change.now)) }
     ensures kept { StartsWith out.new.items out.old.items }
 {
     push_name(out, b"dn", &change.dn)?;
@@ -61,6 +67,7 @@ pub fn push_change(out: &mut Vec<u8>, change: &Change) -> Result<(), Memory>
 /// 76 bytes; with its LF (RFC 2849, notes 2, 4 and 8).
 pub fn push_line(out: &mut Vec<u8>, name: &[u8], value: &[u8]) -> Result<(), Memory>
     ensures text { OnOk result (out.new.items ≡ out.old.items ++ written_line name.now value.now) }
+    ensures bytes { OnOk result (IsBytes value.now) }
     ensures kept { StartsWith out.new.items out.old.items }
 {
     let room = push_folded(out, COLUMNS, name)?;
@@ -167,6 +174,7 @@ fn ends_in_space(text: &[u8]) -> bool
 /// Appends the line of a keyword whose value is a name, as the `dn` line of a record.
 pub fn push_name(out: &mut Vec<u8>, word: &[u8], dn: &Dn) -> Result<(), Memory>
     ensures text { OnOk result (out.new.items ≡ out.old.items ++ name_line word.now dn.now) }
+    ensures sound { OnOk result (IsSoundName dn.now) }
     ensures kept { StartsWith out.new.items out.old.items }
 {
     match dn.print(*out.allocator()) {
@@ -177,6 +185,7 @@ pub fn push_name(out: &mut Vec<u8>, word: &[u8], dn: &Dn) -> Result<(), Memory>
 
 fn push_rdn(out: &mut Vec<u8>, rdn: &Rdn) -> Result<(), Memory>
     ensures text { OnOk result (out.new.items ≡ out.old.items ++ written_line (codes "newrdn") (printed_rdn rdn.now)) }
+    ensures sound { OnOk result (IsSoundRdn rdn.now) }
     ensures kept { StartsWith out.new.items out.old.items }
 {
     match rdn.print(*out.allocator()) {
@@ -187,6 +196,7 @@ fn push_rdn(out: &mut Vec<u8>, rdn: &Rdn) -> Result<(), Memory>
 
 fn push_values(out: &mut Vec<u8>, lines: &[(Description, Bytes)]) -> Result<(), Memory>
     ensures text { OnOk result (out.new.items ≡ out.old.items ++ flat_map value_text lines.now) }
+    ensures bytes { OnOk result (ValuesAreBytes lines.now) }
     ensures kept { StartsWith out.new.items out.old.items }
 {
     for line in lines {
@@ -209,6 +219,7 @@ fn change_word(kind: &ChangeKind) -> &'static [u8]
 /// Appends the lines after the changetype.
 fn push_kind(out: &mut Vec<u8>, kind: &ChangeKind) -> Result<(), Memory>
     ensures text { OnOk result (out.new.items ≡ out.old.items ++ kind_text kind.now) }
+    ensures sound { OnOk result (IsSoundKind kind.now) }
     ensures kept { StartsWith out.new.items out.old.items }
 {
     match kind {
@@ -230,6 +241,7 @@ fn push_rename(
     newsuperior: &Option<Dn>,
 ) -> Result<(), Memory>
     ensures text { OnOk result (out.new.items ≡ out.old.items ++ kind_text (ChangeKind.Rename newrdn.now delete_old newsuperior.now)) }
+    ensures sound { OnOk result (IsSoundRdn newrdn.now × IsSoundSuperior newsuperior.now) }
     ensures kept { StartsWith out.new.items out.old.items }
 {
     push_rdn(out, newrdn)?;
@@ -250,6 +262,7 @@ fn push_flag(out: &mut Vec<u8>, delete_old: bool) -> Result<(), Memory>
 
 fn push_superior(out: &mut Vec<u8>, newsuperior: &Option<Dn>) -> Result<(), Memory>
     ensures text { OnOk result (out.new.items ≡ out.old.items ++ superior_text newsuperior.now) }
+    ensures sound { OnOk result (IsSoundSuperior newsuperior.now) }
     ensures kept { StartsWith out.new.items out.old.items }
 {
     match newsuperior {
@@ -260,6 +273,7 @@ fn push_superior(out: &mut Vec<u8>, newsuperior: &Option<Dn>) -> Result<(), Memo
 
 fn push_mods(out: &mut Vec<u8>, mods: &[Mod]) -> Result<(), Memory>
     ensures text { OnOk result (out.new.items ≡ out.old.items ++ flat_map mod_text mods.now) }
+    ensures bytes { OnOk result (ModsAreBytes mods.now) }
     ensures kept { StartsWith out.new.items out.old.items }
 {
     for m in mods {
@@ -270,6 +284,7 @@ fn push_mods(out: &mut Vec<u8>, mods: &[Mod]) -> Result<(), Memory>
 
 fn push_mod(out: &mut Vec<u8>, m: &Mod) -> Result<(), Memory>
     ensures text { OnOk result (out.new.items ≡ out.old.items ++ mod_text m.now) }
+    ensures bytes { OnOk result (AreBytes m.now.values) }
     ensures kept { StartsWith out.new.items out.old.items }
 {
     let spelling = m.description.spelling();
@@ -282,6 +297,7 @@ fn push_mod(out: &mut Vec<u8>, m: &Mod) -> Result<(), Memory>
 /// Appends a line for each value of one attribute.
 fn push_texts(out: &mut Vec<u8>, spelling: &[u8], values: &[Bytes]) -> Result<(), Memory>
     ensures text { OnOk result (out.new.items ≡ out.old.items ++ flat_map (λ value. written_line spelling.now value) values.now) }
+    ensures bytes { OnOk result (AreBytes values.now) }
     ensures kept { StartsWith out.new.items out.old.items }
 {
     for value in values {

@@ -2,14 +2,16 @@
 
 ghost use Rattle.std.specs.Cmp.{partial_order_from_agreeing_total};
 ghost use Rattle.std.specs.Ordering.{as_partial_cmp};
-ghost use Rattle.std.specs.Prelude.{◌≡◌, ◌↔◌, [], ◌∷◌, ◌++◌, IsTrue, Ok, refl, length};
+ghost use Rattle.std.specs.Prelude.{◌≡◌, ◌<◌, ◌≤◌, ◌↔◌, [], ◌∷◌, ◌++◌, IsTrue, Ok, Err, cond, nat_lt, refl, length};
 ghost use Rattle.dir_names.specs.Keys.{is_rdn_key, with_pair, IsAtOrBelow, IsParent, parent_of};
 ghost use Rattle.dir_names.specs.Orders.{rdn_key_cmp, rdn_key_eq, rdn_key_cmp_total, rdn_key_cmp_ties, dn_key_cmp, dn_key_eq, dn_key_cmp_total, dn_key_cmp_ties, tied_equiv, tied_per};
 ghost use Rattle.dir_names.specs.Outcome.{Gives};
+ghost use Rattle.dir_names.specs.declared.fault.NameFault.TheVariants.{NameLimit};
 
 pub(crate) mod sorting;
 
 use crate::key::sorting::{put_name, put_part};
+use crate::limits::MAX_RDNS;
 use crate::list::few::Few;
 use crate::{AttrKey, Bytes, NameFault};
 use std::alloc::Global;
@@ -152,7 +154,7 @@ impl Ord for RdnKey {
     }
 }
 
-/// The keys of the RDNs of a name, root first, and the text that the name is ordered by.
+/// The keys of the at most 64 RDNs of a name, root first, and the text that the name is ordered by.
 #[derive(Debug, Drop)]
 struct NameKey {
     parts: Vec<RdnKey>,
@@ -167,14 +169,15 @@ impl Model for NameKey {
 
     ghost view = { λ key. key.parts.items };
 
-    ghost use Rattle.std.specs.Prelude.{◌≡◌};
+    ghost use Rattle.std.specs.Prelude.{◌≡◌, ◌≤◌, length};
     ghost use Rattle.dir_names.specs.Inside.SortTexts.{name_sort};
 
-    ghost invariant = { λ key. key.sort.items ≡ name_sort key.parts.items };
+    ghost invariant = { λ key. (key.sort.items ≡ name_sort key.parts.items) × (length key.parts.items ≤ 64) };
 }
 
 impl NameKey {
     fn new(alloc: Global, parts: Vec<RdnKey>) -> Result<NameKey, NameFault>
+        requires { length parts.items ≤ 64 }
         ensures { Gives (λ key. key) result (Ok parts.items) }
     {
         let mut sort = Vec::with_capacity(alloc, parts.len().saturating_mul(24))?;
@@ -184,6 +187,7 @@ impl NameKey {
     }
 
     fn child(&self, alloc: Global, part: &RdnKey) -> Result<NameKey, NameFault>
+        requires { length self.now < 64 }
         ensures { Gives (λ key. key) result (Ok (self.now ++ part.now ∷ [])) }
     {
         let mut sort = self.sort.as_slice().to_vec(alloc)?;
@@ -194,7 +198,8 @@ impl NameKey {
     }
 
     fn as_slice(&self) -> &[RdnKey]
-        ensures { result.now ≡ self.now }
+        ensures value { result.now ≡ self.now }
+        ensures within_limit { length self.now ≤ 64 }
     {
         self.parts.as_slice()
     }
@@ -213,7 +218,7 @@ impl NameKey {
 }
 
 /// What a name is compared by: the keys of its RDNs, root first, so that a name comes before all names
-/// below it. Copies share its memory.
+/// below it. It has at most 64, as a name has. Copies share its memory.
 #[derive(Debug, Drop)]
 pub struct DnKey {
     shared: Rc<NameKey>,
@@ -248,15 +253,23 @@ impl DnKey {
 
     /// The number of RDNs.
     pub fn depth(&self) -> usize
-        ensures { result ≡ length self.now }
+        ensures value { result ≡ length self.now }
+        ensures within_limit { length self.now ≤ 64 }
     {
         self.parts().len()
     }
 
     /// The key of the name with one RDN more at its leaf.
+    ///
+    /// # Errors
+    ///
+    /// `NameLimit` if this name has 64 RDNs.
     pub fn child(&self, alloc: Global, part: &RdnKey) -> Result<DnKey, NameFault>
-        ensures { Gives (λ key. key) result (Ok (self.now ++ part.now ∷ [])) }
+        ensures { Gives (λ key. key) result (cond (nat_lt (length self.now) 64) (Ok (self.now ++ part.now ∷ [])) (Err NameLimit)) }
     {
+        if self.depth() >= MAX_RDNS {
+            return Err(NameFault::NameLimit);
+        }
         let child = self.shared.child(alloc, part)?;
         Ok(DnKey {
             shared: Rc::new(alloc, child)?,
@@ -276,7 +289,8 @@ impl DnKey {
 
     /// The keys of the RDNs, root first.
     pub fn parts(&self) -> &[RdnKey]
-        ensures { result.now ≡ self.now }
+        ensures value { result.now ≡ self.now }
+        ensures within_limit { length self.now ≤ 64 }
     {
         self.shared.as_slice()
     }
@@ -291,6 +305,7 @@ impl DnKey {
     }
 
     pub(crate) fn from_parts(alloc: Global, parts: Vec<RdnKey>) -> Result<DnKey, NameFault>
+        requires { length parts.items ≤ 64 }
         ensures { Gives (λ key. key) result (Ok parts.items) }
     {
         let key = NameKey::new(alloc, parts)?;

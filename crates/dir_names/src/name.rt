@@ -1,6 +1,6 @@
 //! Names and RDNs as they are spelled (RFC 4514): read, printed, and turned into keys.
 
-ghost use Rattle.std.specs.Prelude.{◌≡◌, cond, is_some, length, nat_le, Ok, Err, Some, IsTrue, IsFalse, IfOk, IsErrOf};
+ghost use Rattle.std.specs.Prelude.{◌≡◌, ◌≤◌, [], cond, is_some, length, nat_le, Ok, Err, Some, IsTrue, IsFalse, IfOk, IsErrOf};
 ghost use Rattle.dir_names.specs.Inside.Few.{few_items};
 ghost use Rattle.dir_names.specs.NameKeys.{pair_key, rdn_key, name_key};
 ghost use Rattle.dir_names.specs.Names.{name_eq, rdn_eq, name_eq_laws, rdn_eq_laws, partial_name_eq_laws, partial_rdn_eq_laws, SpelledRdn, SpelledName};
@@ -291,11 +291,28 @@ impl Dn {
         if rdns.len() > MAX_RDNS {
             return Err(NameFault::NameLimit);
         }
+        Ok(Dn::of_rdns(rdns))
+    }
+
+    /// The name with these at most 64 RDNs, leaf first.
+    pub fn of_rdns(rdns: Vec<Rdn>) -> Dn
+        requires { length rdns.items ≤ 64 }
+        ensures { result ≡ rdns.items }
+    {
         // Each RDN is opened once, so that its invariant is known to the proof.
         for rdn in rdns.as_slice() {
             let _pairs = &rdn.pairs;
         }
-        Ok(Dn { rdns })
+        Dn { rdns }
+    }
+
+    /// The name without RDNs.
+    pub fn empty(alloc: Global) -> Dn
+        ensures { result ≡ [] }
+    {
+        Dn {
+            rdns: Vec::new(alloc),
+        }
     }
 
     /// A copy: its list has memory of its own, and its RDNs share the memory of these. The one fault is

@@ -181,6 +181,10 @@ fn names_are_made_of_rdns_and_copied(rt: HostRuntime) -> Result<(), Fail> {
     assert_eq!(rt; printed.as_slice(), b"ou=a,dc=com".as_slice());
     let copy = name.try_clone(alloc)?;
     assert!(rt; copy == name);
+    let mut root = Vec::new(alloc);
+    root.push(Rdn::read(alloc, b"dc=com")?)?;
+    assert!(rt; Dn::of_rdns(root) == Dn::read(alloc, b"dc=com")?);
+    assert!(rt; Dn::empty(alloc) == Dn::read(alloc, b"")?);
     let key = name.key(alloc, &schema)?;
     assert!(rt; key.try_clone(alloc)? == key);
     let description = described(alloc, &schema, "cn;x-a")?;
@@ -432,11 +436,9 @@ fn a_name_has_at_most_64_rdns(rt: HostRuntime) -> Result<(), Fail> {
     let text = name_text(alloc, 64)?;
     let name = Dn::read(alloc, text.as_bytes())?;
     let leaf = Rdn::read(alloc, b"cn=a")?;
-    // A key alone has no limit.
-    let below = name
-        .key(alloc, &schema)?
-        .child(alloc, &leaf.key(alloc, &schema)?)?;
-    assert_eq!(rt; below.depth(), 65);
+    let key = name.key(alloc, &schema)?;
+    let below = key.child(alloc, &leaf.key(alloc, &schema)?);
+    assert_eq!(rt; below.err(), Some(NameFault::NameLimit));
     let mut rdns = name.into_rdns();
     rdns.push(leaf)?;
     assert_eq!(rt; Dn::from_rdns(rdns).err(), Some(NameFault::NameLimit));

@@ -1,5 +1,5 @@
 -- The way from an entry up to the suffix's, as a loop climbs it.
-use Rattle.std.proofs.Common.{◌≡◌, ℕ, ◌+◌, ◌<◌, true, ◌⊎◌, inl, inr, [], ◌∷◌, ◌++◌, length, Option, Some, None, is_some, Result, Ok, refl, sym, ap, ◌∙◌, arith, append_assoc, length-append, true≢false}
+use Rattle.std.proofs.Common.{◌≡◌, ℕ, ◌+◌, ◌<◌, true, ◌⊎◌, inl, inr, [], ◌∷◌, ◌++◌, length, take, Option, Some, None, is_some, Result, Ok, refl, sym, ap, ◌∙◌, arith, append_assoc, length-append, true≢false}
 use Rattle.std.proofs.lemmas.List.{append-nil}
 use Rattle.dir_names.specs.declared.fault.NameFault.{NameFault}
 use Rattle.dir_names.specs.Keys.{DnKeys, parent_of}
@@ -7,10 +7,10 @@ use Rattle.dir_names.specs.Names.{SpelledName}
 use Rattle.dir_names.specs.Orders.{dn_key_eq, dn_key_eq_decides}
 use Rattle.dir_tree.specs.Content.{Content}
 use Rattle.dir_tree.specs.Dir.{Dir, entry_at, is_there, IsClosed}
-use Rattle.dir_tree.specs.SpelledNames.{own_name_at, own_name_of, spelled_name}
+use Rattle.dir_tree.specs.SpelledNames.{own_depth, own_name_at, spelled_name}
 use Rattle.dir_tree.proofs.DirLemmas.{parent_child}
 use Rattle.dir_tree.proofs.NextKey.{or_cases}
-use Rattle.dir_tree.proofs.SpelledLemmas.{spelled_below, spelled_root, spelled_above}
+use Rattle.dir_tree.proofs.SpelledLemmas.{own_here, spelled_below, spelled_root, spelled_above}
 
 -- what is still to be spelled, from this key up
 abbrev pub left_above : Dir → Option DnKeys → SpelledName
@@ -39,15 +39,15 @@ given e = cc
 
 module _ (d : Dir) (closed : IsClosed d) where
   -- past an entry
-  pub climbed : (done : SpelledName) (k : DnKeys) (e : Content) (o : Option DnKeys) → entry_at d k ≡ Some e → parent_of k ≡ o → done ++ spelled_name d k ≡ (done ++ e.own) ++ left_above d o
+  pub climbed : (done : SpelledName) (k : DnKeys) (e : Content) (o : Option DnKeys) → entry_at d k ≡ Some e → parent_of k ≡ o → done ++ spelled_name d k ≡ (done ++ take (own_depth d.suffix k) e.own) ++ left_above d o
   climbed done k e None at top =
       let root : k ≡ [] = only_root k top in
-      ap (λ z. done ++ spelled_name d z) root ∙ ap (λ names. done ++ names) (spelled_root d ∙ sym (ap (own_name_at d) root) ∙ ap own_name_of at) ∙ sym (append-nil (done ++ e.own))
+      ap (λ z. done ++ spelled_name d z) root ∙ ap (λ names. done ++ names) (spelled_root d ∙ sym (ap (own_name_at d) root) ∙ own_here d k e at) ∙ sym (append-nil (done ++ take (own_depth d.suffix k) e.own))
     where
       only_root : (k : DnKeys) → parent_of k ≡ None → k ≡ []
       only_root [] t = refl
       only_root (x ∷ xs) t = absurd (cc)
-  climbed done k e (Some p) at above = ap (λ names. done ++ names) (spelled_below d k p above ∙ ap (λ o. own_name_of o ++ spelled_name d p) at) ∙ sym (append_assoc done e.own (spelled_name d p))
+  climbed done k e (Some p) at above = ap (λ names. done ++ names) (spelled_below d k p above ∙ ap (λ own. own ++ spelled_name d p) (own_here d k e at)) ∙ sym (append_assoc done (take (own_depth d.suffix k) e.own) (spelled_name d p))
 
   pub still_on_path : (k : DnKeys) (o : Option DnKeys) → is_some (entry_at d k) ≡ true → parent_of k ≡ o → IsOnPath d o
   still_on_path k None there e = tt

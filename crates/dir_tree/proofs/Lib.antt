@@ -1,6 +1,7 @@
 pub mod Climb
 pub mod DirLemmas
 pub mod EachEntry
+pub mod Examples
 pub mod Faults
 pub mod KeyPlaces
 pub mod MadeAgain

@@ -1,16 +1,36 @@
 -- The names of entries as spelled: from a name to the one below it, that nothing is above the suffix, and what a write leaves as it is.
-use Rattle.std.proofs.Common.{◌≡◌, ℕ, zero, suc, ◌+◌, ◌<◌, ◌≤◌, Bool, true, false, cond, [], ◌∷◌, ◌++◌, map, reverse, length, take, Option, Some, None, is_some, refl, sym, ap, subst, ◌∙◌, arith, append_assoc, length-append}
+use Rattle.std.proofs.Common.{◌≡◌, ℕ, zero, suc, ◌+◌, ◌<◌, ◌≤◌, Bool, true, false, cond, ◌||◌, List, [], ◌∷◌, ◌++◌, map, reverse, length, take, Option, Some, None, is_some, refl, sym, ap, subst, ◌∙◌, arith, append_assoc, length-append, true≢false}
 use Rattle.std.specs.List.{flat_map, range_with_len}
 use Rattle.std.specs.Ordering.{eq_by_cmp}
 use Rattle.std.proofs.lemmas.List.{append-nil, take-append-le, take_all, length-take-le, reverse-append}
 use Rattle.std.proofs.lemmas.List.FromFn.{map-range_with_len_more}
 use Rattle.dir_names.specs.Keys.{DnKeys, RdnKeys, IsAtOrBelow, parent_of}
-use Rattle.dir_names.specs.Orders.{dn_key_cmp}
+use Rattle.dir_names.specs.Names.{SpelledName}
+use Rattle.dir_names.specs.Orders.{dn_key_cmp, dn_key_eq, dn_key_eq_decides}
 use Rattle.dir_tree.specs.Content.{Content}
 use Rattle.dir_tree.specs.Dir.{Dir, IsClosed, entry_at, put_entry, remove_entry}
-use Rattle.dir_tree.specs.SpelledNames.{own_name_at, own_name_of, prefixes, spelled_name}
+use Rattle.dir_tree.specs.SpelledNames.{own_depth, own_name_at, own_name_of, prefixes, spelled_name}
 use Rattle.dir_tree.proofs.DirLemmas.{same_key, get_put, get_without, last_part, parent_child}
 use Rattle.dir_tree.proofs.NextKey.{reaches}
+
+-- ---- own names
+
+none_taken : {A : Type 0} (n : ℕ) → ◌≡◌ {A = List A} (take n []) []
+none_taken zero = refl
+none_taken (suc n) = refl
+
+-- what is taken is no longer
+pub taken_short : {A : Type 0} (n : ℕ) (xs : List A) → length (take n xs) ≤ n
+taken_short zero xs = omega arith
+taken_short (suc n) [] = omega arith
+taken_short (suc n) (x ∷ xs) = let rest = taken_short n xs in omega (arith, rest)
+
+-- the own name of an entry, as far as it counts
+pub own_here : (d : Dir) (k : DnKeys) (e : Content) → entry_at d k ≡ Some e → own_name_at d k ≡ take (own_depth d.suffix k) e.own
+own_here d k e there = ap (λ o. take (own_depth d.suffix k) (own_name_of o)) there
+
+own_none : (d : Dir) (k : DnKeys) → entry_at d k ≡ None → own_name_at d k ≡ []
+own_none d k none = ap (λ o. take (own_depth d.suffix k) (own_name_of o)) none ∙ none_taken (own_depth d.suffix k)
 
 -- ---- from a key to what is directly below it
 
@@ -68,10 +88,10 @@ none_above d closed k short = by (entry_at d k) refl
 pub spelled_above : (d : Dir) → IsClosed d → (k : DnKeys) → length k < length d.suffix → spelled_name d k ≡ []
 spelled_above d closed =
     by_last (λ k. length k < length d.suffix → spelled_name d k ≡ [])
-    (λ short. spelled_root d ∙ ap own_name_of (none_above d closed [] short))
+    (λ short. spelled_root d ∙ own_none d [] (none_above d closed [] short))
     (λ p part rest short.
     let count = length-append p (part ∷ []) in
-    spelled_child d p part ∙ (λ i. own_name_of (none_above d closed (p ++ part ∷ []) short i) ++ rest (omega (arith, count, short)) i))
+    spelled_child d p part ∙ (λ i. own_none d (p ++ part ∷ []) (none_above d closed (p ++ part ∷ []) short) i ++ rest (omega (arith, count, short)) i))
 
 -- the suffix's entry has the whole name
 pub spelled_suffix : (d : Dir) → IsClosed d → (k : DnKeys) → k ≡ d.suffix → spelled_name d k ≡ own_name_at d k
@@ -84,6 +104,42 @@ spelled_suffix d closed =
     spelled_child d p part
     ∙ ap (λ names. own_name_at d (p ++ part ∷ []) ++ names) (spelled_above d closed p (omega (arith, count, long)))
     ∙ append-nil (own_name_at d (p ++ part ∷ [])))
+
+-- ---- the length of a name
+
+-- a name has at most as many RDNs as its key
+pub spelled_short : (d : Dir) → IsClosed d → (k : DnKeys) → length (spelled_name d k) ≤ length k
+spelled_short d closed = by_last (λ k. length (spelled_name d k) ≤ length k) (root (entry_at d []) refl) (λ p part rest. below p part rest (dn_key_eq (p ++ part ∷ []) d.suffix) refl)
+  where
+    depth_at : (k : DnKeys) (b : Bool) → dn_key_eq k d.suffix ≡ b → own_depth d.suffix k ≡ cond b (length k) 1
+    depth_at k b t = ap (λ b. cond b (length k) 1) t
+
+    root : (o : Option Content) → entry_at d [] ≡ o → length (spelled_name d []) ≤ 0
+    root None none = let same = ap length (spelled_root d ∙ own_none d [] none) in omega (arith, same)
+    root (Some e) there = by (dn_key_eq [] d.suffix) refl (closed [] (ap is_some there))
+      where
+        by : (b : Bool) → dn_key_eq [] d.suffix ≡ b → (b || false) ≡ true → length (spelled_name d []) ≤ 0
+        by true t h =
+            let same = ap length (spelled_root d) in
+            let short = taken_short (own_depth d.suffix []) (own_name_of (entry_at d [])) in
+            let depth : own_depth d.suffix [] ≡ 0 = depth_at [] true t in
+            omega (arith, same, short, depth)
+        by false t h = absurd (true≢false (sym h))
+
+    below : (p : DnKeys) (part : RdnKeys) → length (spelled_name d p) ≤ length p → (b : Bool) → dn_key_eq (p ++ part ∷ []) d.suffix ≡ b → length (spelled_name d (p ++ part ∷ [])) ≤ length (p ++ part ∷ [])
+    below p part rest true t =
+        let q : DnKeys = p ++ part ∷ [] in
+        let same = ap length (spelled_suffix d closed q ((dn_key_eq_decides q d.suffix).0 t)) in
+        let short = taken_short (own_depth d.suffix q) (own_name_of (entry_at d q)) in
+        let depth : own_depth d.suffix q ≡ length q = depth_at q true t in
+        omega (arith, same, short, depth)
+    below p part rest false t =
+        let q : DnKeys = p ++ part ∷ [] in
+        let count : length q ≡ length p + 1 = length-append p (part ∷ []) in
+        let same : length (spelled_name d q) ≡ length (own_name_at d q) + length (spelled_name d p) = ap length (spelled_child d p part) ∙ length-append (own_name_at d q) (spelled_name d p) in
+        let short = taken_short (own_depth d.suffix q) (own_name_of (entry_at d q)) in
+        let depth : own_depth d.suffix q ≡ 1 = depth_at q false t in
+        omega (arith, count, same, short, depth, rest)
 
 -- ---- after a write
 
@@ -98,25 +154,25 @@ spelled_same d e =
     ∙ (λ i. h q ([], sym (append-nil q)) i ++ rest (λ x lies. h x (lies.0 ++ part ∷ [], ap (λ z. z ++ part ∷ []) lies.1 ∙ append_assoc x lies.0 (part ∷ []))) i)
     ∙ sym (spelled_child e p part))
 
-pub own_put : (d : Dir) (k : DnKeys) (e : Content) (q : DnKeys) → own_name_at (put_entry d k e) q ≡ cond (eq_by_cmp dn_key_cmp q k) e.own (own_name_at d q)
-own_put d k e q = ap own_name_of (get_put d k e q) ∙ by (eq_by_cmp dn_key_cmp q k)
+pub own_put : (d : Dir) (k : DnKeys) (e : Content) (q : DnKeys) → own_name_at (put_entry d k e) q ≡ cond (eq_by_cmp dn_key_cmp q k) (take (own_depth d.suffix q) e.own) (own_name_at d q)
+own_put d k e q = ap (λ o. take (own_depth d.suffix q) (own_name_of o)) (get_put d k e q) ∙ by (eq_by_cmp dn_key_cmp q k)
   where
-    by : (b : Bool) → own_name_of (cond b (Some e) (entry_at d q)) ≡ cond b e.own (own_name_at d q)
+    by : (b : Bool) → take (own_depth d.suffix q) (own_name_of (cond b (Some e) (entry_at d q))) ≡ cond b (take (own_depth d.suffix q) e.own) (own_name_at d q)
     by true = refl
     by false = refl
 
 pub own_without : (d : Dir) (k q : DnKeys) → own_name_at (remove_entry d k) q ≡ cond (eq_by_cmp dn_key_cmp q k) [] (own_name_at d q)
-own_without d k q = ap own_name_of (get_without d k q) ∙ by (eq_by_cmp dn_key_cmp q k)
+own_without d k q = ap (λ o. take (own_depth d.suffix q) (own_name_of o)) (get_without d k q) ∙ by (eq_by_cmp dn_key_cmp q k)
   where
-    by : (b : Bool) → own_name_of (cond b None (entry_at d q)) ≡ cond b [] (own_name_at d q)
-    by true = refl
+    by : (b : Bool) → take (own_depth d.suffix q) (own_name_of (cond b None (entry_at d q))) ≡ cond b [] (own_name_at d q)
+    by true = none_taken (own_depth d.suffix q)
     by false = refl
 
 -- what doesn't lie at or below the written key is spelled as before
 pub spelled_put_apart : (d : Dir) (k : DnKeys) (e : Content) (q : DnKeys) → ¬ (IsAtOrBelow q k) → spelled_name (put_entry d k e) q ≡ spelled_name d q
 spelled_put_apart d k e q apart = spelled_same (put_entry d k e) d q (λ x lies. own_put d k e x ∙ by x lies _ refl)
   where
-    by : (x : DnKeys) → IsAtOrBelow q x → (b : Bool) → eq_by_cmp dn_key_cmp x k ≡ b → cond b e.own (own_name_at d x) ≡ own_name_at d x
+    by : (x : DnKeys) → IsAtOrBelow q x → (b : Bool) → eq_by_cmp dn_key_cmp x k ≡ b → cond b (take (own_depth d.suffix x) e.own) (own_name_at d x) ≡ own_name_at d x
     by x lies true t = absurd (apart (subst (λ z. IsAtOrBelow q z) (same_key x k t) lies))
     by x lies false t = refl
 
@@ -128,9 +184,9 @@ spelled_without_apart d k q apart = spelled_same (remove_entry d k) d q (λ x li
     by x lies false t = refl
 
 -- an entry that keeps its own name changes no name
-pub spelled_put_same : (d : Dir) (k : DnKeys) (e : Content) → own_name_at d k ≡ e.own → (q : DnKeys) → spelled_name (put_entry d k e) q ≡ spelled_name d q
+pub spelled_put_same : (d : Dir) (k : DnKeys) (e : Content) → own_name_of (entry_at d k) ≡ e.own → (q : DnKeys) → spelled_name (put_entry d k e) q ≡ spelled_name d q
 spelled_put_same d k e own q = spelled_same (put_entry d k e) d q (λ x lies. own_put d k e x ∙ by x _ refl)
   where
-    by : (x : DnKeys) (b : Bool) → eq_by_cmp dn_key_cmp x k ≡ b → cond b e.own (own_name_at d x) ≡ own_name_at d x
-    by x true t = sym own ∙ ap (own_name_at d) (sym (same_key x k t))
+    by : (x : DnKeys) (b : Bool) → eq_by_cmp dn_key_cmp x k ≡ b → cond b (take (own_depth d.suffix x) e.own) (own_name_at d x) ≡ own_name_at d x
+    by x true t = ap (take (own_depth d.suffix x)) (sym own ∙ ap (λ z. own_name_of (entry_at d z)) (sym (same_key x k t)))
     by x false t = refl

@@ -17,10 +17,10 @@ use Rattle.dir_names.proofs.Maps.{rises_from_ordered, entries_from_ordered}
 use Rattle.dir_names.proofs.Placed.{first, second, keys_of}
 use Rattle.dir_tree.specs.Content.{Content}
 use Rattle.dir_tree.specs.Dir.{Dir, dir_over, entry_at, is_there, IsClosed}
-use Rattle.dir_tree.specs.SpelledNames.{named_entries, own_name_at, own_name_of, spelled_name}
+use Rattle.dir_tree.specs.SpelledNames.{named_entries, own_depth, own_name_at, spelled_name}
 use Rattle.dir_tree.proofs.DirLemmas.{same_key, parent_child}
 use Rattle.dir_tree.proofs.NextKey.{before_below, after_above, between, or_cases, parent_snoc, reaches}
-use Rattle.dir_tree.proofs.SpelledLemmas.{same_below, by_last, spelled_child, spelled_above}
+use Rattle.dir_tree.proofs.SpelledLemmas.{own_here, same_below, by_last, spelled_child, spelled_above}
 
 abbrev pub Entries : Type 0
 Entries = List (DnKeys × Content)
@@ -240,18 +240,18 @@ module _ (d : Dir) where
 
   -- past an entry
   module _ (path : List SpelledName) (e : DnKeys × Content) (es : Entries) (ahead : Ahead path (e ∷ es)) where
-    pub past : take (length e.0 - length d.suffix) path ++ e.1.own ∷ [] ≡ owns e.0 (length e.0 + 1 - length d.suffix)
+    pub past : take (length e.0 - length d.suffix) path ++ take (own_depth d.suffix e.0) e.1.own ∷ [] ≡ owns e.0 (length e.0 + 1 - length d.suffix)
     past =
         let low = ahead.1 in
-        let here : own_name_at d (take (length e.0) e.0) ≡ e.1.own = ap (own_name_at d) (take_all (length e.0) e.0 (omega arith)) ∙ ap own_name_of ahead.0 in
+        let here : own_name_at d (take (length e.0) e.0) ≡ take (own_depth d.suffix e.0) e.1.own = ap (own_name_at d) (take_all (length e.0) e.0 (omega arith)) ∙ own_here d e.0 e.1 ahead.0 in
         let last = map-range_with_len_more (λ i. own_name_at d (take i e.0)) (length d.suffix) (length e.0 - length d.suffix) (length e.0) (omega (arith, low)) in
         let count : length e.0 - length d.suffix + 1 ≡ length e.0 + 1 - length d.suffix = omega (arith, low) in
         (λ i. ahead.2 i ++ sym here i ∷ []) ∙ sym last ∙ ap (owns e.0) count
 
-    pub ahead_next : Ahead (take (length e.0 - length d.suffix) path ++ e.1.own ∷ []) es
+    pub ahead_next : Ahead (take (length e.0 - length d.suffix) path ++ take (own_depth d.suffix e.0) e.1.own ∷ []) es
     ahead_next = by es ahead.3
       where
-        by : (es : Entries) → Linked e.0 es → Ahead (take (length e.0 - length d.suffix) path ++ e.1.own ∷ []) es
+        by : (es : Entries) → Linked e.0 es → Ahead (take (length e.0 - length d.suffix) path ++ take (own_depth d.suffix e.0) e.1.own ∷ []) es
         by [] l = tt
         by (f ∷ fs) l =
             let s = l.0 in
@@ -290,8 +290,8 @@ module _ (suffix : DnKeys) (entries : Entries) (closed : IsClosed (dir_over suff
     ahead_here : Ahead (dir_over suffix entries) path ((k, e) ∷ es)
     ahead_here = subst (Ahead (dir_over suffix entries) path) next ahead
 
-    pub next_name : (own : List SpelledName) → own ≡ take (length k - length suffix) path ++ e.own ∷ [] → flat_map (λ own. own) (reverse own) ≡ spelled_name (dir_over suffix entries) k
+    pub next_name : (own : List SpelledName) → own ≡ take (length k - length suffix) path ++ take (own_depth suffix k) e.own ∷ [] → flat_map (λ own. own) (reverse own) ≡ spelled_name (dir_over suffix entries) k
     next_name own is = ap (λ names. flat_map (λ own. own) (reverse names)) (is ∙ past (dir_over suffix entries) path (k, e) es ahead_here) ∙ owns_joined (dir_over suffix entries) closed k
 
-    pub next_ahead : (own : List SpelledName) → own ≡ take (length k - length suffix) path ++ e.own ∷ [] → Ahead (dir_over suffix entries) own es
+    pub next_ahead : (own : List SpelledName) → own ≡ take (length k - length suffix) path ++ take (own_depth suffix k) e.own ∷ [] → Ahead (dir_over suffix entries) own es
     next_ahead own is = subst (λ names. Ahead (dir_over suffix entries) names es) (sym is) (ahead_next (dir_over suffix entries) path (k, e) es ahead_here)

@@ -1,5 +1,5 @@
 -- The name of an entry as spelled: an entry has only its own name, and the entries above it have the rest.
-use Rattle.std.specs.Prelude.{◌+◌, cond, List, [], map, reverse, take, length, Option, Some, None}
+use Rattle.std.specs.Prelude.{ℕ, ◌+◌, cond, List, [], map, reverse, take, length, Option, Some, None}
 use Rattle.std.specs.List.{flat_map, range_with_len}
 use Rattle.std.specs.FinMap as fin
 use Rattle.dir_names.specs.Keys.{DnKeys}
@@ -17,9 +17,13 @@ abbrev pub own_name_of : Option Content → SpelledName
 own_name_of None = []
 own_name_of (Some e) = e.own
 
--- the own name of the entry at a key; nothing if there is no entry
+-- how many RDNs of an entry's own name count: for the suffix's entry as many as its key has, for any other entry one
+abbrev pub own_depth : DnKeys → DnKeys → ℕ
+own_depth suffix k = cond (dn_key_eq k suffix) (length k) 1
+
+-- the own name of the entry at a key, as far as it counts; nothing if there is no entry. In a well-formed directory the whole own name counts
 abbrev pub own_name_at : Dir → DnKeys → SpelledName
-own_name_at d k = own_name_of (entry_at d k)
+own_name_at d k = take (own_depth d.suffix k) (own_name_of (entry_at d k))
 
 -- the name of an entry as spelled on its path: the own names of the entries from it up to the suffix's, joined, leaf first
 abbrev pub spelled_name : Dir → DnKeys → SpelledName

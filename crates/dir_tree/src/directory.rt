@@ -1,12 +1,12 @@
 //! What every directory offers, and which keys may take an entry.
 
 ghost use Rattle.dir_names.specs.declared.fault.NameFault.TheVariants as NameFault;
-ghost use Rattle.std.specs.Prelude.{◌≡◌, ◌↔◌, IfErr, IfOk, IsSome, IsTrue, None, OnErr, OnOk, Some, map, option_copied};
+ghost use Rattle.std.specs.Prelude.{◌≡◌, ◌↔◌, IfErr, IfOk, IsSome, IsTrue, None, OnErr, OnOk, Some, map, option_copied, take};
 ghost use Rattle.dir_tree.specs.Dir.{Dir, HasChild, IsClosed, entry_at, has_parent, put_entry, remove_entry};
-ghost use Rattle.dir_tree.specs.SpelledNames.{named_entries, spelled_name};
+ghost use Rattle.dir_tree.specs.SpelledNames.{named_entries, own_depth, spelled_name};
 
 use crate::Entry;
-use dir_names::{Dn, DnKey, Memory, NameFault};
+use dir_names::{Dn, DnKey, Memory, NameFault, Rdn};
 use std::alloc::Global;
 
 /// A directory: a suffix, and a map from the keys of names to entries. Each entry but the suffix's has
@@ -57,8 +57,7 @@ pub trait Directory {
     ///
     /// # Errors
     ///
-    /// `Memory` if memory runs out, or if the path has more than 64 RDNs in all, which no directory within
-    /// the limits of names has.
+    /// `Memory` alone.
     fn spelled(&self, key: &DnKey) -> Result<Dn, Memory>
         requires { IsSome (entry_at (state self.now) key.now) }
         ensures { IfOk result (λ name. name ≡ spelled_name (state self.now) key.now) };
@@ -89,4 +88,13 @@ pub fn may_stand<D: Directory>(alloc: Global, directory: &D, key: &DnKey) -> Res
         Some(parent) => Ok(directory.get(&parent).is_some()),
         None => Ok(false),
     }
+}
+
+/// The part of an entry's own name that counts in its name as spelled: at most as many RDNs as the key has
+/// at the suffix, and one below it.
+pub fn spelled_own<'o>(suffix: &DnKey, key: &DnKey, own: &'o [Rdn]) -> &'o [Rdn]
+    ensures { result.now ≡ take (own_depth suffix.now key.now) own.now }
+{
+    let depth = if key == suffix { key.depth() } else { 1 };
+    &own[..own.len().min(depth)]
 }

@@ -11,7 +11,7 @@ ghost use Rattle.std.specs.FinMap as fin;
 ghost use Rattle.dir_tree.specs.Dir.{IsClosed, dir_over};
 ghost use Rattle.dir_tree.specs.SpelledNames.{named_entries};
 
-use crate::{Directory, Entry};
+use crate::{Directory, Entry, spelled_own};
 use dir_names::{Dn, DnKey, Memory, Rdn};
 use std::alloc::Global;
 use std::collections::BTreeMap;
@@ -99,13 +99,14 @@ impl Directory for FlatDirectory {
             let Some(entry) = self.entries.get(&key) else {
                 break;
             };
-            push_clones(&mut rdns, entry.own(), self.alloc)?;
+            let own = spelled_own(&self.suffix, &key, entry.own());
+            push_clones(&mut rdns, own, self.alloc)?;
             let Ok(parent) = key.parent(self.alloc) else {
                 return Err(Memory);
             };
             above = parent;
         }
-        name_of_rdns(rdns)
+        Ok(Dn::of_rdns(rdns))
     }
 
     fn walk(&self) -> Result<Vec<(Dn, &Entry)>, Memory> {
@@ -127,10 +128,10 @@ fn walk_over<'m>(
     let mut path: Vec<&[Rdn]> = Vec::new(alloc);
     for (key, entry) in entries {
         path.truncate(key.depth() - suffix.depth());
-        path.push(entry.own())?;
+        path.push(spelled_own(suffix, key, entry.own()))?;
         let mut rdns = Vec::with_capacity(alloc, key.depth())?;
         push_joined(&mut rdns, path.as_slice(), alloc)?;
-        walk.push((name_of_rdns(rdns)?, entry))?;
+        walk.push((Dn::of_rdns(rdns), entry))?;
     }
     Ok(walk)
 }
@@ -170,14 +171,4 @@ fn push_clones(rdns: &mut Vec<Rdn>, more: &[Rdn], alloc: Global) -> Result<(), M
         rdns.push(copy)?;
     }
     Ok(())
-}
-
-/// The name with these RDNs, leaf first.
-fn name_of_rdns(rdns: Vec<Rdn>) -> Result<Dn, Memory>
-    ensures { IfOk result (λ name. name ≡ rdns.items) }
-{
-    match Dn::from_rdns(rdns) {
-        Ok(name) => Ok(name),
-        Err(_) => Err(Memory),
-    }
 }

@@ -14,7 +14,7 @@ mod stored;
 mod values;
 
 pub use attributes::{Attribute, AttributeMap, Attributes};
-pub use directory::{Directory, may_stand};
+pub use directory::{Directory, may_stand, spelled_own};
 pub use entry::{Entry, own_rdns};
 pub use fault::EntryFault;
 pub use flat::FlatDirectory;

@@ -27,7 +27,7 @@ pub(crate) fn read_name(alloc: Global, text: &[u8]) -> Result<Dn, NameFault>
     ensures { Gives (λ name. name) result (name_within_limits text.now) }
 {
     if text.is_empty() {
-        return Dn::from_rdns(Vec::new(alloc));
+        return Ok(Dn::empty(alloc));
     }
     Dn::from_rdns(read_rdns(alloc, text)?)
 }

@@ -191,9 +191,9 @@ fn a_name_of_64_rdns_is_spelled_whole(rt: HostRuntime) -> Result<(), Fail> {
     assert_last_walked(&rt, alloc, &directory, name.as_bytes())
 }
 
-/// Own names that no directory within the limits has: 64 RDNs below a suffix of one.
+/// Own names that no well-formed directory has: 64 RDNs below a suffix of one, of which the leaf counts.
 #[test]
-fn a_name_of_65_rdns_is_not_spelled(rt: HostRuntime) -> Result<(), Fail> {
+fn of_an_own_name_below_the_suffix_one_rdn_is_spelled(rt: HostRuntime) -> Result<(), Fail> {
     let alloc = rt.alloc();
     let schema = Schema::builtin(alloc)?;
     let mut directory = empty(alloc, &schema, b"dc=com")?;
@@ -209,11 +209,9 @@ fn a_name_of_65_rdns_is_not_spelled(rt: HostRuntime) -> Result<(), Fail> {
     let Some(_) = directory.get(&key) else {
         return Err("not there".into());
     };
-    let spelled = directory.spelled(&key);
-    assert!(rt; spelled.is_err());
-    let walk = directory.walk();
-    assert!(rt; walk.is_err());
-    Ok(())
+    let spelled = directory.spelled(&key)?.print(alloc)?;
+    assert_eq!(rt; spelled.as_slice(), b"cn=64,dc=com".as_slice());
+    assert_last_walked(&rt, alloc, &directory, b"cn=64,dc=com")
 }
 
 /// Asserts that a walk ends at the entry of this name.

@@ -1,4 +1,4 @@
-use Rattle.std.proofs.Common.{◌≡◌, true, false, cond, take, [], ◌∷◌, ◌++◌, IfSome, Option, Some, None, is_some, Result, Ok, refl, sym, ap, subst, ◌∙◌, true≢false, Bor}
+use Rattle.std.proofs.Common.{◌≡◌, true, false, cond, length, take, [], ◌∷◌, ◌++◌, IfSome, Option, Some, None, is_some, Result, Ok, refl, sym, ap, subst, ◌∙◌, true≢false, Bor, arith}
 use Rattle.std.specs.Option.{option_copied}
 use Rattle.std.proofs.lemmas.Result.{err_from_is_err_and}
 use Rattle.std.specs.Prelude.{Err, IsErrAnd, MatchResult}
@@ -16,9 +16,9 @@ use Rattle.dir_change.specs.Refusals.{entry_refusal}
 use Rattle.dir_names.specs.Names.{SpelledName}
 use Rattle.dir_names.specs.Below.{is_at_or_below}
 use Rattle.dir_ldif.specs.declared.records.ChangeKind.TheVariants as kind
-use Rattle.dir_tree.specs.SpelledNames.{own_rdns, spelled_name}
+use Rattle.dir_tree.specs.SpelledNames.{own_depth, own_rdns, spelled_name}
 use Rattle.dir_change.specs.Undo.{name_of_parent}
-use Rattle.dir_change.proofs.AfterOperations.{add_spelled}
+use Rattle.dir_change.proofs.AfterOperations.{add_spelled, joined_fits}
 use Rattle.dir_change.proofs.Conditions.{below_true, below_false, add_outside, add_taken, add_placed}
 use Rattle.dir_change.proofs.add.add.Goals as goal
 
@@ -78,6 +78,18 @@ returns-in_err-entry-clause-refused g c =
     let e = err_from_is_err_and c.from_residual-in_err-entry.result c.from_residual-in_err-entry.ensures.1 in
     rw e.1 (subst (λ r. IsRefused r (directory_after_add c.args.schema.now d k c.args.name.now c.args.lines.now)) (sym e.2) (subst (λ w. IsRefused (entry_refusal c.in_err-entry.field-0.0) w) (sym at_place) (fails_refused d k c.in_err-entry.field-0.0 (new_entry c.args.schema.now (own_rdns d.suffix k c.args.name.now) c.args.lines.now) fails)))
 
+pub joined_name-requires : goal.joined_name-requires
+joined_name-requires g c =
+    let d = g.D.Directory.state c.args.directory.now in
+    let k = c.args.key.now in
+    let parent : has_parent d k ≡ true = sym c.in_ok-above.ensures.parent ∙ ap is_some c.in-Some.is in
+    let above : c.in-Some.above ≡ name_of_parent d k = some_name c.in_ok-above.field-0 c.in-Some.above (name_of_parent d k) c.in-Some.is c.in_ok-above.ensures.name in
+    let own : c.spelled_own-counted.result.now ≡ take (own_depth d.suffix k) c.as_slice.result.now = c.spelled_own-counted.ensures ∙ ap (λ s. take (own_depth s k) c.as_slice.result.now) c.suffix-3.ensures.key in
+    let fits = joined_fits d c.suffix.ensures.closed k parent c.as_slice.result.now in
+    let same = ap length own in
+    let same_above = ap length above in
+    omega (arith, fits, same, same_above)
+
 pub returns-in-Ok-clause-ok : goal.returns-in-Ok-clause-ok
 returns-in-Ok-clause-ok g c =
     let d = g.D.Directory.state c.args.directory.now in
@@ -107,7 +119,7 @@ returns-in-Ok-clause-undo g c =
     let spelled : spelled_name (g.D.Directory.state c.insert.new.self) k ≡ c.in_ok-spelled.spelled =
     ap (λ z. spelled_name z k) c.in-Ok.ensures.ok
     ∙ add_spelled c.args.schema.now d c.suffix.ensures.closed k (own_rdns d.suffix k c.args.name.now) c.args.lines.now c.in_ok-entry.entry parent given
-    ∙ (λ i. sym own i ++ sym above i)
-    ∙ ap (λ o. o ++ c.in-Some.above) (sym c.as_slice.ensures.value)
+    ∙ (λ i. take (own_depth (sym c.suffix-3.ensures.key i) k) ((sym own ∙ sym c.as_slice.ensures.value) i) ++ sym above i)
+    ∙ ap (λ o. o ++ c.in-Some.above) (sym c.spelled_own-counted.ensures)
     ∙ sym c.in_ok-spelled.ensures.ok in
     c.in_ok-undo.ensures ∙ ap (λ n. record { dn = n; kind = kind.Delete } ∷ []) (sym spelled)

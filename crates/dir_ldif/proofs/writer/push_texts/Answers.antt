@@ -1,6 +1,18 @@
+use Rattle.std.proofs.Common.{◌≡◌, ◌+◌, [], ◌∷◌, ◌++◌, take, sym, ap, subst, ◌∙◌, arith}
+use Rattle.std.proofs.lemmas.Grind.{common_steps}
+use Rattle.std.proofs.lemmas.List.{take_more}
 use Rattle.std.proofs.Transfers.{starts_with_of_append, starts_with_trans}
+use Rattle.dir_ldif.specs.SoundRecords.{AreBytes, IsBytes}
+use Rattle.dir_ldif.proofs.ReadIsSound.{values_more}
 use Rattle.dir_ldif.proofs.writer.push_texts.Goals as goal
 
 pub returns-in_err-push_line-clause-kept : goal.returns-in_err-push_line-clause-kept
 returns-in_err-push_line-clause-kept c =
-    starts_with_trans c.push_line.new.out.items c.loop-value.out.items c.args.out.now.items c.push_line.ensures.kept (starts_with_of_append _ _ _ c.loop-value.invariant)
+    starts_with_trans c.push_line.new.out.items c.loop-value.out.items c.args.out.now.items c.push_line.ensures.kept (starts_with_of_append _ _ _ c.loop-value.invariant.text)
+
+pub loop-value-preserved : goal.loop-value-preserved
+loop-value-preserved c =
+    let done = take c.loop-value.value-index c.args.values.now in
+    let taken : take (c.loop-value.value-index + 1) c.args.values.now ≡ done ++ c.value-item.result ∷ [] =
+    take_more c.args.values.now c.loop-value.value-index c.value-item.result (omega arith) ∙ ap (λ x. done ++ x ∷ []) (sym c.value-item.is) in
+    record { text = grind (arith, common_steps); bytes = subst AreBytes (sym taken) (values_more done c.value-item.result c.loop-value.invariant.bytes (subst IsBytes c.as_slice.ensures c.in_ok-push_line.ensures.bytes)) }

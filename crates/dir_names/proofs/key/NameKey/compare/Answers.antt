@@ -6,5 +6,5 @@ use Rattle.dir_names.proofs.key.NameKey.compare.Goals as goal
 pub returns : goal.returns
 returns c =
     let run : c.cmp.result ≡ bytes_cmp c.self.inside.sort.items c.other.inside.sort.items = search rules in
-    run ∙ (λ i. bytes_cmp (c.self.invariant i) (c.other.invariant i)) ∙ name_sorts c.self.inside.parts.items c.other.inside.parts.items
+    run ∙ (λ i. bytes_cmp (c.self.invariant.0 i) (c.other.invariant.0 i)) ∙ name_sorts c.self.inside.parts.items c.other.inside.parts.items
     ∙ (λ i. dn_key_cmp (c.self.view_is i) (c.other.view_is i))
