@@ -1,5 +1,6 @@
 pub mod FaultText
-pub mod Opening
+pub mod Files
 pub mod Paths
+pub mod Runs
 pub mod Status
 pub mod Words

@@ -3,6 +3,7 @@
 ghost use Rattle.std.specs.Prelude.{IfOk};
 ghost use Rattle.slapkit.specs.Words.{AreWordsOf, IsDryWithoutFiles, WritesNoFileDry};
 
+use clap::error::ErrorKind;
 use clap::{Arg, ArgAction, ArgMatches, Command, Error};
 use dir_tools::ModifyOptions;
 use std::alloc::{AllocError, Global};
@@ -41,10 +42,11 @@ pub struct OutputPaths<'a> {
 pub fn read_words<'a, S: AsStr>(alloc: Global, words: &'a [S]) -> Result<Words<'a>, Error>
     ensures { IfOk result WritesNoFileDry }
 {
-    let matches = program(alloc)?.try_get_matches_from(words)?;
+    let mut program = program(alloc)?;
+    let matches = program.try_get_matches_from_mut(words)?;
     match matches.subcommand_matches("slapmodify") {
         Some(matches) => Ok(Words::Slapmodify(modify_words(matches))),
-        None => Err(Error::from(AllocError)),
+        None => Err(program.error(ErrorKind::MissingSubcommand, "a tool must be named")?),
     }
 }
 

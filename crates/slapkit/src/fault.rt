@@ -1,5 +1,7 @@
 //! Why the program ends without an answer, and what it says then.
 
+ghost use Rattle.std.specs.Prelude.{◌++◌};
+ghost use Rattle.std.specs.Fmt.{WritesOnOk, WritesStyledOnOk};
 ghost use Rattle.slapkit.specs.FaultText.{fault_text};
 
 use dir_tools::ToolFault;
@@ -23,13 +25,24 @@ pub enum Fault<'a> {
 impl fmt::Display for Fault<'_> {
     ghost output = { fault_text };
 
+    ghost styled_output = { λ fault _. fault_text fault };
+
     fn fmt<W: fmt::Write>(&self, f: &mut fmt::Formatter<W>) -> fmt::Result {
         match self {
             Fault::NoWords(error) => write!(f, "cannot read the command line: {error}"),
-            Fault::SamePath(path) => write!(f, "same path twice: {path}"),
-            Fault::CannotOpen(path) => write!(f, "cannot open {path}"),
-            Fault::Exists(path) => write!(f, "exists already: {path}"),
-            Fault::Tool(fault) => write!(f, "{fault}"),
+            Fault::SamePath(path) => show_path(f, "same path twice: ", path),
+            Fault::CannotOpen(path) => show_path(f, "cannot open ", path),
+            Fault::Exists(path) => show_path(f, "exists already: ", path),
+            Fault::Tool(fault) => fault.fmt(f),
         }
     }
+}
+
+/// Shows a path after some words, whatever the options.
+fn show_path<W: fmt::Write>(f: &mut fmt::Formatter<W>, words: &str, path: &str) -> fmt::Result
+    ensures writes { WritesOnOk W.write_str_gives f.old result (words.now ++ path.now) f.new }
+    ensures styled { WritesStyledOnOk W.write_str_gives f.old result (words.now ++ path.now) f.new }
+{
+    f.write_str(words)?;
+    f.write_str(path)
 }

@@ -1,32 +1,22 @@
 //! `slapkit slapmodify`: the files that a command line names, and the run over them.
 
-ghost use Rattle.std.specs.Prelude.{◌≡◌, ◌⊎◌, IfErr, IfOk, None, Some};
+ghost use Rattle.std.specs.Prelude.{◌≡◌, IfErr, IfSome, None, Some};
 ghost use Rattle.std.specs.Option.{option_copied};
-ghost use Rattle.dir_names.specs.Table.Builtin.{builtin_rows};
-ghost use Rattle.dir_tools.specs.Headline.{RunOutput, question};
+ghost use Rattle.dir_tools.specs.Headline.{RunOutput};
 ghost use Rattle.dir_tools.specs.RunAnswers.{AnswersRun, IsWholeRun, sources};
 ghost use Rattle.dir_tools.specs.StoppedReading.{HeldBefore};
 ghost use Rattle.dir_tools.specs.Writing.{FlushedInOrder, WroteInOrder};
-ghost use Rattle.slapkit.specs.Opening.{create_fault};
-ghost use Rattle.slapkit.specs.Paths.{NamesItsPath, RefusesSamePath, first_repeated, out_path, undo_path};
-ghost use Rattle.slapkit.specs.declared.fault.Fault.TheVariants.{CannotOpen, Exists};
+ghost use Rattle.slapkit.specs.Paths.{NamesItsPath, RefusesSamePath, first_repeated};
+ghost use Rattle.slapkit.specs.Runs.{AllCalls, CreatesFiles, IsNotCreated, IsToolAnswer, Made, RunsOver, WritesFiles, changes_text, question_of, sources_of};
 
-use crate::command::ModifyWords;
+use crate::command::{ModifyWords, OutputPaths};
 use crate::fault::Fault;
-use dir_ldif::{Reader, Sink, Source, Writer};
+use crate::files::{FileSystem, Refusal};
+use dir_ldif::{Sink, Source, Writer};
 use dir_names::Schema;
 use dir_tools::{Summary, ToolFault, run_modify};
 use std::alloc::Global;
-use std::fs::{File, OpenOptions};
 use std::io;
-
-/// A device, and the path at which it was opened. The standard input, and a sink that drops what it takes,
-/// have none.
-#[derive(Drop)]
-pub(crate) struct Opened<'a, D> {
-    path: Option<&'a str>,
-    device: D,
-}
 
 /// Runs `slapmodify` on the files that the words name.
 ///
@@ -34,21 +24,31 @@ pub(crate) struct Opened<'a, D> {
 ///
 /// In this order: two paths that are the same; a file that can't be opened, the copy before the
 /// changes; one that can't be created, the undo file before the new copy; the tool's own fault.
-pub fn run<'a>(rt: &HostRuntime, words: &ModifyWords<'a>) -> Result<Summary, Fault<'a>>
-    ensures { RefusesSamePath words.now (first_repeated words.now) result }
+pub fn run<'a, F: FileSystem, W: Sink>(
+    alloc: Global,
+    files: &mut F,
+    words: &ModifyWords<'a>,
+    report: &mut W,
+) -> Result<Summary, Fault<'a>>
+    ensures faults { RefusesSamePath words.now (first_repeated words.now) result }
+    ensures calls { Made (F.disk files.old) (F.disk files.new) (λ d. AllCalls (first_repeated words.now) words.now d result (W.taken report.old, W.taken report.new)) }
 {
     if let Some(path) = first_repeated(words) {
         return Err(Fault::SamePath(path));
     }
-    let mut copy = open(rt, words.data)?;
+    let Ok(mut copy) = files.open(words.data) else {
+        return Err(Fault::CannotOpen(words.data));
+    };
     match words.changes {
-        Some(path) => with_changes(rt, words, &mut copy, &mut open(rt, path)?),
-        None => {
-            let mut changes = Opened {
-                path: None,
-                device: Reader::new(rt.reader()),
+        Some(path) => {
+            let Ok(mut changes) = files.open(path) else {
+                return Err(Fault::CannotOpen(path));
             };
-            with_changes(rt, words, &mut copy, &mut changes)
+            with_changes(alloc, files, words, &mut copy, &mut changes, report)
+        }
+        None => {
+            let mut changes = files.standard_input();
+            with_changes(alloc, files, words, &mut copy, &mut changes, report)
         }
     }
 }
@@ -73,74 +73,74 @@ pub fn first_repeated<'a>(words: &ModifyWords<'a>) -> Option<&'a str>
     None
 }
 
-/// Creates the files to be written, and runs over them. The report goes to the standard output.
-fn with_changes<'a, R: Source, R2: Source>(
-    rt: &HostRuntime,
+/// Creates the files to be written, and runs over them.
+fn with_changes<'a, F: FileSystem, R: Source, R2: Source, W: Sink>(
+    alloc: Global,
+    files: &mut F,
     words: &ModifyWords<'a>,
-    copy: &mut Opened<'a, R>,
-    changes: &mut Opened<'a, R2>,
+    copy: &mut R,
+    changes: &mut R2,
+    report: &mut W,
 ) -> Result<Summary, Fault<'a>>
-    requires copy { copy.old.path ≡ Some words.now.data }
-    requires changes { changes.old.path ≡ words.now.changes }
-    ensures { IfErr result (NamesItsPath words.now) }
+    requires copy { IfSome (F.disk files.old) (λ d. R.left copy.old ≡ d.text_at words.now.data.now) }
+    requires changes { IfSome (F.disk files.old) (λ d. R2.left changes.old ≡ changes_text d (option_copied words.now.changes)) }
+    ensures faults { IfErr result (NamesItsPath words.now) }
+    ensures calls { Made (F.disk files.old) (F.disk files.new) (λ d. CreatesFiles words.now.files result (RunsOver (question_of words.now) (sources_of words.now d) result (W.taken report.old, W.taken report.new))) }
 {
-    let alloc = rt.alloc();
-    let mut report = Writer::new(io::writer(rt));
-    let answer = match words.files {
-        Some(files) => {
-            let mut undo = create(rt, files.undo)?;
-            let mut out = create(rt, files.out)?;
-            with_files(
-                alloc,
-                words,
-                copy,
-                changes,
-                &mut undo,
-                &mut out,
-                &mut report,
-            )
-        }
+    match words.files {
+        Some(paths) => with_paths(alloc, files, words, paths, copy, changes, report),
         None => {
             let mut undo = dropped();
             let mut out = dropped();
-            with_files(
-                alloc,
-                words,
-                copy,
-                changes,
-                &mut undo,
-                &mut out,
-                &mut report,
-            )
+            told(with_files(alloc, words, copy, changes, &mut undo, &mut out, report))
         }
-    };
-    match answer {
-        Ok(summary) => Ok(summary),
-        Err(fault) => Err(Fault::Tool(fault)),
     }
 }
 
-/// Runs what the words ask for, with the built-in types: each device is the one of its path, and each text
-/// goes to its own.
-fn with_files<'a, R: Source, R2: Source, W: Sink, W2: Sink, W3: Sink>(
+/// Creates the two files, the undo file first, and runs over them.
+fn with_paths<'a, F: FileSystem, R: Source, R2: Source, W: Sink>(
     alloc: Global,
+    files: &mut F,
     words: &ModifyWords<'a>,
-    copy: &mut Opened<'a, R>,
-    changes: &mut Opened<'a, R2>,
-    undo: &mut Opened<'a, W>,
-    out: &mut Opened<'a, W2>,
+    paths: OutputPaths<'a>,
+    copy: &mut R,
+    changes: &mut R2,
+    report: &mut W,
+) -> Result<Summary, Fault<'a>>
+    requires { words.now.files ≡ Some paths }
+    ensures faults { IfErr result (NamesItsPath words.now) }
+    ensures calls { Made (F.disk files.old) (F.disk files.new) (λ d. WritesFiles paths.entry result (RunsOver (question_of words.now) (sources (R.left copy.old) (R2.left changes.old)) result (W.taken report.old, W.taken report.new))) }
+{
+    let mut undo = match files.create(paths.undo) {
+        Ok(undo) => undo,
+        Err(why) => return Err(not_created(paths.undo, why)),
+    };
+    let mut out = match files.create(paths.out) {
+        Ok(out) => out,
+        Err(why) => return Err(not_created(paths.out, why)),
+    };
+    let answer = with_files(alloc, words, copy, changes, &mut undo, &mut out, report);
+    files.close(paths.undo, undo);
+    files.close(paths.out, out);
+    told(answer)
+}
+
+/// Runs what the words ask for, with the built-in types.
+fn with_files<R: Source, R2: Source, W: Sink, W2: Sink, W3: Sink>(
+    alloc: Global,
+    words: &ModifyWords<'_>,
+    copy: &mut R,
+    changes: &mut R2,
+    undo: &mut W,
+    out: &mut W2,
     report: &mut W3,
 ) -> Result<Summary, ToolFault>
-    requires copy { copy.old.path ≡ Some words.now.data }
-    requires changes { changes.old.path ≡ words.now.changes }
-    requires undo { undo.old.path ≡ undo_path words.now.files }
-    requires out { out.old.path ≡ out_path words.now.files }
     ensures headline { (output : RunOutput)
-        × WroteInOrder words.now.options.dry result output.texts (W.taken undo.old.device, W.taken undo.new.device) (W2.taken out.old.device, W2.taken out.new.device) (W3.taken report.old, W3.taken report.new)
-        × AnswersRun (question builtin_rows words.now.suffix.now words.now.options) (sources (R.left copy.old.device) (R2.left changes.old.device)) result output
-        × IsWholeRun (question builtin_rows words.now.suffix.now words.now.options) (sources (R.left copy.old.device) (R2.left changes.old.device)) result output }
-    ensures first { IfErr result (HeldBefore (question builtin_rows words.now.suffix.now words.now.options) (R.left copy.old.device, R.left copy.new.device) (R2.left changes.old.device, R2.left changes.new.device)) }
-    ensures flushed { FlushedInOrder words.now.options.dry result (W.is_flushed undo.new.device) (W2.is_flushed out.new.device) (W3.is_flushed report.new) }
+        × WroteInOrder words.now.options.dry result output.texts (W.taken undo.old, W.taken undo.new) (W2.taken out.old, W2.taken out.new) (W3.taken report.old, W3.taken report.new)
+        × AnswersRun (question_of words.now) (sources (R.left copy.old) (R2.left changes.old)) result output
+        × IsWholeRun (question_of words.now) (sources (R.left copy.old) (R2.left changes.old)) result output }
+    ensures first { IfErr result (HeldBefore (question_of words.now) (R.left copy.old, R.left copy.new) (R2.left changes.old, R2.left changes.new)) }
+    ensures flushed { FlushedInOrder words.now.options.dry result (W.is_flushed undo.new) (W2.is_flushed out.new) (W3.is_flushed report.new) }
 {
     let Ok(schema) = Schema::builtin(alloc) else {
         return Err(ToolFault::Memory);
@@ -150,60 +150,37 @@ fn with_files<'a, R: Source, R2: Source, W: Sink, W2: Sink, W3: Sink>(
         &schema,
         words.suffix.as_bytes(),
         words.options,
-        &mut copy.device,
-        &mut changes.device,
-        &mut undo.device,
-        &mut out.device,
+        copy,
+        changes,
+        undo,
+        out,
         report,
     )
 }
 
-fn open<'a>(rt: &HostRuntime, path: &'a str) -> Result<Opened<'a, Reader<File>>, Fault<'a>>
-    ensures path { IfOk result (λ o. o.path ≡ Some path.entry) }
-    ensures fault { IfErr result (λ e. e ≡ CannotOpen path.entry) }
+/// The tool's answer, as the program's.
+fn told<'a>(answer: Result<Summary, ToolFault>) -> Result<Summary, Fault<'a>>
+    ensures { IsToolAnswer result answer }
 {
-    match File::open(rt, path) {
-        Ok(file) => Ok(Opened {
-            path: Some(path),
-            device: Reader::new(file),
-        }),
-        Err(_) => Err(Fault::CannotOpen(path)),
+    match answer {
+        Ok(summary) => Ok(summary),
+        Err(fault) => Err(Fault::Tool(fault)),
     }
 }
 
-fn create<'a>(rt: &HostRuntime, path: &'a str) -> Result<Opened<'a, Writer<File>>, Fault<'a>>
-    ensures path { IfOk result (λ o. o.path ≡ Some path.entry) }
-    ensures fault { IfErr result (λ e. (e ≡ Exists path.entry) ⊎ (e ≡ CannotOpen path.entry)) }
+/// What it means that a file isn't created.
+fn not_created<'a>(path: &'a str, why: Refusal) -> Fault<'a>
+    ensures { IsNotCreated path.entry.now why result }
 {
-    match OpenOptions::new()
-        .write(true)
-        .create_new(true)
-        .open(rt, path)
-    {
-        Ok(file) => Ok(Opened {
-            path: Some(path),
-            device: Writer::new(file),
-        }),
-        Err(error) => Err(create_fault(path, error.kind())),
-    }
-}
-
-/// What it means that a file can't be created.
-fn create_fault<'a>(path: &'a str, kind: io::ErrorKind) -> Fault<'a>
-    ensures { result ≡ create_fault path.entry kind }
-{
-    match kind {
-        io::ErrorKind::AlreadyExists => Fault::Exists(path),
-        _ => Fault::CannotOpen(path),
+    match why {
+        Refusal::Exists => Fault::Exists(path),
+        Refusal::Other => Fault::CannotOpen(path),
     }
 }
 
 /// A sink that drops what it takes.
-fn dropped<'a>() -> Opened<'a, Writer<io::Sink>>
-    ensures { result.path ≡ None }
+fn dropped() -> Writer<io::Sink>
+    ensures { ⟦<Writer<io::Sink> as Sink>⟧.taken result ≡ None }
 {
-    Opened {
-        path: None,
-        device: Writer::new(io::sink()),
-    }
+    Writer::new(io::sink())
 }

@@ -9,6 +9,6 @@ use Rattle.slapkit.proofs.slapmodify.with_files.Goals as goal
 pub returns-in_default-clause-headline : goal.returns-in_default-clause-headline
 returns-in_default-clause-headline g c =
     let q : Question = question builtin_rows c.args.words.now.suffix.now c.args.words.now.options in
-    let known : Sources = sources (g.R.Source.left c.args.copy.now.device) (g.R2.Source.left c.args.changes.now.device) in
+    let known : Sources = sources (g.R.Source.left c.args.copy.now) (g.R2.Source.left c.args.changes.now) in
     let none : RunOutput = record { texts = record { undo = []; out = []; report = [] }; summary = record { accepted = 0; refused = 0 } } in
     (none, (refl, refl, refl), tt, fault_whole q known none Memory tt)
