@@ -1,5 +1,5 @@
 -- The faults of runs in memory, and what the run back gives.
-use Rattle.std.proofs.Common.{◌≡◌, ◌⊎◌, ℕ, List, Some, Ok, Err, Result, inl, inr, refl, sym, ap, subst, ◌∙◌}
+use Rattle.std.proofs.Common.{◌≡◌, ℕ, List, Some, Ok, Err, Result, inl, inr, refl, subst, ◌∙◌}
 use Rattle.dir_ldif.specs.SoundRecords.{IsBytes}
 use Rattle.dir_ldif.specs.declared.faults.StreamFault.TheVariants as stream
 use Rattle.dir_tools.specs.declared.fault.Cause.TheVariants as cause
@@ -9,12 +9,10 @@ use Rattle.dir_tools.specs.declared.fault.ToolFault.TheVariants as tool
 use Rattle.dir_tools.specs.declared.round_trip.RoundTrip.{RoundTrip}
 use Rattle.dir_tools.specs.declared.round_trip.RunInMemory.{RunInMemory}
 use Rattle.dir_tools.specs.declared.run.ModifyOptions.{ModifyOptions}
-use Rattle.dir_tools.specs.declared.run.Summary.{Summary}
 use Rattle.dir_tools.specs.Headline.{Headline, IsTakenBack, Question, RunOutput, output_of, question}
 use Rattle.dir_tools.specs.Inside.RunInMemory.{IsRunInMemory}
-use Rattle.dir_tools.specs.ReadCalls.{FillsReadCalls}
-use Rattle.dir_tools.specs.RoundTrip.{IsFaultBack, IsFaultThere, IsRoundTrip, IsRoundTripFault, StopsInMemory}
-use Rattle.dir_tools.specs.RunAnswers.{AnswersRun, IsWholeRun, Sources, sources}
+use Rattle.dir_tools.specs.RoundTrip.{IsFaultBack, IsFaultThere, IsRoundTrip}
+use Rattle.dir_tools.specs.RunAnswers.{AnswersRun, IsWholeRun, sources}
 
 -- a run whose readers have not failed
 module _ (q : Question) (copy changes : List ℕ) (output : RunOutput) where

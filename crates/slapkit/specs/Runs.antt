@@ -1,6 +1,5 @@
 -- The calls of a run on its file system, and what goes through the files.
 use Rattle.std.specs.Prelude.{◌≡◌, ◌⊎◌, ℕ, List, [], ◌∷◌, ◌++◌, Option, None, Some, Result, Ok, Err, ⊤}
-use Rattle.std.specs.Borrow.{Bor}
 use Rattle.std.specs.Option.{option_copied}
 use Rattle.dir_names.specs.Table.Builtin.{builtin_rows}
 use Rattle.dir_tools.specs.declared.fault.ToolFault.{ToolFault}
@@ -15,7 +14,6 @@ use Rattle.slapkit.specs.declared.fault.Fault.TheVariants as fault
 use Rattle.slapkit.specs.declared.files.Refusal.{Refusal}
 use Rattle.slapkit.specs.declared.files.Refusal.TheVariants as refusal
 use Rattle.slapkit.specs.Files.{Call, Disk, closes, creates, opens, standard_input}
-use Rattle.slapkit.specs.Paths.{first_repeated}
 
 -- ---- faults
 
