@@ -5,7 +5,6 @@ use Rattle.std.specs.Ordering.{eq_by_cmp}
 use Rattle.std.proofs.lemmas.List.{append-nil, take-append-le, take_all, length-take-le, reverse-append}
 use Rattle.std.proofs.lemmas.List.FromFn.{map-range_with_len_more}
 use Rattle.dir_names.specs.Keys.{DnKeys, RdnKeys, IsAtOrBelow, parent_of}
-use Rattle.dir_names.specs.Names.{SpelledName}
 use Rattle.dir_names.specs.Orders.{dn_key_cmp, dn_key_eq, dn_key_eq_decides}
 use Rattle.dir_tree.specs.Content.{Content}
 use Rattle.dir_tree.specs.Dir.{Dir, IsClosed, entry_at, put_entry, remove_entry}

@@ -1,4 +1,4 @@
-use Rattle.std.proofs.Common.{◌≡◌, [], ◌++◌, Option, ◌<◌, ◌≤◌, length, take, Some, None, is_some, sym, ap, ◌∙◌, subst, arith}
+use Rattle.std.proofs.Common.{◌≡◌, [], ◌++◌, Option, ◌<◌, length, take, Some, None, is_some, sym, ap, ◌∙◌, subst, arith}
 use Rattle.dir_names.specs.Keys.{DnKeys, parent_of}
 use Rattle.dir_names.specs.Names.{SpelledName}
 use Rattle.dir_names.specs.Orders.{dn_key_cmp_total}
