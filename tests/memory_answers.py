@@ -31,7 +31,6 @@ KNOWN = {
     ("dir_tree/src/flat.rt", "name_of_rdns", "from_rdns"): TOO_DEEP,
     ("dir_change/src/add.rt", "joined_name", "from_rdns"): TOO_DEEP,
     ("dir_change/src/add.rt", "name_of_parent", "from_rdns"): "never: the name has no RDN, which is within the limits",
-    ("slapkit/src/command.rt", "read_words", "subcommand_matches"): "never: clap asks for a subcommand, and there is one",
 }
 
 ANSWER = re.compile(r"\b(?:\w+::)*(?:Memory|AllocError|OutOfMemory)\b")
