@@ -11,7 +11,7 @@ answer must come from a refused allocation. These forms hand one on, and pass:
     Err(_) => ..::Memory             where out of memory is the only fault of the call that is matched, by the type or the
                                      contract of every function of its name; so `map_err(|_| ..::Memory)` and `let .. else`
 
-Each other place is printed, and must be in KNOWN with its reason. Tests are left out.
+There must be no other place. Tests are left out.
 """
 import pathlib
 import re
@@ -24,11 +24,6 @@ ROOT = pathlib.Path(__file__).resolve().parent.parent
 
 # Calls that hand back what could not be put where it was to go, for want of memory alone.
 HANDS_BACK = {"insert", "push", "into_vec"}
-
-# The places that answer out of memory for another reason: file, function and call; and why that does not matter.
-KNOWN = {
-    ("slapkit/src/command.rt", "read_words", "subcommand_matches"): "never: clap asks for a subcommand, and there is one",
-}
 
 ANSWER = re.compile(r"\b(?:\w+::)*(?:Memory|AllocError|OutOfMemory)\b")
 
@@ -129,8 +124,12 @@ def answered(code, body, at):
     return None, []
 
 
-def places_of(name, text, only_memory):
-    """The places of a file that answer out of memory where no allocation was refused."""
+def line_of(text, at):
+    return text.count("\n", 0, at) + 1
+
+
+def places_of(text, only_memory):
+    """The places of a text that answer out of memory where no allocation was refused."""
     code = code_of(text)
     for function, signature, body, end in functions_of(text, code):
         converts = re.search(r"^fn from\(\w+: (?:AllocError|AllocFailed<\w+>|Memory)\)", signature)
@@ -142,7 +141,7 @@ def places_of(name, text, only_memory):
                 continue
             if calls and all(call in only_memory or call in HANDS_BACK for call in calls):
                 continue
-            yield name, function, " and ".join(calls), code.count("\n", 0, found.start()) + 1
+            yield f"line {line_of(code, found.start())}, {function}, of {' and '.join(calls)}"
 
 
 def all_sources():
@@ -158,20 +157,13 @@ def main():
         for function, signature, _, _ in functions_of(text, code_of(text)):
             signatures.setdefault(function, []).append(signature)
     only_memory = {name for name, given in signatures.items() if all(map(may_only_lack_memory, given))}
-    places = [place for name, text in sources.items() for place in places_of(name, text, only_memory)]
 
-    def is_known(place):
-        reason = KNOWN.get(place[:3])
-        if reason is None:
-            raise Wrong("it answers out of memory where no allocation was refused")
-        return reason
+    def check(text):
+        places = list(places_of(text, only_memory))
+        if places:
+            raise Wrong(f"out of memory is answered where no allocation was refused: {'; '.join(places)}")
 
-    def is_there(known):
-        if known not in {place[:3] for place in places}:
-            raise Wrong("the list names it, and no such place is there")
-
-    trials = [(f"{name}, line {line}: {function}, of {call}", lambda place=(name, function, call, line): is_known(place)) for name, function, call, line in places]
-    trials += [(f"{' '.join(known)} is there", lambda known=known: is_there(known)) for known in KNOWN]
+    trials = [(name, lambda text=text: check(text)) for name, text in sources.items()]
     sys.exit(checks.run("memory answers", trials))
 
 

@@ -3,4 +3,5 @@ pub mod Files
 pub mod Paths
 pub mod Runs
 pub mod Status
+pub mod TestFolder
 pub mod Words

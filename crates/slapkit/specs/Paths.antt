@@ -1,6 +1,5 @@
 -- The paths of a command line, which must differ.
 use Rattle.std.specs.Prelude.{◌≡◌, ◌⊎◌, ℕ, List, [], ◌∷◌, ◌++◌, cond, Option, None, Some, Result, Ok, Err, ⊤}
-use Rattle.std.specs.Borrow.{Bor}
 use Rattle.std.specs.List.{list_any}
 use Rattle.std.specs.Option.{option_copied}
 use Rattle.dir_names.specs.Orders.{bytes_eq}
@@ -16,15 +15,6 @@ given (Some path) = path ∷ []
 abbrev pub outputs : Option OutputPaths → List (List ℕ)
 outputs None = []
 outputs (Some files) = files.out.now ∷ files.undo.now ∷ []
-
--- the path of the undo file, and that of the new copy
-abbrev pub undo_path : Option OutputPaths → Option (Bor (List ℕ))
-undo_path None = None
-undo_path (Some files) = Some files.undo
-
-abbrev pub out_path : Option OutputPaths → Option (Bor (List ℕ))
-out_path None = None
-out_path (Some files) = Some files.out
 
 -- the paths that are given: the copy, the files to be written, the changes
 abbrev pub paths_of : ModifyWords → List (List ℕ)

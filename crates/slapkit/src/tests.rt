@@ -1,4 +1,7 @@
-//! Tests of the command line, of paths that must differ, and of fault texts.
+//! Tests of the command line, of paths that must differ, of fault texts, and of runs over a folder in memory.
+
+mod folder;
+mod runs;
 
 use crate::command::{ModifyWords, OutputPaths, Words, read_words};
 use crate::fault::Fault;

@@ -1,0 +1,7 @@
+-- The folder in memory that the tests run over.
+use Rattle.std.specs.Prelude.{ℕ, List, Option, None, Some, codes, cond}
+use Rattle.dir_names.specs.Orders.{bytes_eq}
+
+-- the text of the file at a path: there are two
+abbrev pub folder_text : List ℕ → List ℕ → List ℕ → Option (List ℕ)
+folder_text copy changes path = cond (bytes_eq path (codes "copy")) (Some copy) (cond (bytes_eq path (codes "changes")) (Some changes) None)
