@@ -10,6 +10,37 @@ fn described(alloc: Global, schema: &Schema, text: &str) -> Result<Description, 
     Description::read(alloc, schema, text.as_bytes())
 }
 
+fn name(alloc: Global, text: &str) -> Result<Dn, Fail> {
+    Ok(Dn::read(alloc, text.as_bytes())?)
+}
+
+fn name_key(alloc: Global, schema: &Schema, text: &str) -> Result<DnKey, Fail> {
+    Ok(name(alloc, text)?.key(alloc, schema)?)
+}
+
+fn rdn(alloc: Global, text: &str) -> Result<Rdn, Fail> {
+    Ok(Rdn::read(alloc, text.as_bytes())?)
+}
+
+fn rdn_key(alloc: Global, schema: &Schema, text: &str) -> Result<RdnKey, Fail> {
+    Ok(rdn(alloc, text)?.key(alloc, schema)?)
+}
+
+/// The RDNs, each read on its own.
+fn rdns(alloc: Global, texts: &[&str]) -> Result<Vec<Rdn>, Fail> {
+    let mut rdns = Vec::new(alloc);
+    for text in texts {
+        rdns.push(rdn(alloc, text)?)?;
+    }
+    Ok(rdns)
+}
+
+fn assert_printed(rt: &impl Abort, alloc: Global, name: &Dn, want: &str) -> Result<(), Fail> {
+    let printed = name.print(alloc)?;
+    assert_eq!(rt; printed.as_slice(), want.as_bytes());
+    Ok(())
+}
+
 fn key_text(
     rt: &impl Abort,
     alloc: Global,
@@ -64,6 +95,11 @@ fn descriptions_have_keys_of_their_types(rt: HostRuntime) -> Result<(), Fail> {
     Ok(())
 }
 
+fn member_key(alloc: Global, schema: &Schema, value: &str) -> Result<ValueKey, Fail> {
+    let member = described(alloc, schema, "member")?;
+    Ok(schema.value_key(alloc, member.key(), value.as_bytes())?)
+}
+
 #[test]
 fn values_have_keys_by_the_rule_of_their_type(rt: HostRuntime) -> Result<(), Fail> {
     let alloc = rt.alloc();
@@ -85,13 +121,13 @@ fn values_have_keys_by_the_rule_of_their_type(rt: HostRuntime) -> Result<(), Fai
     for (attr_type, value, want) in rows {
         key_text(&rt, alloc, &schema, attr_type, value, want);
     }
-    let member = described(alloc, &schema, "member")?;
-    let upper = schema.value_key(alloc, member.key(), b"CN=K, DC=Com")?;
-    let lower = Dn::read(alloc, b"cn=k,dc=com")?.key(alloc, &schema)?;
-    assert!(rt; upper.name() == Some(&lower));
-    let none = schema.value_key(alloc, member.key(), b"")?;
-    let empty = Dn::read(alloc, b"")?.key(alloc, &schema)?;
-    assert!(rt; none.name() == Some(&empty));
+    for (value, want) in [("CN=K, DC=Com", "cn=k,dc=com"), ("", "")] {
+        let member = member_key(alloc, &schema, value)?;
+        assert!(rt;
+            member.name() == Some(&name_key(alloc, &schema, want)?),
+            "{value}"
+        );
+    }
     Ok(())
 }
 
@@ -107,10 +143,9 @@ fn names_print_and_read_back(rt: HostRuntime) -> Result<(), Fail> {
         ("", ""),
     ];
     for (text, want) in rows {
-        let name = Dn::read(alloc, text.as_bytes())?;
-        let printed = name.print(alloc)?;
-        assert_eq!(rt; printed.as_slice(), want.as_bytes());
-        let again = Dn::read_text(alloc, printed.as_slice())?;
+        let name = name(alloc, text)?;
+        assert_printed(&rt, alloc, &name, want)?;
+        let again = Dn::read_text(alloc, want.as_bytes())?;
         assert!(rt; again == name);
     }
     for text in [
@@ -142,19 +177,32 @@ fn names_have_keys_unless_a_pair_has_none(rt: HostRuntime) -> Result<(), Fail> {
         let name = Dn::read(alloc, text.as_bytes())?;
         assert!(rt; name.has_key(alloc, &schema)?, "{text}");
     }
-    let rdn = Rdn::read(alloc, b"SN=b+cn=a")?;
+    Ok(())
+}
+
+#[test]
+fn rdns_have_keys_in_any_order_of_their_pairs(rt: HostRuntime) -> Result<(), Fail> {
+    let alloc = rt.alloc();
+    let schema = Schema::builtin(alloc)?;
+    let rdn = rdn(alloc, "SN=b+cn=a")?;
     assert!(rt; rdn.has_key(alloc, &schema)?);
     let printed = rdn.print(alloc)?;
     assert_eq!(rt; printed.as_slice(), b"SN=b+cn=a".as_slice());
-    let other = Rdn::read(alloc, b"cn=A+sn=B")?;
-    assert!(rt; rdn.key(alloc, &schema)? == other.key(alloc, &schema)?);
-    let com = Dn::read(alloc, b"dc=com")?.key(alloc, &schema)?;
-    let below = com.child(alloc, &Rdn::read(alloc, b"cn=a")?.key(alloc, &schema)?)?;
-    let whole = Dn::read(alloc, b"cn=a,dc=com")?.key(alloc, &schema)?;
+    assert!(rt; rdn.key(alloc, &schema)? == rdn_key(alloc, &schema, "cn=A+sn=B")?);
+    Ok(())
+}
+
+#[test]
+fn a_key_has_a_parent_and_children(rt: HostRuntime) -> Result<(), Fail> {
+    let alloc = rt.alloc();
+    let schema = Schema::builtin(alloc)?;
+    let com = name_key(alloc, &schema, "dc=com")?;
+    let whole = name_key(alloc, &schema, "cn=a,dc=com")?;
+    let below = com.child(alloc, &rdn_key(alloc, &schema, "cn=a")?)?;
     assert!(rt; below == whole);
     assert_eq!(rt; below.depth(), 2);
     assert!(rt; com.is_parent_of(&below) && below.at_or_below(&com) && !com.at_or_below(&below));
-    assert!(rt; below.parent(alloc)? == Some(com.try_clone(alloc)?));
+    assert!(rt; below.parent(alloc)? == Some(com));
     Ok(())
 }
 
@@ -170,23 +218,66 @@ fn frequent_types_are_looked_up(rt: HostRuntime) -> Result<(), Fail> {
 }
 
 #[test]
-fn names_are_made_of_rdns_and_copied(rt: HostRuntime) -> Result<(), Fail> {
+fn names_are_made_of_rdns(rt: HostRuntime) -> Result<(), Fail> {
+    let alloc = rt.alloc();
+    let made = Dn::from_rdns(rdns(alloc, &["ou=a", "dc=com"])?)?;
+    assert_printed(&rt, alloc, &made, "ou=a,dc=com")?;
+    let mut root = Vec::new(alloc);
+    root.push(rdn(alloc, "dc=com")?)?;
+    assert!(rt; Dn::of_rdns(root) == name(alloc, "dc=com")?);
+    assert!(rt; Dn::empty(alloc) == name(alloc, "")?);
+    Ok(())
+}
+
+#[test]
+fn a_name_is_made_of_a_leaf_and_the_name_above_it(rt: HostRuntime) -> Result<(), Fail> {
     let alloc = rt.alloc();
     let schema = Schema::builtin(alloc)?;
-    let mut rdns = Vec::new(alloc);
-    rdns.push(Rdn::read(alloc, b"ou=a")?)?;
-    rdns.push(Rdn::read(alloc, b"dc=com")?)?;
-    let name = Dn::from_rdns(rdns)?;
-    let printed = name.print(alloc)?;
-    assert_eq!(rt; printed.as_slice(), b"ou=a,dc=com".as_slice());
-    let copy = name.try_clone(alloc)?;
-    assert!(rt; copy == name);
-    let mut root = Vec::new(alloc);
-    root.push(Rdn::read(alloc, b"dc=com")?)?;
-    assert!(rt; Dn::of_rdns(root) == Dn::read(alloc, b"dc=com")?);
-    assert!(rt; Dn::empty(alloc) == Dn::read(alloc, b"")?);
+    let above = name(alloc, "ou=People,dc=com")?;
+    let mut rdns = rdns(alloc, &["cn=Ann"])?;
+    for rdn in above.rdns() {
+        rdns.push(rdn.try_clone(alloc)?)?;
+    }
+    let made = Dn::from_rdns(rdns)?;
+    assert!(rt; made == name(alloc, "cn=Ann,ou=People,dc=com")?);
+    let parent = made.key(alloc, &schema)?.parent(alloc)?;
+    assert!(rt; parent == Some(name_key(alloc, &schema, "ou=People,dc=com")?));
+    Ok(())
+}
+
+#[test]
+fn copies_of_names_are_equal_to_them(rt: HostRuntime) -> Result<(), Fail> {
+    let alloc = rt.alloc();
+    let schema = Schema::builtin(alloc)?;
+    let name = name(alloc, "ou=a,dc=com")?;
+    assert!(rt; name.try_clone(alloc)? == name);
     let key = name.key(alloc, &schema)?;
     assert!(rt; key.try_clone(alloc)? == key);
+    let member = member_key(alloc, &schema, "cn=a")?;
+    assert!(rt; member.try_clone(alloc)? == member);
+    Ok(())
+}
+
+#[test]
+fn copies_of_rdns_are_equal_to_them(rt: HostRuntime) -> Result<(), Fail> {
+    let alloc = rt.alloc();
+    let schema = Schema::builtin(alloc)?;
+    let rdn = rdn(alloc, "SN=B+cn=A")?;
+    let copy = rdn.try_clone(alloc)?;
+    assert!(rt; copy == rdn);
+    let printed = copy.print(alloc)?;
+    assert_eq!(rt; printed.as_slice(), b"SN=B+cn=A".as_slice());
+    let key = rdn.key(alloc, &schema)?;
+    let copy = key.try_clone(alloc)?;
+    assert!(rt; copy == key);
+    assert_eq!(rt; copy.pairs().len(), 2);
+    Ok(())
+}
+
+#[test]
+fn copies_of_descriptions_are_equal_to_them(rt: HostRuntime) -> Result<(), Fail> {
+    let alloc = rt.alloc();
+    let schema = Schema::builtin(alloc)?;
     let description = described(alloc, &schema, "cn;x-a")?;
     assert!(rt; description.try_clone(alloc)? == description);
     assert!(rt; description.key().try_clone(alloc)? == *description.key());
@@ -196,34 +287,8 @@ fn names_are_made_of_rdns_and_copied(rt: HostRuntime) -> Result<(), Fail> {
 }
 
 #[test]
-fn a_name_is_made_of_a_leaf_and_the_name_above_it(rt: HostRuntime) -> Result<(), Fail> {
+fn copies_of_texts_are_equal_to_them(rt: HostRuntime) -> Result<(), Fail> {
     let alloc = rt.alloc();
-    let schema = Schema::builtin(alloc)?;
-    let above = Dn::read(alloc, b"ou=People,dc=com")?;
-    let mut rdns = Vec::new(alloc);
-    rdns.push(Rdn::read(alloc, b"cn=Ann")?)?;
-    for rdn in above.rdns() {
-        rdns.push(rdn.try_clone(alloc)?)?;
-    }
-    let name = Dn::from_rdns(rdns)?;
-    assert!(rt; name == Dn::read(alloc, b"cn=Ann,ou=People,dc=com")?);
-    let key = name.key(alloc, &schema)?;
-    assert!(rt; key.parent(alloc)? == Some(above.key(alloc, &schema)?));
-    Ok(())
-}
-
-#[test]
-fn copies_are_equal_to_what_they_copy(rt: HostRuntime) -> Result<(), Fail> {
-    let alloc = rt.alloc();
-    let schema = Schema::builtin(alloc)?;
-    let rdn = Rdn::read(alloc, b"SN=B+cn=A")?;
-    let copy = rdn.try_clone(alloc)?;
-    assert!(rt; copy == rdn);
-    assert_eq!(rt; copy.print(alloc)?.as_slice(), b"SN=B+cn=A".as_slice());
-    let key = rdn.key(alloc, &schema)?;
-    let copy = key.try_clone(alloc)?;
-    assert!(rt; copy == key);
-    assert_eq!(rt; copy.pairs().len(), 2);
     let mut texts = Vec::new(alloc);
     for text in ["a", "b"] {
         texts.push(Bytes::copy_of(alloc, text.as_bytes())?.try_clone(alloc)?)?;
@@ -232,12 +297,22 @@ fn copies_are_equal_to_what_they_copy(rt: HostRuntime) -> Result<(), Fail> {
     assert_eq!(rt; texts.as_slice().len(), 2);
     assert_eq!(rt; texts.as_slice()[0].as_slice(), b"a".as_slice());
     assert_eq!(rt; texts.as_slice()[1].as_slice(), b"b".as_slice());
+    Ok(())
+}
+
+/// The lines of one value.
+fn one_line(alloc: Global, schema: &Schema, spelling: &str, value: &str) -> Result<Lines, Fail> {
     let mut items = Vec::new(alloc);
-    items.push((
-        described(alloc, &schema, "CN;lang-en")?,
-        Bytes::copy_of(alloc, b"Ann")?,
-    ))?;
-    let lines = Lines::new(items);
+    let description = described(alloc, schema, spelling)?;
+    items.push((description, Bytes::copy_of(alloc, value.as_bytes())?))?;
+    Ok(Lines::new(items))
+}
+
+#[test]
+fn copies_of_lines_are_equal_to_them(rt: HostRuntime) -> Result<(), Fail> {
+    let alloc = rt.alloc();
+    let schema = Schema::builtin(alloc)?;
+    let lines = one_line(alloc, &schema, "CN;lang-en", "Ann")?;
     let copy = lines.try_clone(alloc)?;
     assert!(rt; copy == lines);
     assert_eq!(rt; copy.as_slice().len(), 1);
@@ -410,37 +485,62 @@ fn name_text(alloc: Global, count: usize) -> Result<String, Fail> {
     Ok(text)
 }
 
+/// Asserts that the name of this many RDNs is read, printed, has a key and is made of its RDNs again.
+fn assert_name(rt: &impl Abort, alloc: Global, schema: &Schema, count: usize) -> Result<(), Fail> {
+    let text = name_text(alloc, count)?;
+    let name = name(alloc, text.as_str())?;
+    assert_printed(rt, alloc, &name, text.as_str())?;
+    assert_eq!(rt; name.key(alloc, schema)?.depth(), count);
+    let again = Dn::from_rdns(name.into_rdns())?;
+    assert_printed(rt, alloc, &again, text.as_str())
+}
+
+/// Asserts that the key of this many RDNs is a child of the key of one RDN less.
+fn assert_child(
+    rt: &impl Abort,
+    alloc: Global,
+    schema: &Schema,
+    count: usize,
+    count_above: usize,
+) -> Result<(), Fail> {
+    let name = name(alloc, name_text(alloc, count)?.as_str())?;
+    let key = name.key(alloc, schema)?;
+    let leaf = name.rdns().first().ok_or("no RDN")?.key(alloc, schema)?;
+    let above = name_key(alloc, schema, name_text(alloc, count_above)?.as_str())?;
+    assert!(rt; above.child(alloc, &leaf)? == key);
+    assert!(rt; above.is_parent_of(&key));
+    Ok(())
+}
+
 #[test]
 fn a_name_has_at_most_64_rdns(rt: HostRuntime) -> Result<(), Fail> {
     let alloc = rt.alloc();
     let schema = Schema::builtin(alloc)?;
     for (count, count_above) in [(63, 62), (64, 63)] {
-        let text = name_text(alloc, count)?;
-        let name = Dn::read(alloc, text.as_bytes())?;
-        let printed = name.print(alloc)?;
-        assert_eq!(rt; printed.as_slice(), text.as_bytes());
-        let key = name.key(alloc, &schema)?;
-        assert_eq!(rt; key.depth(), count);
-        let text_above = name_text(alloc, count_above)?;
-        let above = Dn::read(alloc, text_above.as_bytes())?.key(alloc, &schema)?;
-        let leaf = name.rdns().first().ok_or("no RDN")?.key(alloc, &schema)?;
-        assert!(rt; above.child(alloc, &leaf)? == key);
-        assert!(rt; above.is_parent_of(&key));
-        let again = Dn::from_rdns(name.into_rdns())?;
-        let printed = again.print(alloc)?;
-        assert_eq!(rt; printed.as_slice(), text.as_bytes());
+        assert_name(&rt, alloc, &schema, count)?;
+        assert_child(&rt, alloc, &schema, count, count_above)?;
     }
     let text = name_text(alloc, 65)?;
     let fault = Dn::read(alloc, text.as_bytes()).err();
     assert_eq!(rt; fault, Some(NameFault::NameLimit));
-    let text = name_text(alloc, 64)?;
-    let name = Dn::read(alloc, text.as_bytes())?;
-    let leaf = Rdn::read(alloc, b"cn=a")?;
-    let key = name.key(alloc, &schema)?;
-    let below = key.child(alloc, &leaf.key(alloc, &schema)?);
+    Ok(())
+}
+
+#[test]
+fn a_name_of_64_rdns_has_no_child(rt: HostRuntime) -> Result<(), Fail> {
+    let alloc = rt.alloc();
+    let schema = Schema::builtin(alloc)?;
+    let key = name_key(alloc, &schema, name_text(alloc, 64)?.as_str())?;
+    let below = key.child(alloc, &rdn_key(alloc, &schema, "cn=a")?);
     assert_eq!(rt; below.err(), Some(NameFault::NameLimit));
-    let mut rdns = name.into_rdns();
-    rdns.push(leaf)?;
+    Ok(())
+}
+
+#[test]
+fn a_name_is_not_made_of_65_rdns(rt: HostRuntime) -> Result<(), Fail> {
+    let alloc = rt.alloc();
+    let mut rdns = name(alloc, name_text(alloc, 64)?.as_str())?.into_rdns();
+    rdns.push(rdn(alloc, "cn=a")?)?;
     assert_eq!(rt; Dn::from_rdns(rdns).err(), Some(NameFault::NameLimit));
     Ok(())
 }
@@ -545,16 +645,13 @@ fn rdns_have_their_pairs_as_spelled_and_their_keys_in_order(rt: HostRuntime) -> 
 fn names_have_their_rdns_leaf_first_and_their_keys_root_first(rt: HostRuntime) -> Result<(), Fail> {
     let alloc = rt.alloc();
     let schema = Schema::builtin(alloc)?;
-    let leaf = Rdn::read(alloc, b"cn=a")?;
-    let root = Rdn::read(alloc, b"dc=com")?;
-    let name = Dn::read(alloc, b"cn=a,dc=com")?;
-    let key = name.key(alloc, &schema)?;
+    let key = name_key(alloc, &schema, "cn=a,dc=com")?;
     assert_eq!(rt; key.parts().len(), 2);
-    assert!(rt; key.parts()[0] == root.key(alloc, &schema)?);
-    assert!(rt; key.parts()[1] == leaf.key(alloc, &schema)?);
-    let rdns = name.into_rdns();
+    assert!(rt; key.parts()[0] == rdn_key(alloc, &schema, "dc=com")?);
+    assert!(rt; key.parts()[1] == rdn_key(alloc, &schema, "cn=a")?);
+    let rdns = name(alloc, "cn=a,dc=com")?.into_rdns();
     assert_eq!(rt; rdns.len(), 2);
-    assert!(rt; rdns[0] == leaf && rdns[1] == root);
+    assert!(rt; rdns[0] == rdn(alloc, "cn=a")? && rdns[1] == rdn(alloc, "dc=com")?);
     Ok(())
 }
 

@@ -16,7 +16,8 @@ use Rattle.dir_names.specs.Orders.{attr_cmp, attr_cmp_total, dn_key_cmp, dn_key_
 use Rattle.dir_names.specs.Table.{single_of}
 use Rattle.dir_names.specs.Values.{value_key_cmp, value_key_cmp_total}
 use Rattle.dir_names.specs.Table.Builtin.{builtin_rows}
-use Rattle.dir_tree.specs.Content.{Content, Stored, StoredAttributes, has_in}
+use Rattle.dir_tree.specs.ChangedEntry.{changed_entry}
+use Rattle.dir_tree.specs.Content.{Content, Stored, StoredAttributes, StoredValues, has_in, has_value}
 use Rattle.dir_tree.specs.Dir.{Dir, entry_at, has_child, has_parent, is_key, put_entry, remove_entry}
 use Rattle.dir_tree.specs.NewEntry.{exceeds_single_value, new_entry, ok_unless_exceeding, with_line, with_value}
 use Rattle.dir_tree.specs.SpelledNames.{named_entries, own_depth, own_name_at, own_name_of, own_rdns, prefixes, spelled_name}
@@ -211,3 +212,70 @@ no-ascii = refl
 pub same-value : new_entry builtin_rows example_name (line (codes "mail") (codes "a@example.net") ∷ line (codes "mail") (codes "A@EXAMPLE.NET") ∷ []) ≡ Err Twice
 unfolding builtin_rows
 same-value = refl
+
+-- ---- two values of a type that takes one, and an own value that is missing
+
+-- dc: sample
+abbrev other_line : KeyedLine
+other_line = record { description = record { spelling = codes "dc"; key = dc }; key = Text (codes "sample"); bytes = codes "sample" }
+
+-- DC: example, and after it dc: sample
+abbrev two_values : StoredAttributes
+two_values = with_line (with_line fin.empty own_line) other_line
+
+abbrev values_of_both : StoredValues
+values_of_both = fin.insert (fin.insert fin.empty own_line.key own_line.bytes) other_line.key other_line.bytes
+
+-- they are one attribute, spelled as first
+both_there : with_value (fin.get (with_line fin.empty own_line) dc) other_line ≡ record { spelling = codes "DC"; values = values_of_both }
+both_there =
+    let first = with_value (fin.get fin.empty dc) own_line in
+    ap (λ o. with_value o other_line) (fin.get-insert attr_cmp_total fin.empty dc first dc ∙ ap (λ o. Some (with_value o own_line)) (fin.get-empty attr_cmp dc))
+
+both_count : fin.len values_of_both ≡ 2
+both_count =
+    let one = fin.insert (fin.empty {R = value_key_cmp}) own_line.key own_line.bytes in
+    let one_long : fin.len one ≡ 1 =
+    fin.len-insert value_key_cmp_total fin.empty own_line.key own_line.bytes ∙ (λ i. cond (is_some (fin.get-empty {X = List ℕ} value_key_cmp own_line.key i)) (fin.len-empty value_key_cmp (List ℕ) i) (fin.len-empty value_key_cmp (List ℕ) i + 1)) in
+    let absent : fin.get one other_line.key ≡ None = fin.get-insert value_key_cmp_total fin.empty own_line.key own_line.bytes other_line.key ∙ fin.get-empty value_key_cmp other_line.key in
+    fin.len-insert value_key_cmp_total one other_line.key other_line.bytes ∙ (λ i. cond (is_some (absent i)) (one_long i) (one_long i + 1))
+
+too_many : exceeds_single_value builtin_rows two_values ≡ true
+unfolding builtin_rows
+too_many =
+    let one = with_line fin.empty own_line in
+    let first = with_value (fin.get fin.empty dc) own_line in
+    let second = with_value (fin.get one dc) other_line in
+    let none : ◌≡◌ {A = List (Attr × Stored)} (fin.entries (fin.empty {R = attr_cmp})) [] = none_of (fin.entries fin.empty) (sym (fin.len-entries fin.empty) ∙ fin.len-empty attr_cmp Stored) in
+    ap (list_any (λ (a : Attr × Stored). nat_lt 1 (fin.len a.1.values) && single_of builtin_rows a.0))
+    (fin.entries-insert attr_cmp_total one dc second ∙ ap (fin.put attr_cmp dc second) (fin.entries-insert attr_cmp_total fin.empty dc first ∙ ap (fin.put attr_cmp dc first) none))
+    ∙ ap (λ (s : Stored). list_any (λ (a : Attr × Stored). nat_lt 1 (fin.len a.1.values) && single_of builtin_rows a.0) ((dc, s) ∷ [])) both_there
+    ∙ ap (λ n. (nat_lt 1 n && single_of builtin_rows dc) || false) both_count
+
+own_among_both : has_value two_values dc own_line.key ≡ true
+own_among_both =
+    let one = fin.insert (fin.empty {R = value_key_cmp}) own_line.key own_line.bytes in
+    ap (has_in own_line.key) (fin.get-insert attr_cmp_total (with_line fin.empty own_line) dc (with_value (fin.get (with_line fin.empty own_line) dc) other_line) dc)
+    ∙ ap (λ (s : Stored). has_in own_line.key (Some s)) both_there
+    ∙ ap is_some (fin.get-insert value_key_cmp_total one other_line.key other_line.bytes own_line.key ∙ fin.get-insert value_key_cmp_total fin.empty own_line.key own_line.bytes own_line.key)
+
+abbrev example_with : StoredAttributes → Content
+example_with xs = record { own = example_name; key = part_of (codes "dc") (codes "example"); attributes = xs }
+
+-- dc takes one value (RFC 4519, section 2.4): an add that gives two is refused
+pub two-values-of-a-single-type : new_entry builtin_rows example_name ((own_line.description, own_line.bytes) ∷ (other_line.description, other_line.bytes) ∷ []) ≡ Err Single
+unfolding builtin_rows
+two-values-of-a-single-type =
+    ap (λ b. ok_unless_exceeding builtin_rows (example_with (cond b two_values (with_line two_values own_line)))) own_among_both
+    ∙ ap (λ b. cond b (Err Single) (Ok (example_with two_values))) too_many
+
+-- and so is an entry that was changed to have two
+pub changed-to-two-values : changed_entry builtin_rows (example_with two_values) ≡ Err Single
+unfolding builtin_rows
+changed-to-two-values =
+    ap (λ b. cond (b && true) (ok_unless_exceeding builtin_rows (example_with two_values)) (Err NotNamed)) own_among_both
+    ∙ ap (λ b. cond b (Err Single) (Ok (example_with two_values))) too_many
+
+-- an entry that was changed must still have the values of its own RDN
+pub own-value-is-missing : changed_entry builtin_rows (example_with fin.empty) ≡ Err NotNamed
+own-value-is-missing = ap (λ o. cond (has_in (Text (codes "example")) o && true) (ok_unless_exceeding builtin_rows (example_with fin.empty)) (Err NotNamed)) (fin.get-empty attr_cmp dc)

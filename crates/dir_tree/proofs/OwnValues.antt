@@ -10,7 +10,7 @@ use Rattle.dir_names.specs.declared.schema.TypeRow.{TypeRow}
 use Rattle.dir_names.specs.declared.value.ValueKey.TheVariants as key
 use Rattle.dir_names.specs.Attr.{Attr}
 use Rattle.dir_names.specs.Keys.{RdnKeys}
-use Rattle.dir_names.specs.Names.{SpelledName, SpelledPair, SpelledRdn}
+use Rattle.dir_names.specs.Names.{SpelledPair, SpelledRdn}
 use Rattle.dir_names.specs.NameKeys.{have_distinct_types, pair_key, rdn_key, set_if_distinct}
 use Rattle.dir_names.specs.Orders.{pair_cmp, pair_cmp_exact}
 use Rattle.dir_names.specs.Results.{option_collect, option_cons}
@@ -18,7 +18,7 @@ use Rattle.dir_names.specs.Sorted.{set_of, with_member}
 use Rattle.dir_tree.specs.declared.lines.KeyedLine.{KeyedLine}
 use Rattle.dir_tree.specs.ChangedEntry.{has_own_values}
 use Rattle.dir_tree.specs.Content.{Content, StoredAttributes, has_value}
-use Rattle.dir_tree.specs.NewEntry.{leaf_key, leaf_lines, leaf_of, pair_line, rdn_lines}
+use Rattle.dir_tree.specs.NewEntry.{leaf_key, leaf_lines, leaf_of, rdn_lines}
 use Rattle.dir_tree.specs.WellFormed.{has_each}
 
 -- ---- what holds of all members of a set

@@ -1,5 +1,5 @@
 -- What an entry has under the key of one description: an attribute, or nothing (RFC 4512, section 2.3).
-use Rattle.std.specs.Prelude.{ℕ, Bool, cond, ◌==◌, List, Option, Some, None}
+use Rattle.std.specs.Prelude.{ℕ, cond, ◌==◌, List, Option, Some, None}
 use Rattle.std.specs.FinMap as fin
 use Rattle.dir_names.specs.Attr.{Attr}
 use Rattle.dir_tree.specs.Content.{Stored, StoredValues, StoredAttributes}

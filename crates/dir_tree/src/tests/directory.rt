@@ -169,26 +169,30 @@ fn a_suffix_of_two_rdns_is_spelled_whole(rt: HostRuntime) -> Result<(), Fail> {
     )
 }
 
+/// Adds `dc=com` and 63 entries, each below the last, and returns the last one's name.
+fn add_64_levels(
+    alloc: Global,
+    schema: &Schema,
+    directory: &mut FlatDirectory,
+) -> Result<String, Fail> {
+    let mut name = format!(in alloc; "dc=com")?;
+    add(alloc, schema, directory, name.as_bytes())?;
+    for level in 2..65 {
+        name = format!(in alloc; "cn={level},{name}")?;
+        add(alloc, schema, directory, name.as_bytes())?;
+    }
+    Ok(name)
+}
+
 #[test]
 fn a_name_of_64_rdns_is_spelled_whole(rt: HostRuntime) -> Result<(), Fail> {
     let alloc = rt.alloc();
     let schema = Schema::builtin(alloc)?;
     let mut directory = empty(alloc, &schema, b"dc=com")?;
-    let mut name = format!(in alloc; "dc=com")?;
-    add(alloc, &schema, &mut directory, name.as_bytes())?;
-    for level in 2..65 {
-        name = format!(in alloc; "cn={level},{name}")?;
-        add(alloc, &schema, &mut directory, name.as_bytes())?;
-    }
-    assert_spelled(
-        &rt,
-        alloc,
-        &schema,
-        &directory,
-        name.as_bytes(),
-        name.as_bytes(),
-    )?;
-    assert_last_walked(&rt, alloc, &directory, name.as_bytes())
+    let name = add_64_levels(alloc, &schema, &mut directory)?;
+    let name = name.as_bytes();
+    assert_spelled(&rt, alloc, &schema, &directory, name, name)?;
+    assert_last_walked(&rt, alloc, &directory, name)
 }
 
 /// Own names that no well-formed directory has: 64 RDNs below a suffix of one, of which the leaf counts.
@@ -198,20 +202,25 @@ fn of_an_own_name_below_the_suffix_one_rdn_is_spelled(rt: HostRuntime) -> Result
     let schema = Schema::builtin(alloc)?;
     let mut directory = empty(alloc, &schema, b"dc=com")?;
     add(alloc, &schema, &mut directory, b"dc=com")?;
+    let key = key_of(alloc, &schema, b"cn=64,dc=com")?;
+    put(
+        alloc,
+        &mut directory,
+        &key,
+        named_by_64_rdns(alloc, &schema)?,
+    )?;
+    let name = b"cn=64,dc=com";
+    assert_spelled(&rt, alloc, &schema, &directory, name, name)?;
+    assert_last_walked(&rt, alloc, &directory, name)
+}
+
+fn named_by_64_rdns(alloc: Global, schema: &Schema) -> Result<Entry, Fail> {
     let mut name = format!(in alloc; "cn=1")?;
     for level in 2..65 {
         name = format!(in alloc; "cn={level},{name}")?;
     }
     let own = Dn::read(alloc, name.as_bytes())?.into_rdns();
-    let entry = Entry::make(alloc, &schema, own, Lines::new(Vec::new(alloc)))?;
-    let key = key_of(alloc, &schema, b"cn=64,dc=com")?;
-    put(alloc, &mut directory, &key, entry)?;
-    let Some(_) = directory.get(&key) else {
-        return Err("not there".into());
-    };
-    let spelled = directory.spelled(&key)?.print(alloc)?;
-    assert_eq!(rt; spelled.as_slice(), b"cn=64,dc=com".as_slice());
-    assert_last_walked(&rt, alloc, &directory, b"cn=64,dc=com")
+    Ok(Entry::make(alloc, schema, own, Lines::new(Vec::new(alloc)))?)
 }
 
 /// Asserts that a walk ends at the entry of this name.
@@ -284,8 +293,5 @@ fn an_entry_is_put_into_a_directory(rt: HostRuntime) -> Result<(), Fail> {
     if directory.get(&key).is_none() && may_stand(alloc, &directory, &key)? {
         assert!(rt; directory.insert(&key, entry).is_ok());
     }
-    let walk = directory.walk()?;
-    assert_eq!(rt; walk.len(), 1);
-    assert_eq!(rt; walk[0].0.print(alloc)?.as_slice(), b"DC=com".as_slice());
-    Ok(())
+    assert_walked(&rt, alloc, &directory, &[b"DC=com"])
 }

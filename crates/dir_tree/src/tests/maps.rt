@@ -20,36 +20,111 @@ fn bytes(alloc: Global, text: &[u8]) -> Result<Bytes, Fail> {
 /// The values `b` and `A`, put in in this order.
 fn two_values(alloc: Global, schema: &Schema) -> Result<ValueMap, Fail> {
     let mut values = ValueMap::one(key(alloc, schema, b"b")?, bytes(alloc, b"b")?);
-    values.insert(alloc, key(alloc, schema, b"a")?, bytes(alloc, b"A")?)?;
+    insert(alloc, schema, &mut values, b"A")??;
     Ok(values)
+}
+
+/// The stored bytes of the value with this key.
+fn stored<'v>(
+    alloc: Global,
+    schema: &Schema,
+    values: &'v ValueMap,
+    text: &[u8],
+) -> Result<Option<&'v Bytes>, Fail> {
+    let key = key(alloc, schema, text)?;
+    Ok(values.get(&key))
+}
+
+fn insert(
+    alloc: Global,
+    schema: &Schema,
+    values: &mut ValueMap,
+    text: &[u8],
+) -> Result<Result<(), EntryFault>, Fail> {
+    let key = key(alloc, schema, text)?;
+    Ok(values.insert(alloc, key, bytes(alloc, text)?))
+}
+
+/// The stored bytes of all values, in order of their keys.
+fn all(alloc: Global, values: &ValueMap) -> Result<Vec<&[u8]>, Fail> {
+    let mut all = Vec::new(alloc);
+    for (_, bytes) in values.iter() {
+        all.push(bytes.as_slice())?;
+    }
+    Ok(all)
 }
 
 #[test]
 fn values_are_found_by_their_keys(rt: HostRuntime) -> Result<(), Fail> {
     let alloc = rt.alloc();
     let schema = Schema::builtin(alloc)?;
-    let mut values = two_values(alloc, &schema)?;
-    assert_eq!(rt; values.len(), 2);
+    let values = two_values(alloc, &schema)?;
     assert!(rt; values.contains_key(&key(alloc, &schema, b"B")?));
-    assert!(rt; !values.contains_key(&key(alloc, &schema, b"c")?));
-    let Some(stored) = values.get(&key(alloc, &schema, b"a")?) else {
-        panic!(rt; "no a");
-    };
-    assert_eq!(rt; stored.as_slice(), b"A".as_slice());
-    let is_missing = values.get(&key(alloc, &schema, b"c")?).is_none();
+    let found = stored(alloc, &schema, &values, b"a")?.ok_or("no a")?;
+    assert_eq!(rt; found.as_slice(), b"A".as_slice());
+    let is_missing = stored(alloc, &schema, &values, b"c")?.is_none();
     assert!(rt; is_missing);
-    let again = values.insert(alloc, key(alloc, &schema, b"A")?, bytes(alloc, b"a")?);
-    assert_eq!(rt; again, Err(EntryFault::Twice));
-    let copy = values.try_clone(alloc)?;
-    let mut all = Vec::new(alloc);
-    for (_, bytes) in copy.iter() {
-        all.push(bytes.as_slice())?;
-    }
-    assert_eq!(rt;
-        all.as_slice(),
-        [b"A".as_slice(), b"b".as_slice()].as_slice()
-    );
     Ok(())
+}
+
+#[test]
+fn a_value_is_put_in_once(rt: HostRuntime) -> Result<(), Fail> {
+    let alloc = rt.alloc();
+    let schema = Schema::builtin(alloc)?;
+    let mut values = two_values(alloc, &schema)?;
+    assert!(rt; insert(alloc, &schema, &mut values, b"a")? == Err(EntryFault::Twice));
+    assert_eq!(rt; values.len(), 2);
+    let copy = values.try_clone(alloc)?;
+    let want: [&[u8]; 2] = [b"A", b"b"];
+    assert!(rt; all(alloc, &copy)?.as_slice() == want.as_slice());
+    Ok(())
+}
+
+fn description(alloc: Global, schema: &Schema, text: &[u8]) -> Result<Description, Fail> {
+    Ok(Description::read(alloc, schema, text)?)
+}
+
+/// Adds a value of `SN`.
+fn add(
+    alloc: Global,
+    schema: &Schema,
+    attributes: &mut AttributeMap,
+    text: &[u8],
+) -> Result<(), Fail> {
+    let description = description(alloc, schema, b"SN")?;
+    let key = key(alloc, schema, text)?;
+    Ok(attributes.add(alloc, description, key, bytes(alloc, text)?)?)
+}
+
+fn copy_of(alloc: Global, attributes: &AttributeMap) -> Result<AttributeMap, Fail> {
+    Ok(attributes.try_clone(alloc)?)
+}
+
+fn has(
+    alloc: Global,
+    schema: &Schema,
+    attributes: &AttributeMap,
+    text: &[u8],
+) -> Result<bool, Fail> {
+    let description = description(alloc, schema, text)?;
+    Ok(attributes.get(description.key()).is_some())
+}
+
+/// Whether there is this value of `sn`.
+fn has_value(
+    alloc: Global,
+    schema: &Schema,
+    attributes: &AttributeMap,
+    text: &[u8],
+) -> Result<bool, Fail> {
+    let description = description(alloc, schema, b"sn")?;
+    Ok(attributes.has(description.key(), &key(alloc, schema, text)?))
+}
+
+/// How the first attribute is spelled.
+fn first(attributes: &AttributeMap) -> Option<&[u8]> {
+    let (_, attribute) = attributes.iter().next()?;
+    Some(attribute.description().spelling())
 }
 
 #[test]
@@ -57,25 +132,15 @@ fn attributes_are_found_by_their_keys(rt: HostRuntime) -> Result<(), Fail> {
     let alloc = rt.alloc();
     let schema = Schema::builtin(alloc)?;
     let mut attributes = AttributeMap::empty(alloc);
-    for text in [b"b".as_slice(), b"a".as_slice()] {
-        let description = Description::read(alloc, &schema, b"SN")?;
-        attributes.add(
-            alloc,
-            description,
-            key(alloc, &schema, text)?,
-            bytes(alloc, text)?,
-        )?;
-    }
-    let copy = attributes.try_clone(alloc)?;
-    let surname = Description::read(alloc, &schema, b"surname")?;
-    let Some(found) = copy.get(surname.key()) else {
-        panic!(rt; "no surname");
-    };
-    assert_eq!(rt; found.description().spelling(), b"SN".as_slice());
-    assert_eq!(rt; found.try_clone(alloc)?.values().count(), 2);
-    let cn = Description::read(alloc, &schema, b"cn")?;
-    let is_missing = copy.get(cn.key()).is_none();
-    assert!(rt; is_missing);
+    add(alloc, &schema, &mut attributes, b"b")?;
+    add(alloc, &schema, &mut attributes, b"a")?;
+    let copy = copy_of(alloc, &attributes)?;
+    assert!(rt; has(alloc, &schema, &copy, b"surname")?);
+    assert!(rt; !has(alloc, &schema, &copy, b"cn")?);
     assert_eq!(rt; copy.iter().count(), 1);
+    assert_eq!(rt; first(&copy), Some(b"SN".as_slice()));
+    assert!(rt; has_value(alloc, &schema, &copy, b"A")?);
+    assert!(rt; has_value(alloc, &schema, &copy, b"b")?);
+    assert!(rt; !has_value(alloc, &schema, &copy, b"c")?);
     Ok(())
 }
