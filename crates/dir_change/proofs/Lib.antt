@@ -2,6 +2,7 @@ pub mod AfterOperations
 pub mod AttributesBack
 pub mod Conditions
 pub mod Examples
+pub mod ExchangedParts
 pub mod InOrder
 pub mod InTurn
 pub mod KeysInOrder
@@ -13,6 +14,10 @@ pub mod ModifiedEntry
 pub mod ModifyAnswers
 pub mod ModifyBack
 pub mod ModifyUndo
+pub mod OverlaidParts
+pub mod PartDifference
+pub mod PartOfSlot
+pub mod PatchedParts
 pub mod ReadBack
 pub mod SlotBack
 pub mod StaysWellFormed
