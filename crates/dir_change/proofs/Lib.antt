@@ -2,6 +2,7 @@ pub mod AfterOperations
 pub mod AttributesBack
 pub mod Conditions
 pub mod Examples
+pub mod ExchangedInTurn
 pub mod ExchangedParts
 pub mod InOrder
 pub mod InTurn

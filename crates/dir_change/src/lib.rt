@@ -4,6 +4,7 @@
 mod add;
 mod delete;
 mod difference;
+mod exchange;
 mod history;
 mod laws;
 mod modify;

@@ -1,6 +1,6 @@
 //! The attributes of an entry, as an ordered map from the keys of their descriptions.
 
-ghost use Rattle.std.specs.Prelude.{◌≡◌, ◌&&◌, ◌==◌, IfErr, IfOk, IfSome, IsSome, IsTrue, OnErr, OnOk, Some, false, length, map, nat_lt, option_copied};
+ghost use Rattle.std.specs.Prelude.{◌≡◌, ◌&&◌, ◌==◌, IfErr, IfOk, IfSome, IsSome, IsTrue, OnErr, OnOk, Some, [], false, length, map, nat_lt, option_copied};
 ghost use Rattle.std.specs.List.{list_any};
 ghost use Rattle.dir_names.specs.Names.Sound.{is_sound_pair};
 ghost use Rattle.dir_names.specs.declared.value.ValueKey.TheVariants.{Text};
@@ -12,6 +12,7 @@ ghost use Rattle.dir_names.specs.Orders.{attr_cmp};
 ghost use Rattle.dir_names.specs.Sorted.{place};
 ghost use Rattle.dir_tree.specs.Content.{has_value};
 ghost use Rattle.dir_tree.specs.Inside.Stored.{attribute_pair, attributes_rise};
+ghost use Rattle.dir_tree.specs.Slots.{spelling_or};
 ghost use Rattle.dir_tree.specs.NewEntry.{IsTwiceFaultOf, exceeds_single_value, pair_line, rdn_lines, with_description, with_line, with_missing_of};
 ghost use Rattle.dir_tree.specs.declared.fault.EntryFault.TheVariants as EntryFault;
 
@@ -20,7 +21,7 @@ use crate::values::{ValueMap, Values};
 use dir_names::{AttrKey, Bytes, Description, Memory, Rdn, Schema, ValueKey};
 use std::alloc::Global;
 use std::marker::Model;
-use std::slice;
+use std::{mem, slice};
 
 /// An attribute of an entry: its description as spelled, and its values.
 #[derive(Debug, Drop)]
@@ -127,7 +128,7 @@ impl Attribute {
     }
 
     /// Whether there is more than one value.
-    fn has_many(&self) -> bool
+    pub fn has_many(&self) -> bool
         ensures { result ≡ nat_lt 1 (fin.len self.now.stored.values) }
     {
         self.values.len() > 1
@@ -157,7 +158,7 @@ impl Model for AttributeMap {
 
 impl AttributeMap {
     /// The map without attributes.
-    pub(crate) fn empty(alloc: Global) -> AttributeMap
+    pub fn empty(alloc: Global) -> AttributeMap
         ensures { result ≡ fin.empty }
     {
         AttributeMap {
@@ -225,6 +226,33 @@ impl AttributeMap {
                 self.items.insert(at, attribute)?;
                 Ok(())
             }
+        }
+    }
+
+    /// Puts an attribute in the place of the one with the same key, and returns the old one. There must be
+    /// one. The call doesn't allocate.
+    pub fn replace(&mut self, attribute: Attribute) -> Attribute
+        requires { IsSome (fin.get self.old attribute.key) }
+        ensures old { fin.get self.old attribute.key ≡ Some result.stored }
+        ensures key { result.key ≡ attribute.key }
+        ensures new { self.new ≡ fin.insert self.old attribute.key attribute.stored }
+    {
+        match place_of(self.items.as_slice(), attribute.description().key()) {
+            Ok(at) => mem::replace(&mut self.items[at], attribute),
+            Err(_) => unreachable!(),
+        }
+    }
+
+    /// Gives the attribute with this key other values, and returns the old ones. There must be one. The call
+    /// doesn't allocate. An entry's attributes have values (`Parts`).
+    pub fn replace_values(&mut self, key: &AttrKey, values: ValueMap) -> ValueMap
+        requires { IsSome (fin.get self.old key.now) }
+        ensures old { option_map (λ a. a.values) (fin.get self.old key.now) ≡ Some result }
+        ensures new { self.new ≡ fin.insert self.old key.now (record { spelling = spelling_or [] (fin.get self.old key.now); values = values }) }
+    {
+        match place_of(self.items.as_slice(), key) {
+            Ok(at) => mem::replace(&mut self.items[at].values, values),
+            Err(_) => unreachable!(),
         }
     }
 
@@ -322,7 +350,7 @@ impl AttributeMap {
     }
 
     /// Whether the attribute has the value with this text as its key.
-    pub(crate) fn has_text(&self, attr: &AttrKey, text: &[u8]) -> bool
+    pub fn has_text(&self, attr: &AttrKey, text: &[u8]) -> bool
         ensures { result ≡ has_value self.now attr.now (Text text.now) }
     {
         match self.get(attr) {

@@ -4,6 +4,7 @@ ghost use Rattle.std.specs.Prelude.{◌≡◌, IfOk, IfSome, cond, ok_or, option
 ghost use Rattle.std.specs.Option.{option_map};
 ghost use Rattle.std.specs.FinMap as fin;
 ghost use Rattle.dir_names.specs.NameKeys.{rdn_key};
+ghost use Rattle.dir_names.specs.declared.value.ValueKey.TheVariants.{Text};
 ghost use Rattle.dir_tree.specs.ChangedEntry.{content_of};
 ghost use Rattle.dir_tree.specs.Content.{has_value};
 ghost use Rattle.dir_tree.specs.NewEntry.{Makes, new_entry};
@@ -80,6 +81,13 @@ impl Entry {
         self.own.as_slice()
     }
 
+    /// The key of its own RDN: the leaf of its own name.
+    pub fn key(&self) -> &RdnKey
+        ensures { result.now ≡ self.now.key }
+    {
+        &self.key
+    }
+
     /// The attribute with this description key.
     pub fn attribute(&self, key: &AttrKey) -> Option<&Attribute>
         ensures value { option_map (λ a. a.now.stored) result ≡ fin.get self.now.attributes key.now }
@@ -93,6 +101,13 @@ impl Entry {
         ensures { result ≡ has_value self.now.attributes attr.now value.now }
     {
         self.attributes.has(attr, value)
+    }
+
+    /// Whether the attribute has the value with this text as its key.
+    pub fn has_text(&self, attr: &AttrKey, text: &[u8]) -> bool
+        ensures { result ≡ has_value self.now.attributes attr.now (Text text.now) }
+    {
+        self.attributes.has_text(attr, text)
     }
 
     /// The attributes, in order of their keys.
@@ -118,8 +133,9 @@ impl Entry {
         }
     }
 
-    /// The entry with these fields.
-    pub(crate) fn of(parts: Parts) -> Entry
+    /// The entry with these fields, as they are: whether an entry may have them is for the caller to know
+    /// (`Parts::close` judges it). The call doesn't allocate.
+    pub fn of(parts: Parts) -> Entry
         ensures { result ≡ content_of parts }
     {
         let Parts {

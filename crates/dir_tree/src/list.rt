@@ -1,11 +1,12 @@
 //! The values of an attribute as a list. A single value needs no memory of its own.
 
 ghost use Rattle.std.specs.List.{insert, remove};
-ghost use Rattle.std.specs.Prelude.{◌≡◌, ◌≤◌, ◌<◌, [], ◌∷◌, IfErr, IfOk, OnErr, OnOk, get_or, length};
+ghost use Rattle.std.specs.Prelude.{◌≡◌, ◌≤◌, ◌<◌, ℕ, List, [], ◌∷◌, IfErr, IfOk, OnErr, OnOk, get_or, length, set};
+ghost use Rattle.dir_names.specs.declared.value.ValueKey.{ValueKey};
 ghost use Rattle.dir_tree.specs.Inside.ValueLists.{list_values};
 
 use crate::stored::{OneOrMany, StoredValue};
-use dir_names::Memory;
+use dir_names::{Bytes, Memory};
 use std::alloc::Global;
 use std::marker::Model;
 use std::{mem, slice};
@@ -87,6 +88,17 @@ impl ValueList {
                 self.kept = kept;
                 Err(Memory)
             }
+        }
+    }
+
+    /// Gives the value at an index other bytes. The call doesn't allocate.
+    pub(crate) fn set_bytes(&mut self, at: usize, bytes: Bytes)
+        requires { at < length self.old }
+        ensures { (value : ValueKey × List ℕ) → self.new ≡ set self.old at ((get_or self.old at value).0, bytes) }
+    {
+        match &mut self.kept {
+            OneOrMany::One(value) => value.set_bytes(bytes),
+            OneOrMany::Many(values) => values[at].set_bytes(bytes),
         }
     }
 

@@ -67,6 +67,17 @@ impl StoredValue {
         }
     }
 
+    /// Gives the value other bytes under its key.
+    pub(crate) fn set_bytes(&mut self, bytes: Bytes)
+        ensures { self.new ≡ (self.old.0, bytes) }
+    {
+        self.bytes = if are_key_bytes(&self.key, &bytes) {
+            None
+        } else {
+            Some(bytes)
+        };
+    }
+
     pub(crate) fn into_bytes(self) -> Bytes
         ensures { result ≡ self.1 }
     {

@@ -1,6 +1,6 @@
 //! The values of an attribute, as an ordered map from their keys to their bytes.
 
-ghost use Rattle.std.specs.Prelude.{◌≡◌, ◌==◌, IfErr, IfOk, IsTrue, OnErr, OnOk, false, length, map, option_copied};
+ghost use Rattle.std.specs.Prelude.{◌≡◌, ◌==◌, IfErr, IfOk, IsTrue, OnErr, OnOk, cond, false, length, map, option_copied};
 ghost use Rattle.std.specs.FinMap as fin;
 ghost use Rattle.std.specs.List.Sorted.{IsSearchInRange};
 ghost use Rattle.dir_names.specs.Sorted.{place};
@@ -41,7 +41,7 @@ impl Model for ValueMap {
 
 impl ValueMap {
     /// The map without values.
-    pub(crate) fn empty(alloc: Global) -> ValueMap
+    pub fn empty(alloc: Global) -> ValueMap
         ensures { result ≡ fin.empty }
     {
         ValueMap {
@@ -98,12 +98,7 @@ impl ValueMap {
     /// # Errors
     ///
     /// `Twice` if its key is there already, `Memory` if memory runs out. Then the map is as it was.
-    pub(crate) fn insert(
-        &mut self,
-        alloc: Global,
-        key: ValueKey,
-        bytes: Bytes,
-    ) -> Result<(), EntryFault>
+    pub fn insert(&mut self, alloc: Global, key: ValueKey, bytes: Bytes) -> Result<(), EntryFault>
         ensures ok { OnOk result (self.new ≡ fin.insert self.old key bytes) }
         ensures free { OnOk result (fin.contains_key self.old key ≡ false) }
         ensures err { OnErr result (self.new ≡ self.old) }
@@ -118,8 +113,17 @@ impl ValueMap {
         }
     }
 
+    /// Gives the value with this key, if there is one, other bytes. The call doesn't allocate.
+    pub fn set(&mut self, key: &ValueKey, bytes: Bytes)
+        ensures { self.new ≡ cond (fin.contains_key self.old key.now) (fin.insert self.old key.now bytes) self.old }
+    {
+        if let Ok(at) = place_of(self.items.as_slice(), key) {
+            self.items.set_bytes(at, bytes);
+        }
+    }
+
     /// Removes a value, and returns its stored bytes. The call doesn't allocate.
-    pub(crate) fn remove(&mut self, alloc: Global, key: &ValueKey) -> Option<Bytes>
+    pub fn remove(&mut self, alloc: Global, key: &ValueKey) -> Option<Bytes>
         ensures value { result ≡ fin.get self.old key.now }
         ensures rest { self.new ≡ fin.remove self.old key.now }
     {
