@@ -46,7 +46,7 @@ slot_again xs k s t = same_attributes _ _ (λ q.
     shadowed true x = refl
     shadowed false x = refl
 
-slot_kept : (xs : StoredAttributes) (k : Attr) → with_slot xs k (fin.get xs k) ≡ xs
+pub slot_kept : (xs : StoredAttributes) (k : Attr) → with_slot xs k (fin.get xs k) ≡ xs
 slot_kept xs k = same_attributes _ _ (λ q. get_slot xs k (fin.get xs k) q ∙ by q (eq_by_cmp attr_cmp q k) refl)
   where
     by : (q : Attr) (b : Bool) → eq_by_cmp attr_cmp q k ≡ b → cond b (fin.get xs k) (fin.get xs q) ≡ fin.get xs q

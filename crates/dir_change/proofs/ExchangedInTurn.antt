@@ -58,6 +58,13 @@ more_inserted x y k bytes more free v h = get-insert value_key_cmp_total y k byt
     by false e = more v h
     by true e = absurd (true≢false (sym (ap is_some (more v h) ∙ h) ∙ ap (fin.contains_key y) (same_value v k e) ∙ free))
 
+pub more_added : (x y : StoredValues) (k : ValueKey) (bytes : List ℕ) → HasMore x y → HasMore x (cond (fin.contains_key y k) y (fin.insert y k bytes))
+more_added x y k bytes more = by (fin.contains_key y k) refl
+  where
+    by : (b : Bool) → fin.contains_key y k ≡ b → HasMore x (cond b y (fin.insert y k bytes))
+    by true e = more
+    by false e = more_inserted x y k bytes more e
+
 pub growing_is : (x after y : StoredValues) (rest : KeyedValues) → grown_by x (fin.entries after) ≡ grown_by y rest → HasMore x y → AreGrowing x after y
 growing_is x after y rest same more v h = by (fin.contains_key x v) refl
   where

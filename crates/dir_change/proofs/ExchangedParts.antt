@@ -44,9 +44,10 @@ module _ (x a b : StoredValues) (fits : FitValues x a b) where
       by v false t d u = growing v (ap (λ e. e && not (fin.contains_key x v)) t)
 
 pub fit_alike : (o : Option Looked) (s f t g : Option Stored) → AreSlotsAlike o s f → AreSlotsAlike o t g → Fit s f g
-fit_alike None None None t g was is = tt
+fit_alike None s None t None was is = tt
+fit_alike None None None t (Some g) was is = tt
+fit_alike None (Some s) None t (Some g) was is = absurd (cc)
 fit_alike None None (Some f) t g was is = absurd (cc)
-fit_alike None (Some s) None t g was is = absurd (cc)
 fit_alike None (Some s) (Some f) t None was is = tt
 fit_alike None (Some s) (Some f) t (Some g) was is = ((λ v h. ap (has v) was ∙ h), λ v h none. ap (has v) was ∙ none)
   where

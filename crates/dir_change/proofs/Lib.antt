@@ -2,8 +2,10 @@ pub mod AfterOperations
 pub mod AttributesBack
 pub mod Conditions
 pub mod Examples
+pub mod ExchangedAttributes
 pub mod ExchangedInTurn
 pub mod ExchangedParts
+pub mod ExchangedSlots
 pub mod InOrder
 pub mod InTurn
 pub mod KeysInOrder

@@ -22,7 +22,7 @@ less_differs Greater h = refl
 
 module _ {K X : Type 0} {R : K → K → Ordering} (o : IsTotalOrder R) (exact : IsAntisymmetric R) (P : K × X → Type 0) where
   -- a key before all others is none of them
-  apart : (k : K) (es : List (K × X)) → list_all (λ x. is_lt (R k x)) (keys_of R es) ≡ true → find R k es ≡ None
+  pub apart : (k : K) (es : List (K × X)) → list_all (λ x. is_lt (R k x)) (keys_of R es) ≡ true → find R k es ≡ None
   apart k [] t = refl
   apart k (e ∷ es) t =
       ap (λ b. cond b (Some e.1) (find R k es)) (less_differs (R k e.0) (left (is_lt (R k e.0)) (list_all (λ x. is_lt (R k x)) (keys_of R es)) t))
