@@ -12,6 +12,7 @@ pub mod KeysInOrder
 pub mod LegalDifference
 pub mod LegalUndo
 pub mod LegalValues
+pub mod LookedParts
 pub mod ModifiedAttributes
 pub mod ModifiedEntry
 pub mod ModifyAnswers

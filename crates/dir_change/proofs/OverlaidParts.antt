@@ -19,7 +19,8 @@ use Rattle.dir_tree.proofs.SoundMade.{each_get}
 use Rattle.dir_change.proofs.AttributesBack.{get_slot}
 use Rattle.dir_change.proofs.KeysInOrder.{is_among, same_attr}
 use Rattle.dir_change.specs.Inside.Overlaid.{overlaid}
-use Rattle.dir_change.proofs.PartOfSlot.{AreLookedAt, AreSlotsAlike, IsPartOf, Looked}
+use Rattle.dir_change.specs.Inside.Looked.{AreSlotsAlike, IsFree, IsPartOf, IsSeen, Looked}
+use Rattle.dir_change.proofs.PartOfSlot.{AreLookedAt}
 
 pub get_overlaid : (xs : StoredAttributes) (ks : List Attr) (fs : StoredAttributes) (q : Attr) → fin.get (overlaid xs ks fs) q ≡ cond (is_among q ks) (fin.get fs q) (fin.get xs q)
 get_overlaid xs [] fs q = refl
@@ -31,11 +32,6 @@ get_overlaid xs (k ∷ ks) fs q = get_slot (overlaid xs ks fs) k (fin.get fs k) 
     by rest false t = rest
 
 module _ (keys : List Attr) (looked : Attr → Option Looked) (xs ys fs : StoredAttributes) (at : AreLookedAt keys looked ys fs) (kept : (q : Attr) → is_among q keys ≡ false → fin.get ys q ≡ fin.get xs q) where
-  -- a value that is looked at, where an attribute is looked at in part
-  abbrev pub IsSeen : Option Looked → ValueKey → Type 0
-  IsSeen None v = ⊤
-  IsSeen (Some p) v = p.test v ≡ true
-
   has_alike : (o : Option Looked) (s f : Option Stored) → AreSlotsAlike o s f → (v : ValueKey) → IsSeen o v → has_in v s ≡ has_in v f
   has_alike None s f is v seen = ap (has_in v) is
   has_alike (Some p) None f is v seen = absurd is
@@ -104,15 +100,10 @@ module _ (rows : List TypeRow) where
       by false t true u = sym (none_then ys xs (λ q. turned q (fin.get ys q) (fin.get xs q) (h q)) t) ∙ u
 
   module _ (keys : List Attr) (looked : Attr → Option Looked) (xs ys fs : StoredAttributes) (at : AreLookedAt keys looked ys fs) (kept : (q : Attr) → is_among q keys ≡ false → fin.get ys q ≡ fin.get xs q) where
-    -- a type that may have more than one value, where an attribute is looked at in part
-    abbrev pub IsFree : Attr → Option Looked → Type 0
-    IsFree q None = ⊤
-    IsFree q (Some p) = single_of rows q ≡ false
-
-    pub exceeds_overlaid : ((q : Attr) → is_among q keys ≡ true → IsFree q (looked q)) → exceeds_single_value rows ys ≡ exceeds_single_value rows (overlaid xs keys fs)
+    pub exceeds_overlaid : ((q : Attr) → is_among q keys ≡ true → IsFree rows q (looked q)) → exceeds_single_value rows ys ≡ exceeds_single_value rows (overlaid xs keys fs)
     exceeds_overlaid free = exceeds_same (overlaid xs keys fs) ys (λ q. subst (IsSameOrFree q (fin.get ys q)) (sym (get_overlaid xs keys fs q)) (by q (is_among q keys) refl))
       where
-        alike : (q : Attr) (o : Option Looked) (s f : Option Stored) → AreSlotsAlike o s f → IsFree q o → IsSameOrFree q s f
+        alike : (q : Attr) (o : Option Looked) (s f : Option Stored) → AreSlotsAlike o s f → IsFree rows q o → IsSameOrFree q s f
         alike q None s f is e = inl is
         alike q (Some p) s f is e = inr e
 

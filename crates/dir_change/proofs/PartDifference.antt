@@ -19,7 +19,7 @@ use Rattle.dir_change.specs.Difference.{bytes_of, has_exactly, modification, mod
 use Rattle.dir_change.specs.Modify.{KeyedValues}
 use Rattle.dir_change.proofs.SlotBack.{if_differs, missing_found}
 use Rattle.dir_change.proofs.ValueSets.{found}
-use Rattle.dir_change.proofs.PartOfSlot.{AreAlike, AreSlotsAlike, IsPartOf, Looked}
+use Rattle.dir_change.specs.Inside.Looked.{AreAlike, AreSlotsAlike, IsPartOf, Looked}
 
 truth : {b : Bool} → T b → b ≡ true
 truth {b} t = elim b as (λ b. T b → b ≡ true) [ true ↦ λ _. refl | _ ↦ λ f. absurd f ] t

@@ -16,6 +16,7 @@ use Rattle.dir_ldif.specs.declared.records.ModOp.TheVariants as op
 use Rattle.dir_tree.specs.Content.{Stored, StoredAttributes, StoredValues}
 use Rattle.dir_tree.specs.Slots.{slot_of, spelling_or, values_of, with_slot}
 use Rattle.dir_tree.specs.WellFormed.{Each}
+use Rattle.dir_change.specs.Inside.Looked.{AreAlike, AreSlotsAlike, IsPartOf, Looked, NamesInside, NamesLooked, is_replace, names_values}
 use Rattle.dir_change.specs.Modify.{KeyedValues, are_distinct, attributes_after, has_all, has_any, if_keyed, is_given, keyed_values, slot_after, slot_after_op, slot_with, slot_without, values_with, values_without}
 use Rattle.dir_change.specs.Refusals.{unless}
 use Rattle.dir_change.specs.declared.result_code.ResultCode.{ResultCode}
@@ -25,23 +26,7 @@ use Rattle.dir_change.proofs.KeysInOrder.{is_among, same_attr}
 use Rattle.dir_change.proofs.SlotBack.{slot_there}
 use Rattle.dir_change.proofs.ValueSets.{found, found_entries, get_with, get_without, or_else, same_value}
 
--- a part of an attribute: its values that pass the test, among them this one; all others are those of the attribute at first
-pub record IsPartOf (test : ValueKey → Bool) (first : Stored) (one : ValueKey) (whole part : Stored) : Type 0 where
-  pub spelled : part.spelling ≡ whole.spelling
-  pub spelled_first : whole.spelling ≡ first.spelling
-  pub inside : (v : ValueKey) → test v ≡ true → fin.get part.values v ≡ fin.get whole.values v
-  pub nothing_else : (v : ValueKey) → test v ≡ false → fin.get part.values v ≡ None
-  pub outside : (v : ValueKey) → test v ≡ false → fin.get whole.values v ≡ fin.get first.values v
-  pub passes : test one ≡ true
-  pub has_one : is_some (fin.get part.values one) ≡ true
-
 module _ (test : ValueKey → Bool) (first : Stored) (one : ValueKey) where
-  -- the same refusal, or a part again
-  abbrev pub AreAlike : Result (Option Stored) ResultCode → Result (Option Stored) ResultCode → Type 0
-  AreAlike (Err c) (Err d) = c ≡ d
-  AreAlike (Ok (Some whole)) (Ok (Some part)) = IsPartOf test first one whole part
-  AreAlike r s = ⊥
-
   abbrev pub Pass : KeyedValues → Type 0
   Pass given = Each (λ p. (test p.0 ≡ true)) given
 
@@ -96,20 +81,8 @@ module _ (test : ValueKey → Bool) (first : Stored) (one : ValueKey) where
 
 -- ---- one modification
 
--- a modification that adds or deletes values that it names
-abbrev pub is_replace : ModOp → Bool
-is_replace op.Replace = true
-is_replace other = false
-
-abbrev pub names_values : Mod → Bool
-names_values m = not (is_replace m.op) && not (length m.values == 0)
-
 module _ (test : ValueKey → Bool) (first : Stored) (one : ValueKey) (rows : List TypeRow) (m : Mod) where
-  -- each value that it names passes, if they have keys, and is not the one
-  abbrev pub NamesInside : Type 0
-  NamesInside = (given : KeyedValues) → keyed_values rows m.description.key m.values ≡ Some given → Pass test first one given × (found one given ≡ None)
-
-  module _ (whole part : Stored) (is : IsPartOf test first one whole part) (inside : NamesInside) where
+  module _ (whole part : Stored) (is : IsPartOf test first one whole part) (inside : NamesInside test first one rows m) where
     -- an attribute with the one has values
     slot_some : (a b : Stored) → IsPartOf test first one a b → slot_of b.spelling b.values ≡ Some b
     slot_some a b so = slot_there b.spelling b.values (λ none. true≢false (sym so.has_one ∙ ap is_some (sym (found_entries b.values one) ∙ ap (found one) none)))
@@ -164,29 +137,14 @@ module _ (test : ValueKey → Bool) (first : Stored) (one : ValueKey) (rows : Li
 
 -- ---- all modifications of an entry
 
--- which part of an attribute is looked at
-pub record Looked : Type 0 where
-  pub test : ValueKey → Bool
-  pub first : Stored
-  pub one : ValueKey
-
--- the whole of what is under a key, or a part of it
-abbrev pub AreSlotsAlike : Option Looked → Option Stored → Option Stored → Type 0
-AreSlotsAlike None s f = s ≡ f
-AreSlotsAlike (Some p) s f = AreAlike p.test p.first p.one (Ok s) (Ok f)
-
 -- the second are what is looked at of the first, under these keys
 abbrev pub AreLookedAt : List Attr → (Attr → Option Looked) → StoredAttributes → StoredAttributes → Type 0
 AreLookedAt keys looked xs fs = (q : Attr) → is_among q keys ≡ true → AreSlotsAlike (looked q) (fin.get xs q) (fin.get fs q)
 
 module _ (rows : List TypeRow) (keys : List Attr) (looked : Attr → Option Looked) where
 
-  abbrev pub NamesLooked : Mod → Option Looked → Type 0
-  NamesLooked m None = ⊤
-  NamesLooked m (Some p) = (names_values m ≡ true) × NamesInside p.test p.first p.one rows m
-
   abbrev pub IsLookedMod : Mod → Type 0
-  IsLookedMod m = (is_among m.description.key keys ≡ true) × NamesLooked m (looked m.description.key)
+  IsLookedMod m = (is_among m.description.key keys ≡ true) × NamesLooked rows m (looked m.description.key)
 
   abbrev pub AreBothAfter : StoredAttributes → Result StoredAttributes ResultCode → Result StoredAttributes ResultCode → Type 0
   AreBothAfter xs (Err c) (Err d) = c ≡ d
@@ -199,7 +157,7 @@ module _ (rows : List TypeRow) (keys : List Attr) (looked : Attr → Option Look
   AreStepsAlike o (Ok s) (Ok f) = AreSlotsAlike o s f
   AreStepsAlike o r s = ⊥
 
-  one_step : (m : Mod) (o : Option Looked) → NamesLooked m o → (s f : Option Stored) → AreSlotsAlike o s f → AreStepsAlike o (slot_after rows m s) (slot_after rows m f)
+  one_step : (m : Mod) (o : Option Looked) → NamesLooked rows m o → (s f : Option Stored) → AreSlotsAlike o s f → AreStepsAlike o (slot_after rows m s) (slot_after rows m f)
   one_step m None names s f same = subst (λ z. AreStepsAlike None (slot_after rows m s) (slot_after rows m z)) same (itself (slot_after rows m s))
     where
       itself : (r : Result (Option Stored) ResultCode) → AreStepsAlike None r r

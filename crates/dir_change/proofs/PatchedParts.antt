@@ -7,7 +7,7 @@ use Rattle.dir_tree.specs.Content.{Stored, StoredValues}
 use Rattle.dir_change.specs.Modify.{values_without}
 use Rattle.dir_change.proofs.ValueSets.{distinct_entries, found, found_entries, get_with, get_without, or_else, same_values}
 use Rattle.dir_change.specs.Inside.Patched.{patched, patched_values}
-use Rattle.dir_change.proofs.PartOfSlot.{AreSlotsAlike, IsPartOf, Looked}
+use Rattle.dir_change.specs.Inside.Looked.{AreSlotsAlike, IsPartOf, Looked}
 
 pub get_patched : (values gone come : StoredValues) (v : ValueKey) → fin.get (patched_values values gone come) v ≡ or_else (fin.get come v) (cond (is_some (fin.get gone v)) None (fin.get values v))
 get_patched values gone come v =

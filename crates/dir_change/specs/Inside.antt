@@ -1,5 +1,6 @@
 -- What the private functions of this crate meet. A reader of the public contracts needs none of it.
 pub mod Exchanged
+pub mod Looked
 pub mod Overlaid
 pub mod Patched
 pub mod ValuesInTurn

@@ -91,7 +91,7 @@ fn grow_values(
     Ok(())
 }
 
-fn add_if_missing(
+pub(crate) fn add_if_missing(
     alloc: Global,
     values: &mut ValueMap,
     key: &ValueKey,

@@ -7,6 +7,7 @@ mod difference;
 mod exchange;
 mod history;
 mod laws;
+mod looked;
 mod modify;
 mod operation;
 mod result_code;

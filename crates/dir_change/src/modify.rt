@@ -236,7 +236,7 @@ fn keyed_values(alloc: Global, schema: &Schema, m: &Mod) -> Result<Vec<(ValueKey
     Ok(given)
 }
 
-fn value_key(
+pub(crate) fn value_key(
     alloc: Global,
     schema: &Schema,
     attr: &AttrKey,

@@ -65,6 +65,16 @@ impl Attribute {
         }
     }
 
+    /// The attribute of this description with these values. An entry has no attribute without values.
+    pub fn of(description: Description, values: ValueMap) -> Attribute
+        ensures { result ≡ record { key = description.key; stored = record { spelling = description.spelling; values = values } } }
+    {
+        Attribute {
+            description,
+            values,
+        }
+    }
+
     /// The stored bytes of the value with this key.
     pub fn get(&self, key: &ValueKey) -> Option<&Bytes>
         ensures { option_copied result ≡ fin.get self.now.stored.values key.now }
@@ -360,7 +370,7 @@ impl AttributeMap {
     }
 
     /// Whether an attribute of a single type has more than one value.
-    pub(crate) fn exceeds_single_value(&self, schema: &Schema) -> bool
+    pub fn exceeds_single_value(&self, schema: &Schema) -> bool
         ensures { result ≡ exceeds_single_value schema.now self.now }
     {
         any_exceeds_single_value(self.items.as_slice(), schema)

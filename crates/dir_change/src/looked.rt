@@ -1,0 +1,171 @@
+//! What modifications look at of an entry: of an attribute in which they add and delete values only these
+//! values and one more, so that a modify of a large group does not read all its members.
+
+ghost use Rattle.std.specs.Prelude.{◌≡◌, ◌&&◌, ◌||◌, IfErr, IfOk, IfSome, OnOk, Some, false, not};
+ghost use Rattle.std.specs.List.{list_all};
+ghost use Rattle.std.specs.FinMap as fin;
+ghost use Rattle.dir_names.specs.Orders.{attr_eq};
+ghost use Rattle.dir_change.specs.Inside.Looked.{AreLooks, LooksAt, all_name_values, all_named, is_free, names_values, with_each, with_names};
+ghost use Rattle.dir_change.specs.declared.operation.Refusal.TheVariants as refusal;
+
+use crate::Refusal;
+use crate::exchange::add_if_missing;
+use crate::modify::value_key;
+use dir_ldif::{Mod, ModOp};
+use dir_names::{AttrKey, Bytes, RdnKey, Schema, ValueKey};
+use dir_tree::{Attribute, AttributeMap, Entry, ValueMap};
+use std::alloc::Global;
+
+/// What modifications look at under the keys that they name.
+pub(crate) fn looked_at(
+    alloc: Global,
+    schema: &Schema,
+    entry: &Entry,
+    keys: &[AttrKey],
+    mods: &[Mod],
+) -> Result<AttributeMap, Refusal>
+    ensures ok { IfOk result (λ before. AreLooks schema.now entry.now mods.now keys.now before) }
+    ensures memory { IfErr result (λ e. e ≡ refusal.Memory) }
+{
+    let mut before = AttributeMap::empty(alloc);
+    for key in keys {
+        if let Some(attribute) = entry.attribute(key) {
+            before.put(looked_part(alloc, schema, entry.key(), attribute, mods)?)?;
+        }
+    }
+    Ok(before)
+}
+
+/// What modifications look at of an attribute: all of it, unless they only add and delete values in it, its
+/// type may have many values and no value of it is in the own RDN.
+fn looked_part(
+    alloc: Global,
+    schema: &Schema,
+    own: &RdnKey,
+    attribute: &Attribute,
+    mods: &[Mod],
+) -> Result<Attribute, Refusal>
+    ensures key { IfOk result (λ part. part.key ≡ attribute.now.key) }
+    ensures looks { IfOk result (λ part. LooksAt schema.now own.now mods.now attribute.now.key (Some attribute.now.stored) (Some part.stored)) }
+    ensures memory { IfErr result (λ e. e ≡ refusal.Memory) }
+{
+    let key = attribute.description().key();
+    if is_free(schema, own, key) && all_name_values(key, mods) {
+        let named = named_values(alloc, schema, key, mods)?;
+        if let Some((one, bytes)) = other_value(attribute, &named) {
+            return part_with(alloc, attribute, &named, one, bytes);
+        }
+    }
+    Ok(attribute.try_clone(alloc)?)
+}
+
+/// Whether a type may have many values, and the own RDN has none of it.
+fn is_free(schema: &Schema, own: &RdnKey, attr: &AttrKey) -> bool
+    ensures { result ≡ is_free schema.now own.now attr.now }
+{
+    if schema.single(attr) {
+        return false;
+    }
+    for pair in own.pairs() {
+        if &pair.0 == attr {
+            return false;
+        }
+    }
+    true
+}
+
+/// Whether each modification of the key names the values that it adds or deletes.
+fn all_name_values(key: &AttrKey, mods: &[Mod]) -> bool
+    ensures { result ≡ all_name_values key.now mods.now }
+{
+    for m in mods {
+        if m.description.key() == key && !names_values(m) {
+            return false;
+        }
+    }
+    true
+}
+
+fn names_values(m: &Mod) -> bool
+    ensures { result ≡ names_values m.now }
+{
+    m.op != ModOp::Replace && !m.values.as_slice().is_empty()
+}
+
+/// The values that modifications of the key name, if they have keys.
+fn named_values(
+    alloc: Global,
+    schema: &Schema,
+    key: &AttrKey,
+    mods: &[Mod],
+) -> Result<ValueMap, Refusal>
+    ensures ok { IfOk result (λ named. named ≡ all_named schema.now key.now fin.empty mods.now) }
+    ensures memory { IfErr result (λ e. e ≡ refusal.Memory) }
+{
+    let mut named = ValueMap::empty(alloc);
+    for m in mods {
+        if m.description.key() == key {
+            add_named(alloc, schema, m, &mut named)?;
+        }
+    }
+    Ok(named)
+}
+
+fn add_named(
+    alloc: Global,
+    schema: &Schema,
+    m: &Mod,
+    named: &mut ValueMap,
+) -> Result<(), Refusal>
+    ensures ok { OnOk result (named.new ≡ with_names schema.now m.now.description.key named.old m.now.values) }
+    ensures memory { IfErr result (λ e. e ≡ refusal.Memory) }
+{
+    for value in m.values.as_slice() {
+        match value_key(alloc, schema, m.description.key(), value) {
+            Ok(key) => add_if_missing(alloc, named, &key, value)?,
+            Err(Refusal::Memory) => return Err(Refusal::Memory),
+            Err(Refusal::Code(_)) => {}
+        }
+    }
+    Ok(())
+}
+
+/// A value of the attribute that is not among those named.
+fn other_value<'a>(
+    attribute: &'a Attribute,
+    named: &ValueMap,
+) -> Option<(&'a ValueKey, &'a Bytes)>
+    ensures there { IfSome result (λ one. fin.get attribute.now.stored.values one.0.now ≡ Some one.1.now) }
+    ensures other { IfSome result (λ one. fin.contains_key named.now one.0.now ≡ false) }
+{
+    for (key, bytes) in attribute.values() {
+        if !named.contains_key(key) {
+            return Some((key, bytes));
+        }
+    }
+    None
+}
+
+/// The values of the attribute that are named, and this one.
+fn part_with(
+    alloc: Global,
+    attribute: &Attribute,
+    named: &ValueMap,
+    one: &ValueKey,
+    bytes: &Bytes,
+) -> Result<Attribute, Refusal>
+    ensures ok { IfOk result (λ part. part ≡ record { key = attribute.now.key; stored = record { spelling = attribute.now.stored.spelling; values = with_each attribute.now.stored.values (fin.insert fin.empty one.now bytes.now) (fin.entries named.now) } }) }
+    ensures memory { IfErr result (λ e. e ≡ refusal.Memory) }
+{
+    let mut values = ValueMap::empty(alloc);
+    add_if_missing(alloc, &mut values, one, bytes)?;
+    for (key, _) in named.iter() {
+        if let Some(bytes) = attribute.get(key) {
+            add_if_missing(alloc, &mut values, key, bytes)?;
+        }
+    }
+    let Ok(description) = attribute.description().try_clone(alloc) else {
+        return Err(Refusal::Memory);
+    };
+    Ok(Attribute::of(description, values))
+}
