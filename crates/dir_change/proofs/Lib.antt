@@ -8,10 +8,12 @@ pub mod ExchangedParts
 pub mod ExchangedSlots
 pub mod InOrder
 pub mod InTurn
+pub mod JudgedParts
 pub mod KeysInOrder
 pub mod LegalDifference
 pub mod LegalUndo
 pub mod LegalValues
+pub mod LookedModify
 pub mod LookedParts
 pub mod ModifiedAttributes
 pub mod ModifiedEntry

@@ -190,11 +190,11 @@ module _ (rows : List TypeRow) where
 
 -- ---- what is looked at
 
-looks_whole_named : (rows : List TypeRow) (q : Attr) (mods : List Mod) → Each (λ m. (m.description.key ≡ q → NamesLooked rows m None)) mods
+pub looks_whole_named : (rows : List TypeRow) (q : Attr) (mods : List Mod) → Each (λ m. (m.description.key ≡ q → NamesLooked rows m None)) mods
 looks_whole_named rows q [] = tt
 looks_whole_named rows q (m ∷ ms) = ((λ is. tt), looks_whole_named rows q ms)
 
-looks_whole_seen : (q : Attr) (own : RdnKeys) → Each (λ p. (p.0 ≡ q → IsSeen None (Text p.1))) own
+pub looks_whole_seen : (q : Attr) (own : RdnKeys) → Each (λ p. (p.0 ≡ q → IsSeen None (Text p.1))) own
 looks_whole_seen q [] = tt
 looks_whole_seen q (p ∷ ps) = ((λ is. tt), looks_whole_seen q ps)
 

@@ -11,6 +11,7 @@ use Rattle.dir_ldif.specs.declared.records.Change.{Change}
 use Rattle.dir_ldif.specs.declared.records.ChangeKind.TheVariants as kind
 use Rattle.dir_ldif.specs.declared.records.Mod.{Mod}
 use Rattle.dir_tree.specs.Content.{Content, StoredAttributes}
+use Rattle.dir_tree.proofs.Relisted.{insert_over}
 use Rattle.dir_tree.specs.Dir.{Dir, entry_at, put_entry}
 use Rattle.dir_tree.specs.SpelledNames.{spelled_name}
 use Rattle.dir_tree.specs.WellFormed.{Each, IsWellFormed}
@@ -51,14 +52,17 @@ same_dir : (d e : Dir) → d.suffix ≡ e.suffix → ((q : DnKeys) → entry_at 
 same_dir d e s h = let entries = same_map dn_key_cmp_total dn_key_cmp_exact d.entries e.entries h in λ i. record { suffix = s i; entries = entries i }
 
 -- what was there, put again
-put_again : (d : Dir) (k : DnKeys) (y e : Content) → entry_at d k ≡ Some e → put_entry (put_entry d k y) k e ≡ d
+pub put_over : (d : Dir) (k : DnKeys) (s y : Content) → put_entry (put_entry d k s) k y ≡ put_entry d k y
+put_over d k s y = λ i. record { suffix = d.suffix; entries = insert_over dn_key_cmp_total dn_key_cmp_exact d.entries k s y i }
+
+pub put_again : (d : Dir) (k : DnKeys) (y e : Content) → entry_at d k ≡ Some e → put_entry (put_entry d k y) k e ≡ d
 put_again d k y e there = same_dir _ d refl (λ q. get_put (put_entry d k y) k e q ∙ ap (cond (eq_by_cmp dn_key_cmp q k) (Some e)) (get_put d k y q) ∙ by q (eq_by_cmp dn_key_cmp q k) refl)
   where
     by : (q : DnKeys) (b : Bool) → eq_by_cmp dn_key_cmp q k ≡ b → cond b (Some e) (cond b (Some y) (entry_at d q)) ≡ entry_at d q
     by q false t = refl
     by q true t = sym (ap (entry_at d) (same_key q k t) ∙ there)
 
-put_same : (d : Dir) (k : DnKeys) (e : Content) → entry_at d k ≡ Some e → put_entry d k e ≡ d
+pub put_same : (d : Dir) (k : DnKeys) (e : Content) → entry_at d k ≡ Some e → put_entry d k e ≡ d
 put_same d k e there = same_dir _ d refl (λ q. get_put d k e q ∙ by q (eq_by_cmp dn_key_cmp q k) refl)
   where
     by : (q : DnKeys) (b : Bool) → eq_by_cmp dn_key_cmp q k ≡ b → cond b (Some e) (entry_at d q) ≡ entry_at d q

@@ -3,4 +3,5 @@ pub mod Exchanged
 pub mod Looked
 pub mod Overlaid
 pub mod Patched
+pub mod Planned
 pub mod ValuesInTurn

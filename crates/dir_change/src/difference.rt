@@ -1,4 +1,4 @@
-//! The modifications that lead from one entry to another.
+//! The modifications that lead from one attribute, or some, to others.
 
 ghost use Rattle.std.specs.Prelude.{◌≡◌, ◌++◌, IfErr, IfOk, IfSome, IsTrue, OnOk, Some, [], ◌∷◌, map};
 ghost use Rattle.std.specs.Option.{option_map};
@@ -12,30 +12,29 @@ ghost use Rattle.dir_change.specs.declared.operation.Refusal.TheVariants as refu
 use crate::Refusal;
 use dir_ldif::{Mod, ModOp};
 use dir_names::{AttrKey, Bytes, Description, Texts, ValueKey};
-use dir_tree::{Attribute, Entry};
+use dir_tree::{Attribute, AttributeMap};
 use std::alloc::Global;
 
-/// The modifications that lead from one entry to another, at the keys that these modifications name. The
-/// values that an attribute keeps are not repeated.
+/// The modifications that lead from some attributes to others, at these keys. The values that an attribute
+/// keeps are not repeated.
 pub(crate) fn difference(
     alloc: Global,
-    from: &Entry,
-    to: &Entry,
-    named: &[Mod],
+    keys: &[AttrKey],
+    from: &AttributeMap,
+    to: &AttributeMap,
 ) -> Result<Vec<Mod>, Refusal>
-    ensures ok { IfOk result (λ mods. mods.items ≡ difference_at (set_of attr_cmp (map (λ m. m.description.key) named.now)) from.now.attributes to.now.attributes) }
+    ensures ok { IfOk result (λ mods. mods.items ≡ difference_at keys.now from.now to.now) }
     ensures memory { IfErr result (λ e. e ≡ refusal.Memory) }
 {
-    let keys = named_keys(alloc, named)?;
     let mut mods = Vec::new(alloc);
-    for key in keys.as_slice() {
-        push_difference(alloc, &mut mods, from.attribute(key), to.attribute(key))?;
+    for key in keys {
+        push_difference(alloc, &mut mods, from.get(key), to.get(key))?;
     }
     Ok(mods)
 }
 
 /// The keys that modifications name, in order, each once.
-fn named_keys(alloc: Global, mods: &[Mod]) -> Result<Vec<AttrKey>, Refusal>
+pub(crate) fn named_keys(alloc: Global, mods: &[Mod]) -> Result<Vec<AttrKey>, Refusal>
     ensures ok { IfOk result (λ keys. keys.items ≡ set_of attr_cmp (map (λ m. m.description.key) mods.now)) }
     ensures memory { IfErr result (λ e. e ≡ refusal.Memory) }
 {

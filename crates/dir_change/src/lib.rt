@@ -6,6 +6,7 @@ mod delete;
 mod difference;
 mod exchange;
 mod history;
+mod judged;
 mod laws;
 mod looked;
 mod modify;

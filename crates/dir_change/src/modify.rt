@@ -7,6 +7,7 @@ ghost use Rattle.dir_ldif.specs.declared.records.ChangeKind.TheVariants as kind;
 ghost use Rattle.dir_ldif.specs.declared.records.ModOp.TheVariants as op;
 ghost use Rattle.dir_tree.specs.Content.{Stored};
 ghost use Rattle.dir_tree.specs.Slots.{slot_of, spelling_or, values_of};
+ghost use Rattle.dir_change.specs.Inside.Planned.{IsPlan};
 ghost use Rattle.dir_change.specs.Inside.ValuesInTurn.{are_new, are_there, without_each};
 ghost use Rattle.dir_change.specs.Modify.{attributes_after, attributes_after_one, entry_after, keyed_value, keyed_values, slot_after, slot_after_op, values_with};
 ghost use Rattle.dir_change.specs.Operation.{IsRefused, directory_after_modify};
@@ -15,11 +16,14 @@ ghost use Rattle.dir_change.specs.Undo.{undo_of};
 ghost use Rattle.dir_change.specs.declared.operation.Refusal.TheVariants as refusal;
 ghost use Rattle.dir_change.specs.declared.result_code.ResultCode.TheVariants as code;
 
-use crate::difference::difference;
+use crate::difference::{difference, named_keys};
+use crate::exchange::exchange;
+use crate::judged::judge;
+use crate::looked::looked_at;
 use crate::{Refusal, ResultCode, Undo};
 use dir_ldif::{Mod, ModOp};
 use dir_names::{AttrKey, Bytes, DnKey, NameFault, Schema, ValueKey};
-use dir_tree::{Attribute, AttributeMap, Directory, Entry};
+use dir_tree::{Attribute, AttributeMap, Directory, Entry, Parts};
 use std::alloc::Global;
 
 /// Modifies an entry (RFC 4511, section 4.6): 32 where it is missing; then the first refusal of a
@@ -40,29 +44,59 @@ pub(crate) fn modify<D: Directory>(
     let Some(entry) = directory.get(key) else {
         return Err(Refusal::Code(ResultCode::NoSuchObject));
     };
-    let modified = modified_entry(alloc, schema, entry, mods)?;
-    let back = difference(alloc, &modified, entry, mods)?;
+    let Plan {
+        before,
+        after,
+        back,
+    } = planned(alloc, schema, entry, mods)?;
+    let stand_in = stand_in(alloc, entry)?;
     let undo = Undo::modify(alloc, directory.spelled(key)?, back)?;
-    let _ = directory.replace(key, modified);
+    let mut parts = directory.replace(key, stand_in).into_parts();
+    let exchanged = exchange(alloc, &mut parts.attributes, &before, after);
+    let _ = directory.replace(key, Entry::of(parts));
+    exchanged?;
     Ok(undo)
 }
 
-/// A copy of the entry with all modifications, if none of them, nor the entry after them, is refused.
-fn modified_entry(
-    alloc: Global,
-    schema: &Schema,
-    entry: &Entry,
-    mods: &[Mod],
-) -> Result<Entry, Refusal>
-    ensures ok { IfOk result (λ modified. entry_after schema.now entry.now mods.now ≡ Ok modified) }
+/// What a modify is to do to an entry: to exchange some of its attributes, or parts of them, and to tell
+/// what takes this back.
+#[derive(Drop)]
+struct Plan {
+    before: AttributeMap,
+    after: AttributeMap,
+    back: Vec<Mod>,
+}
+
+/// The exchange that all modifications come to, if none of them, nor the entry after them, is refused.
+fn planned(alloc: Global, schema: &Schema, entry: &Entry, mods: &[Mod]) -> Result<Plan, Refusal>
+    ensures ok { IfOk result (λ plan. IsPlan schema.now entry.now mods.now plan.before plan.after plan.back.items) }
     ensures refused { IfErr result (λ e. IsRefused e (entry_after schema.now entry.now mods.now)) }
 {
-    let mut parts = entry.try_clone(alloc)?.into_parts();
-    apply_all(alloc, schema, &mut parts.attributes, mods)?;
-    match parts.close(schema) {
-        Ok(modified) => Ok(modified),
-        Err((_, fault)) => Err(Refusal::from(fault)),
-    }
+    let keys = named_keys(alloc, mods)?;
+    let before = looked_at(alloc, schema, entry, keys.as_slice(), mods)?;
+    let mut after = before.try_clone(alloc)?;
+    apply_all(alloc, schema, &mut after, mods)?;
+    judge(schema, entry, keys.as_slice(), &after)?;
+    let back = difference(alloc, keys.as_slice(), &after, &before)?;
+    Ok(Plan {
+        before,
+        after,
+        back,
+    })
+}
+
+/// An entry without attributes, in the place of one that is changed.
+fn stand_in(alloc: Global, entry: &Entry) -> Result<Entry, Refusal>
+    ensures memory { IfErr result (λ e. e ≡ refusal.Memory) }
+{
+    let Ok(key) = entry.key().try_clone(alloc) else {
+        return Err(Refusal::Memory);
+    };
+    Ok(Entry::of(Parts {
+        own: Vec::new(alloc),
+        key,
+        attributes: AttributeMap::empty(alloc),
+    }))
 }
 
 fn apply_all(

@@ -1,0 +1,22 @@
+-- What a modify is to do to an entry.
+use Rattle.std.specs.Prelude.{◌≡◌, List, map, Ok}
+use Rattle.std.specs.FinMap as fin
+use Rattle.dir_names.specs.declared.schema.TypeRow.{TypeRow}
+use Rattle.dir_names.specs.Attr.{Attr}
+use Rattle.dir_names.specs.Orders.{attr_cmp}
+use Rattle.dir_names.specs.Sorted.{set_of}
+use Rattle.dir_ldif.specs.declared.records.Mod.{Mod}
+use Rattle.dir_tree.specs.Content.{Content, StoredAttributes}
+use Rattle.dir_change.specs.Difference.{difference_at}
+use Rattle.dir_change.specs.Inside.Exchanged.{FitAttributes, exchanged_slot}
+use Rattle.dir_change.specs.Modify.{entry_after, with_attributes}
+
+-- the attributes with the part before exchanged for the part after
+abbrev pub AreExchanged : StoredAttributes → StoredAttributes → StoredAttributes → StoredAttributes → Type 0
+AreExchanged xs before after new = (q : Attr) → fin.get new q ≡ exchanged_slot (fin.get xs q) (fin.get before q) (fin.get after q)
+
+-- the exchange gives the entry after the modifications, and these lead back
+pub record IsPlan (rows : List TypeRow) (e : Content) (mods : List Mod) (before after : StoredAttributes) (back : List Mod) : Type 0 where
+  pub fits : FitAttributes e.attributes before after
+  pub leads : (new : StoredAttributes) → AreExchanged e.attributes before after new → entry_after rows e mods ≡ Ok (with_attributes e new)
+  pub leads_back : (new : StoredAttributes) → AreExchanged e.attributes before after new → back ≡ difference_at (set_of attr_cmp (map (λ m. m.description.key) mods)) new e.attributes
