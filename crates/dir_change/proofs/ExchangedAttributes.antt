@@ -5,7 +5,7 @@ use Rattle.std.specs.FinMap as fin
 use Rattle.std.specs.FinMap.{entries_sorted, find, get-entries, get-remove}
 use Rattle.std.specs.Ordering.{eq_by_cmp, is_lt}
 use Rattle.dir_names.specs.Attr.{Attr}
-use Rattle.dir_names.specs.Orders.{attr_cmp, attr_cmp_total, attr_cmp_exact, bytes_eq, bytes_eq_decides}
+use Rattle.dir_names.specs.Orders.{attr_cmp, attr_cmp_total, attr_cmp_exact, bytes_eq}
 use Rattle.dir_names.specs.Sorted.{rises}
 use Rattle.dir_names.proofs.Both.{left, right}
 use Rattle.dir_names.proofs.Placed.{is_sorted-keys, keys_of}
@@ -13,7 +13,7 @@ use Rattle.dir_tree.specs.Content.{Stored, StoredAttributes}
 use Rattle.dir_tree.specs.WellFormed.{Each}
 use Rattle.dir_tree.proofs.EachEntry.{apart, each_entry}
 use Rattle.dir_change.specs.Inside.Exchanged.{Fit, FitAttributes, AreGrowingAttributes, IsGrowing, all_grown, all_settled, all_shrunk, exchanged_slot, grown_at, grown_by, grown_stored, settled_by, settled_in, settled_slot, shrunk_at, shrunk_by, shrunk_slot}
-use Rattle.dir_change.specs.Inside.Patched.{patched, patched_values}
+use Rattle.dir_change.specs.Inside.Patched.{patched_values}
 use Rattle.dir_change.proofs.AttributesBack.{get_slot, same_attributes}
 use Rattle.dir_change.proofs.ExchangedInTurn.{grown_is, settled_is_by, shrunk_is_by}
 use Rattle.dir_change.proofs.ExchangedParts.{settled_is, shrunk_is}

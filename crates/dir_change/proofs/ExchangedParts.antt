@@ -6,7 +6,7 @@ use Rattle.dir_tree.specs.Content.{Stored, StoredValues}
 use Rattle.dir_change.proofs.ValueSets.{or_else, same_values}
 use Rattle.dir_change.specs.Inside.Exchanged.{AreGrowing, AreGrown, AreSettled, AreShrunk, Fit, FitValues, first_of}
 use Rattle.dir_change.specs.Inside.Patched.{patched_values}
-use Rattle.dir_change.specs.Inside.Looked.{AreSlotsAlike, IsPartOf, Looked}
+use Rattle.dir_change.specs.Inside.Looked.{AreSlotsAlike, Looked}
 use Rattle.dir_change.proofs.PatchedParts.{get_patched}
 
 module _ (x a b : StoredValues) (fits : FitValues x a b) where

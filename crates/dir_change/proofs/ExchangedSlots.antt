@@ -1,10 +1,9 @@
 -- What one step of an exchange does to what is under a key.
-use Rattle.std.proofs.Common.{◌≡◌, ℕ, Bool, true, false, cond, not, ◌&&◌, List, [], ◌∷◌, Option, Some, None, is_some, Result, Ok, Err, OnErr, OnOk, refl, sym, ap, subst, ◌∙◌, true≢false}
+use Rattle.std.proofs.Common.{◌≡◌, ℕ, Bool, true, false, cond, not, ◌&&◌, List, [], Option, Some, None, is_some, Result, Ok, Err, OnErr, OnOk, refl, sym, ap, subst, ◌∙◌, true≢false}
 use Rattle.std.specs.FinMap as fin
 use Rattle.std.specs.FinMap.{get-insert}
-use Rattle.std.specs.Option.{IsSome, option_map}
+use Rattle.std.specs.Option.{option_map}
 use Rattle.std.specs.Ordering.{eq_by_cmp}
-use Rattle.dir_names.specs.declared.value.ValueKey.{ValueKey}
 use Rattle.dir_names.specs.Attr.{Attr}
 use Rattle.dir_names.specs.Orders.{attr_cmp, attr_cmp_total, attr_cmp_exact, bytes_eq}
 use Rattle.dir_tree.specs.Content.{Stored, StoredAttributes, StoredValues}

@@ -1,11 +1,11 @@
 -- An entry that has other attributes under some keys, judged by these and by those that it keeps.
-use Rattle.std.proofs.Common.{◌≡◌, Bool, true, false, cond, not, ◌&&◌, ◌||◌, nat_lt, List, [], ◌∷◌, Option, Some, None, Ok, Err, refl, sym, ap, subst, ◌∙◌, true≢false}
+use Rattle.std.proofs.Common.{◌≡◌, Bool, true, false, cond, not, ◌&&◌, ◌||◌, nat_lt, List, [], ◌∷◌, Some, None, Ok, Err, refl, sym, ap, ◌∙◌, true≢false}
 use Rattle.std.specs.List.{list_any}
 use Rattle.std.specs.FinMap as fin
 use Rattle.dir_names.specs.declared.schema.TypeRow.{TypeRow}
 use Rattle.dir_names.specs.declared.value.ValueKey.{ValueKey}
 use Rattle.dir_names.specs.Attr.{Attr}
-use Rattle.dir_names.specs.Orders.{attr_cmp, attr_cmp_ties, attr_cmp_total, attr_cmp_exact, attr_eq, attr_eq_decides}
+use Rattle.dir_names.specs.Orders.{attr_cmp_ties, attr_cmp_total, attr_cmp_exact, attr_eq, attr_eq_decides}
 use Rattle.dir_names.specs.Table.{single_of}
 use Rattle.dir_tree.specs.ChangedEntry.{changed_entry, has_own_values}
 use Rattle.dir_tree.specs.Content.{Content, Stored, StoredAttributes, has_in, has_value}

@@ -1,12 +1,11 @@
 -- A modify of what is looked at of an entry, and of the entry.
-use Rattle.std.proofs.Common.{◌≡◌, ℕ, Bool, true, false, cond, not, ◌&&◌, ◌||◌, List, [], ◌∷◌, ◌++◌, map, Option, Some, None, Result, Ok, Err, refl, sym, ap, subst, ◌∙◌, true≢false}
+use Rattle.std.proofs.Common.{◌≡◌, ℕ, Bool, true, false, cond, ◌||◌, List, [], ◌∷◌, ◌++◌, map, Option, Some, None, Result, Ok, Err, refl, sym, ap, subst, ◌∙◌, true≢false}
 use Rattle.std.specs.List.{flat_map}
 use Rattle.std.specs.FinMap as fin
 use Rattle.std.specs.Ordering.{eq_by_cmp}
 use Rattle.dir_names.specs.declared.schema.TypeRow.{TypeRow}
 use Rattle.dir_names.specs.declared.value.ValueKey.TheVariants.{Text}
 use Rattle.dir_names.specs.Attr.{Attr}
-use Rattle.dir_names.specs.Keys.{RdnKeys}
 use Rattle.dir_names.specs.Orders.{attr_cmp}
 use Rattle.dir_names.specs.Results.{and_then}
 use Rattle.dir_names.specs.Sorted.{set_of}
@@ -18,7 +17,7 @@ use Rattle.dir_tree.specs.WellFormed.{Each}
 use Rattle.dir_tree.specs.declared.fault.EntryFault.TheVariants.{NotNamed, Single}
 use Rattle.dir_change.specs.Difference.{difference_at, slot_difference}
 use Rattle.dir_change.specs.Inside.Exchanged.{Fit, FitAttributes, exchanged_slot}
-use Rattle.dir_change.specs.Inside.Looked.{AreLooks, AreSlotsAlike, IsFree, IsSeen, Looked, LooksAt, NamesLooked, is_one_of}
+use Rattle.dir_change.specs.Inside.Looked.{AreLooks, AreSlotsAlike, IsFree, IsSeen, Looked, NamesLooked, is_one_of}
 use Rattle.dir_change.specs.Inside.Overlaid.{overlaid}
 use Rattle.dir_change.specs.Modify.{attributes_after, entry_after, with_attributes}
 use Rattle.dir_change.specs.Operation.{IsRefused}
@@ -89,7 +88,8 @@ module _ (rows : List TypeRow) (e : Content) (mods : List Mod) (keys : List Attr
   each_named [] among h = tt
   each_named (m ∷ ms) among h = (
     (among m.description.key (ap (λ b. b || is_among m.description.key (named_keys ms)) (attr_itself m.description.key)), (h m.description.key (is_one_of m.description.key keys) refl).0 refl),
-    each_named ms (λ q t. among q (ap (λ b. eq_by_cmp attr_cmp q m.description.key || b) t ∙ or_true (eq_by_cmp attr_cmp q m.description.key))) (λ q b t. (h q b t).1))
+    each_named ms (λ q t. among q (ap (λ b. eq_by_cmp attr_cmp q m.description.key || b) t ∙ or_true (eq_by_cmp attr_cmp q m.description.key))) (λ q b t. (h q b t).1),
+  )
     where
       or_true : (b : Bool) → (b || true) ≡ true
       or_true true = refl

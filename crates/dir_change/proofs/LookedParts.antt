@@ -1,5 +1,5 @@
 -- The values that modifications name of an attribute, and one more, are a part of it in which all that they do is seen.
-use Rattle.std.proofs.Common.{◌≡◌, ◌⊎◌, inl, inr, Bool, true, false, cond, not, ◌&&◌, ◌||◌, List, [], ◌∷◌, length, take, drop, get_or, ℕ, suc, ◌+◌, ◌<◌, Option, Some, None, is_some, refl, sym, ap, subst, ◌∙◌, true≢false}
+use Rattle.std.proofs.Common.{◌≡◌, ◌⊎◌, inl, inr, Bool, true, false, cond, not, ◌||◌, List, [], ◌∷◌, length, take, drop, get_or, ℕ, suc, ◌+◌, ◌<◌, Option, Some, None, is_some, refl, sym, ap, subst, ◌∙◌, true≢false}
 use native.Mathlib.Omega.{arith}
 use Rattle.std.specs.List.{list_all}
 use Rattle.std.specs.FinMap as fin
@@ -228,7 +228,8 @@ module _ (rows : List TypeRow) (own : RdnKeys) (mods : List Mod) (k : Attr) (a :
       here : m.description.key ≡ k → NamesLooked rows m (Some looked_in)
       here is = (
         ap (λ b. not b || names_values m) (sym ((attr_eq_decides m.description.key k).1 is)) ∙ left (not (attr_eq m.description.key k) || names_values m) (list_all (λ m. not (attr_eq m.description.key k) || names_values m) ms) h,
-        λ given e. (given_pass given (each.0 is given e), one_apart given (each.0 is given e)))
+        λ given e. (given_pass given (each.0 is given e), one_apart given (each.0 is given e)),
+      )
 
   own_seen : (ps : RdnKeys) → list_all (λ p. not (attr_eq p.0 k)) ps ≡ true → Each (λ p. (p.0 ≡ k → IsSeen (Some looked_in) (Text p.1))) ps
   own_seen [] h = tt

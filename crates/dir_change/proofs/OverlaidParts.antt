@@ -1,6 +1,5 @@
 -- An entry is judged by the parts of its attributes that modifications look at.
-use Rattle.std.proofs.Common.{◌≡◌, ℕ, Bool, true, false, cond, not, ◌&&◌, ◌||◌, ◌⊎◌, inl, inr, nat_lt, List, [], ◌∷◌, Option, Some, None, is_some, refl, sym, ap, subst, ◌∙◌, true≢false}
-use Rattle.std.specs.Bool.{⊤}
+use Rattle.std.proofs.Common.{◌≡◌, ℕ, Bool, true, false, cond, ◌&&◌, ◌||◌, ◌⊎◌, inl, inr, nat_lt, List, [], ◌∷◌, Option, Some, None, is_some, refl, sym, ap, subst, ◌∙◌, true≢false}
 use Rattle.std.specs.List.{list_all, list_any}
 use Rattle.std.specs.FinMap as fin
 use Rattle.std.specs.Ordering.{eq_by_cmp}
@@ -12,14 +11,13 @@ use Rattle.dir_names.specs.Orders.{attr_cmp, attr_cmp_total, attr_cmp_exact}
 use Rattle.dir_names.specs.Table.{single_of}
 use Rattle.dir_tree.specs.Content.{Stored, StoredAttributes, has_in, has_value}
 use Rattle.dir_tree.specs.NewEntry.{exceeds_single_value}
-use Rattle.dir_tree.specs.Slots.{with_slot}
 use Rattle.dir_tree.specs.WellFormed.{Each}
 use Rattle.dir_tree.proofs.EachEntry.{each_entry}
 use Rattle.dir_tree.proofs.SoundMade.{each_get}
 use Rattle.dir_change.proofs.AttributesBack.{get_slot}
 use Rattle.dir_change.proofs.KeysInOrder.{is_among, same_attr}
 use Rattle.dir_change.specs.Inside.Overlaid.{overlaid}
-use Rattle.dir_change.specs.Inside.Looked.{AreSlotsAlike, IsFree, IsPartOf, IsSeen, Looked}
+use Rattle.dir_change.specs.Inside.Looked.{AreSlotsAlike, IsFree, IsSeen, Looked}
 use Rattle.dir_change.proofs.PartOfSlot.{AreLookedAt}
 
 pub get_overlaid : (xs : StoredAttributes) (ks : List Attr) (fs : StoredAttributes) (q : Attr) → fin.get (overlaid xs ks fs) q ≡ cond (is_among q ks) (fin.get fs q) (fin.get xs q)

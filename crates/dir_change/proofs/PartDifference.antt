@@ -1,12 +1,12 @@
 -- The difference of two attributes is that of the same parts of them.
-use Rattle.std.proofs.Common.{◌≡◌, ℕ, Bool, true, false, cond, not, ◌&&◌, ◌||◌, ◌==◌, List, [], ◌∷◌, ◌++◌, length, Option, Some, None, is_some, Result, Ok, Err, refl, sym, ap, subst, ◌∙◌, true≢false, T}
+use Rattle.std.proofs.Common.{◌≡◌, ℕ, Bool, true, false, cond, not, ◌&&◌, List, [], ◌∷◌, ◌++◌, Option, Some, None, refl, sym, ap, ◌∙◌, T}
 use Rattle.std.specs.List.{filter, list_all}
 use Rattle.std.specs.FinMap as fin
 use Rattle.std.specs.FinMap.{entries_sorted}
 use Rattle.std.specs.FinMap.Entries.{is_sorted, same_entries}
-use Rattle.std.specs.Ordering.{eq_by_cmp, is_lt}
+use Rattle.std.specs.Ordering.{is_lt}
 use Rattle.dir_names.specs.Attr.{Attr}
-use Rattle.dir_names.specs.Orders.{bytes_eq, bytes_eq_decides}
+use Rattle.dir_names.specs.Orders.{bytes_eq_decides}
 use Rattle.dir_names.specs.Sorted.{rises}
 use Rattle.dir_names.specs.declared.value.ValueKey.{ValueKey}
 use Rattle.dir_names.specs.Values.{value_key_cmp, value_key_cmp_total, value_key_cmp_exact}
@@ -14,12 +14,11 @@ use Rattle.dir_names.proofs.Both.{left, right}
 use Rattle.dir_names.proofs.Placed.{is_sorted-keys, keys_of, so}
 use Rattle.dir_ldif.specs.declared.records.Mod.{Mod}
 use Rattle.dir_ldif.specs.declared.records.ModOp.TheVariants as op
-use Rattle.dir_tree.specs.Content.{Stored, StoredAttributes, StoredValues}
+use Rattle.dir_tree.specs.Content.{Stored, StoredValues}
 use Rattle.dir_change.specs.Difference.{bytes_of, has_exactly, modification, modification_if_any, slot_difference, values_missing_in}
 use Rattle.dir_change.specs.Modify.{KeyedValues}
 use Rattle.dir_change.proofs.SlotBack.{if_differs, missing_found}
-use Rattle.dir_change.proofs.ValueSets.{found}
-use Rattle.dir_change.specs.Inside.Looked.{AreAlike, AreSlotsAlike, IsPartOf, Looked}
+use Rattle.dir_change.specs.Inside.Looked.{AreSlotsAlike, IsPartOf, Looked}
 
 truth : {b : Bool} → T b → b ≡ true
 truth {b} t = elim b as (λ b. T b → b ≡ true) [ true ↦ λ _. refl | _ ↦ λ f. absurd f ] t

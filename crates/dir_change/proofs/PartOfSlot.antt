@@ -1,7 +1,6 @@
 -- Modifications that name values do to a part of an attribute what they do to the attribute.
 use Rattle.std.proofs.Common.{◌≡◌, ℕ, Bool, true, false, cond, not, ◌&&◌, ◌||◌, ◌==◌, List, [], ◌∷◌, length, Option, Some, None, is_some, Result, Ok, Err, refl, sym, ap, subst, ◌∙◌, true≢false}
 use Rattle.std.specs.FinMap as fin
-use Rattle.std.specs.Bool.{⊤}
 use Rattle.std.specs.Option.{ok_or}
 use Rattle.std.specs.Ordering.{eq_by_cmp}
 use Rattle.dir_names.specs.declared.schema.TypeRow.{TypeRow}
@@ -13,8 +12,8 @@ use Rattle.dir_names.specs.Values.{value_key_cmp}
 use Rattle.dir_ldif.specs.declared.records.Mod.{Mod}
 use Rattle.dir_ldif.specs.declared.records.ModOp.{ModOp}
 use Rattle.dir_ldif.specs.declared.records.ModOp.TheVariants as op
-use Rattle.dir_tree.specs.Content.{Stored, StoredAttributes, StoredValues}
-use Rattle.dir_tree.specs.Slots.{slot_of, spelling_or, values_of, with_slot}
+use Rattle.dir_tree.specs.Content.{Stored, StoredAttributes}
+use Rattle.dir_tree.specs.Slots.{slot_of, with_slot}
 use Rattle.dir_tree.specs.WellFormed.{Each}
 use Rattle.dir_change.specs.Inside.Looked.{AreAlike, AreSlotsAlike, IsPartOf, Looked, NamesInside, NamesLooked, is_replace, names_values}
 use Rattle.dir_change.specs.Modify.{KeyedValues, are_distinct, attributes_after, has_all, has_any, if_keyed, is_given, keyed_values, slot_after, slot_after_op, slot_with, slot_without, values_with, values_without}
@@ -142,7 +141,6 @@ abbrev pub AreLookedAt : List Attr → (Attr → Option Looked) → StoredAttrib
 AreLookedAt keys looked xs fs = (q : Attr) → is_among q keys ≡ true → AreSlotsAlike (looked q) (fin.get xs q) (fin.get fs q)
 
 module _ (rows : List TypeRow) (keys : List Attr) (looked : Attr → Option Looked) where
-
   abbrev pub IsLookedMod : Mod → Type 0
   IsLookedMod m = (is_among m.description.key keys ≡ true) × NamesLooked rows m (looked m.description.key)
 

@@ -1,11 +1,11 @@
 -- An attribute in which the part before modifications becomes that after them is the attribute after them.
-use Rattle.std.proofs.Common.{◌≡◌, ℕ, Bool, true, false, cond, not, List, Option, Some, None, is_some, refl, sym, ap, ◌∙◌, true≢false}
+use Rattle.std.proofs.Common.{◌≡◌, ℕ, Bool, true, false, cond, List, Option, Some, None, is_some, refl, sym, ap, ◌∙◌}
 use Rattle.std.specs.FinMap as fin
 use Rattle.dir_names.specs.Orders.{bytes_eq, bytes_eq_decides}
 use Rattle.dir_names.specs.declared.value.ValueKey.{ValueKey}
 use Rattle.dir_tree.specs.Content.{Stored, StoredValues}
 use Rattle.dir_change.specs.Modify.{values_without}
-use Rattle.dir_change.proofs.ValueSets.{distinct_entries, found, found_entries, get_with, get_without, or_else, same_values}
+use Rattle.dir_change.proofs.ValueSets.{distinct_entries, found_entries, get_with, get_without, or_else, same_values}
 use Rattle.dir_change.specs.Inside.Patched.{patched, patched_values}
 use Rattle.dir_change.specs.Inside.Looked.{AreSlotsAlike, IsPartOf, Looked}
 

@@ -49,12 +49,7 @@ fn grow(alloc: Global, attributes: &mut AttributeMap, after: &AttributeMap) -> R
     Ok(())
 }
 
-fn shrink(
-    alloc: Global,
-    attributes: &mut AttributeMap,
-    before: &AttributeMap,
-    after: &AttributeMap,
-)
+fn shrink(alloc: Global, attributes: &mut AttributeMap, before: &AttributeMap, after: &AttributeMap)
     ensures { attributes.new ≡ all_shrunk before.now attributes.old (fin.entries after.now) }
 {
     for (key, attribute) in after.iter() {
@@ -76,11 +71,7 @@ fn settle(
 }
 
 /// Adds the values that are not there yet.
-fn grow_values(
-    alloc: Global,
-    values: &mut ValueMap,
-    after: &Attribute,
-) -> Result<(), Refusal>
+fn grow_values(alloc: Global, values: &mut ValueMap, after: &Attribute) -> Result<(), Refusal>
     ensures ok { OnOk result (values.new ≡ grown_by values.old (fin.entries after.now.stored.values)) }
     ensures err { OnErr result (AreGrowing values.old after.now.stored.values values.new) }
     ensures memory { IfErr result (λ e. e ≡ refusal.Memory) }
@@ -142,11 +133,7 @@ fn settle_values(alloc: Global, values: &mut ValueMap, before: &Attribute, after
 }
 
 /// Adds the values of an attribute that are not there yet, or the whole attribute.
-fn grow_one(
-    alloc: Global,
-    attributes: &mut AttributeMap,
-    after: &Attribute,
-) -> Result<(), Refusal>
+fn grow_one(alloc: Global, attributes: &mut AttributeMap, after: &Attribute) -> Result<(), Refusal>
     ensures ok { OnOk result (attributes.new ≡ grown_at attributes.old after.now.key after.now.stored) }
     ensures growing { (all : StoredAttributes) → fin.get all after.now.key ≡ Some after.now.stored → AreGrowingAttributes attributes.old all attributes.new }
     ensures memory { IfErr result (λ e. e ≡ refusal.Memory) }

@@ -111,12 +111,7 @@ fn named_values(
     Ok(named)
 }
 
-fn add_named(
-    alloc: Global,
-    schema: &Schema,
-    m: &Mod,
-    named: &mut ValueMap,
-) -> Result<(), Refusal>
+fn add_named(alloc: Global, schema: &Schema, m: &Mod, named: &mut ValueMap) -> Result<(), Refusal>
     ensures ok { OnOk result (named.new ≡ with_names schema.now m.now.description.key named.old m.now.values) }
     ensures memory { IfErr result (λ e. e ≡ refusal.Memory) }
 {
@@ -131,10 +126,7 @@ fn add_named(
 }
 
 /// A value of the attribute that is not among those named.
-fn other_value<'a>(
-    attribute: &'a Attribute,
-    named: &ValueMap,
-) -> Option<(&'a ValueKey, &'a Bytes)>
+fn other_value<'a>(attribute: &'a Attribute, named: &ValueMap) -> Option<(&'a ValueKey, &'a Bytes)>
     ensures there { IfSome result (λ one. fin.get attribute.now.stored.values one.0.now ≡ Some one.1.now) }
     ensures other { IfSome result (λ one. fin.contains_key named.now one.0.now ≡ false) }
 {

@@ -1,5 +1,5 @@
 -- How what is under a key is exchanged: first the values that come are added, then those that go are taken away.
-use Rattle.std.specs.Prelude.{◌≡◌, ℕ, Bool, true, false, cond, not, ◌&&◌, List, [], ◌∷◌, Option, Some, None, is_some, ⊤}
+use Rattle.std.specs.Prelude.{◌≡◌, ℕ, true, false, cond, not, ◌&&◌, List, [], ◌∷◌, Option, Some, None, ⊤}
 use Rattle.std.specs.FinMap as fin
 use Rattle.dir_names.specs.declared.value.ValueKey.{ValueKey}
 use Rattle.dir_names.specs.Attr.{Attr}

@@ -1,9 +1,8 @@
-use Rattle.std.proofs.Common.{◌≡◌, Option, Some, None, is_some, sym, ap, subst, ◌∙◌, rules}
+use Rattle.std.proofs.Common.{◌≡◌, Some, None, rules}
 use Rattle.std.specs.FinMap as fin
 use Rattle.std.specs.Option.{option_map}
 use Rattle.std.proofs.lemmas.Result.{on_ok_weaker}
-use Rattle.dir_tree.specs.Content.{Stored}
-use Rattle.dir_change.proofs.ExchangedSlots.{growing_either, none_there, put_back, put_grown, put_growing, respelled, some_inserted, whole_growing}
+use Rattle.dir_change.proofs.ExchangedSlots.{growing_either, put_back, put_grown, put_growing, respelled, some_inserted, whole_growing}
 use Rattle.dir_change.proofs.exchange.grow_one.Goals as goal
 
 pub returns-then-is_none-clause-growing : goal.returns-then-is_none-clause-growing

@@ -1,5 +1,4 @@
-use Rattle.std.proofs.Common.{◌≡◌, sym, subst, ◌∙◌, rules}
-use Rattle.std.specs.FinMap as fin
+use Rattle.std.proofs.Common.{sym, subst, rules}
 use Rattle.std.proofs.lemmas.Result.{err_from_is_err_and}
 use Rattle.dir_change.specs.Inside.Exchanged.{AreGrowing}
 use Rattle.dir_change.proofs.ExchangedInTurn.{HasMore, growing_is, more_added}

@@ -1,7 +1,6 @@
-use Rattle.std.proofs.Common.{◌≡◌, Option, Some, None, is_some, true, sym, ap, subst, ◌∙◌, rules}
+use Rattle.std.proofs.Common.{◌≡◌, Some, None, true, sym, ap, ◌∙◌, rules}
 use Rattle.std.specs.FinMap as fin
 use Rattle.std.specs.Option.{option_map}
-use Rattle.dir_tree.specs.Content.{Stored}
 use Rattle.dir_names.specs.Orders.{bytes_eq}
 use Rattle.dir_tree.specs.Slots.{with_slot}
 use Rattle.dir_change.specs.Inside.Exchanged.{settled_by, settled_slot}

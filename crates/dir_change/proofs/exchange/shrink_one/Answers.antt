@@ -1,7 +1,6 @@
-use Rattle.std.proofs.Common.{◌≡◌, Option, Some, None, is_some, true, sym, ap, subst, ◌∙◌, rules}
+use Rattle.std.proofs.Common.{◌≡◌, Some, None, sym, ap, ◌∙◌, rules}
 use Rattle.std.specs.FinMap as fin
 use Rattle.std.specs.Option.{option_map}
-use Rattle.dir_tree.specs.Content.{Stored}
 use Rattle.dir_tree.specs.Slots.{with_slot}
 use Rattle.dir_change.specs.Inside.Exchanged.{shrunk_by, shrunk_slot}
 use Rattle.dir_change.proofs.ExchangedSlots.{kept_where_none, put_back, put_shrunk, respelled, some_inserted}

@@ -1,4 +1,4 @@
-use Rattle.std.proofs.Common.{◌≡◌, true, false, sym, ◌∙◌}
+use Rattle.std.proofs.Common.{sym, ◌∙◌}
 use Rattle.dir_names.specs.declared.value.ValueKey.TheVariants.{Text}
 use Rattle.dir_change.proofs.JudgedParts.{has_elsewhere, has_there}
 use Rattle.dir_change.proofs.judged.has_text.Goals as goal

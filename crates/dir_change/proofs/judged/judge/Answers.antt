@@ -1,4 +1,4 @@
-use Rattle.std.proofs.Common.{◌≡◌, true, false, ◌||◌, sym, ap, ◌∙◌, rules}
+use Rattle.std.proofs.Common.{◌≡◌, true, false, ◌||◌, sym, ap, ◌∙◌}
 use Rattle.dir_tree.specs.ChangedEntry.{has_own_values}
 use Rattle.dir_tree.specs.NewEntry.{exceeds_single_value}
 use Rattle.dir_change.specs.Inside.Overlaid.{overlaid}
@@ -16,7 +16,7 @@ returns-then-others_exceed-clause-refused c =
     let own : has_own_values (with_attributes e (overlaid e.attributes ks fs)) ≡ true = sym c.if-not-has_own_values.ensures in
     let either = exceeds_either rows e.attributes fs ks c.requires in
     elim c.then-others_exceed.branch [
-      then-others_exceed-via-then-others_exceed w ↦ is_too_many rows (with_attributes e (overlaid e.attributes ks fs)) own (sym either ∙ ap (λ b. b || exceeds_single_value rows fs) (sym w.if-others_exceed.ensures))
+      | then-others_exceed-via-then-others_exceed w ↦ is_too_many rows (with_attributes e (overlaid e.attributes ks fs)) own (sym either ∙ ap (λ b. b || exceeds_single_value rows fs) (sym w.if-others_exceed.ensures))
       | then-others_exceed-via-else-others_exceed+then-exceeds_single_value w ↦ is_too_many rows (with_attributes e (overlaid e.attributes ks fs)) own (sym either ∙ (λ i. sym w.if-others_exceed.ensures i || sym w.if-exceeds_single_value.ensures i))
     ]
 

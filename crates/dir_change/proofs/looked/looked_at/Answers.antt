@@ -1,6 +1,5 @@
-use Rattle.std.proofs.Common.{◌≡◌, Option, Some, None, drop, ◌+◌, ◌∷◌, subst, sym, ap, ◌∙◌, rules}
+use Rattle.std.proofs.Common.{◌≡◌, Some, None, drop, ◌+◌, ◌∷◌, subst, rules}
 use Rattle.std.specs.FinMap as fin
-use Rattle.dir_tree.specs.Content.{Keyed, Stored}
 use Rattle.dir_change.specs.Inside.Looked.{LooksAt}
 use Rattle.dir_change.proofs.LookedParts.{AreLooksSoFar, left_among, left_here, none_looked, none_so_far, one_looked}
 use Rattle.dir_change.proofs.looked.looked_at.Goals as goal
@@ -25,16 +24,16 @@ loop-key-preserved c =
     let among = left_among keys rest i k here in
     let so : AreLooksSoFar rows own mods keys xs before (k ∷ rest) = subst (AreLooksSoFar rows own mods keys xs before) here c.loop-key.invariant in
     elim c.match-attribute.branch as (λ b. AreLooksSoFar rows own mods keys xs new rest) [
-      in-Some+in_ok-looked_part+in_ok-put w ↦
-        let a = w.in-Some.attribute.now in
-        let part = w.in_ok-looked_part.field-0 in
-        let same : a.key ≡ k = search rules in
-        let there : Some a.stored ≡ fin.get xs k = search rules in
-        let is : new ≡ fin.insert before k part.stored = search rules in
-        let looks : LooksAt rows own mods k (fin.get xs k) (Some part.stored) =
-            subst (λ o. LooksAt rows own mods k o (Some part.stored)) there (subst (λ z. LooksAt rows own mods z (Some a.stored) (Some part.stored)) same (subst (λ o. LooksAt rows o mods a.key (Some a.stored) (Some part.stored)) w.key.ensures w.in_ok-looked_part.ensures.looks)) in
-        one_looked rows own mods keys xs k rest among before new so part.stored looks is
+      | in-Some+in_ok-looked_part+in_ok-put w ↦
+          let a = w.in-Some.attribute.now in
+          let part = w.in_ok-looked_part.field-0 in
+          let same : a.key ≡ k = search rules in
+          let there : Some a.stored ≡ fin.get xs k = search rules in
+          let is : new ≡ fin.insert before k part.stored = search rules in
+          let looks : LooksAt rows own mods k (fin.get xs k) (Some part.stored) =
+          subst (λ o. LooksAt rows own mods k o (Some part.stored)) there (subst (λ z. LooksAt rows own mods z (Some a.stored) (Some part.stored)) same (subst (λ o. LooksAt rows o mods a.key (Some a.stored) (Some part.stored)) w.key.ensures w.in_ok-looked_part.ensures.looks)) in
+          one_looked rows own mods keys xs k rest among before new so part.stored looks is
       | in_default w ↦
-        let none : fin.get xs k ≡ None = search rules in
-        none_looked rows own mods keys xs k rest among before new so none w.before-is
+          let none : fin.get xs k ≡ None = search rules in
+          none_looked rows own mods keys xs k rest among before new so none w.before-is
     ]

@@ -1,4 +1,4 @@
-use Rattle.std.proofs.Common.{◌≡◌, Option, Some, true, false, subst, sym, ap, ◌∙◌, rules}
+use Rattle.std.proofs.Common.{◌≡◌, Some, true, false, subst, sym, ap, ◌∙◌, rules}
 use Rattle.std.specs.FinMap as fin
 use Rattle.std.proofs.lemmas.Result.{IfOk-weaker}
 use Rattle.dir_tree.specs.Content.{Keyed, Stored, StoredValues}

@@ -1,5 +1,4 @@
-use Rattle.std.proofs.Common.{◌≡◌, Option, Some, Ok, is_some, sym, ap, subst, ◌∙◌, rules}
-use Rattle.std.specs.Option.{IsSome}
+use Rattle.std.proofs.Common.{◌≡◌, Some, Ok, sym, ap, subst, ◌∙◌, rules}
 use Rattle.std.proofs.lemmas.Result.{err_from_is_err_and}
 use Rattle.dir_names.specs.Results.{and_then}
 use Rattle.dir_tree.specs.ChangedEntry.{content_of}
@@ -52,8 +51,8 @@ returns-clause-ok g c =
     let xs : c.into_parts-parts.result.attributes ≡ e.attributes = ap (λ (z : Content). z.attributes) parts in
     let new = c.exchange-exchanged.new.attributes in
     let put : c.of.result ≡ with_attributes e new = c.of.ensures ∙ (λ i. record { own = (parts i).own; key = (parts i).key; attributes = new }) in
-    let plan : IsPlan rows e mods c.in_ok-before.before c.in_ok-before.after c.in_ok-before.back.items = c.in_ok-before.ensures.ok in
-    let exchanged : AreExchanged e.attributes c.in_ok-before.before c.in_ok-before.after new = subst (λ (zs : StoredAttributes). AreExchanged zs c.in_ok-before.before c.in_ok-before.after new) xs c.in_ok-exchanged.ensures.ok in
+    let plan : IsPlan rows e mods c.in_ok-before.field-0.before c.in_ok-before.field-0.after c.in_ok-before.field-0.back.items = c.in_ok-before.ensures.ok in
+    let exchanged : AreExchanged e.attributes c.in_ok-before.field-0.before c.in_ok-before.field-0.after new = subst (λ (zs : StoredAttributes). AreExchanged zs c.in_ok-before.field-0.before c.in_ok-before.field-0.after new) xs c.in_ok-exchanged.ensures.ok in
     let done : entry_after rows e mods ≡ Ok (with_attributes e new) = plan.leads new exchanged in
     let is : g.D.Directory.state c.replace-2.new.self ≡ put_entry d k (with_attributes e new) = c.replace-2.ensures.new ∙ (λ i. put_entry (c.replace.ensures.new i) k (put i)) ∙ put_over d k c.in_ok-stand_in.stand_in (with_attributes e new) in
     ap (with_modified_entry rows d k mods) there ∙ ap (λ r. and_then r (λ y. Ok (put_entry d k y))) done ∙ ap Ok (sym is)
@@ -71,9 +70,9 @@ returns-clause-undo g c =
     let xs : c.into_parts-parts.result.attributes ≡ e.attributes = ap (λ (z : Content). z.attributes) parts in
     let new = c.exchange-exchanged.new.attributes in
     let put : c.of.result ≡ with_attributes e new = c.of.ensures ∙ (λ i. record { own = (parts i).own; key = (parts i).key; attributes = new }) in
-    let plan : IsPlan rows e mods c.in_ok-before.before c.in_ok-before.after c.in_ok-before.back.items = c.in_ok-before.ensures.ok in
-    let exchanged : AreExchanged e.attributes c.in_ok-before.before c.in_ok-before.after new = subst (λ (zs : StoredAttributes). AreExchanged zs c.in_ok-before.before c.in_ok-before.after new) xs c.in_ok-exchanged.ensures.ok in
+    let plan : IsPlan rows e mods c.in_ok-before.field-0.before c.in_ok-before.field-0.after c.in_ok-before.field-0.back.items = c.in_ok-before.ensures.ok in
+    let exchanged : AreExchanged e.attributes c.in_ok-before.field-0.before c.in_ok-before.field-0.after new = subst (λ (zs : StoredAttributes). AreExchanged zs c.in_ok-before.field-0.before c.in_ok-before.field-0.after new) xs c.in_ok-exchanged.ensures.ok in
     let done : entry_after rows e mods ≡ Ok (with_attributes e new) = plan.leads new exchanged in
     let is : g.D.Directory.state c.replace-2.new.self ≡ put_entry d k (with_attributes e new) = c.replace-2.ensures.new ∙ (λ i. put_entry (c.replace.ensures.new i) k (put i)) ∙ put_over d k c.in_ok-stand_in.stand_in (with_attributes e new) in
     let undo = modify_undo rows d k mods e (with_attributes e new) there done (g.D.Directory.state c.replace-2.new.self) is in
-    c.in_ok-undo.ensures ∙ undo c.in_ok-spelled.field-0 c.in_ok-before.back.items c.in_ok-spelled.ensures (plan.leads_back new exchanged)
+    c.in_ok-undo.ensures ∙ undo c.in_ok-spelled.field-0 c.in_ok-before.field-0.back.items c.in_ok-spelled.ensures (plan.leads_back new exchanged)

@@ -1,11 +1,10 @@
-use Rattle.std.proofs.Common.{◌≡◌, List, Ok, false, None, sym, ap, subst, ◌∙◌, rules}
+use Rattle.std.proofs.Common.{◌≡◌, Ok, false, None, sym, ap, subst, ◌∙◌}
 use Rattle.std.specs.FinMap as fin
 use Rattle.std.proofs.lemmas.Result.{err_from_is_err_and}
 use Rattle.dir_names.specs.Attr.{Attr}
 use Rattle.dir_names.specs.Orders.{attr_cmp}
 use Rattle.dir_names.specs.Sorted.{set_of}
 use Rattle.dir_tree.specs.ChangedEntry.{changed_entry}
-use Rattle.dir_tree.specs.Content.{StoredAttributes}
 use Rattle.dir_change.specs.Difference.{difference_at}
 use Rattle.dir_change.specs.Inside.Looked.{AreLooks, is_one_of}
 use Rattle.dir_change.specs.Inside.Overlaid.{overlaid}
@@ -54,7 +53,7 @@ returns-in_err-judge-clause-refused c =
     let gs = c.apply_all.new.attributes in
     let done : attributes_after rows before mods ≡ Ok gs = ap (λ xs. attributes_after rows xs mods) (sym c.in_ok-after.ensures) ∙ c.in_ok-apply_all.ensures.ok in
     let refused : IsRefused c.in_err-judge.field-0.0 (entry_or_code (changed_entry rows (with_attributes entry (overlaid entry.attributes keys gs)))) =
-        subst (λ ks. IsRefused c.in_err-judge.field-0.0 (entry_or_code (changed_entry rows (with_attributes entry (overlaid entry.attributes ks gs))))) c.as_slice-2.ensures.value c.in_err-judge.ensures.refused in
+    subst (λ ks. IsRefused c.in_err-judge.field-0.0 (entry_or_code (changed_entry rows (with_attributes entry (overlaid entry.attributes ks gs))))) c.as_slice-2.ensures.value c.in_err-judge.ensures.refused in
     let e = err_from_is_err_and c.from_residual-in_err-judge.result c.from_residual-in_err-judge.ensures.1 in
     rw e.1 (subst (λ r. IsRefused r (entry_after rows entry mods)) (sym e.2) (entry_refused rows entry mods keys are before looks gs done c.in_err-judge.field-0.0 refused))
 
@@ -70,7 +69,7 @@ returns-clause-ok c =
     let gs = c.apply_all.new.attributes in
     let done : attributes_after rows before mods ≡ Ok gs = ap (λ xs. attributes_after rows xs mods) (sym c.in_ok-after.ensures) ∙ c.in_ok-apply_all.ensures.ok in
     let fine : entry_or_code (changed_entry rows (with_attributes entry (overlaid entry.attributes keys gs))) ≡ Ok (with_attributes entry (overlaid entry.attributes keys gs)) =
-        subst (λ ks. entry_or_code (changed_entry rows (with_attributes entry (overlaid entry.attributes ks gs))) ≡ Ok (with_attributes entry (overlaid entry.attributes ks gs))) c.as_slice-2.ensures.value c.in_ok-judge.ensures.ok in
+    subst (λ ks. entry_or_code (changed_entry rows (with_attributes entry (overlaid entry.attributes ks gs))) ≡ Ok (with_attributes entry (overlaid entry.attributes ks gs))) c.as_slice-2.ensures.value c.in_ok-judge.ensures.ok in
     let back : c.in_ok-back.back.items ≡ difference_at keys gs before = c.in_ok-back.ensures.ok ∙ ap (λ ks. difference_at ks gs before) c.as_slice-3.ensures.value in
     record {
       fits = are_fit rows entry mods keys are before looks gs done;
