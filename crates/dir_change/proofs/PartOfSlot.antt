@@ -180,7 +180,6 @@ abbrev pub AreLookedAt : List Attr → (Attr → Option Looked) → StoredAttrib
 AreLookedAt keys looked xs fs = (q : Attr) → is_among q keys ≡ true → AreSlotsAlike (looked q) (fin.get xs q) (fin.get fs q)
 
 module _ (rows : List TypeRow) (keys : List Attr) (looked : Attr → Option Looked) where
-
   abbrev pub NamesLooked : Mod → Option Looked → Type 0
   NamesLooked m None = ⊤
   NamesLooked m (Some p) = (names_values m ≡ true) × NamesInside p.test p.first p.one rows m
