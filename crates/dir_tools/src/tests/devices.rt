@@ -104,7 +104,7 @@ fn a_copy_is_read_and_written_in_the_canonical_order(rt: HostRuntime) {
     let directory = directory_of(&rt, alloc, copy);
     let mut bytes = [0u8; 128];
     let mut out = Tape::new(&mut bytes).pieces(1);
-    assert_eq!(rt; write_copy(alloc, &directory, &mut out), Ok(()));
+    assert!(rt; write_copy(alloc, &directory, &mut out) == Ok(()));
     assert_text(
         &rt,
         out.as_slice(),

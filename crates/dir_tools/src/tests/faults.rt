@@ -272,42 +272,44 @@ fn padded(rt: &impl Abort, alloc: Global, fault: ToolFault) -> String {
     format!(in alloc; "{fault:<80.3}").expect(rt, "memory")
 }
 
+/// Faults, and the text of each.
+const FAULTS: [(ToolFault, &str); 15] = [
+    (
+        ToolFault::BadCopy(7, Cause::Code(ResultCode::NoSuchObject)),
+        "copy, line 7: 32 noSuchObject",
+    ),
+    (
+        ToolFault::BadCopy(u64::MAX, Cause::Fault(RecordFault::BadLine)),
+        "copy, line 18446744073709551615: L1 BadLine",
+    ),
+    (
+        ToolFault::BadCopy(0, Cause::Ended(StreamFault::LineTooLong)),
+        "copy, line 0: L10 LineTooLong",
+    ),
+    (ToolFault::Read(Input::Copy), "cannot read copy"),
+    (ToolFault::Read(Input::Changes), "cannot read changes"),
+    (ToolFault::Read(Input::Config), "cannot read config"),
+    (ToolFault::Write(Output::Undo), "cannot write undo"),
+    (ToolFault::Write(Output::Out), "cannot write out"),
+    (ToolFault::Write(Output::Report), "cannot write report"),
+    (ToolFault::Memory, "out of memory"),
+    (ToolFault::BadQuestion(Item::Suffix), "bad question: suffix"),
+    (ToolFault::BadQuestion(Item::Base), "bad question: base"),
+    (ToolFault::BadQuestion(Item::Authc), "bad question: authcDN"),
+    (
+        ToolFault::BadQuestion(Item::Word(12)),
+        "bad question: word 12",
+    ),
+    (
+        ToolFault::BadChanges(StreamFault::BadVersion),
+        "changes: L15 BadVersion",
+    ),
+];
+
 #[test]
 fn each_fault_has_its_text_whatever_the_options(rt: HostRuntime) {
     let alloc = rt.alloc();
-    let rows = [
-        (
-            ToolFault::BadCopy(7, Cause::Code(ResultCode::NoSuchObject)),
-            "copy, line 7: 32 noSuchObject",
-        ),
-        (
-            ToolFault::BadCopy(u64::MAX, Cause::Fault(RecordFault::BadLine)),
-            "copy, line 18446744073709551615: L1 BadLine",
-        ),
-        (
-            ToolFault::BadCopy(0, Cause::Ended(StreamFault::LineTooLong)),
-            "copy, line 0: L10 LineTooLong",
-        ),
-        (ToolFault::Read(Input::Copy), "cannot read copy"),
-        (ToolFault::Read(Input::Changes), "cannot read changes"),
-        (ToolFault::Read(Input::Config), "cannot read config"),
-        (ToolFault::Write(Output::Undo), "cannot write undo"),
-        (ToolFault::Write(Output::Out), "cannot write out"),
-        (ToolFault::Write(Output::Report), "cannot write report"),
-        (ToolFault::Memory, "out of memory"),
-        (ToolFault::BadQuestion(Item::Suffix), "bad question: suffix"),
-        (ToolFault::BadQuestion(Item::Base), "bad question: base"),
-        (ToolFault::BadQuestion(Item::Authc), "bad question: authcDN"),
-        (
-            ToolFault::BadQuestion(Item::Word(12)),
-            "bad question: word 12",
-        ),
-        (
-            ToolFault::BadChanges(StreamFault::BadVersion),
-            "changes: L15 BadVersion",
-        ),
-    ];
-    for (fault, want) in rows.iter() {
+    for (fault, want) in FAULTS.iter() {
         assert_shown(&rt, alloc, *fault, want);
     }
 }

@@ -76,40 +76,42 @@ fn assert_taken_back(rt: &impl Abort, alloc: Global, row: &Modify<'_>) {
     assert_back(rt, alloc, &one, copy.as_str());
 }
 
+/// Modifies whose undo text says only what they change.
+const CHANGES: [Modify<'static>; 4] = [
+    Modify {
+        rdn: "cn=e",
+        before: "cn: e\ndescription: foo\n",
+        mods: "delete: description\ndescription: FOO\n-\nadd: description\ndescription: Foo\n-\n",
+        after: "cn: e\ndescription: Foo\n",
+        undo: "delete: description\ndescription: Foo\n-\nadd: description\ndescription: foo\n-\n",
+    },
+    Modify {
+        rdn: "cn=a",
+        before: "cn: a\n",
+        mods: "replace: commonName\ncommonName: a\ncommonName: b\n-\n",
+        after: "commonName: a\ncommonName: b\n",
+        undo: "replace: cn\ncn: a\n-\n",
+    },
+    Modify {
+        rdn: "cn=g",
+        before: "cn: g\nmember: cn=a\nmember: cn=b\nmember: cn=c\n",
+        mods: "add: member\nmember: cn=d\n-\ndelete: member\nmember: CN=B\n-\n",
+        after: "cn: g\nmember: cn=a\nmember: cn=c\nmember: cn=d\n",
+        undo: "delete: member\nmember: cn=d\n-\nadd: member\nmember: cn=b\n-\n",
+    },
+    Modify {
+        rdn: "cn=e",
+        before: "cn: e\nsn: S\nsn: T\n",
+        mods: "delete: surname\n-\nadd: title\ntitle: Chief\n-\n",
+        after: "cn: e\ntitle: Chief\n",
+        undo: "add: sn\nsn: S\nsn: T\n-\ndelete: title\n-\n",
+    },
+];
+
 #[test]
 fn only_what_a_modify_changes_is_taken_back(rt: HostRuntime) {
-    let rows = [
-        Modify {
-            rdn: "cn=e",
-            before: "cn: e\ndescription: foo\n",
-            mods: "delete: description\ndescription: FOO\n-\nadd: description\ndescription: Foo\n-\n",
-            after: "cn: e\ndescription: Foo\n",
-            undo: "delete: description\ndescription: Foo\n-\nadd: description\ndescription: foo\n-\n",
-        },
-        Modify {
-            rdn: "cn=a",
-            before: "cn: a\n",
-            mods: "replace: commonName\ncommonName: a\ncommonName: b\n-\n",
-            after: "commonName: a\ncommonName: b\n",
-            undo: "replace: cn\ncn: a\n-\n",
-        },
-        Modify {
-            rdn: "cn=g",
-            before: "cn: g\nmember: cn=a\nmember: cn=b\nmember: cn=c\n",
-            mods: "add: member\nmember: cn=d\n-\ndelete: member\nmember: CN=B\n-\n",
-            after: "cn: g\nmember: cn=a\nmember: cn=c\nmember: cn=d\n",
-            undo: "delete: member\nmember: cn=d\n-\nadd: member\nmember: cn=b\n-\n",
-        },
-        Modify {
-            rdn: "cn=e",
-            before: "cn: e\nsn: S\nsn: T\n",
-            mods: "delete: surname\n-\nadd: title\ntitle: Chief\n-\n",
-            after: "cn: e\ntitle: Chief\n",
-            undo: "add: sn\nsn: S\nsn: T\n-\ndelete: title\n-\n",
-        },
-    ];
     let alloc = rt.alloc();
-    for row in rows.iter() {
+    for row in CHANGES.iter() {
         assert_taken_back(&rt, alloc, row);
     }
 }
@@ -191,55 +193,57 @@ fn the_entry_is_judged_after_the_last_modification(rt: HostRuntime) {
     }
 }
 
+/// Modifications of an entry, and the code that each is refused with.
+const REFUSALS: [(&str, &str); 15] = [
+    (
+        "replace: title\ntitle: x\n-\ndelete: description\n-\ndelete: sn\n-\n",
+        "16 noSuchAttribute",
+    ),
+    ("add: title\n-\n", "2 protocolError"),
+    ("delete: cn\n-\n", "67 notAllowedOnRDN"),
+    ("delete: cn\ncn: E\n-\n", "67 notAllowedOnRDN"),
+    ("replace: cn\ncn: f\n-\n", "67 notAllowedOnRDN"),
+    (
+        "delete: cn\n-\nadd: uidNumber\nuidNumber: 1\nuidNumber: 2\n-\n",
+        "67 notAllowedOnRDN",
+    ),
+    (
+        "add: uidNumber\nuidNumber: 1\nuidNumber: 2\n-\n",
+        "19 constraintViolation",
+    ),
+    ("delete: sn\nsn: x\n-\n", "16 noSuchAttribute"),
+    (
+        "delete: description\ndescription: bar\n-\n",
+        "16 noSuchAttribute",
+    ),
+    (
+        "delete: description\ndescription: foo\ndescription: FOO\n-\n",
+        "16 noSuchAttribute",
+    ),
+    (
+        "add: description\ndescription: FOO\n-\n",
+        "20 attributeOrValueExists",
+    ),
+    ("add: sn\nsn: a\nsn: A\n-\n", "20 attributeOrValueExists"),
+    (
+        "replace: sn\nsn: a\nsn: A\n-\n",
+        "20 attributeOrValueExists",
+    ),
+    (
+        "add: uidNumber\nuidNumber: 007\n-\n",
+        "21 invalidAttributeSyntax",
+    ),
+    (
+        "delete: uidNumber\nuidNumber: 007\n-\n",
+        "21 invalidAttributeSyntax",
+    ),
+];
+
 #[test]
 fn a_refused_modify_leaves_the_entry_as_it_was(rt: HostRuntime) {
-    let rows = [
-        (
-            "replace: title\ntitle: x\n-\ndelete: description\n-\ndelete: sn\n-\n",
-            "16 noSuchAttribute",
-        ),
-        ("add: title\n-\n", "2 protocolError"),
-        ("delete: cn\n-\n", "67 notAllowedOnRDN"),
-        ("delete: cn\ncn: E\n-\n", "67 notAllowedOnRDN"),
-        ("replace: cn\ncn: f\n-\n", "67 notAllowedOnRDN"),
-        (
-            "delete: cn\n-\nadd: uidNumber\nuidNumber: 1\nuidNumber: 2\n-\n",
-            "67 notAllowedOnRDN",
-        ),
-        (
-            "add: uidNumber\nuidNumber: 1\nuidNumber: 2\n-\n",
-            "19 constraintViolation",
-        ),
-        ("delete: sn\nsn: x\n-\n", "16 noSuchAttribute"),
-        (
-            "delete: description\ndescription: bar\n-\n",
-            "16 noSuchAttribute",
-        ),
-        (
-            "delete: description\ndescription: foo\ndescription: FOO\n-\n",
-            "16 noSuchAttribute",
-        ),
-        (
-            "add: description\ndescription: FOO\n-\n",
-            "20 attributeOrValueExists",
-        ),
-        ("add: sn\nsn: a\nsn: A\n-\n", "20 attributeOrValueExists"),
-        (
-            "replace: sn\nsn: a\nsn: A\n-\n",
-            "20 attributeOrValueExists",
-        ),
-        (
-            "add: uidNumber\nuidNumber: 007\n-\n",
-            "21 invalidAttributeSyntax",
-        ),
-        (
-            "delete: uidNumber\nuidNumber: 007\n-\n",
-            "21 invalidAttributeSyntax",
-        ),
-    ];
     let alloc = rt.alloc();
     let copy = copy_of(&rt, alloc, "cn=e", "cn: e\ndescription: foo\n");
-    for (mods, code) in rows.iter() {
+    for (mods, code) in REFUSALS.iter() {
         assert_refused(&rt, alloc, copy.as_str(), mods, code);
     }
 }

@@ -32,45 +32,47 @@ fn a_dry_run_reports_and_writes_nothing_else(rt: HostRuntime) {
     assert_run(&rt, rt.alloc(), DRY, COM, changes, &want);
 }
 
+/// Changes, and the code that each is refused with.
+const REFUSALS: [(&[u8], &str); 9] = [
+    (
+        b"dn: dc=com\nchangetype: delete\n",
+        "66 notAllowedOnNonLeaf",
+    ),
+    (
+        b"dn: cn=none,dc=com\nchangetype: delete\n",
+        "32 noSuchObject",
+    ),
+    (
+        b"dn: CN=E,dc=com\nchangetype: add\n",
+        "68 entryAlreadyExists",
+    ),
+    (b"dn: cn=f,dc=org\nchangetype: add\n", "32 noSuchObject"),
+    (
+        b"dn: cn=f,cn=none,dc=com\nchangetype: add\n",
+        "32 noSuchObject",
+    ),
+    (
+        b"dn: cn=f,dc=com\nchangetype: add\nuidNumber: 007\nuidNumber: 1\nuidNumber: 1\n",
+        "21 invalidAttributeSyntax",
+    ),
+    (
+        b"dn: cn=f,dc=com\nchangetype: add\nsn: A\nsurname: a\n",
+        "20 attributeOrValueExists",
+    ),
+    (
+        b"dn: uidNumber=1,dc=com\nchangetype: add\nuidNumber: 2\n",
+        "19 constraintViolation",
+    ),
+    (
+        b"dn: cn=e,dc=com\nchangetype: modrdn\nnewrdn: cn=f\ndeleteoldrdn: 1\n",
+        "53 unwillingToPerform",
+    ),
+];
+
 #[test]
 fn what_is_refused_stays_as_it_was(rt: HostRuntime) {
-    let rows: [(&[u8], &str); 9] = [
-        (
-            b"dn: dc=com\nchangetype: delete\n",
-            "66 notAllowedOnNonLeaf",
-        ),
-        (
-            b"dn: cn=none,dc=com\nchangetype: delete\n",
-            "32 noSuchObject",
-        ),
-        (
-            b"dn: CN=E,dc=com\nchangetype: add\n",
-            "68 entryAlreadyExists",
-        ),
-        (b"dn: cn=f,dc=org\nchangetype: add\n", "32 noSuchObject"),
-        (
-            b"dn: cn=f,cn=none,dc=com\nchangetype: add\n",
-            "32 noSuchObject",
-        ),
-        (
-            b"dn: cn=f,dc=com\nchangetype: add\nuidNumber: 007\nuidNumber: 1\nuidNumber: 1\n",
-            "21 invalidAttributeSyntax",
-        ),
-        (
-            b"dn: cn=f,dc=com\nchangetype: add\nsn: A\nsurname: a\n",
-            "20 attributeOrValueExists",
-        ),
-        (
-            b"dn: uidNumber=1,dc=com\nchangetype: add\nuidNumber: 2\n",
-            "19 constraintViolation",
-        ),
-        (
-            b"dn: cn=e,dc=com\nchangetype: modrdn\nnewrdn: cn=f\ndeleteoldrdn: 1\n",
-            "53 unwillingToPerform",
-        ),
-    ];
     let alloc = rt.alloc();
-    for (changes, code) in rows.iter() {
+    for (changes, code) in REFUSALS.iter() {
         assert_refused(&rt, alloc, changes, code);
     }
 }
@@ -143,71 +145,90 @@ fn a_copy_may_have_children_before_their_parents(rt: HostRuntime) {
     );
 }
 
+/// Suffixes, copies and changes that end a run in a fault, and the text of each fault.
+const ENDINGS: [(&str, &[u8], &[u8], &str); 11] = [
+    ("", COM, b"", "bad question: suffix"),
+    ("cn", COM, b"", "bad question: suffix"),
+    (
+        "dc=com",
+        b"dn: cn=a,dc=com\n",
+        b"",
+        "copy, line 1: 32 noSuchObject",
+    ),
+    (
+        "dc=com",
+        b"dn: cn=b,cn=a,dc=com\n\ndn: cn=a,dc=com\n",
+        b"",
+        "copy, line 3: 32 noSuchObject",
+    ),
+    (
+        "dc=com",
+        b"dn: dc=com\n\ndn: cn=a,dc=com\n\ndn: CN=A,dc=com\n",
+        b"",
+        "copy, line 5: 68 entryAlreadyExists",
+    ),
+    (
+        "dc=com",
+        b"dn: dc=com\nchangetype: delete\n",
+        b"",
+        "copy, line 1: L5 BadChangetype",
+    ),
+    (
+        "dc=com",
+        b"dn: dc=org\n",
+        b"",
+        "copy, line 1: 32 noSuchObject",
+    ),
+    (
+        "dc=com",
+        b"\ndn: cn=a,dc=com\nuidNumber: x\n",
+        b"",
+        "copy, line 2: 21 invalidAttributeSyntax",
+    ),
+    (
+        "dc=com",
+        b"dn: dc=com\nsn\n",
+        b"",
+        "copy, line 1: L1 BadLine",
+    ),
+    (
+        "dc=com",
+        b"version: 2\n\ndn: dc=com\n",
+        b"",
+        "copy, line 0: L15 BadVersion",
+    ),
+    ("dc=com", COM, b"version: 3\n", "changes: L15 BadVersion"),
+];
+
 #[test]
 fn a_fault_that_ends_the_run_is_named_and_nothing_is_written(rt: HostRuntime) {
     let alloc = rt.alloc();
-    let rows: [(&str, &[u8], &[u8], &str); 11] = [
-        ("", COM, b"", "bad question: suffix"),
-        ("cn", COM, b"", "bad question: suffix"),
-        (
-            "dc=com",
-            b"dn: cn=a,dc=com\n",
-            b"",
-            "copy, line 1: 32 noSuchObject",
-        ),
-        (
-            "dc=com",
-            b"dn: cn=b,cn=a,dc=com\n\ndn: cn=a,dc=com\n",
-            b"",
-            "copy, line 3: 32 noSuchObject",
-        ),
-        (
-            "dc=com",
-            b"dn: dc=com\n\ndn: cn=a,dc=com\n\ndn: CN=A,dc=com\n",
-            b"",
-            "copy, line 5: 68 entryAlreadyExists",
-        ),
-        (
-            "dc=com",
-            b"dn: dc=com\nchangetype: delete\n",
-            b"",
-            "copy, line 1: L5 BadChangetype",
-        ),
-        (
-            "dc=com",
-            b"dn: dc=org\n",
-            b"",
-            "copy, line 1: 32 noSuchObject",
-        ),
-        (
-            "dc=com",
-            b"\ndn: cn=a,dc=com\nuidNumber: x\n",
-            b"",
-            "copy, line 2: 21 invalidAttributeSyntax",
-        ),
-        (
-            "dc=com",
-            b"dn: dc=com\nsn\n",
-            b"",
-            "copy, line 1: L1 BadLine",
-        ),
-        (
-            "dc=com",
-            b"version: 2\n\ndn: dc=com\n",
-            b"",
-            "copy, line 0: L15 BadVersion",
-        ),
-        ("dc=com", COM, b"version: 3\n", "changes: L15 BadVersion"),
-    ];
-    for (suffix, copy, changes, want) in rows.iter() {
-        let one = run_over(&rt, alloc, suffix, STOP, copy, changes);
-        assert_fault_text(&rt, alloc, &one, want);
-        assert_wrote(&rt, &one, &NOTHING);
+    for (suffix, copy, changes, want) in ENDINGS.iter() {
+        assert_ends(&rt, alloc, suffix, copy, changes, want);
     }
-    let one = run_over(&rt, alloc, "dc=com", STOP, COM, b"version: 3\n");
-    assert_fault(&rt, &one, ToolFault::BadChanges(StreamFault::BadVersion));
-    let one = run_over(&rt, alloc, "cn", STOP, COM, b"");
-    assert_fault(&rt, &one, ToolFault::BadQuestion(Item::Suffix));
+    let bad_version = ToolFault::BadChanges(StreamFault::BadVersion);
+    assert_ends_in(&rt, alloc, "dc=com", b"version: 3\n", bad_version);
+    assert_ends_in(&rt, alloc, "cn", b"", ToolFault::BadQuestion(Item::Suffix));
+}
+
+/// Asserts that a run ends in a fault with this text, and writes nothing.
+fn assert_ends(
+    rt: &impl Abort,
+    alloc: Global,
+    suffix: &str,
+    copy: &[u8],
+    changes: &[u8],
+    want: &str,
+) {
+    let one = run_over(rt, alloc, suffix, STOP, copy, changes);
+    assert_fault_text(rt, alloc, &one, want);
+    assert_wrote(rt, &one, &NOTHING);
+}
+
+/// Asserts the fault in which a run ends.
+fn assert_ends_in(rt: &impl Abort, alloc: Global, suffix: &str, changes: &[u8], want: ToolFault) {
+    let one = run_over(rt, alloc, suffix, STOP, COM, changes);
+    assert_fault(rt, &one, want);
 }
 
 /// Asserts that a run ended in a fault with this text.

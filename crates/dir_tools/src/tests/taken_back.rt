@@ -2,8 +2,8 @@
 
 use super::{GO_ON, Ran, STOP, Want, assert_text, assert_wrote, run_back, run_over};
 use crate::{
-    canonical_texts_read_back, copies_are_sound, groups_are_undos, headline, run_there_and_back,
-    runs_accept_changes, written_runs_are_taken_back,
+    RoundTrip, canonical_texts_read_back, copies_are_sound, groups_are_undos, headline,
+    run_there_and_back, runs_accept_changes, written_runs_are_taken_back,
 };
 use dir_names::Schema;
 use std::alloc::Global;
@@ -15,8 +15,14 @@ fn take_back(rt: &impl Abort, alloc: Global, suffix: &str, one: &Ran) -> Ran {
     let Ok(summary) = back.answer else {
         panic!(rt; "the undo run ends in a fault");
     };
-    assert_eq!(rt; summary.refused, 0);
+    assert_count(rt, summary.refused, 0);
     back
+}
+
+/// Takes a run back, and asserts that this gives the copy.
+fn assert_taken_back(rt: &impl Abort, alloc: Global, one: &Ran, copy: &str) {
+    let back = take_back(rt, alloc, "dc=com", one);
+    assert_text(rt, back.out.as_slice(), copy);
 }
 
 #[test]
@@ -39,19 +45,29 @@ fn the_first_entry_of_a_directory_is_taken_back(rt: HostRuntime) {
     assert_wrote(&rt, &back, &want);
 }
 
-#[test]
-fn a_run_there_and_back_gives_the_canonical_text_of_the_first_copy(rt: HostRuntime) {
-    let alloc = rt.alloc();
-    let schema = Schema::builtin(alloc).expect(&rt, "a schema");
-    let copy = b"dn: ou=b,dc=com\nou: b\n\ndn: dc=com\n\n";
-    let changes =
-        b"dn: OU=B,dc=com\nchangetype: delete\n\ndn: ou=a,dc=com\nchangetype: add\nou: a\n";
+/// The runs of these changes there and back.
+fn there_and_back(rt: &impl Abort, alloc: Global, copy: &[u8], changes: &[u8]) -> RoundTrip {
+    let schema = Schema::builtin(alloc).expect(rt, "a schema");
     let Ok(trip) = run_there_and_back(alloc, &schema, b"dc=com", STOP, copy, changes) else {
         panic!(rt; "one of the runs ends in a fault");
     };
-    assert_eq!(rt; trip.there.accepted, 2);
-    assert_eq!(rt; trip.back.accepted, 2);
-    assert_eq!(rt; trip.back.refused, 0);
+    trip
+}
+
+fn assert_count(rt: &impl Abort, count: u64, want: u64) {
+    assert_eq!(rt; count, want);
+}
+
+#[test]
+fn a_run_there_and_back_gives_the_canonical_text_of_the_first_copy(rt: HostRuntime) {
+    let alloc = rt.alloc();
+    let copy = b"dn: ou=b,dc=com\nou: b\n\ndn: dc=com\n\n";
+    let changes =
+        b"dn: OU=B,dc=com\nchangetype: delete\n\ndn: ou=a,dc=com\nchangetype: add\nou: a\n";
+    let trip = there_and_back(&rt, alloc, copy, changes);
+    assert_count(&rt, trip.there.accepted, 2);
+    assert_count(&rt, trip.back.accepted, 2);
+    assert_count(&rt, trip.back.refused, 0);
     assert_text(
         &rt,
         trip.copy.as_slice(),
@@ -100,13 +116,13 @@ fn an_entry_below_another_is_taken_back(rt: HostRuntime) {
 fn a_deleted_entry_comes_back_with_every_byte(rt: HostRuntime) {
     let alloc = rt.alloc();
     let copy =
-        b"dn: dc=com\ndc: com\n\ndn: cn=a,dc=com\ncn: a\ndescription:: IGxlYWQ=\nnote:\nuserPassword:: AP8=\n\n";
+        "dn: dc=com\ndc: com\n\ndn: cn=a,dc=com\ncn: a\ndescription:: IGxlYWQ=\nnote:\nuserPassword:: AP8=\n\n";
     let one = run_over(
         &rt,
         alloc,
         "dc=com",
         STOP,
-        copy,
+        copy.as_bytes(),
         b"dn: cn=a,dc=com\nchangetype: delete\n",
     );
     let want = Want {
@@ -115,21 +131,20 @@ fn a_deleted_entry_comes_back_with_every_byte(rt: HostRuntime) {
         report: "accepted 1, refused 0\n",
     };
     assert_wrote(&rt, &one, &want);
-    let back = take_back(&rt, alloc, "dc=com", &one);
-    assert!(rt; back.out.as_slice() == copy.as_slice());
+    assert_taken_back(&rt, alloc, &one, copy);
 }
 
 #[test]
 fn spellings_come_back_as_they_were_stored(rt: HostRuntime) {
     let alloc = rt.alloc();
     let copy =
-        b"dn: DC=Com\nDomainComponent: COM\n\ndn: CN=A  b,DC=Com\ncommonName: a B\nsn;lang-EN: X\n\n";
+        "dn: DC=Com\nDomainComponent: COM\n\ndn: CN=A  b,DC=Com\ncommonName: a B\nsn;lang-EN: X\n\n";
     let one = run_over(
         &rt,
         alloc,
         "dc=com",
         STOP,
-        copy,
+        copy.as_bytes(),
         b"dn: cn=a b,dc=com\nchangetype: delete\n",
     );
     assert_text(
@@ -137,19 +152,18 @@ fn spellings_come_back_as_they_were_stored(rt: HostRuntime) {
         one.undo.as_slice(),
         "version: 1\n\ndn: CN=A  b,DC=Com\nchangetype: add\ncommonName: a B\nsn;lang-EN: X\n\n",
     );
-    let back = take_back(&rt, alloc, "dc=com", &one);
-    assert!(rt; back.out.as_slice() == copy.as_slice());
+    assert_taken_back(&rt, alloc, &one, copy);
 }
 
 #[test]
 fn many_changes_are_taken_back_last_one_first(rt: HostRuntime) {
     let alloc = rt.alloc();
-    let copy = b"dn: dc=com\ndc: com\n\ndn: ou=a,dc=com\nou: a\n\ndn: cn=x,ou=a,dc=com\ncn: x\n\n";
+    let copy = "dn: dc=com\ndc: com\n\ndn: ou=a,dc=com\nou: a\n\ndn: cn=x,ou=a,dc=com\ncn: x\n\n";
     let changes =
         b"version: 1\n\ndn: cn=x,ou=a,dc=com\nchangetype: delete\n\ndn: ou=a,dc=com\nchangetype: delete\n\n\
         dn: cn=no,dc=com\nchangetype: delete\n\ndn: ou=A,dc=com\nchangetype: add\n\n\
         dn: cn=y,ou=a,dc=com\nchangetype: add\ndescription: new\n";
-    let one = run_over(&rt, alloc, "dc=com", GO_ON, copy, changes);
+    let one = run_over(&rt, alloc, "dc=com", GO_ON, copy.as_bytes(), changes);
     let want = Want {
         undo: "version: 1\n\ndn: cn=y,ou=A,dc=com\nchangetype: delete\n\ndn: ou=A,dc=com\nchangetype: delete\n\n\
         dn: ou=a,dc=com\nchangetype: add\nou: a\n\ndn: cn=x,ou=a,dc=com\nchangetype: add\ncn: x\n\n",
@@ -158,9 +172,8 @@ fn many_changes_are_taken_back_last_one_first(rt: HostRuntime) {
     };
     assert_wrote(&rt, &one, &want);
     let back = take_back(&rt, alloc, "dc=com", &one);
-    assert!(rt; back.out.as_slice() == copy.as_slice());
-    let forward = take_back(&rt, alloc, "dc=com", &back);
-    assert!(rt; forward.out.as_slice() == one.out.as_slice());
+    assert_text(&rt, back.out.as_slice(), copy);
+    assert_taken_back(&rt, alloc, &back, want.out);
 }
 
 /// A copy with a thousand entries below the first one.
@@ -189,22 +202,20 @@ fn push(rt: &impl Abort, out: &mut Vec<u8>, text: String) {
     out.extend_from_slice(text.as_bytes()).expect(rt, "memory");
 }
 
+/// The run that deletes the thousand entries of a copy.
+fn delete_thousand(rt: &impl Abort, alloc: Global, copy: &[u8]) -> Ran {
+    let changes = thousand_deletes(rt, alloc);
+    run_over(rt, alloc, "dc=com", STOP, copy, changes.as_slice())
+}
+
 #[test]
 fn a_thousand_entries_are_deleted_in_order_and_taken_back(rt: HostRuntime) {
     let alloc = rt.alloc();
     let copy = thousand_entries(&rt, alloc);
-    let changes = thousand_deletes(&rt, alloc);
-    let one = run_over(
-        &rt,
-        alloc,
-        "dc=com",
-        STOP,
-        copy.as_slice(),
-        changes.as_slice(),
-    );
+    let one = delete_thousand(&rt, alloc, copy.as_slice());
     assert_text(&rt, one.out.as_slice(), "dn: dc=com\ndc: com\n\n");
     assert_text(&rt, one.report.as_slice(), "accepted 1000, refused 0\n");
     let back = take_back(&rt, alloc, "dc=com", &one);
     assert_text(&rt, back.report.as_slice(), "accepted 1000, refused 0\n");
-    assert_eq!(rt; back.out.as_slice(), copy.as_slice());
+    assert!(rt; back.out.as_slice() == copy.as_slice());
 }
