@@ -137,13 +137,13 @@ fn undo_text(
     history.undo_text(alloc).expect(rt, "memory")
 }
 
-/// Asserts the text that takes back the changes of a text, on the directory that other texts have
-/// made.
+/// Asserts the text that takes back the changes of a text, on a directory that other texts have
+/// changed before.
 fn assert_undo_text(rt: &impl Abort, alloc: Global, before: &[&str], text: &str, want: &str) {
     let schema = Schema::builtin(alloc).expect(rt, "a schema");
     let mut directory = empty(rt, alloc, &schema, b"dc=com");
-    for text in before {
-        let _ = history_of(rt, alloc, &schema, &mut directory, text);
+    for earlier in before {
+        let _ = history_of(rt, alloc, &schema, &mut directory, earlier);
     }
     let undo = undo_text(rt, alloc, &schema, &mut directory, text);
     assert_text(rt, undo.as_slice(), want);
@@ -204,93 +204,99 @@ fn a_modify_is_taken_back_by_what_came_and_went(rt: HostRuntime) {
     assert_undo_text(&rt, rt.alloc(), &[TOP, group], text, want);
 }
 
+/// Changes, some of which are refused.
+const TRIED: &str = "dn: dc=org\nchangetype: add\n\n\
+    dn: cn=a,dc=com\nchangetype: add\n\n\
+    dn: dc=com\nchangetype: add\n\n\
+    dn: DC=COM\nchangetype: add\n\n\
+    dn: cn=a,cn=b,dc=com\nchangetype: add\n\n\
+    dn: cn=a,dc=com\nchangetype: add\nuidNumber: 007\nuidNumber: 007\n\n\
+    dn: cn=a,dc=com\nchangetype: add\nuidNumber: 7\nuidNumber: 7\n\n\
+    dn: cn=a,dc=com\nchangetype: add\nuidNumber: 7\nuidNumber: 8\n\n\
+    dn: cn=a,dc=com\nchangetype: add\n\n\
+    dn: dc=com\nchangetype: delete\n\n\
+    dn: cn=b,dc=com\nchangetype: delete\n\n\
+    dn: cn=b,dc=com\nchangetype: modify\n\n\
+    dn: cn=a,dc=com\nchangetype: modify\n\n\
+    dn: cn=a,dc=com\nchangetype: modify\nadd: sn\n-\n\n\
+    dn: cn=a,dc=com\nchangetype: modify\nadd: sn\nsn: x\n-\ndelete: sn\nsn: y\n-\n\n\
+    dn: cn=a,dc=com\nchangetype: modify\nreplace: cn\ncn: b\n-\n\n\
+    dn: cn=a,dc=com\nchangetype: modify\nadd: uidNumber\nuidNumber: 1\nuidNumber: 2\n-\n\n\
+    dn: cn=a,dc=com\nchangetype: modrdn\nnewrdn: cn=b\ndeleteoldrdn: 1\n\n";
+
+/// What each of them is refused with; none for those that are accepted.
+const REFUSED: [Option<ResultCode>; 18] = [
+    Some(ResultCode::NoSuchObject),
+    Some(ResultCode::NoSuchObject),
+    None,
+    Some(ResultCode::EntryAlreadyExists),
+    Some(ResultCode::NoSuchObject),
+    Some(ResultCode::InvalidAttributeSyntax),
+    Some(ResultCode::AttributeOrValueExists),
+    Some(ResultCode::ConstraintViolation),
+    None,
+    Some(ResultCode::NotAllowedOnNonLeaf),
+    Some(ResultCode::NoSuchObject),
+    Some(ResultCode::NoSuchObject),
+    None,
+    Some(ResultCode::ProtocolError),
+    Some(ResultCode::NoSuchAttribute),
+    Some(ResultCode::NotAllowedOnRdn),
+    Some(ResultCode::ConstraintViolation),
+    Some(ResultCode::UnwillingToPerform),
+];
+
 #[test]
 fn refusals_come_in_the_order_of_the_operation(rt: HostRuntime) {
     let alloc = rt.alloc();
     let schema = Schema::builtin(alloc).expect(&rt, "a schema");
     let mut directory = empty(&rt, alloc, &schema, b"dc=com");
-    let text = "dn: dc=org\nchangetype: add\n\n\
-        dn: cn=a,dc=com\nchangetype: add\n\n\
-        dn: dc=com\nchangetype: add\n\n\
-        dn: DC=COM\nchangetype: add\n\n\
-        dn: cn=a,cn=b,dc=com\nchangetype: add\n\n\
-        dn: cn=a,dc=com\nchangetype: add\nuidNumber: 007\nuidNumber: 007\n\n\
-        dn: cn=a,dc=com\nchangetype: add\nuidNumber: 7\nuidNumber: 7\n\n\
-        dn: cn=a,dc=com\nchangetype: add\nuidNumber: 7\nuidNumber: 8\n\n\
-        dn: cn=a,dc=com\nchangetype: add\n\n\
-        dn: dc=com\nchangetype: delete\n\n\
-        dn: cn=b,dc=com\nchangetype: delete\n\n\
-        dn: cn=b,dc=com\nchangetype: modify\n\n\
-        dn: cn=a,dc=com\nchangetype: modify\n\n\
-        dn: cn=a,dc=com\nchangetype: modify\nadd: sn\n-\n\n\
-        dn: cn=a,dc=com\nchangetype: modify\nadd: sn\nsn: x\n-\ndelete: sn\nsn: y\n-\n\n\
-        dn: cn=a,dc=com\nchangetype: modify\nreplace: cn\ncn: b\n-\n\n\
-        dn: cn=a,dc=com\nchangetype: modify\nadd: uidNumber\nuidNumber: 1\nuidNumber: 2\n-\n\n\
-        dn: cn=a,dc=com\nchangetype: modrdn\nnewrdn: cn=b\ndeleteoldrdn: 1\n\n";
-    let want = [
-        Some(ResultCode::NoSuchObject),
-        Some(ResultCode::NoSuchObject),
-        None,
-        Some(ResultCode::EntryAlreadyExists),
-        Some(ResultCode::NoSuchObject),
-        Some(ResultCode::InvalidAttributeSyntax),
-        Some(ResultCode::AttributeOrValueExists),
-        Some(ResultCode::ConstraintViolation),
-        None,
-        Some(ResultCode::NotAllowedOnNonLeaf),
-        Some(ResultCode::NoSuchObject),
-        Some(ResultCode::NoSuchObject),
-        None,
-        Some(ResultCode::ProtocolError),
-        Some(ResultCode::NoSuchAttribute),
-        Some(ResultCode::NotAllowedOnRdn),
-        Some(ResultCode::ConstraintViolation),
-        Some(ResultCode::UnwillingToPerform),
-    ];
-    assert_outcomes(&rt, alloc, &schema, &mut directory, text, &want);
+    assert_outcomes(&rt, alloc, &schema, &mut directory, TRIED, &REFUSED);
     assert_entry_count(&rt, &directory, 2);
 }
 
-/// What a result code is shown as.
-fn shown(rt: &impl Abort, alloc: Global, code: ResultCode) -> String {
+/// What `{}` shows a result code as.
+fn plain(rt: &impl Abort, alloc: Global, code: ResultCode) -> String {
     format!(in alloc; "{code}").expect(rt, "memory")
 }
 
-/// What a result code is shown as with `#`.
-fn shown_with_sign(rt: &impl Abort, alloc: Global, code: ResultCode) -> String {
+/// What `{:#}` shows a result code as.
+fn styled(rt: &impl Abort, alloc: Global, code: ResultCode) -> String {
     format!(in alloc; "{code:#}").expect(rt, "memory")
 }
 
 /// Asserts that a result code is shown so, plain and with `#`.
 fn assert_shown(rt: &impl Abort, alloc: Global, code: ResultCode, want: &str) {
     assert_text(rt, code.text().as_bytes(), want);
-    assert_text(rt, shown(rt, alloc, code).as_bytes(), want);
-    assert_text(rt, shown_with_sign(rt, alloc, code).as_bytes(), want);
+    assert_text(rt, plain(rt, alloc, code).as_bytes(), want);
+    assert_text(rt, styled(rt, alloc, code).as_bytes(), want);
 }
+
+/// Each result code, and what it is shown as.
+const SHOWN: [(ResultCode, &str); 11] = [
+    (ResultCode::ProtocolError, "2 protocolError"),
+    (ResultCode::AdminLimitExceeded, "11 adminLimitExceeded"),
+    (ResultCode::NoSuchAttribute, "16 noSuchAttribute"),
+    (ResultCode::ConstraintViolation, "19 constraintViolation"),
+    (
+        ResultCode::AttributeOrValueExists,
+        "20 attributeOrValueExists",
+    ),
+    (
+        ResultCode::InvalidAttributeSyntax,
+        "21 invalidAttributeSyntax",
+    ),
+    (ResultCode::NoSuchObject, "32 noSuchObject"),
+    (ResultCode::UnwillingToPerform, "53 unwillingToPerform"),
+    (ResultCode::NotAllowedOnNonLeaf, "66 notAllowedOnNonLeaf"),
+    (ResultCode::NotAllowedOnRdn, "67 notAllowedOnRDN"),
+    (ResultCode::EntryAlreadyExists, "68 entryAlreadyExists"),
+];
 
 #[test]
 fn each_result_code_shows_its_number_and_name(rt: HostRuntime) {
     let alloc = rt.alloc();
-    let rows = [
-        (ResultCode::ProtocolError, "2 protocolError"),
-        (ResultCode::AdminLimitExceeded, "11 adminLimitExceeded"),
-        (ResultCode::NoSuchAttribute, "16 noSuchAttribute"),
-        (ResultCode::ConstraintViolation, "19 constraintViolation"),
-        (
-            ResultCode::AttributeOrValueExists,
-            "20 attributeOrValueExists",
-        ),
-        (
-            ResultCode::InvalidAttributeSyntax,
-            "21 invalidAttributeSyntax",
-        ),
-        (ResultCode::NoSuchObject, "32 noSuchObject"),
-        (ResultCode::UnwillingToPerform, "53 unwillingToPerform"),
-        (ResultCode::NotAllowedOnNonLeaf, "66 notAllowedOnNonLeaf"),
-        (ResultCode::NotAllowedOnRdn, "67 notAllowedOnRDN"),
-        (ResultCode::EntryAlreadyExists, "68 entryAlreadyExists"),
-    ];
-    for (code, want) in rows {
-        assert_shown(&rt, alloc, code, want);
+    for (code, want) in SHOWN.iter() {
+        assert_shown(&rt, alloc, *code, want);
     }
 }
