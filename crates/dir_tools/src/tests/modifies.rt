@@ -138,57 +138,61 @@ fn a_modify_that_changes_nothing_has_an_empty_group(rt: HostRuntime) {
     }
 }
 
+/// Modifies of a type under another of its names, and of the type with options.
+const KEYS: [Modify<'static>; 3] = [
+    Modify {
+        rdn: "cn=e",
+        before: "cn: e\n",
+        mods: "add: commonName\ncommonName: f\n-\n",
+        after: "cn: e\ncn: f\n",
+        undo: "delete: cn\ncn: f\n-\n",
+    },
+    Modify {
+        rdn: "cn=e",
+        before: "cn: e\n",
+        mods: "add: cn;lang-en\ncn;lang-en: e\n-\n",
+        after: "cn: e\ncn;lang-en: e\n",
+        undo: "delete: cn;lang-en\n-\n",
+    },
+    Modify {
+        rdn: "cn=e",
+        before: "cn: e\nCN;Lang-EN: F\nCN;Lang-EN: g\n",
+        mods: "replace: cn;lang-en\ncn;lang-en: f\ncn;lang-en: g\n-\n",
+        after: "cn: e\ncn;lang-en: f\ncn;lang-en: g\n",
+        undo: "replace: CN;Lang-EN\nCN;Lang-EN: F\nCN;Lang-EN: g\n-\n",
+    },
+];
+
 #[test]
 fn a_type_has_one_key_under_all_its_names_and_another_with_options(rt: HostRuntime) {
-    let rows = [
-        Modify {
-            rdn: "cn=e",
-            before: "cn: e\n",
-            mods: "add: commonName\ncommonName: f\n-\n",
-            after: "cn: e\ncn: f\n",
-            undo: "delete: cn\ncn: f\n-\n",
-        },
-        Modify {
-            rdn: "cn=e",
-            before: "cn: e\n",
-            mods: "add: cn;lang-en\ncn;lang-en: e\n-\n",
-            after: "cn: e\ncn;lang-en: e\n",
-            undo: "delete: cn;lang-en\n-\n",
-        },
-        Modify {
-            rdn: "cn=e",
-            before: "cn: e\nCN;Lang-EN: F\nCN;Lang-EN: g\n",
-            mods: "replace: cn;lang-en\ncn;lang-en: f\ncn;lang-en: g\n-\n",
-            after: "cn: e\ncn;lang-en: f\ncn;lang-en: g\n",
-            undo: "replace: CN;Lang-EN\nCN;Lang-EN: F\nCN;Lang-EN: g\n-\n",
-        },
-    ];
     let alloc = rt.alloc();
-    for row in rows.iter() {
+    for row in KEYS.iter() {
         assert_taken_back(&rt, alloc, row);
     }
 }
 
+/// Modifies that leave a legal entry only with their last modification.
+const JUDGED: [Modify<'static>; 2] = [
+    Modify {
+        rdn: "cn=e",
+        before: "cn: e\nuidNumber: 7\n",
+        mods: "add: uidNumber\nuidNumber: 8\n-\ndelete: uidNumber\nuidNumber: 7\n-\n",
+        after: "cn: e\nuidNumber: 8\n",
+        undo: "delete: uidNumber\nuidNumber: 8\n-\nadd: uidNumber\nuidNumber: 7\n-\n",
+    },
+    Modify {
+        rdn: "cn=e",
+        before: "cn: e\n",
+        mods: "delete: cn\n-\nadd: CN\nCN: E\n-\n",
+        after: "CN: E\n",
+        undo: "replace: cn\ncn: e\n-\n",
+    },
+];
+
 #[test]
 fn the_entry_is_judged_after_the_last_modification(rt: HostRuntime) {
-    let rows = [
-        Modify {
-            rdn: "cn=e",
-            before: "cn: e\nuidNumber: 7\n",
-            mods: "add: uidNumber\nuidNumber: 8\n-\ndelete: uidNumber\nuidNumber: 7\n-\n",
-            after: "cn: e\nuidNumber: 8\n",
-            undo: "delete: uidNumber\nuidNumber: 8\n-\nadd: uidNumber\nuidNumber: 7\n-\n",
-        },
-        Modify {
-            rdn: "cn=e",
-            before: "cn: e\n",
-            mods: "delete: cn\n-\nadd: CN\nCN: E\n-\n",
-            after: "CN: E\n",
-            undo: "replace: cn\ncn: e\n-\n",
-        },
-    ];
     let alloc = rt.alloc();
-    for row in rows.iter() {
+    for row in JUDGED.iter() {
         assert_taken_back(&rt, alloc, row);
     }
 }
