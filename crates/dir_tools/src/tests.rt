@@ -11,7 +11,6 @@ use dir_ldif::{Script, Tape};
 use dir_names::Schema;
 use std::alloc::Global;
 use std::process::Abort;
-use std::test::Fail;
 
 const STOP: ModifyOptions = ModifyOptions {
     go_on: false,
@@ -46,36 +45,58 @@ struct Ran {
     report: Vec<u8>,
 }
 
+/// A run over devices in memory, with room for any of the texts.
 fn run_over(
+    rt: &impl Abort,
     alloc: Global,
     suffix: &str,
     options: ModifyOptions,
     copy: &[u8],
     changes: &[u8],
-) -> Result<Ran, Fail> {
-    run_reading(
+) -> Ran {
+    let copy = Script::new(copy);
+    let changes = Script::new(changes);
+    run_reading(rt, alloc, suffix, options, copy, changes)
+}
+
+/// A run over these readers, with room for any of the texts.
+fn run_reading(
+    rt: &impl Abort,
+    alloc: Global,
+    suffix: &str,
+    options: ModifyOptions,
+    copy: Script<'_>,
+    changes: Script<'_>,
+) -> Ran {
+    let mut undo = zeros(rt, alloc, 65536);
+    let mut out = zeros(rt, alloc, 65536);
+    let mut report = zeros(rt, alloc, 65536);
+    run_on(
+        rt,
         alloc,
         suffix,
         options,
-        Script::new(copy),
-        Script::new(changes),
+        copy,
+        changes,
+        &mut Tape::new(undo.as_mut_slice()),
+        &mut Tape::new(out.as_mut_slice()),
+        &mut Tape::new(report.as_mut_slice()),
     )
 }
 
-fn run_reading(
+/// A run over these readers and writers.
+fn run_on(
+    rt: &impl Abort,
     alloc: Global,
     suffix: &str,
     options: ModifyOptions,
     mut copy: Script<'_>,
     mut changes: Script<'_>,
-) -> Result<Ran, Fail> {
-    let schema = Schema::builtin(alloc)?;
-    let mut undo = vec![in alloc; 0u8; 65536]?;
-    let mut out = vec![in alloc; 0u8; 65536]?;
-    let mut report = vec![in alloc; 0u8; 65536]?;
-    let mut undo_tape = Tape::new(undo.as_mut_slice());
-    let mut out_tape = Tape::new(out.as_mut_slice());
-    let mut report_tape = Tape::new(report.as_mut_slice());
+    undo: &mut Tape<'_>,
+    out: &mut Tape<'_>,
+    report: &mut Tape<'_>,
+) -> Ran {
+    let schema = Schema::builtin(alloc).expect(rt, "a schema");
     let answer = run_modify(
         alloc,
         &schema,
@@ -83,16 +104,37 @@ fn run_reading(
         options,
         &mut copy,
         &mut changes,
-        &mut undo_tape,
-        &mut out_tape,
-        &mut report_tape,
+        undo,
+        out,
+        report,
     );
-    Ok(Ran {
+    Ran {
         answer,
-        undo: undo_tape.as_slice().to_vec(alloc)?,
-        out: out_tape.as_slice().to_vec(alloc)?,
-        report: report_tape.as_slice().to_vec(alloc)?,
-    })
+        undo: taken(rt, alloc, undo),
+        out: taken(rt, alloc, out),
+        report: taken(rt, alloc, report),
+    }
+}
+
+/// The run of the undo text on the copy that was written.
+fn run_back(rt: &impl Abort, alloc: Global, suffix: &str, one: &Ran) -> Ran {
+    run_over(
+        rt,
+        alloc,
+        suffix,
+        STOP,
+        one.out.as_slice(),
+        one.undo.as_slice(),
+    )
+}
+
+fn zeros(rt: &impl Abort, alloc: Global, count: usize) -> Vec<u8> {
+    vec![in alloc; 0u8; count].expect(rt, "memory")
+}
+
+/// What a tape took.
+fn taken(rt: &impl Abort, alloc: Global, tape: &Tape<'_>) -> Vec<u8> {
+    tape.as_slice().to_vec(alloc).expect(rt, "memory")
 }
 
 /// The texts that a run is to write.
@@ -101,6 +143,52 @@ struct Want<'a> {
     undo: &'a str,
     out: &'a str,
     report: &'a str,
+}
+
+const NOTHING: Want<'static> = Want {
+    undo: "",
+    out: "",
+    report: "",
+};
+
+/// Asserts what a run over these texts below `dc=com` writes.
+fn assert_run(
+    rt: &impl Abort,
+    alloc: Global,
+    options: ModifyOptions,
+    copy: &[u8],
+    changes: &[u8],
+    want: &Want<'_>,
+) {
+    let ran = run_over(rt, alloc, "dc=com", options, copy, changes);
+    assert_wrote(rt, &ran, want);
+}
+
+/// Asserts what a run over these texts below `dc=com` reports.
+fn assert_report(
+    rt: &impl Abort,
+    alloc: Global,
+    options: ModifyOptions,
+    copy: &[u8],
+    changes: &[u8],
+    want: &str,
+) {
+    let ran = run_over(rt, alloc, "dc=com", options, copy, changes);
+    assert_text(rt, ran.report.as_slice(), want);
+}
+
+/// Asserts that a run gave up with this fault, and what it had written.
+fn assert_gave_up(rt: &impl Abort, ran: &Ran, fault: ToolFault, want: &Want<'_>) {
+    assert_fault(rt, ran, fault);
+    assert_wrote(rt, ran, want);
+}
+
+fn assert_fault(rt: &impl Abort, ran: &Ran, want: ToolFault) {
+    assert_eq!(rt; ran.answer, Err(want));
+}
+
+fn assert_summary(rt: &impl Abort, ran: &Ran, want: Summary) {
+    assert_eq!(rt; ran.answer, Ok(want));
 }
 
 fn assert_wrote(rt: &impl Abort, ran: &Ran, want: &Want<'_>) {

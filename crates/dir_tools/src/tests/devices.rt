@@ -1,122 +1,113 @@
 //! Readers and writers that fail, in turn.
 
-use super::{STOP, assert_text};
-use crate::{Input, Output, ToolFault, read_copy, run_modify, write_copy};
+use super::{NOTHING, STOP, Want, assert_gave_up, assert_text, run_on};
+use crate::{Input, Output, ToolFault, read_copy, write_copy};
 use dir_ldif::{Script, Tape};
 use dir_names::{Dn, Schema};
 use dir_tree::FlatDirectory;
-use std::test::Fail;
+use std::alloc::Global;
+use std::process::Abort;
 
 #[test]
-fn an_undo_writer_that_fails_leaves_a_prefix_and_the_others_empty(
-    rt: HostRuntime,
-) -> Result<(), Fail> {
-    let alloc = rt.alloc();
-    let schema = Schema::builtin(alloc)?;
-    let mut undo_bytes = [0u8; 64];
-    let mut out_bytes = [0u8; 64];
-    let mut report_bytes = [0u8; 64];
-    let mut undo = Tape::new(&mut undo_bytes).pieces(20).failing_from(2);
-    let mut out = Tape::new(&mut out_bytes);
-    let mut report = Tape::new(&mut report_bytes);
-    let answer = run_modify(
-        alloc,
-        &schema,
-        b"dc=Example,dc=com",
+fn an_undo_writer_that_fails_leaves_a_prefix_and_the_others_empty(rt: HostRuntime) {
+    let mut undo = [0u8; 64];
+    let mut out = [0u8; 64];
+    let mut report = [0u8; 64];
+    let ran = run_on(
+        &rt,
+        rt.alloc(),
+        "dc=Example,dc=com",
         STOP,
-        &mut Script::new(b""),
-        &mut Script::new(b"dn: DC=Example, dc=com\nchangetype: add\nobjectClass: domain\n"),
-        &mut undo,
-        &mut out,
-        &mut report,
+        Script::new(b""),
+        Script::new(b"dn: DC=Example, dc=com\nchangetype: add\nobjectClass: domain\n"),
+        &mut Tape::new(&mut undo).pieces(20).failing_from(2),
+        &mut Tape::new(&mut out),
+        &mut Tape::new(&mut report),
     );
-    assert_eq!(rt; answer, Err(ToolFault::Write(Output::Undo)));
-    assert_text(&rt, undo.as_slice(), "version: 1\n\ndn: DC=E");
-    assert_text(&rt, out.as_slice(), "");
-    assert_text(&rt, report.as_slice(), "");
-    Ok(())
+    let want = Want {
+        undo: "version: 1\n\ndn: DC=E",
+        ..NOTHING
+    };
+    assert_gave_up(&rt, &ran, ToolFault::Write(Output::Undo), &want);
 }
 
 #[test]
-fn a_writer_that_takes_no_byte_is_at_fault(rt: HostRuntime) -> Result<(), Fail> {
-    let alloc = rt.alloc();
-    let schema = Schema::builtin(alloc)?;
-    let mut undo_bytes = [0u8; 64];
-    let mut out_bytes = [0u8; 8];
-    let mut report_bytes = [0u8; 64];
-    let mut undo = Tape::new(&mut undo_bytes);
-    let mut out = Tape::new(&mut out_bytes);
-    let mut report = Tape::new(&mut report_bytes);
-    let mut copy = Script::new(b"dn: dc=com\ndc: com\n\n");
-    let mut changes = Script::new(b"");
-    let answer = run_modify(
-        alloc,
-        &schema,
-        b"dc=com",
+fn a_writer_that_takes_no_byte_is_at_fault(rt: HostRuntime) {
+    let mut undo = [0u8; 64];
+    let mut out = [0u8; 8];
+    let mut report = [0u8; 64];
+    let ran = run_on(
+        &rt,
+        rt.alloc(),
+        "dc=com",
         STOP,
-        &mut copy,
-        &mut changes,
-        &mut undo,
-        &mut out,
-        &mut report,
+        Script::new(b"dn: dc=com\ndc: com\n\n"),
+        Script::new(b""),
+        &mut Tape::new(&mut undo),
+        &mut Tape::new(&mut out),
+        &mut Tape::new(&mut report),
     );
-    assert_eq!(rt; answer, Err(ToolFault::Write(Output::Out)));
-    assert_text(&rt, undo.as_slice(), "version: 1\n\n");
-    assert_text(&rt, out.as_slice(), "dn: dc=c");
-    assert_text(&rt, report.as_slice(), "");
-    Ok(())
+    let want = Want {
+        undo: "version: 1\n\n",
+        out: "dn: dc=c",
+        report: "",
+    };
+    assert_gave_up(&rt, &ran, ToolFault::Write(Output::Out), &want);
+}
+
+/// Asserts the fault of a run whose readers fail from these calls on, and that it writes nothing.
+fn assert_reader_fault(
+    rt: &impl Abort,
+    alloc: Global,
+    copy_fails: u64,
+    changes_fail: u64,
+    input: Input,
+) {
+    let mut undo = [0u8; 64];
+    let mut out = [0u8; 64];
+    let mut report = [0u8; 64];
+    let ran = run_on(
+        rt,
+        alloc,
+        "dc=com",
+        STOP,
+        Script::new(b"dn: dc=com\ndc: com\n\n").failing_from(copy_fails),
+        Script::new(b"").failing_from(changes_fail),
+        &mut Tape::new(&mut undo),
+        &mut Tape::new(&mut out),
+        &mut Tape::new(&mut report),
+    );
+    assert_gave_up(rt, &ran, ToolFault::Read(input), &NOTHING);
 }
 
 #[test]
-fn a_reader_that_fails_is_named(rt: HostRuntime) -> Result<(), Fail> {
-    let alloc = rt.alloc();
-    let schema = Schema::builtin(alloc)?;
-    let com = b"dn: dc=com\ndc: com\n\n";
-    for (copy_fails, changes_fail, input) in [(2, 9, Input::Copy), (9, 1, Input::Changes)] {
-        let mut undo_bytes = [0u8; 64];
-        let mut out_bytes = [0u8; 64];
-        let mut report_bytes = [0u8; 64];
-        let mut undo = Tape::new(&mut undo_bytes);
-        let mut out = Tape::new(&mut out_bytes);
-        let mut report = Tape::new(&mut report_bytes);
-        let mut copy = Script::new(com).failing_from(copy_fails);
-        let mut changes = Script::new(b"").failing_from(changes_fail);
-        let answer = run_modify(
-            alloc,
-            &schema,
-            b"dc=com",
-            STOP,
-            &mut copy,
-            &mut changes,
-            &mut undo,
-            &mut out,
-            &mut report,
-        );
-        assert_eq!(rt; answer, Err(ToolFault::Read(input)));
-        assert_text(&rt, undo.as_slice(), "");
-        assert_text(&rt, out.as_slice(), "");
-        assert_text(&rt, report.as_slice(), "");
-    }
-    Ok(())
+fn a_reader_that_fails_is_named(rt: HostRuntime) {
+    assert_reader_fault(&rt, rt.alloc(), 2, 9, Input::Copy);
+    assert_reader_fault(&rt, rt.alloc(), 9, 1, Input::Changes);
 }
 
-#[test]
-fn a_copy_is_read_and_written_in_the_canonical_order(rt: HostRuntime) -> Result<(), Fail> {
-    let alloc = rt.alloc();
-    let schema = Schema::builtin(alloc)?;
-    let suffix = Dn::read(alloc, b"dc=com")?.key(alloc, &schema)?;
-    let mut copy = Script::new(b"dn: cn=a,dc=com\nsn: z\nsn: B\ncn: a\n\ndn: dc=com\n").pieces(1);
-    let Ok(directory) = read_copy(alloc, &schema, FlatDirectory::new(alloc, suffix), &mut copy)
-    else {
+/// The directory below `dc=com` of a copy.
+fn directory_of(rt: &impl Abort, alloc: Global, mut copy: Script<'_>) -> FlatDirectory {
+    let schema = Schema::builtin(alloc).expect(rt, "a schema");
+    let name = Dn::read(alloc, b"dc=com").expect(rt, "a name");
+    let empty = FlatDirectory::new(alloc, name.key(alloc, &schema).expect(rt, "a key"));
+    let Ok(directory) = read_copy(alloc, &schema, empty, &mut copy) else {
         panic!(rt; "the copy is refused");
     };
+    directory
+}
+
+#[test]
+fn a_copy_is_read_and_written_in_the_canonical_order(rt: HostRuntime) {
+    let alloc = rt.alloc();
+    let copy = Script::new(b"dn: cn=a,dc=com\nsn: z\nsn: B\ncn: a\n\ndn: dc=com\n").pieces(1);
+    let directory = directory_of(&rt, alloc, copy);
     let mut bytes = [0u8; 128];
     let mut out = Tape::new(&mut bytes).pieces(1);
-    assert_eq!(rt; write_copy(alloc, &directory, &mut out), Ok(()));
+    assert!(rt; write_copy(alloc, &directory, &mut out) == Ok(()));
     assert_text(
         &rt,
         out.as_slice(),
         "dn: dc=com\ndc: com\n\ndn: cn=a,dc=com\ncn: a\nsn: B\nsn: z\n\n",
     );
-    Ok(())
 }
