@@ -2,5 +2,6 @@
 
 mod directory;
 mod entries;
+mod in_place;
 mod maps;
 mod parts;
