@@ -3,18 +3,19 @@
 use super::*;
 use std::io::{self, ErrorKind, Read, Write};
 
-/// What a source gives in some calls, with room for so many bytes in each: each piece after a `|`, and `!` for a
-/// fault.
-fn bytes_given<S: Source>(
+/// Asserts what a source gives in some calls, with room for four bytes in each: each piece after a `|`, and `!`
+/// for a fault.
+fn assert_gives<S: Source + Drop>(
     rt: &impl Abort,
     alloc: Global,
-    source: &mut S,
-    room: &mut [u8],
+    mut source: S,
     calls: usize,
-) -> Vec<u8> {
+    want: &[u8],
+) {
+    let mut room = [0u8; 4];
     let mut out = Vec::new(alloc);
     for _ in 0..calls {
-        match source.read(&mut *room) {
+        match source.read(&mut room) {
             Ok(n) => {
                 out.push(b'|').expect(rt, "memory");
                 out.extend_from_slice(&room[..n]).expect(rt, "memory");
@@ -22,55 +23,37 @@ fn bytes_given<S: Source>(
             Err(DeviceFault) => out.push(b'!').expect(rt, "memory"),
         }
     }
-    out
+    assert_eq!(rt; out.as_slice(), want);
 }
 
 #[test]
 fn scripts_give_pieces(rt: HostRuntime) {
     let alloc = rt.alloc();
-    let text = b"abcdef".as_slice();
-    let mut room = [0u8; 4];
-    for (mut script, want) in [
-        (Script::new(text), b"|abcd|ef||".as_slice()),
-        (Script::new(text).pieces(3), b"|abc|def||"),
-        (Script::new(text).pieces(0), b"|a|b|c|d"),
-        (Script::new(text).first_piece(1), b"|a|bcde|f|"),
-        (Script::new(text).pieces(2).first_piece(3), b"|abc|de|f|"),
-        (Script::new(text).endless(), b"|abcd|ef|abcd|ef"),
-        (Script::new(text).failing_from(1), b"!!!!"),
-        (Script::new(text).failing_from(3), b"|abcd|ef!!"),
-        (Script::new(b""), b"||||"),
-        (Script::new(b"").endless(), b"||||"),
-    ] {
-        let found = bytes_given(&rt, alloc, &mut script, &mut room, 4);
-        assert_eq!(rt; found.as_slice(), want);
-    }
+    let text = || Script::new(b"abcdef");
+    let gives = |script: Script, want: &[u8]| assert_gives(&rt, alloc, script, 4, want);
+    gives(text(), b"|abcd|ef||");
+    gives(text().pieces(3), b"|abc|def||");
+    gives(text().pieces(0), b"|a|b|c|d");
+    gives(text().first_piece(1), b"|a|bcde|f|");
+    gives(text().pieces(2).first_piece(3), b"|abc|de|f|");
+    gives(text().endless(), b"|abcd|ef|abcd|ef");
+    gives(text().failing_from(1), b"!!!!");
+    gives(text().failing_from(3), b"|abcd|ef!!");
+    gives(Script::new(b""), b"||||");
+    gives(Script::new(b"").endless(), b"||||");
 }
 
 #[test]
 fn endless_scripts_give_their_text_over_and_over(rt: HostRuntime) {
     let alloc = rt.alloc();
-    let text = b"abc".as_slice();
-    let mut room = [0u8; 4];
-    for (mut script, want) in [
-        (
-            Script::new(text).endless().pieces(1),
-            b"|a|b|c|a|b|c|a".as_slice(),
-        ),
-        (Script::new(text).pieces(2).endless(), b"|ab|c|ab|c|ab|c|ab"),
-        (Script::new(text).endless(), b"|abc|abc|abc|abc|abc|abc|abc"),
-        (
-            Script::new(text).first_piece(1).endless(),
-            b"|a|bc|abc|abc|abc|abc|abc",
-        ),
-        (
-            Script::new(text).endless().failing_from(3),
-            b"|abc|abc!!!!!",
-        ),
-    ] {
-        let found = bytes_given(&rt, alloc, &mut script, &mut room, 7);
-        assert_eq!(rt; found.as_slice(), want);
-    }
+    let endless = || Script::new(b"abc").endless();
+    assert_gives(&rt, alloc, endless().pieces(1), 7, b"|a|b|c|a|b|c|a");
+    let pieces = Script::new(b"abc").pieces(2).endless();
+    assert_gives(&rt, alloc, pieces, 7, b"|ab|c|ab|c|ab|c|ab");
+    assert_gives(&rt, alloc, endless(), 7, b"|abc|abc|abc|abc|abc|abc|abc");
+    let first_piece = Script::new(b"abc").first_piece(1).endless();
+    assert_gives(&rt, alloc, first_piece, 7, b"|a|bc|abc|abc|abc|abc|abc");
+    assert_gives(&rt, alloc, endless().failing_from(3), 7, b"|abc|abc!!!!!");
 }
 
 /// A text, and a flush.
@@ -83,9 +66,9 @@ fn written<W: Sink + Drop>(mut sink: W, text: &[u8]) -> Result<(), DeviceFault> 
 fn a_lent_sink_is_one(rt: HostRuntime) {
     let mut room = [0u8; 6];
     let mut tape = Tape::new(&mut room).pieces(2).failing_from(5);
-    assert_eq!(rt; written(&mut tape, b"abc"), Ok(()));
+    assert!(rt; written(&mut tape, b"abc") == Ok(()));
     assert_eq!(rt; tape.flushed(), b"abc".as_slice());
-    assert_eq!(rt; written(&mut tape, b"d"), Err(DeviceFault));
+    assert!(rt; written(&mut tape, b"d") == Err(DeviceFault));
     assert_eq!(rt; tape.as_slice(), b"abcd".as_slice());
     assert_eq!(rt; tape.flushed(), b"abc".as_slice());
 }
@@ -95,23 +78,30 @@ fn tapes_take_pieces(rt: HostRuntime) {
     let mut room = [0u8; 6];
     let mut tape = Tape::new(&mut room).pieces(4);
     assert_eq!(rt; tape.as_slice(), b"".as_slice());
-    assert_eq!(rt; tape.write(b"abcdef"), Ok(4));
-    assert_eq!(rt; tape.flush(), Ok(()));
-    assert_eq!(rt; tape.write(b"ef"), Ok(2));
-    assert_eq!(rt; tape.write(b"g"), Ok(0));
+    assert!(rt; tape.write(b"abcdef") == Ok(4));
+    assert!(rt; tape.flush() == Ok(()));
+    assert!(rt; tape.write(b"ef") == Ok(2));
+    assert!(rt; tape.write(b"g") == Ok(0));
     assert_eq!(rt; tape.as_slice(), b"abcdef".as_slice());
     assert_eq!(rt; tape.flushed(), b"abcd".as_slice());
+}
+
+#[test]
+fn a_stalled_tape_takes_nothing(rt: HostRuntime) {
     let mut room = [0u8; 6];
     let mut stalled = Tape::new(&mut room).pieces(0);
-    assert_eq!(rt; write_whole(&mut stalled, b""), Ok(()));
-    assert_eq!(rt; write_whole(&mut stalled, b"a"), Err(DeviceFault));
+    assert!(rt; write_whole(&mut stalled, b"") == Ok(()));
+    assert!(rt; write_whole(&mut stalled, b"a") == Err(DeviceFault));
     assert_eq!(rt; stalled.as_slice(), b"".as_slice());
-    // Writes and flushes are counted together.
+}
+
+#[test]
+fn writes_and_flushes_are_counted_together(rt: HostRuntime) {
     let mut room = [0u8; 6];
     let mut failing = Tape::new(&mut room).pieces(1).failing_from(3);
-    assert_eq!(rt; failing.flush(), Ok(()));
-    assert_eq!(rt; write_whole(&mut failing, b"ab"), Err(DeviceFault));
-    assert_eq!(rt; failing.flush(), Err(DeviceFault));
+    assert!(rt; failing.flush() == Ok(()));
+    assert!(rt; write_whole(&mut failing, b"ab") == Err(DeviceFault));
+    assert!(rt; failing.flush() == Err(DeviceFault));
     assert_eq!(rt; failing.as_slice(), b"a".as_slice());
 }
 
@@ -179,7 +169,6 @@ impl Write for Counting<'_> {
 #[test]
 fn each_call_is_passed_on_once(rt: HostRuntime) {
     let alloc = rt.alloc();
-    let mut room = [0u8; 4];
     for (failing, want) in [
         (1, b"!|x|x".as_slice()),
         (2, b"|x!|x"),
@@ -187,50 +176,52 @@ fn each_call_is_passed_on_once(rt: HostRuntime) {
         (4, b"|x|x|x"),
     ] {
         let mut calls = 0usize;
-        let mut reader = Reader::new(Counting {
+        let reader = Reader::new(Counting {
             calls: &mut calls,
             failing,
         });
-        let found = bytes_given(&rt, alloc, &mut reader, &mut room, 3);
-        assert_eq!(rt; found.as_slice(), want);
-        drop(reader);
+        assert_gives(&rt, alloc, reader, 3, want);
         assert_eq!(rt; calls, 3);
     }
     for failing in 1..5usize {
-        let mut calls = 0usize;
-        let mut writer = Writer::new(Counting {
-            calls: &mut calls,
-            failing,
-        });
-        let answer = |call: usize| if call == failing { None } else { Some(1) };
-        assert_eq!(rt; writer.write(b"ab").ok(), answer(1));
-        assert_eq!(rt; writer.flush().is_err(), failing == 2);
-        assert_eq!(rt; writer.write(b"ab").ok(), answer(3));
-        assert_eq!(rt; writer.flush().is_err(), failing == 4);
-        drop(writer);
-        assert_eq!(rt; calls, 4);
+        assert_passed_on(&rt, failing);
     }
 }
 
+/// Asserts that each of four calls of a writer is one call of its device, which fails in one of them.
+fn assert_passed_on(rt: &impl Abort, failing: usize) {
+    let mut calls = 0usize;
+    let mut writer = Writer::new(Counting {
+        calls: &mut calls,
+        failing,
+    });
+    for (write, flush) in [(1, 2), (3, 4)] {
+        let taken = if failing == write { None } else { Some(1) };
+        assert!(rt; writer.write(b"ab").ok() == taken);
+        assert_eq!(rt; writer.flush().is_err(), failing == flush);
+    }
+    drop(writer);
+    assert_eq!(rt; calls, 4);
+}
+
 #[test]
-fn readers_and_writers_of_the_standard_library_are_devices(rt: HostRuntime) -> Result<(), Fail> {
+fn readers_and_writers_of_the_standard_library_are_devices(rt: HostRuntime) {
     let alloc = rt.alloc();
-    let mut room = [0u8; 4];
-    let mut reader = Reader::new(b"abcdef".as_slice());
-    let found = bytes_given(&rt, alloc, &mut reader, &mut room, 3);
-    assert_eq!(rt; found.as_slice(), b"|abcd|ef|".as_slice());
-    let found = bytes_given(&rt, alloc, &mut Reader::new(Broken), &mut room, 2);
-    assert_eq!(rt; found.as_slice(), b"!!".as_slice());
+    assert_gives(
+        &rt,
+        alloc,
+        Reader::new(b"abcdef".as_slice()),
+        3,
+        b"|abcd|ef|",
+    );
+    assert_gives(&rt, alloc, Reader::new(Broken), 2, b"!!");
 
     let mut taken = Vec::new(alloc);
-    let mut writer = Writer::new(&mut taken);
-    assert_eq!(rt; write_whole(&mut writer, b"abc"), Ok(()));
-    assert_eq!(rt; writer.flush(), Ok(()));
+    assert!(rt; written(Writer::new(&mut taken), b"abc") == Ok(()));
     assert_eq!(rt; taken.as_slice(), b"abc".as_slice());
-    let mut writer = Writer::new(Broken);
-    assert_eq!(rt; write_whole(&mut writer, b"abc"), Err(DeviceFault));
-    assert_eq!(rt; writer.flush(), Err(DeviceFault));
-    Ok(())
+    let mut broken = Writer::new(Broken);
+    assert!(rt; write_whole(&mut broken, b"abc") == Err(DeviceFault));
+    assert!(rt; broken.flush() == Err(DeviceFault));
 }
 
 /// A script that counts its calls.
@@ -261,48 +252,44 @@ impl Source for Counted<'_> {
 }
 
 #[test]
-fn a_record_comes_before_the_next_read(rt: HostRuntime) -> Result<(), Fail> {
+fn a_record_comes_before_the_next_read(rt: HostRuntime) {
     let alloc = rt.alloc();
-    let schema = Schema::builtin(alloc)?;
+    let schema = Schema::builtin(alloc).expect(&rt, "a schema");
     let text = b"dn: dc=com\n\ndn: cn=a,";
     let mut source = Counted {
         script: Script::new(text).failing_from(2),
         calls: 0,
     };
-    let mut reader = RecordReader::new(alloc, &schema, &mut source)?;
+    let mut reader = RecordReader::new(alloc, &schema, &mut source).expect(&rt, "a reader");
     assert!(rt; matches!(reader.next(), Ok(Some((1, Ok(_))))));
     assert_eq!(rt; reader.into_source().calls, 1);
-    let reader = RecordReader::new(alloc, &schema, Script::new(text).failing_from(2))?;
-    assert_eq!(rt;
-        shown_answers(&rt, alloc, reader).as_str(),
-        "1 dn: dc=com||;L11 Read;L13 Ended;"
-    );
-    Ok(())
+    let failing = Script::new(text).failing_from(2);
+    assert_source(&rt, alloc, failing, "1 dn: dc=com||;L11 Read;L13 Ended;");
 }
 
 #[test]
-fn reading_ends_soon_after_a_line_is_too_long(rt: HostRuntime) -> Result<(), Fail> {
+fn reading_ends_soon_after_a_line_is_too_long(rt: HostRuntime) {
     let alloc = rt.alloc();
-    let schema = Schema::builtin(alloc)?;
     // 256 pieces of 8,192 bytes are the greatest line; the next one has the first byte too many.
     for byte in [b'a', b'#'] {
-        let piece = vec![in alloc; byte; 8192]?;
-        let mut source = Counted {
-            script: Script::new(piece.as_slice()).endless(),
-            calls: 0,
-        };
-        let mut reader = RecordReader::new(alloc, &schema, &mut source)?;
-        assert!(rt; matches!(reader.next(), Err(StreamFault::LineTooLong)));
-        drop(reader);
-        assert_eq!(rt; source.calls, 257);
+        let piece = vec![in alloc; byte; 8192].expect(&rt, "memory");
+        assert_too_long_in(&rt, alloc, Script::new(piece.as_slice()).endless(), 257);
     }
-    Ok(())
+}
+
+/// Asserts that a script's first line is too long, as this many calls show.
+fn assert_too_long_in(rt: &impl Abort, alloc: Global, script: Script, calls: usize) {
+    let schema = Schema::builtin(alloc).expect(rt, "a schema");
+    let mut source = Counted { script, calls: 0 };
+    let mut reader = RecordReader::new(alloc, &schema, &mut source).expect(rt, "a reader");
+    assert!(rt; matches!(reader.next(), Err(StreamFault::LineTooLong)));
+    drop(reader);
+    assert_eq!(rt; source.calls, calls);
 }
 
 #[test]
-fn endless_texts_without_a_record_use_up_the_read_calls(rt: HostRuntime) -> Result<(), Fail> {
+fn endless_texts_without_a_record_use_up_the_read_calls(rt: HostRuntime) {
     let alloc = rt.alloc();
-    let schema = Schema::builtin(alloc)?;
     for piece in [
         b"\n".as_slice(),
         b"\r\n",
@@ -311,28 +298,26 @@ fn endless_texts_without_a_record_use_up_the_read_calls(rt: HostRuntime) -> Resu
         b" \n",
         b" \r\n",
     ] {
-        let source = Script::new(piece).endless();
-        let reader = RecordReader::with_turns(alloc, &schema, source, 100)?;
-        assert_eq!(rt;
-            shown_answers(&rt, alloc, reader).as_str(),
-            "L14 TooManyTurns;L13 Ended;"
-        );
+        let endless = Script::new(piece).endless();
+        assert_turns(&rt, alloc, endless, 100, "L14 TooManyTurns;L13 Ended;");
     }
-    Ok(())
 }
 
 #[test]
-fn tapes_take_and_stall(rt: HostRuntime) -> Result<(), Fail> {
+fn tapes_take_and_stall(rt: HostRuntime) {
     let mut room = [0u8; 8];
     let mut tape = Tape::new(&mut room).pieces(3);
     assert!(rt; write_whole(&mut tape, b"abcdef").is_ok());
     assert_eq!(rt; tape.as_slice(), b"abcdef".as_slice());
     assert!(rt; write_whole(&mut tape, b"ghi").is_err());
     assert_eq!(rt; tape.as_slice(), b"abcdefgh".as_slice());
+}
+
+#[test]
+fn a_tape_fails_at_a_flush(rt: HostRuntime) {
     let mut room = [0u8; 8];
     let mut tape = Tape::new(&mut room).failing_from(2);
     assert!(rt; write_whole(&mut tape, b"abc").is_ok());
     assert!(rt; tape.flush().is_err());
     assert_eq!(rt; tape.as_slice(), b"abc".as_slice());
-    Ok(())
 }
