@@ -48,11 +48,16 @@ fn show_next<R: Source + Drop>(
         }
         Ok(None) => false,
         Err(fault) => {
-            let text = format!(in alloc; "{fault};").expect(rt, "memory");
-            out.push_str(text.as_str()).expect(rt, "memory");
+            show_fault(rt, alloc, out, fault);
             fault != StreamFault::Ended
         }
     }
+}
+
+/// Shows a fault of the stream after the answers.
+fn show_fault(rt: &impl Abort, alloc: Global, out: &mut String, fault: StreamFault) {
+    let text = format!(in alloc; "{fault};").expect(rt, "memory");
+    out.push_str(text.as_str()).expect(rt, "memory");
 }
 
 /// Shows one answer after the others.
@@ -78,6 +83,12 @@ fn shown_record(rt: &impl Abort, alloc: Global, line: u64, record: &Record) -> S
     format!(in alloc; "{line} {text};").expect(rt, "memory")
 }
 
+/// The answers on a text that is read at once.
+fn answers_on(rt: &impl Abort, alloc: Global, text: &[u8]) -> Vec<Answer> {
+    let schema = Schema::builtin(alloc).expect(rt, "a schema");
+    read_all(alloc, &schema, text).expect(rt, "answers")
+}
+
 /// The record of the only answer, on a block from this line on.
 fn only_record<'a>(rt: &impl Abort, answers: &'a [Answer], line: u64) -> &'a Record {
     let [(first, Ok(record))] = answers else {
@@ -97,8 +108,7 @@ fn lines_of<'a>(rt: &impl Abort, record: &'a Record) -> &'a [(Description, Bytes
 
 /// The fault of the only record, if it has one.
 fn fault_of(rt: &impl Abort, alloc: Global, text: &[u8]) -> Option<RecordFault> {
-    let schema = Schema::builtin(alloc).expect(rt, "a schema");
-    let answers = read_all(alloc, &schema, text).expect(rt, "records");
+    let answers = answers_on(rt, alloc, text);
     let [(_, answer)] = answers.as_slice() else {
         panic!(rt; "not one record");
     };
@@ -111,14 +121,9 @@ fn name(rt: &impl Abort, alloc: Global, text: &[u8]) -> Dn {
 }
 
 /// The lines of an entry that has one value.
-fn one_line(
-    rt: &impl Abort,
-    alloc: Global,
-    schema: &Schema,
-    description: &[u8],
-    value: Vec<u8>,
-) -> Lines {
-    let description = Description::read(alloc, schema, description).expect(rt, "a description");
+fn one_line(rt: &impl Abort, alloc: Global, description: &[u8], value: Vec<u8>) -> Lines {
+    let schema = Schema::builtin(alloc).expect(rt, "a schema");
+    let description = Description::read(alloc, &schema, description).expect(rt, "a description");
     let mut items = Vec::new(alloc);
     items
         .push((description, Bytes::new(value)))
@@ -153,6 +158,7 @@ fn assert_turns(rt: &impl Abort, alloc: Global, source: Script, turns: u8, want:
     assert_eq!(rt; shown_answers(rt, alloc, reader).as_str(), want);
 }
 
+/// Texts, and what each reads as.
 const TEXTS: [(&str, &str); 7] = [
     ("", ""),
     ("\n\n# only\n \n", ""),
@@ -183,65 +189,68 @@ fn texts_are_read(rt: HostRuntime) {
     }
 }
 
+/// Texts with faults, and what each reads as.
+const FAULTY_TEXTS: [(&str, &str); 29] = [
+    ("version: 2\n", "L15 BadVersion;L13 Ended;"),
+    ("VERSION:1\n\n", ""),
+    ("version:: MQ==\n", "L15 BadVersion;L13 Ended;"),
+    ("dn: cn=a\nnote:: A\n", "1 L2 BadBase64;"),
+    ("dn: cn=a\nnote:: AA=\n", "1 L2 BadBase64;"),
+    ("dn: cn=a\nnote:: AAF=\n", "1 L2 BadBase64;"),
+    ("dn: cn=a\nnote:: AA== \n", "1 L2 BadBase64;"),
+    ("dn: cn=a\nnote:: AA==\n", "1 dn: cn=a|note:: AA==||;"),
+    ("dn: cn=a\nnote::\n", "1 dn: cn=a|note:||;"),
+    ("dn: cn=a\nnote: \rx\n", "1 L1 BadLine;"),
+    ("dn: cn=a\nnote:   x \n", "1 dn: cn=a|note:: eCA=||;"),
+    ("dn: cn=a\n:x\n", "1 L1 BadLine;"),
+    ("cn: a\n\ndn: cn=b\n", "1 L1 BadLine;3 dn: cn=b||;"),
+    ("# c\n  c\n\n\n # d\n", "5 L1 BadLine;"),
+    ("dn: cn=a\nchangetype: move\n", "1 L5 BadChangetype;"),
+    ("dn: cn=a\nchangetype: delete\ncn: a\n", "1 L1 BadLine;"),
+    (
+        "dn: cn=a\nchangetype: modify\nincrement: a\n",
+        "1 L6 BadModify;",
+    ),
+    ("dn: cn=a\nchangetype: modify\n-\n", "1 L1 BadLine;"),
+    (
+        "dn: cn=a\nchangetype: modify\nadd: cn\nsn: x\n",
+        "1 L6 BadModify;",
+    ),
+    (
+        "dn: cn=a\nchangetype:: bW9kcmRu\nnewrdn: cn=b\n",
+        "1 L7 BadRename;",
+    ),
+    (
+        "dn: cn=a\nchangetype: modrdn\nnewrdn: cn=b\ndeleteoldrdn: 2\n",
+        "1 L7 BadRename;",
+    ),
+    (
+        "dn: cn=a\nchangetype: modrdn\nnewrdn: cn\ndeleteoldrdn: 2\n",
+        "1 L9 N4 BadDn;",
+    ),
+    ("dn: x\n", "1 L9 N4 BadDn;"),
+    (
+        "dn: cn=e,dc=com\nchangetype: add\nnote: x\n\ndn: cn=f,dc=com\nchangetype: add\nnote:: AAE",
+        "1 dn: cn=e,dc=com|changetype: add|note: x||;5 L2 BadBase64;",
+    ),
+    // The first faulty line decides: its own fault comes before that of its place, and a missing line last.
+    ("dn: cn=a\nnote:: A\nother:< x\n", "1 L2 BadBase64;"),
+    (
+        "dn: cn=a\nchangetype: delete\nnote:: A\n",
+        "1 L2 BadBase64;",
+    ),
+    (
+        "dn: cn=a\nchangetype: modrdn\nnewrdn: cn\n",
+        "1 L9 N4 BadDn;",
+    ),
+    ("dn: cn=a\n1cn: b\n", "1 L9 N1 BadDescription;"),
+    ("dn: cn=a\nchangetype;x: b\n", "1 L9 N2 ReservedName;"),
+];
+
 #[test]
 fn faults_have_their_line(rt: HostRuntime) {
     let alloc = rt.alloc();
-    for (text, want) in [
-        ("version: 2\n", "L15 BadVersion;L13 Ended;"),
-        ("VERSION:1\n\n", ""),
-        ("version:: MQ==\n", "L15 BadVersion;L13 Ended;"),
-        ("dn: cn=a\nnote:: A\n", "1 L2 BadBase64;"),
-        ("dn: cn=a\nnote:: AA=\n", "1 L2 BadBase64;"),
-        ("dn: cn=a\nnote:: AAF=\n", "1 L2 BadBase64;"),
-        ("dn: cn=a\nnote:: AA== \n", "1 L2 BadBase64;"),
-        ("dn: cn=a\nnote:: AA==\n", "1 dn: cn=a|note:: AA==||;"),
-        ("dn: cn=a\nnote::\n", "1 dn: cn=a|note:||;"),
-        ("dn: cn=a\nnote: \rx\n", "1 L1 BadLine;"),
-        ("dn: cn=a\nnote:   x \n", "1 dn: cn=a|note:: eCA=||;"),
-        ("dn: cn=a\n:x\n", "1 L1 BadLine;"),
-        ("cn: a\n\ndn: cn=b\n", "1 L1 BadLine;3 dn: cn=b||;"),
-        ("# c\n  c\n\n\n # d\n", "5 L1 BadLine;"),
-        ("dn: cn=a\nchangetype: move\n", "1 L5 BadChangetype;"),
-        ("dn: cn=a\nchangetype: delete\ncn: a\n", "1 L1 BadLine;"),
-        (
-            "dn: cn=a\nchangetype: modify\nincrement: a\n",
-            "1 L6 BadModify;",
-        ),
-        ("dn: cn=a\nchangetype: modify\n-\n", "1 L1 BadLine;"),
-        (
-            "dn: cn=a\nchangetype: modify\nadd: cn\nsn: x\n",
-            "1 L6 BadModify;",
-        ),
-        (
-            "dn: cn=a\nchangetype:: bW9kcmRu\nnewrdn: cn=b\n",
-            "1 L7 BadRename;",
-        ),
-        (
-            "dn: cn=a\nchangetype: modrdn\nnewrdn: cn=b\ndeleteoldrdn: 2\n",
-            "1 L7 BadRename;",
-        ),
-        (
-            "dn: cn=a\nchangetype: modrdn\nnewrdn: cn\ndeleteoldrdn: 2\n",
-            "1 L9 N4 BadDn;",
-        ),
-        ("dn: x\n", "1 L9 N4 BadDn;"),
-        (
-            "dn: cn=e,dc=com\nchangetype: add\nnote: x\n\ndn: cn=f,dc=com\nchangetype: add\nnote:: AAE",
-            "1 dn: cn=e,dc=com|changetype: add|note: x||;5 L2 BadBase64;",
-        ),
-        // The first faulty line decides: its own fault comes before that of its place, and a missing line last.
-        ("dn: cn=a\nnote:: A\nother:< x\n", "1 L2 BadBase64;"),
-        (
-            "dn: cn=a\nchangetype: delete\nnote:: A\n",
-            "1 L2 BadBase64;",
-        ),
-        (
-            "dn: cn=a\nchangetype: modrdn\nnewrdn: cn\n",
-            "1 L9 N4 BadDn;",
-        ),
-        ("dn: cn=a\n1cn: b\n", "1 L9 N1 BadDescription;"),
-        ("dn: cn=a\nchangetype;x: b\n", "1 L9 N2 ReservedName;"),
-    ] {
+    for (text, want) in FAULTY_TEXTS {
         assert_read(&rt, alloc, text, want);
     }
 }
@@ -267,25 +276,18 @@ const ALL_SIGNS_TEXT: &str =
 #[test]
 fn all_base64_signs_are_read_and_written(rt: HostRuntime) {
     let alloc = rt.alloc();
-    let schema = Schema::builtin(alloc).expect(&rt, "a schema");
-    assert_only_value(
-        &rt,
-        alloc,
-        &schema,
-        ALL_SIGNS_TEXT.as_bytes(),
-        ALL_SIGNS.as_slice(),
-    );
+    assert_only_value(&rt, alloc, ALL_SIGNS_TEXT, ALL_SIGNS.as_slice());
     let value = ALL_SIGNS.as_slice().to_vec(alloc).expect(&rt, "memory");
     let record = Record::Content {
         dn: name(&rt, alloc, b"cn=a"),
-        lines: one_line(&rt, alloc, &schema, b"description", value),
+        lines: one_line(&rt, alloc, b"description", value),
     };
     assert_written(&rt, alloc, &record, ALL_SIGNS_TEXT);
 }
 
 /// Asserts that a text is an entry from its first line on, with one line of this value.
-fn assert_only_value(rt: &impl Abort, alloc: Global, schema: &Schema, text: &[u8], want: &[u8]) {
-    let answers = read_all(alloc, schema, text).expect(rt, "records");
+fn assert_only_value(rt: &impl Abort, alloc: Global, text: &str, want: &[u8]) {
+    let answers = answers_on(rt, alloc, text.as_bytes());
     let record = only_record(rt, answers.as_slice(), 1);
     let [(_, value)] = lines_of(rt, record) else {
         panic!(rt; "not one line");
@@ -299,32 +301,31 @@ fn assert_written(rt: &impl Abort, alloc: Global, record: &Record, want: &str) {
     assert_eq!(rt; text.as_slice(), want.as_bytes());
 }
 
-/// What the answers on a text show that are read at once.
-fn shown_at_once(rt: &impl Abort, alloc: Global, text: &[u8]) -> String {
-    let schema = Schema::builtin(alloc).expect(rt, "a schema");
-    let answers = read_all(alloc, &schema, text).expect(rt, "records");
-    let mut out = String::new(alloc);
-    for (line, answer) in &answers {
-        show(rt, alloc, &mut out, *line, answer);
+/// Asserts what a text reads as at once.
+fn assert_read_at_once(rt: &impl Abort, alloc: Global, text: &str, want: &str) {
+    let mut shown = String::new(alloc);
+    for (line, answer) in &answers_on(rt, alloc, text.as_bytes()) {
+        show(rt, alloc, &mut shown, *line, answer);
     }
-    out
+    assert_eq!(rt; shown.as_str(), want);
+}
+
+/// Asserts what a text reads as in two pieces, wherever it is cut.
+fn assert_read_in_two(rt: &impl Abort, alloc: Global, text: &[u8], want: &str) {
+    for at in 1..text.len() {
+        let cut = Script::new(text).first_piece(at);
+        assert_eq!(rt; shown_source(rt, alloc, cut).as_str(), want, "cut at {at}");
+    }
 }
 
 #[test]
 fn pieces_change_nothing(rt: HostRuntime) {
     let alloc = rt.alloc();
-    let text = FOLDED.as_bytes();
     assert_read(&rt, alloc, FOLDED, FOLDED_SHOWN);
-    assert_eq!(rt; shown_at_once(&rt, alloc, text).as_str(), FOLDED_SHOWN);
-    assert_source(&rt, alloc, Script::new(text).pieces(1), FOLDED_SHOWN);
-    for at in 1..text.len() {
-        let cut = Script::new(text).first_piece(at);
-        assert_eq!(rt;
-            shown_source(&rt, alloc, cut).as_str(),
-            FOLDED_SHOWN,
-            "cut at {at}"
-        );
-    }
+    assert_read_at_once(&rt, alloc, FOLDED, FOLDED_SHOWN);
+    let single = Script::new(FOLDED.as_bytes()).pieces(1);
+    assert_source(&rt, alloc, single, FOLDED_SHOWN);
+    assert_read_in_two(&rt, alloc, FOLDED.as_bytes(), FOLDED_SHOWN);
 }
 
 #[test]
@@ -403,9 +404,7 @@ fn assert_long_comment(rt: &impl Abort, alloc: Global) {
 
 /// Asserts that a text has no record.
 fn assert_no_record(rt: &impl Abort, alloc: Global, text: &[u8]) {
-    let schema = Schema::builtin(alloc).expect(rt, "a schema");
-    let answers = read_all(alloc, &schema, text).expect(rt, "no fault");
-    assert!(rt; answers.is_empty());
+    assert!(rt; answers_on(rt, alloc, text).is_empty());
 }
 
 /// Asserts that a line of a text is too long.

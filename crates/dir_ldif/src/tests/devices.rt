@@ -3,15 +3,8 @@
 use super::*;
 use std::io::{self, ErrorKind, Read, Write};
 
-/// Asserts what a source gives in some calls, with room for four bytes in each: each piece after a `|`, and `!`
-/// for a fault.
-fn assert_gives<S: Source + Drop>(
-    rt: &impl Abort,
-    alloc: Global,
-    mut source: S,
-    calls: usize,
-    want: &[u8],
-) {
+/// What a source gives in some calls, with room for four bytes in each: each piece after a `|`, and `!` for a fault.
+fn bytes_given<S: Source>(rt: &impl Abort, alloc: Global, source: &mut S, calls: usize) -> Vec<u8> {
     let mut room = [0u8; 4];
     let mut out = Vec::new(alloc);
     for _ in 0..calls {
@@ -23,24 +16,42 @@ fn assert_gives<S: Source + Drop>(
             Err(DeviceFault) => out.push(b'!').expect(rt, "memory"),
         }
     }
-    assert_eq!(rt; out.as_slice(), want);
+    out
+}
+
+/// Asserts what a source gives in some calls.
+fn assert_gives<S: Source + Drop>(
+    rt: &impl Abort,
+    alloc: Global,
+    mut source: S,
+    calls: usize,
+    want: &[u8],
+) {
+    let found = bytes_given(rt, alloc, &mut source, calls);
+    assert_eq!(rt; found.as_slice(), want);
 }
 
 #[test]
 fn scripts_give_pieces(rt: HostRuntime) {
     let alloc = rt.alloc();
     let text = || Script::new(b"abcdef");
-    let gives = |script: Script, want: &[u8]| assert_gives(&rt, alloc, script, 4, want);
-    gives(text(), b"|abcd|ef||");
-    gives(text().pieces(3), b"|abc|def||");
-    gives(text().pieces(0), b"|a|b|c|d");
-    gives(text().first_piece(1), b"|a|bcde|f|");
-    gives(text().pieces(2).first_piece(3), b"|abc|de|f|");
-    gives(text().endless(), b"|abcd|ef|abcd|ef");
-    gives(text().failing_from(1), b"!!!!");
-    gives(text().failing_from(3), b"|abcd|ef!!");
-    gives(Script::new(b""), b"||||");
-    gives(Script::new(b"").endless(), b"||||");
+    assert_gives(&rt, alloc, text(), 4, b"|abcd|ef||");
+    assert_gives(&rt, alloc, text().pieces(3), 4, b"|abc|def||");
+    assert_gives(&rt, alloc, text().pieces(0), 4, b"|a|b|c|d");
+    assert_gives(&rt, alloc, text().first_piece(1), 4, b"|a|bcde|f|");
+    let pieces = text().pieces(2).first_piece(3);
+    assert_gives(&rt, alloc, pieces, 4, b"|abc|de|f|");
+}
+
+#[test]
+fn scripts_end_or_fail_or_go_on(rt: HostRuntime) {
+    let alloc = rt.alloc();
+    let text = || Script::new(b"abcdef");
+    assert_gives(&rt, alloc, text().endless(), 4, b"|abcd|ef|abcd|ef");
+    assert_gives(&rt, alloc, text().failing_from(1), 4, b"!!!!");
+    assert_gives(&rt, alloc, text().failing_from(3), 4, b"|abcd|ef!!");
+    assert_gives(&rt, alloc, Script::new(b""), 4, b"||||");
+    assert_gives(&rt, alloc, Script::new(b"").endless(), 4, b"||||");
 }
 
 #[test]
@@ -56,21 +67,61 @@ fn endless_scripts_give_their_text_over_and_over(rt: HostRuntime) {
     assert_gives(&rt, alloc, endless().failing_from(3), 7, b"|abc|abc!!!!!");
 }
 
+/// Asserts what a sink answers to a write.
+fn assert_write<W: Sink>(
+    rt: &impl Abort,
+    sink: &mut W,
+    text: &[u8],
+    want: Result<usize, DeviceFault>,
+) {
+    assert_eq!(rt; sink.write(text), want);
+}
+
+/// Asserts what a sink answers to a whole text.
+fn assert_write_whole<W: Sink>(
+    rt: &impl Abort,
+    sink: &mut W,
+    text: &[u8],
+    want: Result<(), DeviceFault>,
+) {
+    assert_eq!(rt; write_whole(sink, text), want);
+}
+
+/// Asserts what a sink answers to a flush.
+fn assert_flush<W: Sink>(rt: &impl Abort, sink: &mut W, want: Result<(), DeviceFault>) {
+    assert_eq!(rt; sink.flush(), want);
+}
+
 /// A text, and a flush.
 fn written<W: Sink + Drop>(mut sink: W, text: &[u8]) -> Result<(), DeviceFault> {
     write_whole(&mut sink, text)?;
     sink.flush()
 }
 
+/// Asserts what a sink answers to a text and a flush.
+fn assert_written_to<W: Sink + Drop>(
+    rt: &impl Abort,
+    sink: W,
+    text: &[u8],
+    want: Result<(), DeviceFault>,
+) {
+    assert_eq!(rt; written(sink, text), want);
+}
+
+/// Asserts what a tape has taken, and how much of it was flushed.
+fn assert_tape(rt: &impl Abort, tape: &Tape, want: &[u8], flushed: &[u8]) {
+    assert_eq!(rt; tape.as_slice(), want);
+    assert_eq!(rt; tape.flushed(), flushed);
+}
+
 #[test]
 fn a_lent_sink_is_one(rt: HostRuntime) {
     let mut room = [0u8; 6];
     let mut tape = Tape::new(&mut room).pieces(2).failing_from(5);
-    assert!(rt; written(&mut tape, b"abc") == Ok(()));
+    assert_written_to(&rt, &mut tape, b"abc", Ok(()));
     assert_eq!(rt; tape.flushed(), b"abc".as_slice());
-    assert!(rt; written(&mut tape, b"d") == Err(DeviceFault));
-    assert_eq!(rt; tape.as_slice(), b"abcd".as_slice());
-    assert_eq!(rt; tape.flushed(), b"abc".as_slice());
+    assert_written_to(&rt, &mut tape, b"d", Err(DeviceFault));
+    assert_tape(&rt, &tape, b"abcd", b"abc");
 }
 
 #[test]
@@ -78,20 +129,19 @@ fn tapes_take_pieces(rt: HostRuntime) {
     let mut room = [0u8; 6];
     let mut tape = Tape::new(&mut room).pieces(4);
     assert_eq!(rt; tape.as_slice(), b"".as_slice());
-    assert!(rt; tape.write(b"abcdef") == Ok(4));
-    assert!(rt; tape.flush() == Ok(()));
-    assert!(rt; tape.write(b"ef") == Ok(2));
-    assert!(rt; tape.write(b"g") == Ok(0));
-    assert_eq!(rt; tape.as_slice(), b"abcdef".as_slice());
-    assert_eq!(rt; tape.flushed(), b"abcd".as_slice());
+    assert_write(&rt, &mut tape, b"abcdef", Ok(4));
+    assert_flush(&rt, &mut tape, Ok(()));
+    assert_write(&rt, &mut tape, b"ef", Ok(2));
+    assert_write(&rt, &mut tape, b"g", Ok(0));
+    assert_tape(&rt, &tape, b"abcdef", b"abcd");
 }
 
 #[test]
 fn a_stalled_tape_takes_nothing(rt: HostRuntime) {
     let mut room = [0u8; 6];
     let mut stalled = Tape::new(&mut room).pieces(0);
-    assert!(rt; write_whole(&mut stalled, b"") == Ok(()));
-    assert!(rt; write_whole(&mut stalled, b"a") == Err(DeviceFault));
+    assert_write_whole(&rt, &mut stalled, b"", Ok(()));
+    assert_write_whole(&rt, &mut stalled, b"a", Err(DeviceFault));
     assert_eq!(rt; stalled.as_slice(), b"".as_slice());
 }
 
@@ -99,9 +149,9 @@ fn a_stalled_tape_takes_nothing(rt: HostRuntime) {
 fn writes_and_flushes_are_counted_together(rt: HostRuntime) {
     let mut room = [0u8; 6];
     let mut failing = Tape::new(&mut room).pieces(1).failing_from(3);
-    assert!(rt; failing.flush() == Ok(()));
-    assert!(rt; write_whole(&mut failing, b"ab") == Err(DeviceFault));
-    assert!(rt; failing.flush() == Err(DeviceFault));
+    assert_flush(&rt, &mut failing, Ok(()));
+    assert_write_whole(&rt, &mut failing, b"ab", Err(DeviceFault));
+    assert_flush(&rt, &mut failing, Err(DeviceFault));
     assert_eq!(rt; failing.as_slice(), b"a".as_slice());
 }
 
@@ -196,9 +246,18 @@ fn assert_passed_on(rt: &impl Abort, failing: usize) {
         failing,
     });
     for (write, flush) in [(1, 2), (3, 4)] {
-        let taken = if failing == write { None } else { Some(1) };
-        assert!(rt; writer.write(b"ab").ok() == taken);
-        assert_eq!(rt; writer.flush().is_err(), failing == flush);
+        let taken = if failing == write {
+            Err(DeviceFault)
+        } else {
+            Ok(1)
+        };
+        assert_write(rt, &mut writer, b"ab", taken);
+        let flushed = if failing == flush {
+            Err(DeviceFault)
+        } else {
+            Ok(())
+        };
+        assert_flush(rt, &mut writer, flushed);
     }
     drop(writer);
     assert_eq!(rt; calls, 4);
@@ -217,11 +276,11 @@ fn readers_and_writers_of_the_standard_library_are_devices(rt: HostRuntime) {
     assert_gives(&rt, alloc, Reader::new(Broken), 2, b"!!");
 
     let mut taken = Vec::new(alloc);
-    assert!(rt; written(Writer::new(&mut taken), b"abc") == Ok(()));
+    assert_written_to(&rt, Writer::new(&mut taken), b"abc", Ok(()));
     assert_eq!(rt; taken.as_slice(), b"abc".as_slice());
     let mut broken = Writer::new(Broken);
-    assert!(rt; write_whole(&mut broken, b"abc") == Err(DeviceFault));
-    assert!(rt; broken.flush() == Err(DeviceFault));
+    assert_write_whole(&rt, &mut broken, b"abc", Err(DeviceFault));
+    assert_flush(&rt, &mut broken, Err(DeviceFault));
 }
 
 /// A script that counts its calls.
@@ -261,10 +320,15 @@ fn a_record_comes_before_the_next_read(rt: HostRuntime) {
         calls: 0,
     };
     let mut reader = RecordReader::new(alloc, &schema, &mut source).expect(&rt, "a reader");
-    assert!(rt; matches!(reader.next(), Ok(Some((1, Ok(_))))));
+    assert_record_next(&rt, &mut reader);
     assert_eq!(rt; reader.into_source().calls, 1);
     let failing = Script::new(text).failing_from(2);
     assert_source(&rt, alloc, failing, "1 dn: dc=com||;L11 Read;L13 Ended;");
+}
+
+/// Asserts that the next answer of a reader is the record in the first line.
+fn assert_record_next<R: Source + Drop>(rt: &impl Abort, reader: &mut RecordReader<R>) {
+    assert!(rt; matches!(reader.next(), Ok(Some((1, Ok(_))))));
 }
 
 #[test]
@@ -282,9 +346,14 @@ fn assert_too_long_in(rt: &impl Abort, alloc: Global, script: Script, calls: usi
     let schema = Schema::builtin(alloc).expect(rt, "a schema");
     let mut source = Counted { script, calls: 0 };
     let mut reader = RecordReader::new(alloc, &schema, &mut source).expect(rt, "a reader");
-    assert!(rt; matches!(reader.next(), Err(StreamFault::LineTooLong)));
+    assert_too_long_next(rt, &mut reader);
     drop(reader);
     assert_eq!(rt; source.calls, calls);
+}
+
+/// Asserts that a reader answers next that a line is too long.
+fn assert_too_long_next<R: Source + Drop>(rt: &impl Abort, reader: &mut RecordReader<R>) {
+    assert!(rt; matches!(reader.next(), Err(StreamFault::LineTooLong)));
 }
 
 #[test]
@@ -307,9 +376,9 @@ fn endless_texts_without_a_record_use_up_the_read_calls(rt: HostRuntime) {
 fn tapes_take_and_stall(rt: HostRuntime) {
     let mut room = [0u8; 8];
     let mut tape = Tape::new(&mut room).pieces(3);
-    assert!(rt; write_whole(&mut tape, b"abcdef").is_ok());
+    assert_write_whole(&rt, &mut tape, b"abcdef", Ok(()));
     assert_eq!(rt; tape.as_slice(), b"abcdef".as_slice());
-    assert!(rt; write_whole(&mut tape, b"ghi").is_err());
+    assert_write_whole(&rt, &mut tape, b"ghi", Err(DeviceFault));
     assert_eq!(rt; tape.as_slice(), b"abcdefgh".as_slice());
 }
 
@@ -317,7 +386,7 @@ fn tapes_take_and_stall(rt: HostRuntime) {
 fn a_tape_fails_at_a_flush(rt: HostRuntime) {
     let mut room = [0u8; 8];
     let mut tape = Tape::new(&mut room).failing_from(2);
-    assert!(rt; write_whole(&mut tape, b"abc").is_ok());
-    assert!(rt; tape.flush().is_err());
+    assert_write_whole(&rt, &mut tape, b"abc", Ok(()));
+    assert_flush(&rt, &mut tape, Err(DeviceFault));
     assert_eq!(rt; tape.as_slice(), b"abc".as_slice());
 }

@@ -319,16 +319,14 @@ control: 1.2.840.113556.1.4.805 true
 changetype: delete
 ";
 
-/// The records of a text: the line of each, after a `#`, and its text or its fault.
-fn records_text(rt: &impl Abort, alloc: Global, text: &str) -> String {
-    let schema = Schema::builtin(alloc).expect(rt, "a schema");
-    let answers = read_all(alloc, &schema, text.as_bytes()).expect(rt, "records");
-    let mut out = String::new(alloc);
-    for (line, answer) in &answers {
+/// Asserts the records of a text: the line of each, after a `#`, and its text or its fault.
+fn assert_records(rt: &impl Abort, alloc: Global, text: &str, want: &str) {
+    let mut found = String::new(alloc);
+    for (line, answer) in &answers_on(rt, alloc, text.as_bytes()) {
         let text = answer_text(rt, alloc, *line, answer);
-        out.push_str(text.as_str()).expect(rt, "memory");
+        found.push_str(text.as_str()).expect(rt, "memory");
     }
-    out
+    assert_eq!(rt; found.as_str(), want);
 }
 
 /// The line of a record, after a `#`, and its text or its fault.
@@ -359,15 +357,14 @@ fn examples_of_the_standard_are_read(rt: HostRuntime) {
         (CHANGES, CHANGES_RECORDS),
         (CONTROLLED, "# 6\nL4 Control\n"),
     ] {
-        assert_eq!(rt; records_text(&rt, alloc, text).as_str(), want);
+        assert_records(&rt, alloc, text, want);
     }
 }
 
 #[test]
 fn the_careful_reader_is_read(rt: HostRuntime) {
     let alloc = rt.alloc();
-    let schema = Schema::builtin(alloc).expect(&rt, "a schema");
-    let answers = read_all(alloc, &schema, BASE64_VALUE.as_bytes()).expect(&rt, "records");
+    let answers = answers_on(&rt, alloc, BASE64_VALUE.as_bytes());
     let record = only_record(&rt, answers.as_slice(), 2);
     let (_, last) = lines_of(&rt, record).last().expect(&rt, "a line");
     assert_eq!(rt; last.as_slice(), CAREFUL_READER);
@@ -376,19 +373,17 @@ fn the_careful_reader_is_read(rt: HostRuntime) {
 #[test]
 fn the_japanese_values_are_read(rt: HostRuntime) {
     let alloc = rt.alloc();
-    let schema = Schema::builtin(alloc).expect(&rt, "a schema");
-    let answers = read_all(alloc, &schema, LANGUAGES.as_bytes()).expect(&rt, "records");
     let mut found = Vec::new(alloc);
-    for (_, answer) in &answers {
-        let record = answer.as_ref().expect(&rt, "an entry");
-        push_japanese(&rt, lines_of(&rt, record), &mut found);
+    for (_, answer) in &answers_on(&rt, alloc, LANGUAGES.as_bytes()) {
+        push_japanese(&rt, answer, &mut found);
     }
     assert_eq!(rt; found.as_slice(), JAPANESE.as_bytes());
 }
 
-/// Appends each value of the lines that is not ASCII, and a `|` after it.
-fn push_japanese(rt: &impl Abort, lines: &[(Description, Bytes)], found: &mut Vec<u8>) {
-    for (_, value) in lines {
+/// Appends each value of an entry that is not ASCII, and a `|` after it.
+fn push_japanese(rt: &impl Abort, answer: &Result<Record, RecordFault>, found: &mut Vec<u8>) {
+    let record = answer.as_ref().expect(rt, "an entry");
+    for (_, value) in lines_of(rt, record) {
         if !value.as_slice().is_ascii() {
             found
                 .extend_from_slice(value.as_slice())

@@ -3,15 +3,17 @@
 use super::*;
 use dir_names::{NameFault, Rdn, Texts};
 
-/// A text whose LF are written as `|`.
-fn with_line_feeds(rt: &impl Abort, alloc: Global, text: &str) -> String {
-    text.replace(alloc, "|", "\n").expect(rt, "memory")
+/// Asserts that a text, whose LF are given as `|`, is a record that is written so.
+fn assert_reads_back(rt: &impl Abort, alloc: Global, text: &str) {
+    let text = text.replace(alloc, "|", "\n").expect(rt, "memory");
+    let answers = answers_on(rt, alloc, text.as_bytes());
+    let record = only_record(rt, answers.as_slice(), 1);
+    assert_written(rt, alloc, record, text.as_str());
 }
 
 #[test]
 fn the_text_of_a_record_reads_back(rt: HostRuntime) {
     let alloc = rt.alloc();
-    let schema = Schema::builtin(alloc).expect(&rt, "a schema");
     for text in [
         "dn: DC=Example,dc=com|DC: Example|objectClass: domain||",
         "dn: DC=Example,dc=com|changetype: delete||",
@@ -20,31 +22,34 @@ fn the_text_of_a_record_reads_back(rt: HostRuntime) {
         "dn: dc=b,dc=com|changetype: modrdn|newrdn: dc=a|deleteoldrdn: 1||",
         "dn: ou=Team,ou=B,dc=com|changetype: modrdn|newrdn: ou=Team|deleteoldrdn: 1|newsuperior: ou=A,dc=com||",
     ] {
-        let text = with_line_feeds(&rt, alloc, text);
-        let answers = read_all(alloc, &schema, text.as_bytes()).expect(&rt, "records");
-        let record = only_record(&rt, answers.as_slice(), 1);
-        assert_written(&rt, alloc, record, text.as_str());
+        assert_reads_back(&rt, alloc, text);
     }
 }
 
 /// The add of one value of `sn`.
-fn added_value(rt: &impl Abort, alloc: Global, schema: &Schema, value: &[u8]) -> Mod {
-    let mut values = Vec::new(alloc);
+fn added_value(rt: &impl Abort, alloc: Global, value: &[u8]) -> Mod {
+    let schema = Schema::builtin(alloc).expect(rt, "a schema");
     let value = Bytes::copy_of(alloc, value).expect(rt, "memory");
+    let mut values = Vec::new(alloc);
     values.push(value).expect(rt, "memory");
     Mod {
         op: ModOp::Add,
-        description: Description::read(alloc, schema, b"sn").expect(rt, "a description"),
+        description: Description::read(alloc, &schema, b"sn").expect(rt, "a description"),
         values: Texts::new(values),
     }
 }
 
-/// The modify of an entry that adds one value of `sn`.
-fn modify(rt: &impl Abort, alloc: Global, schema: &Schema, dn: &[u8], value: &[u8]) -> Change {
+/// The modifications that add one value of `sn`.
+fn added_mods(rt: &impl Abort, alloc: Global, value: &[u8]) -> Mods {
     let mut mods = Vec::new(alloc);
-    mods.push(added_value(rt, alloc, schema, value))
+    mods.push(added_value(rt, alloc, value))
         .expect(rt, "memory");
-    let mods = Mods::new(mods);
+    Mods::new(mods)
+}
+
+/// The modify of an entry that adds one value of `sn`.
+fn modify(rt: &impl Abort, alloc: Global, dn: &[u8], value: &[u8]) -> Change {
+    let mods = added_mods(rt, alloc, value);
     assert_eq!(rt; mods.as_slice().len(), 1);
     Change {
         dn: name(rt, alloc, dn),
@@ -53,17 +58,10 @@ fn modify(rt: &impl Abort, alloc: Global, schema: &Schema, dn: &[u8], value: &[u
 }
 
 /// The add of an entry that has one value.
-fn add(
-    rt: &impl Abort,
-    alloc: Global,
-    schema: &Schema,
-    dn: &[u8],
-    description: &[u8],
-    value: Vec<u8>,
-) -> Change {
+fn add(rt: &impl Abort, alloc: Global, dn: &[u8], description: &[u8], value: Vec<u8>) -> Change {
     Change {
         dn: name(rt, alloc, dn),
-        kind: ChangeKind::Add(one_line(rt, alloc, schema, description, value)),
+        kind: ChangeKind::Add(one_line(rt, alloc, description, value)),
     }
 }
 
@@ -85,17 +83,26 @@ fn rename(
     }
 }
 
+/// Appends the modify of an entry that adds one value of `sn`.
+fn push_modify(rt: &impl Abort, alloc: Global, out: &mut Vec<u8>, dn: &[u8], value: &[u8]) {
+    let record = Record::Change(modify(rt, alloc, dn, value));
+    push_record(out, &record).expect(rt, "memory");
+}
+
+/// Appends the rename of an entry that stays below the same one.
+fn push_rename(rt: &impl Abort, alloc: Global, out: &mut Vec<u8>, dn: &[u8], newrdn: &[u8]) {
+    let change = rename(rt, alloc, dn, newrdn, None);
+    push_change(out, &change).expect(rt, "memory");
+}
+
 #[test]
 fn records_are_written(rt: HostRuntime) {
     let alloc = rt.alloc();
-    let schema = Schema::builtin(alloc).expect(&rt, "a schema");
     let mut out = Vec::new(alloc);
     push_line(&mut out, b"version", b"1").expect(&rt, "memory");
     push_end(&mut out).expect(&rt, "memory");
-    let change = rename(&rt, alloc, b"cn=y + sn=z, dc=com", b"cn=x", None);
-    push_change(&mut out, &change).expect(&rt, "memory");
-    let change = modify(&rt, alloc, &schema, b"cn=x,dc=com", b"Z");
-    push_record(&mut out, &Record::Change(change)).expect(&rt, "memory");
+    push_rename(&rt, alloc, &mut out, b"cn=y + sn=z, dc=com", b"cn=x");
+    push_modify(&rt, alloc, &mut out, b"cn=x,dc=com", b"Z");
     assert_eq!(rt;
         out.as_slice(),
         b"version: 1\n\ndn: cn=y+sn=z,dc=com\nchangetype: modrdn\nnewrdn: cn=x\ndeleteoldrdn: 1\n\ndn: cn=x,dc=com\nchangetype: modify\nadd: sn\nsn: Z\n-\n\n".as_slice()
@@ -114,28 +121,24 @@ fn names_are_written(rt: HostRuntime) {
 #[test]
 fn modifications_are_moved_out(rt: HostRuntime) {
     let alloc = rt.alloc();
-    let schema = Schema::builtin(alloc).expect(&rt, "a schema");
-    let mut mods = Vec::new(alloc);
-    mods.push(added_value(&rt, alloc, &schema, b"Z"))
-        .expect(&rt, "memory");
-    let items = Mods::new(mods).into_items();
+    let items = added_mods(&rt, alloc, b"Z").into_items();
     let [item] = items.as_slice() else {
         panic!(rt; "not one modification");
     };
+    assert_adds_one_value(&rt, item);
+}
+
+/// Asserts that a modification adds one value of `sn`.
+fn assert_adds_one_value(rt: &impl Abort, item: &Mod) {
     assert!(rt; item.op == ModOp::Add);
     assert_eq!(rt; item.description.spelling(), b"sn".as_slice());
     assert_eq!(rt; item.values.as_slice().len(), 1);
 }
 
-/// Asserts that the check of a change gives this answer.
-fn assert_check(
-    rt: &impl Abort,
-    alloc: Global,
-    schema: &Schema,
-    change: &Change,
-    want: Result<(), RecordFault>,
-) {
-    assert_eq!(rt; change.check(alloc, schema), want);
+/// Asserts what the check of a change answers.
+fn assert_check(rt: &impl Abort, alloc: Global, change: &Change, want: Result<(), RecordFault>) {
+    let schema = Schema::builtin(alloc).expect(rt, "a schema");
+    assert_eq!(rt; change.check(alloc, &schema), want);
 }
 
 const NO_NAME: Result<(), RecordFault> = Err(RecordFault::Name(NameFault::BadDn));
@@ -143,37 +146,46 @@ const NO_NAME: Result<(), RecordFault> = Err(RecordFault::Name(NameFault::BadDn)
 #[test]
 fn changes_are_checked(rt: HostRuntime) {
     let alloc = rt.alloc();
-    let schema = Schema::builtin(alloc).expect(&rt, "a schema");
     for (newrdn, superior, want) in [
         (b"cn=y".as_slice(), b"ou=A,dc=com".as_slice(), Ok(())),
         (b"member=y", b"ou=A,dc=com", NO_NAME),
         (b"cn=y", b"uidNumber=x", NO_NAME),
     ] {
-        let superior = name(&rt, alloc, superior);
-        let change = rename(&rt, alloc, b"cn=x,dc=com", newrdn, Some(superior));
-        assert_check(&rt, alloc, &schema, &change, want);
+        assert_rename_check(&rt, alloc, newrdn, superior, want);
     }
     for (length, want) in [
         (1_048_576, Ok(())),
         (1_048_577, Err(RecordFault::ValueTooLong)),
     ] {
-        assert_checks_of_length(&rt, alloc, &schema, length, want);
+        assert_checks_of_length(&rt, alloc, length, want);
     }
 }
 
-/// Asserts that the checks of two changes with a value of this length give this answer.
+/// Asserts what the check of a rename to below another entry answers.
+fn assert_rename_check(
+    rt: &impl Abort,
+    alloc: Global,
+    newrdn: &[u8],
+    superior: &[u8],
+    want: Result<(), RecordFault>,
+) {
+    let superior = name(rt, alloc, superior);
+    let change = rename(rt, alloc, b"cn=x,dc=com", newrdn, Some(superior));
+    assert_check(rt, alloc, &change, want);
+}
+
+/// Asserts what the checks of a modify and an add with a value of this length answer.
 fn assert_checks_of_length(
     rt: &impl Abort,
     alloc: Global,
-    schema: &Schema,
     length: usize,
     want: Result<(), RecordFault>,
 ) {
     let value = vec![in alloc; b'a'; length].expect(rt, "memory");
-    let change = modify(rt, alloc, schema, b"cn=x,dc=com", value.as_slice());
-    assert_check(rt, alloc, schema, &change, want);
-    let change = add(rt, alloc, schema, b"cn=x,dc=com", b"sn", value);
-    assert_check(rt, alloc, schema, &change, want);
+    let change = modify(rt, alloc, b"cn=x,dc=com", value.as_slice());
+    assert_check(rt, alloc, &change, want);
+    let change = add(rt, alloc, b"cn=x,dc=com", b"sn", value);
+    assert_check(rt, alloc, &change, want);
 }
 
 #[test]
@@ -230,22 +242,23 @@ fn a_line_of_77_bytes_is_folded(rt: HostRuntime) {
         (148, [76, 76, 0]),
         (149, [76, 76, 2]),
     ] {
-        let out = line_of(&rt, alloc, b"x", length);
-        let mut lengths = [0usize; 3];
-        for (found, line) in lengths
-            .iter_mut()
-            .zip(out.as_slice().split(|b| *b == b'\n'))
-        {
-            *found = line.len();
-        }
-        assert_eq!(rt; lengths, want);
+        let text = line_of(&rt, alloc, b"x", length);
+        assert_eq!(rt; lengths_of_lines(text.as_slice()), want);
     }
+}
+
+/// The lengths of a text's first three physical lines.
+fn lengths_of_lines(text: &[u8]) -> [usize; 3] {
+    let mut lengths = [0; 3];
+    for (found, line) in lengths.iter_mut().zip(text.split(|b| *b == b'\n')) {
+        *found = line.len();
+    }
+    lengths
 }
 
 #[test]
 fn values_of_each_last_byte_read_back(rt: HostRuntime) {
     let alloc = rt.alloc();
-    let schema = Schema::builtin(alloc).expect(&rt, "a schema");
     // With no padding, two signs of it, and one; the value is written in base64 for its first byte, where there
     // is one before the last.
     for start in [b"\x80a".as_slice(), b"\x80ab", b"\x80", b""] {
@@ -255,7 +268,7 @@ fn values_of_each_last_byte_read_back(rt: HostRuntime) {
             if !start.is_empty() {
                 assert!(rt; text.as_slice().starts_with(b"dn: cn=a\nx:: "), "{last}");
             }
-            assert_first_value(&rt, alloc, &schema, text.as_slice(), value.as_slice());
+            assert_first_value(&rt, alloc, text.as_slice(), value.as_slice());
         }
     }
 }
@@ -268,8 +281,8 @@ fn entry_of(rt: &impl Abort, alloc: Global, value: &[u8]) -> Vec<u8> {
 }
 
 /// Asserts that a text is an entry from its first line on, whose first value is this.
-fn assert_first_value(rt: &impl Abort, alloc: Global, schema: &Schema, text: &[u8], want: &[u8]) {
-    let answers = read_all(alloc, schema, text).expect(rt, "records");
+fn assert_first_value(rt: &impl Abort, alloc: Global, text: &[u8], want: &[u8]) {
+    let answers = answers_on(rt, alloc, text);
     let record = only_record(rt, answers.as_slice(), 1);
     let (_, value) = lines_of(rt, record).first().expect(rt, "a line");
     assert_eq!(rt; value.as_slice(), want);
@@ -278,29 +291,20 @@ fn assert_first_value(rt: &impl Abort, alloc: Global, schema: &Schema, text: &[u
 #[test]
 fn legal_changes_pass(rt: HostRuntime) {
     let alloc = rt.alloc();
-    let schema = Schema::builtin(alloc).expect(&rt, "a schema");
     let staff = b"staff".to_vec(alloc).expect(&rt, "memory");
-    let change = add(
-        &rt,
-        alloc,
-        &schema,
-        b"ou=people,DC=COM",
-        b"description",
-        staff,
-    );
-    assert_check(&rt, alloc, &schema, &change, Ok(()));
+    let change = add(&rt, alloc, b"ou=people,DC=COM", b"description", staff);
+    assert_check(&rt, alloc, &change, Ok(()));
 }
 
 #[test]
 fn the_first_fault_of_a_change_is_told(rt: HostRuntime) {
     let alloc = rt.alloc();
-    let schema = Schema::builtin(alloc).expect(&rt, "a schema");
     let keyless = Change {
         dn: name(&rt, alloc, b"cn=a+commonName=b"),
         kind: ChangeKind::Delete,
     };
-    assert_check(&rt, alloc, &schema, &keyless, NO_NAME);
+    assert_check(&rt, alloc, &keyless, NO_NAME);
     let long = vec![in alloc; b'a'; 1_048_577].expect(&rt, "memory");
-    let keyless = add(&rt, alloc, &schema, b"cn=a+commonName=b", b"sn", long);
-    assert_check(&rt, alloc, &schema, &keyless, NO_NAME);
+    let keyless = add(&rt, alloc, b"cn=a+commonName=b", b"sn", long);
+    assert_check(&rt, alloc, &keyless, NO_NAME);
 }
