@@ -158,99 +158,93 @@ fn assert_turns(rt: &impl Abort, alloc: Global, source: Script, turns: u8, want:
     assert_eq!(rt; shown_answers(rt, alloc, reader).as_str(), want);
 }
 
-/// Texts, and what each reads as.
-const TEXTS: [(&str, &str); 7] = [
-    ("", ""),
-    ("\n\n# only\n \n", ""),
-    (
-        "version: 1\ndn: cn=B,dc=a\nobjectclass: top\ncn: B\n\n# c\ndn: cn=C,dc=a\ncn: C\n",
-        "2 dn: cn=B,dc=a|objectclass: top|cn: B||;7 dn: cn=C,dc=a|cn: C||;",
-    ),
-    (
-        "dn: cn=a\ncn:: QQ\n  ==\n\ndn: cn=a\ncn:: QQ\n ==\n",
-        "1 L2 BadBase64;5 dn: cn=a|cn: A||;",
-    ),
-    (
-        "dn: cn=P,dc=a\nchangetype: modify\nadd: cn\ncn: 1\n-\ndelete: l\nl: x\n",
-        "1 dn: cn=P,dc=a|changetype: modify|add: cn|cn: 1|-|delete: l|l: x|-||;",
-    ),
-    ("dn: cn=a\njpegphoto:< file:///x\n", "1 L3 UrlValue;"),
-    (
-        "dn: cn=a\ncontrol: 1.2 true\nchangetype: delete\n",
-        "1 L4 Control;",
-    ),
-];
-
 #[test]
 fn texts_are_read(rt: HostRuntime) {
     let alloc = rt.alloc();
-    for (text, want) in TEXTS {
+    for (text, want) in &[
+        ("", ""),
+        ("\n\n# only\n \n", ""),
+        (
+            "version: 1\ndn: cn=B,dc=a\nobjectclass: top\ncn: B\n\n# c\ndn: cn=C,dc=a\ncn: C\n",
+            "2 dn: cn=B,dc=a|objectclass: top|cn: B||;7 dn: cn=C,dc=a|cn: C||;",
+        ),
+        (
+            "dn: cn=a\ncn:: QQ\n  ==\n\ndn: cn=a\ncn:: QQ\n ==\n",
+            "1 L2 BadBase64;5 dn: cn=a|cn: A||;",
+        ),
+        (
+            "dn: cn=P,dc=a\nchangetype: modify\nadd: cn\ncn: 1\n-\ndelete: l\nl: x\n",
+            "1 dn: cn=P,dc=a|changetype: modify|add: cn|cn: 1|-|delete: l|l: x|-||;",
+        ),
+        ("dn: cn=a\njpegphoto:< file:///x\n", "1 L3 UrlValue;"),
+        (
+            "dn: cn=a\ncontrol: 1.2 true\nchangetype: delete\n",
+            "1 L4 Control;",
+        ),
+    ] {
         assert_read(&rt, alloc, text, want);
     }
 }
 
-/// Texts with faults, and what each reads as.
-const FAULTY_TEXTS: [(&str, &str); 29] = [
-    ("version: 2\n", "L15 BadVersion;L13 Ended;"),
-    ("VERSION:1\n\n", ""),
-    ("version:: MQ==\n", "L15 BadVersion;L13 Ended;"),
-    ("dn: cn=a\nnote:: A\n", "1 L2 BadBase64;"),
-    ("dn: cn=a\nnote:: AA=\n", "1 L2 BadBase64;"),
-    ("dn: cn=a\nnote:: AAF=\n", "1 L2 BadBase64;"),
-    ("dn: cn=a\nnote:: AA== \n", "1 L2 BadBase64;"),
-    ("dn: cn=a\nnote:: AA==\n", "1 dn: cn=a|note:: AA==||;"),
-    ("dn: cn=a\nnote::\n", "1 dn: cn=a|note:||;"),
-    ("dn: cn=a\nnote: \rx\n", "1 L1 BadLine;"),
-    ("dn: cn=a\nnote:   x \n", "1 dn: cn=a|note:: eCA=||;"),
-    ("dn: cn=a\n:x\n", "1 L1 BadLine;"),
-    ("cn: a\n\ndn: cn=b\n", "1 L1 BadLine;3 dn: cn=b||;"),
-    ("# c\n  c\n\n\n # d\n", "5 L1 BadLine;"),
-    ("dn: cn=a\nchangetype: move\n", "1 L5 BadChangetype;"),
-    ("dn: cn=a\nchangetype: delete\ncn: a\n", "1 L1 BadLine;"),
-    (
-        "dn: cn=a\nchangetype: modify\nincrement: a\n",
-        "1 L6 BadModify;",
-    ),
-    ("dn: cn=a\nchangetype: modify\n-\n", "1 L1 BadLine;"),
-    (
-        "dn: cn=a\nchangetype: modify\nadd: cn\nsn: x\n",
-        "1 L6 BadModify;",
-    ),
-    (
-        "dn: cn=a\nchangetype:: bW9kcmRu\nnewrdn: cn=b\n",
-        "1 L7 BadRename;",
-    ),
-    (
-        "dn: cn=a\nchangetype: modrdn\nnewrdn: cn=b\ndeleteoldrdn: 2\n",
-        "1 L7 BadRename;",
-    ),
-    (
-        "dn: cn=a\nchangetype: modrdn\nnewrdn: cn\ndeleteoldrdn: 2\n",
-        "1 L9 N4 BadDn;",
-    ),
-    ("dn: x\n", "1 L9 N4 BadDn;"),
-    (
-        "dn: cn=e,dc=com\nchangetype: add\nnote: x\n\ndn: cn=f,dc=com\nchangetype: add\nnote:: AAE",
-        "1 dn: cn=e,dc=com|changetype: add|note: x||;5 L2 BadBase64;",
-    ),
-    // The first faulty line decides: its own fault comes before that of its place, and a missing line last.
-    ("dn: cn=a\nnote:: A\nother:< x\n", "1 L2 BadBase64;"),
-    (
-        "dn: cn=a\nchangetype: delete\nnote:: A\n",
-        "1 L2 BadBase64;",
-    ),
-    (
-        "dn: cn=a\nchangetype: modrdn\nnewrdn: cn\n",
-        "1 L9 N4 BadDn;",
-    ),
-    ("dn: cn=a\n1cn: b\n", "1 L9 N1 BadDescription;"),
-    ("dn: cn=a\nchangetype;x: b\n", "1 L9 N2 ReservedName;"),
-];
-
 #[test]
 fn faults_have_their_line(rt: HostRuntime) {
     let alloc = rt.alloc();
-    for (text, want) in FAULTY_TEXTS {
+    for (text, want) in &[
+        ("version: 2\n", "L15 BadVersion;L13 Ended;"),
+        ("VERSION:1\n\n", ""),
+        ("version:: MQ==\n", "L15 BadVersion;L13 Ended;"),
+        ("dn: cn=a\nnote:: A\n", "1 L2 BadBase64;"),
+        ("dn: cn=a\nnote:: AA=\n", "1 L2 BadBase64;"),
+        ("dn: cn=a\nnote:: AAF=\n", "1 L2 BadBase64;"),
+        ("dn: cn=a\nnote:: AA== \n", "1 L2 BadBase64;"),
+        ("dn: cn=a\nnote:: AA==\n", "1 dn: cn=a|note:: AA==||;"),
+        ("dn: cn=a\nnote::\n", "1 dn: cn=a|note:||;"),
+        ("dn: cn=a\nnote: \rx\n", "1 L1 BadLine;"),
+        ("dn: cn=a\nnote:   x \n", "1 dn: cn=a|note:: eCA=||;"),
+        ("dn: cn=a\n:x\n", "1 L1 BadLine;"),
+        ("cn: a\n\ndn: cn=b\n", "1 L1 BadLine;3 dn: cn=b||;"),
+        ("# c\n  c\n\n\n # d\n", "5 L1 BadLine;"),
+        ("dn: cn=a\nchangetype: move\n", "1 L5 BadChangetype;"),
+        ("dn: cn=a\nchangetype: delete\ncn: a\n", "1 L1 BadLine;"),
+        (
+            "dn: cn=a\nchangetype: modify\nincrement: a\n",
+            "1 L6 BadModify;",
+        ),
+        ("dn: cn=a\nchangetype: modify\n-\n", "1 L1 BadLine;"),
+        (
+            "dn: cn=a\nchangetype: modify\nadd: cn\nsn: x\n",
+            "1 L6 BadModify;",
+        ),
+        (
+            "dn: cn=a\nchangetype:: bW9kcmRu\nnewrdn: cn=b\n",
+            "1 L7 BadRename;",
+        ),
+        (
+            "dn: cn=a\nchangetype: modrdn\nnewrdn: cn=b\ndeleteoldrdn: 2\n",
+            "1 L7 BadRename;",
+        ),
+        (
+            "dn: cn=a\nchangetype: modrdn\nnewrdn: cn\ndeleteoldrdn: 2\n",
+            "1 L9 N4 BadDn;",
+        ),
+        ("dn: x\n", "1 L9 N4 BadDn;"),
+        (
+            "dn: cn=e,dc=com\nchangetype: add\nnote: x\n\ndn: cn=f,dc=com\nchangetype: add\nnote:: AAE",
+            "1 dn: cn=e,dc=com|changetype: add|note: x||;5 L2 BadBase64;",
+        ),
+        // The first faulty line decides: its own fault comes before that of its place, and a missing line last.
+        ("dn: cn=a\nnote:: A\nother:< x\n", "1 L2 BadBase64;"),
+        (
+            "dn: cn=a\nchangetype: delete\nnote:: A\n",
+            "1 L2 BadBase64;",
+        ),
+        (
+            "dn: cn=a\nchangetype: modrdn\nnewrdn: cn\n",
+            "1 L9 N4 BadDn;",
+        ),
+        ("dn: cn=a\n1cn: b\n", "1 L9 N1 BadDescription;"),
+        ("dn: cn=a\nchangetype;x: b\n", "1 L9 N2 ReservedName;"),
+    ] {
         assert_read(&rt, alloc, text, want);
     }
 }

@@ -4,58 +4,55 @@ use super::*;
 use dir_names::NameFault;
 use std::fmt::Display;
 
-/// That a fault shows this text, and no other under `#` or with a width.
-fn shows<F: Display>(rt: &impl Abort, alloc: Global, fault: &F, want: &str) {
+/// Asserts that a fault shows this text, and no other under `#`.
+fn assert_shows<F: Display>(rt: &impl Abort, alloc: Global, fault: &F, want: &str) {
     let plain = format!(in alloc; "{fault}").expect(rt, "memory");
     assert_text(rt, plain, want);
     let alternate = format!(in alloc; "{fault:#}").expect(rt, "memory");
     assert_text(rt, alternate, want);
 }
 
+/// Asserts that both texts are the same.
 fn assert_text(rt: &impl Abort, text: String, want: &str) {
     assert_eq!(rt; text.as_str(), want);
 }
 
-const RECORD_FAULTS: [(RecordFault, &str); 14] = [
-    (RecordFault::BadLine, "L1 BadLine"),
-    (RecordFault::BadBase64, "L2 BadBase64"),
-    (RecordFault::UrlValue, "L3 UrlValue"),
-    (RecordFault::Control, "L4 Control"),
-    (RecordFault::BadChangetype, "L5 BadChangetype"),
-    (RecordFault::BadModify, "L6 BadModify"),
-    (RecordFault::BadRename, "L7 BadRename"),
-    (RecordFault::ValueTooLong, "L8 ValueTooLong"),
-    (
-        RecordFault::Name(NameFault::BadDescription),
-        "L9 N1 BadDescription",
-    ),
-    (
-        RecordFault::Name(NameFault::ReservedName),
-        "L9 N2 ReservedName",
-    ),
-    (RecordFault::Name(NameFault::BadValue), "L9 N3 BadValue"),
-    (RecordFault::Name(NameFault::BadDn), "L9 N4 BadDn"),
-    (RecordFault::Name(NameFault::NameLimit), "L9 N5 NameLimit"),
-    (RecordFault::Name(NameFault::Memory), "L9 N6 Memory"),
-];
-
-const STREAM_FAULTS: [(StreamFault, &str); 6] = [
-    (StreamFault::LineTooLong, "L10 LineTooLong"),
-    (StreamFault::Read, "L11 Read"),
-    (StreamFault::Memory, "L12 Memory"),
-    (StreamFault::Ended, "L13 Ended"),
-    (StreamFault::TooManyTurns, "L14 TooManyTurns"),
-    (StreamFault::BadVersion, "L15 BadVersion"),
-];
-
 #[test]
 fn each_fault_shows_its_text(rt: HostRuntime) {
     let alloc = rt.alloc();
-    for (fault, want) in RECORD_FAULTS {
-        shows(&rt, alloc, &fault, want);
+    for (fault, want) in &[
+        (RecordFault::BadLine, "L1 BadLine"),
+        (RecordFault::BadBase64, "L2 BadBase64"),
+        (RecordFault::UrlValue, "L3 UrlValue"),
+        (RecordFault::Control, "L4 Control"),
+        (RecordFault::BadChangetype, "L5 BadChangetype"),
+        (RecordFault::BadModify, "L6 BadModify"),
+        (RecordFault::BadRename, "L7 BadRename"),
+        (RecordFault::ValueTooLong, "L8 ValueTooLong"),
+        (
+            RecordFault::Name(NameFault::BadDescription),
+            "L9 N1 BadDescription",
+        ),
+        (
+            RecordFault::Name(NameFault::ReservedName),
+            "L9 N2 ReservedName",
+        ),
+        (RecordFault::Name(NameFault::BadValue), "L9 N3 BadValue"),
+        (RecordFault::Name(NameFault::BadDn), "L9 N4 BadDn"),
+        (RecordFault::Name(NameFault::NameLimit), "L9 N5 NameLimit"),
+        (RecordFault::Name(NameFault::Memory), "L9 N6 Memory"),
+    ] {
+        assert_shows(&rt, alloc, fault, want);
     }
-    for (fault, want) in STREAM_FAULTS {
-        shows(&rt, alloc, &fault, want);
+    for (fault, want) in &[
+        (StreamFault::LineTooLong, "L10 LineTooLong"),
+        (StreamFault::Read, "L11 Read"),
+        (StreamFault::Memory, "L12 Memory"),
+        (StreamFault::Ended, "L13 Ended"),
+        (StreamFault::TooManyTurns, "L14 TooManyTurns"),
+        (StreamFault::BadVersion, "L15 BadVersion"),
+    ] {
+        assert_shows(&rt, alloc, fault, want);
     }
-    shows(&rt, alloc, &DeviceFault, "the device failed");
+    assert_shows(&rt, alloc, &DeviceFault, "the device failed");
 }

@@ -57,14 +57,6 @@ fn modify(rt: &impl Abort, alloc: Global, dn: &[u8], value: &[u8]) -> Change {
     }
 }
 
-/// The add of an entry that has one value.
-fn add(rt: &impl Abort, alloc: Global, dn: &[u8], description: &[u8], value: Vec<u8>) -> Change {
-    Change {
-        dn: name(rt, alloc, dn),
-        kind: ChangeKind::Add(one_line(rt, alloc, description, value)),
-    }
-}
-
 /// The rename of an entry that deletes the old values.
 fn rename(
     rt: &impl Abort,
@@ -184,7 +176,22 @@ fn assert_checks_of_length(
     let value = vec![in alloc; b'a'; length].expect(rt, "memory");
     let change = modify(rt, alloc, b"cn=x,dc=com", value.as_slice());
     assert_check(rt, alloc, &change, want);
-    let change = add(rt, alloc, b"cn=x,dc=com", b"sn", value);
+    assert_add_check(rt, alloc, b"cn=x,dc=com", b"sn", value, want);
+}
+
+/// Asserts what the check of the add of an entry that has one value answers.
+fn assert_add_check(
+    rt: &impl Abort,
+    alloc: Global,
+    dn: &[u8],
+    description: &[u8],
+    value: Vec<u8>,
+    want: Result<(), RecordFault>,
+) {
+    let change = Change {
+        dn: name(rt, alloc, dn),
+        kind: ChangeKind::Add(one_line(rt, alloc, description, value)),
+    };
     assert_check(rt, alloc, &change, want);
 }
 
@@ -292,8 +299,14 @@ fn assert_first_value(rt: &impl Abort, alloc: Global, text: &[u8], want: &[u8]) 
 fn legal_changes_pass(rt: HostRuntime) {
     let alloc = rt.alloc();
     let staff = b"staff".to_vec(alloc).expect(&rt, "memory");
-    let change = add(&rt, alloc, b"ou=people,DC=COM", b"description", staff);
-    assert_check(&rt, alloc, &change, Ok(()));
+    assert_add_check(
+        &rt,
+        alloc,
+        b"ou=people,DC=COM",
+        b"description",
+        staff,
+        Ok(()),
+    );
 }
 
 #[test]
@@ -305,6 +318,5 @@ fn the_first_fault_of_a_change_is_told(rt: HostRuntime) {
     };
     assert_check(&rt, alloc, &keyless, NO_NAME);
     let long = vec![in alloc; b'a'; 1_048_577].expect(&rt, "memory");
-    let keyless = add(&rt, alloc, b"cn=a+commonName=b", b"sn", long);
-    assert_check(&rt, alloc, &keyless, NO_NAME);
+    assert_add_check(&rt, alloc, b"cn=a+commonName=b", b"sn", long, NO_NAME);
 }
