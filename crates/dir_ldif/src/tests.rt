@@ -339,7 +339,7 @@ fn a_source_ends_or_fails(rt: HostRuntime) {
 fn so_many_read_calls_are_allowed(rt: HostRuntime) {
     let alloc = rt.alloc();
     // Eleven pieces of a byte, and the end.
-    for (turns, want) in [(12, "1 dn: dc=com||;"), (11, "L14 TooManyTurns;L13 Ended;")] {
+    for &(turns, want) in &[(12, "1 dn: dc=com||;"), (11, "L14 TooManyTurns;L13 Ended;")] {
         let source = Script::new(b"dn: dc=com\n").pieces(1);
         assert_turns(&rt, alloc, source, turns, want);
     }
@@ -355,7 +355,7 @@ fn a_long_line_ends_the_text(rt: HostRuntime) {
     let block = vec![in alloc; b'a'; 8192].expect(&rt, "memory");
     let long = Script::new(block.as_slice()).endless();
     assert_source(&rt, alloc, long, "L10 LineTooLong;L13 Ended;");
-    for (length, want) in [
+    for &(length, want) in &[
         (1_048_576, None),
         (1_048_577, Some(RecordFault::ValueTooLong)),
     ] {
@@ -412,7 +412,7 @@ fn assert_too_long(rt: &impl Abort, alloc: Global, text: &[u8]) {
 fn long_base64_texts_are_base64_or_not(rt: HostRuntime) {
     let alloc = rt.alloc();
     // The longest line of `x:: ` and a base64 text, with one sign changed.
-    for (at, sign, want) in [
+    for &(at, sign, want) in &[
         (0, b'A', RecordFault::ValueTooLong),
         (0, b'*', RecordFault::BadBase64),
         (1023, b'=', RecordFault::BadBase64),

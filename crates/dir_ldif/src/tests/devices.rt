@@ -225,18 +225,13 @@ impl Write for Counting<'_> {
 #[test]
 fn each_call_is_passed_on_once(rt: HostRuntime) {
     let alloc = rt.alloc();
-    for (failing, want) in [
-        (1, b"!|x|x".as_slice()),
-        (2, b"|x!|x"),
-        (3, b"|x|x!"),
-        (4, b"|x|x|x"),
-    ] {
+    for &(failing, want) in &[(1, "!|x|x"), (2, "|x!|x"), (3, "|x|x!"), (4, "|x|x|x")] {
         let mut calls = 0usize;
         let reader = Reader::new(Counting {
             calls: &mut calls,
             failing,
         });
-        assert_gives(&rt, alloc, reader, 3, want);
+        assert_gives(&rt, alloc, reader, 3, want.as_bytes());
         assert_eq!(rt; calls, 3);
     }
     for failing in 1..5usize {
@@ -251,7 +246,7 @@ fn assert_passed_on(rt: &impl Abort, failing: usize) {
         calls: &mut calls,
         failing,
     });
-    for (write, flush) in [(1, 2), (3, 4)] {
+    for &(write, flush) in &[(1, 2), (3, 4)] {
         let taken = if failing == write {
             Err(DeviceFault)
         } else {
@@ -320,20 +315,19 @@ impl Source for Counted<'_> {
     }
 }
 
-#[test]
-fn a_record_comes_before_the_next_read(rt: HostRuntime) {
-    let alloc = rt.alloc();
-    let schema = Schema::builtin(alloc).expect(&rt, "a schema");
-    let text = b"dn: dc=com\n\ndn: cn=a,";
-    let mut source = Counted {
-        script: Script::new(text).failing_from(2),
-        calls: 0,
-    };
-    let mut reader = RecordReader::new(alloc, &schema, &mut source).expect(&rt, "a reader");
-    assert!(rt; next_line(&rt, &mut reader) == Ok(1));
-    assert_eq!(rt; reader.into_source().calls, 1);
-    let failing = Script::new(text).failing_from(2);
-    assert_source(&rt, alloc, failing, "1 dn: dc=com||;L11 Read;L13 Ended;");
+/// Asserts what is read first of a script, the record of a line or a fault, and in how many calls.
+fn assert_first(
+    rt: &impl Abort,
+    alloc: Global,
+    script: Script,
+    want: Result<u64, StreamFault>,
+    calls: usize,
+) {
+    let schema = Schema::builtin(alloc).expect(rt, "a schema");
+    let mut source = Counted { script, calls: 0 };
+    let mut reader = RecordReader::new(alloc, &schema, &mut source).expect(rt, "a reader");
+    assert_eq!(rt; next_line(rt, &mut reader), want);
+    assert_eq!(rt; reader.into_source().calls, calls);
 }
 
 /// The line of the record that a reader answers next.
@@ -349,37 +343,31 @@ fn next_line<R: Source + Drop>(
 }
 
 #[test]
+fn a_record_comes_before_the_next_read(rt: HostRuntime) {
+    let alloc = rt.alloc();
+    let text = b"dn: dc=com\n\ndn: cn=a,";
+    let failing = Script::new(text).failing_from(2);
+    assert_first(&rt, alloc, failing, Ok(1), 1);
+    let failing = Script::new(text).failing_from(2);
+    assert_source(&rt, alloc, failing, "1 dn: dc=com||;L11 Read;L13 Ended;");
+}
+
+#[test]
 fn reading_ends_soon_after_a_line_is_too_long(rt: HostRuntime) {
     let alloc = rt.alloc();
     // 256 pieces of 8,192 bytes are the greatest line; the next one has the first byte too many.
     for byte in [b'a', b'#'] {
         let piece = vec![in alloc; byte; 8192].expect(&rt, "memory");
-        assert_too_long_in(&rt, alloc, Script::new(piece.as_slice()).endless(), 257);
+        let endless = Script::new(piece.as_slice()).endless();
+        assert_first(&rt, alloc, endless, Err(StreamFault::LineTooLong), 257);
     }
-}
-
-/// Asserts that a script's first line is too long, as this many calls show.
-fn assert_too_long_in(rt: &impl Abort, alloc: Global, script: Script, calls: usize) {
-    let schema = Schema::builtin(alloc).expect(rt, "a schema");
-    let mut source = Counted { script, calls: 0 };
-    let mut reader = RecordReader::new(alloc, &schema, &mut source).expect(rt, "a reader");
-    assert!(rt; next_line(rt, &mut reader) == Err(StreamFault::LineTooLong));
-    drop(reader);
-    assert_eq!(rt; source.calls, calls);
 }
 
 #[test]
 fn endless_texts_without_a_record_use_up_the_read_calls(rt: HostRuntime) {
     let alloc = rt.alloc();
-    for piece in [
-        b"\n".as_slice(),
-        b"\r\n",
-        b"#\n",
-        b"# a comment\n",
-        b" \n",
-        b" \r\n",
-    ] {
-        let endless = Script::new(piece).endless();
+    for piece in &["\n", "\r\n", "#\n", "# a comment\n", " \n", " \r\n"] {
+        let endless = Script::new(piece.as_bytes()).endless();
         assert_turns(&rt, alloc, endless, 100, "L14 TooManyTurns;L13 Ended;");
     }
 }

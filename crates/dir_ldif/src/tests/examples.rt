@@ -323,33 +323,34 @@ changetype: delete
 fn assert_records(rt: &impl Abort, alloc: Global, text: &str, want: &str) {
     let mut found = String::new(alloc);
     for (line, answer) in &answers_on(rt, alloc, text.as_bytes()) {
-        let text = answer_text(rt, alloc, *line, answer);
-        found.push_str(text.as_str()).expect(rt, "memory");
+        push_answer(rt, alloc, &mut found, *line, answer);
     }
     assert_eq!(rt; found.as_str(), want);
 }
 
-/// The line of a record, after a `#`, and its text or its fault.
-fn answer_text(
+/// Appends the line of a record, after a `#`, and its text or its fault.
+fn push_answer(
     rt: &impl Abort,
     alloc: Global,
+    out: &mut String,
     line: u64,
     answer: &Result<Record, RecordFault>,
-) -> String {
-    match answer {
+) {
+    let text = match answer {
         Ok(record) => {
             let text = record_text(alloc, record).expect(rt, "memory");
             let text = String::from_utf8(text).expect(rt, "ASCII");
             format!(in alloc; "# {line}\n{text}").expect(rt, "memory")
         }
         Err(fault) => format!(in alloc; "# {line}\n{fault}\n").expect(rt, "memory"),
-    }
+    };
+    out.push_str(text.as_str()).expect(rt, "memory");
 }
 
 #[test]
 fn examples_of_the_standard_are_read(rt: HostRuntime) {
     let alloc = rt.alloc();
-    for (text, want) in [
+    for (text, want) in &[
         (SIMPLE, SIMPLE_RECORDS),
         (FOLDED_VALUE, FOLDED_VALUE_RECORDS),
         (LANGUAGES, LANGUAGES_RECORDS),

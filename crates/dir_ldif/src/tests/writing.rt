@@ -14,7 +14,7 @@ fn assert_reads_back(rt: &impl Abort, alloc: Global, text: &str) {
 #[test]
 fn the_text_of_a_record_reads_back(rt: HostRuntime) {
     let alloc = rt.alloc();
-    for text in [
+    for text in &[
         "dn: DC=Example,dc=com|DC: Example|objectClass: domain||",
         "dn: DC=Example,dc=com|changetype: delete||",
         "dn: cn=a,dc=com|changetype: add|cn: a|description:: IGxlYWQ=|note:|userPassword:: AP8=||",
@@ -138,14 +138,14 @@ const NO_NAME: Result<(), RecordFault> = Err(RecordFault::Name(NameFault::BadDn)
 #[test]
 fn changes_are_checked(rt: HostRuntime) {
     let alloc = rt.alloc();
-    for (newrdn, superior, want) in [
-        (b"cn=y".as_slice(), b"ou=A,dc=com".as_slice(), Ok(())),
-        (b"member=y", b"ou=A,dc=com", NO_NAME),
-        (b"cn=y", b"uidNumber=x", NO_NAME),
+    for &(newrdn, superior, want) in &[
+        ("cn=y", "ou=A,dc=com", Ok(())),
+        ("member=y", "ou=A,dc=com", NO_NAME),
+        ("cn=y", "uidNumber=x", NO_NAME),
     ] {
-        assert_rename_check(&rt, alloc, newrdn, superior, want);
+        assert_rename_check(&rt, alloc, newrdn.as_bytes(), superior.as_bytes(), want);
     }
-    for (length, want) in [
+    for &(length, want) in &[
         (1_048_576, Ok(())),
         (1_048_577, Err(RecordFault::ValueTooLong)),
     ] {
@@ -222,8 +222,8 @@ fn lines_are_folded(rt: HostRuntime) {
 fn values_are_written_as_they_are_or_in_base64(rt: HostRuntime) {
     let alloc = rt.alloc();
     let mut out = Vec::new(alloc);
-    for value in [b"".as_slice(), b" lead", b"<x", b":x", b"a<: b"] {
-        push_line(&mut out, b"note", value).expect(&rt, "memory");
+    for value in &["", " lead", "<x", ":x", "a<: b"] {
+        push_line(&mut out, b"note", value.as_bytes()).expect(&rt, "memory");
     }
     assert_eq!(rt;
         out.as_slice(),
@@ -243,7 +243,7 @@ fn line_of(rt: &impl Abort, alloc: Global, name: &[u8], length: usize) -> Vec<u8
 fn a_line_of_77_bytes_is_folded(rt: HostRuntime) {
     let alloc = rt.alloc();
     // `x: ` and a value: how long the physical lines are.
-    for (length, want) in [
+    for &(length, want) in &[
         (73, [76usize, 0, 0]),
         (74, [76, 2, 0]),
         (148, [76, 76, 0]),
