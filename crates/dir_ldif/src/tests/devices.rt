@@ -267,13 +267,8 @@ fn assert_passed_on(rt: &impl Abort, failing: usize) {
 #[test]
 fn readers_and_writers_of_the_standard_library_are_devices(rt: HostRuntime) {
     let alloc = rt.alloc();
-    assert_gives(
-        &rt,
-        alloc,
-        Reader::new(b"abcdef".as_slice()),
-        3,
-        b"|abcd|ef|",
-    );
+    let reader = Reader::new(b"abcdef".as_slice());
+    assert_gives(&rt, alloc, reader, 3, b"|abcd|ef|");
     let mut taken = Vec::new(alloc);
     assert_written_to(&rt, Writer::new(&mut taken), b"abc", Ok(()));
     assert_eq!(rt; taken.as_slice(), b"abc".as_slice());
@@ -326,7 +321,7 @@ fn assert_first(
     let schema = Schema::builtin(alloc).expect(rt, "a schema");
     let mut source = Counted { script, calls: 0 };
     let mut reader = RecordReader::new(alloc, &schema, &mut source).expect(rt, "a reader");
-    assert_eq!(rt; next_line(rt, &mut reader), want);
+    assert!(rt; next_line(rt, &mut reader) == want);
     assert_eq!(rt; reader.into_source().calls, calls);
 }
 
