@@ -3,18 +3,12 @@
 use super::*;
 use std::io::{self, ErrorKind, Read, Write};
 
-/// What a source gives in some calls, with room for so many bytes in each: each piece after a `|`, and `!` for a
-/// fault.
-fn bytes_given<S: Source>(
-    rt: &impl Abort,
-    alloc: Global,
-    source: &mut S,
-    room: &mut [u8],
-    calls: usize,
-) -> Vec<u8> {
+/// What a source gives in some calls, with room for four bytes in each: each piece after a `|`, and `!` for a fault.
+fn bytes_given<S: Source>(rt: &impl Abort, alloc: Global, source: &mut S, calls: usize) -> Vec<u8> {
+    let mut room = [0u8; 4];
     let mut out = Vec::new(alloc);
     for _ in 0..calls {
-        match source.read(&mut *room) {
+        match source.read(&mut room) {
             Ok(n) => {
                 out.push(b'|').expect(rt, "memory");
                 out.extend_from_slice(&room[..n]).expect(rt, "memory");
@@ -25,52 +19,77 @@ fn bytes_given<S: Source>(
     out
 }
 
+/// Asserts what a source gives in some calls.
+fn assert_gives<S: Source + Drop>(
+    rt: &impl Abort,
+    alloc: Global,
+    mut source: S,
+    calls: usize,
+    want: &[u8],
+) {
+    let found = bytes_given(rt, alloc, &mut source, calls);
+    assert_eq!(rt; found.as_slice(), want);
+}
+
 #[test]
 fn scripts_give_pieces(rt: HostRuntime) {
     let alloc = rt.alloc();
-    let text = b"abcdef".as_slice();
-    let mut room = [0u8; 4];
-    for (mut script, want) in [
-        (Script::new(text), b"|abcd|ef||".as_slice()),
-        (Script::new(text).pieces(3), b"|abc|def||"),
-        (Script::new(text).pieces(0), b"|a|b|c|d"),
-        (Script::new(text).first_piece(1), b"|a|bcde|f|"),
-        (Script::new(text).pieces(2).first_piece(3), b"|abc|de|f|"),
-        (Script::new(text).endless(), b"|abcd|ef|abcd|ef"),
-        (Script::new(text).failing_from(1), b"!!!!"),
-        (Script::new(text).failing_from(3), b"|abcd|ef!!"),
-        (Script::new(b""), b"||||"),
-        (Script::new(b"").endless(), b"||||"),
-    ] {
-        let found = bytes_given(&rt, alloc, &mut script, &mut room, 4);
-        assert_eq!(rt; found.as_slice(), want);
-    }
+    let text = || Script::new(b"abcdef");
+    assert_gives(&rt, alloc, text(), 4, b"|abcd|ef||");
+    assert_gives(&rt, alloc, text().pieces(3), 4, b"|abc|def||");
+    assert_gives(&rt, alloc, text().pieces(0), 4, b"|a|b|c|d");
+    assert_gives(&rt, alloc, text().first_piece(1), 4, b"|a|bcde|f|");
+    let pieces = text().pieces(2).first_piece(3);
+    assert_gives(&rt, alloc, pieces, 4, b"|abc|de|f|");
+}
+
+#[test]
+fn scripts_end_or_fail_or_go_on(rt: HostRuntime) {
+    let alloc = rt.alloc();
+    let text = || Script::new(b"abcdef");
+    assert_gives(&rt, alloc, text().endless(), 4, b"|abcd|ef|abcd|ef");
+    assert_gives(&rt, alloc, text().failing_from(1), 4, b"!!!!");
+    assert_gives(&rt, alloc, text().failing_from(3), 4, b"|abcd|ef!!");
+    assert_gives(&rt, alloc, Script::new(b""), 4, b"||||");
+    assert_gives(&rt, alloc, Script::new(b"").endless(), 4, b"||||");
 }
 
 #[test]
 fn endless_scripts_give_their_text_over_and_over(rt: HostRuntime) {
     let alloc = rt.alloc();
-    let text = b"abc".as_slice();
-    let mut room = [0u8; 4];
-    for (mut script, want) in [
-        (
-            Script::new(text).endless().pieces(1),
-            b"|a|b|c|a|b|c|a".as_slice(),
-        ),
-        (Script::new(text).pieces(2).endless(), b"|ab|c|ab|c|ab|c|ab"),
-        (Script::new(text).endless(), b"|abc|abc|abc|abc|abc|abc|abc"),
-        (
-            Script::new(text).first_piece(1).endless(),
-            b"|a|bc|abc|abc|abc|abc|abc",
-        ),
-        (
-            Script::new(text).endless().failing_from(3),
-            b"|abc|abc!!!!!",
-        ),
-    ] {
-        let found = bytes_given(&rt, alloc, &mut script, &mut room, 7);
-        assert_eq!(rt; found.as_slice(), want);
-    }
+    let endless = || Script::new(b"abc").endless();
+    assert_gives(&rt, alloc, endless().pieces(1), 7, b"|a|b|c|a|b|c|a");
+    let pieces = Script::new(b"abc").pieces(2).endless();
+    assert_gives(&rt, alloc, pieces, 7, b"|ab|c|ab|c|ab|c|ab");
+    assert_gives(&rt, alloc, endless(), 7, b"|abc|abc|abc|abc|abc|abc|abc");
+    let first_piece = Script::new(b"abc").first_piece(1).endless();
+    assert_gives(&rt, alloc, first_piece, 7, b"|a|bc|abc|abc|abc|abc|abc");
+    assert_gives(&rt, alloc, endless().failing_from(3), 7, b"|abc|abc!!!!!");
+}
+
+/// Asserts what a sink answers to a write.
+fn assert_write<W: Sink>(
+    rt: &impl Abort,
+    sink: &mut W,
+    text: &[u8],
+    want: Result<usize, DeviceFault>,
+) {
+    assert_eq!(rt; sink.write(text), want);
+}
+
+/// Asserts what a sink answers to a whole text.
+fn assert_write_whole<W: Sink>(
+    rt: &impl Abort,
+    sink: &mut W,
+    text: &[u8],
+    want: Result<(), DeviceFault>,
+) {
+    assert_eq!(rt; write_whole(sink, text), want);
+}
+
+/// Asserts what a sink answers to a flush.
+fn assert_flush<W: Sink>(rt: &impl Abort, sink: &mut W, want: Result<(), DeviceFault>) {
+    assert_eq!(rt; sink.flush(), want);
 }
 
 /// A text, and a flush.
@@ -79,40 +98,67 @@ fn written<W: Sink + Drop>(mut sink: W, text: &[u8]) -> Result<(), DeviceFault> 
     sink.flush()
 }
 
+/// Asserts what a sink answers to a text and a flush.
+fn assert_written_to<W: Sink + Drop>(
+    rt: &impl Abort,
+    sink: W,
+    text: &[u8],
+    want: Result<(), DeviceFault>,
+) {
+    assert_eq!(rt; written(sink, text), want);
+}
+
+/// Asserts what a tape has taken.
+fn assert_taken(rt: &impl Abort, tape: &Tape, want: &[u8]) {
+    assert_eq!(rt; tape.as_slice(), want);
+}
+
+/// Asserts how much of what a tape has taken was flushed.
+fn assert_flushed(rt: &impl Abort, tape: &Tape, want: &[u8]) {
+    assert_eq!(rt; tape.flushed(), want);
+}
+
 #[test]
 fn a_lent_sink_is_one(rt: HostRuntime) {
     let mut room = [0u8; 6];
     let mut tape = Tape::new(&mut room).pieces(2).failing_from(5);
-    assert_eq!(rt; written(&mut tape, b"abc"), Ok(()));
-    assert_eq!(rt; tape.flushed(), b"abc".as_slice());
-    assert_eq!(rt; written(&mut tape, b"d"), Err(DeviceFault));
-    assert_eq!(rt; tape.as_slice(), b"abcd".as_slice());
-    assert_eq!(rt; tape.flushed(), b"abc".as_slice());
+    assert_written_to(&rt, &mut tape, b"abc", Ok(()));
+    assert_flushed(&rt, &tape, b"abc");
+    assert_written_to(&rt, &mut tape, b"d", Err(DeviceFault));
+    assert_taken(&rt, &tape, b"abcd");
+    assert_flushed(&rt, &tape, b"abc");
 }
 
 #[test]
 fn tapes_take_pieces(rt: HostRuntime) {
     let mut room = [0u8; 6];
     let mut tape = Tape::new(&mut room).pieces(4);
-    assert_eq!(rt; tape.as_slice(), b"".as_slice());
-    assert_eq!(rt; tape.write(b"abcdef"), Ok(4));
-    assert_eq!(rt; tape.flush(), Ok(()));
-    assert_eq!(rt; tape.write(b"ef"), Ok(2));
-    assert_eq!(rt; tape.write(b"g"), Ok(0));
-    assert_eq!(rt; tape.as_slice(), b"abcdef".as_slice());
-    assert_eq!(rt; tape.flushed(), b"abcd".as_slice());
+    assert_taken(&rt, &tape, b"");
+    assert_write(&rt, &mut tape, b"abcdef", Ok(4));
+    assert_flush(&rt, &mut tape, Ok(()));
+    assert_write(&rt, &mut tape, b"ef", Ok(2));
+    assert_write(&rt, &mut tape, b"g", Ok(0));
+    assert_taken(&rt, &tape, b"abcdef");
+    assert_flushed(&rt, &tape, b"abcd");
+}
+
+#[test]
+fn a_stalled_tape_takes_nothing(rt: HostRuntime) {
     let mut room = [0u8; 6];
     let mut stalled = Tape::new(&mut room).pieces(0);
-    assert_eq!(rt; write_whole(&mut stalled, b""), Ok(()));
-    assert_eq!(rt; write_whole(&mut stalled, b"a"), Err(DeviceFault));
-    assert_eq!(rt; stalled.as_slice(), b"".as_slice());
-    // Writes and flushes are counted together.
+    assert_write_whole(&rt, &mut stalled, b"", Ok(()));
+    assert_write_whole(&rt, &mut stalled, b"a", Err(DeviceFault));
+    assert_taken(&rt, &stalled, b"");
+}
+
+#[test]
+fn writes_and_flushes_are_counted_together(rt: HostRuntime) {
     let mut room = [0u8; 6];
     let mut failing = Tape::new(&mut room).pieces(1).failing_from(3);
-    assert_eq!(rt; failing.flush(), Ok(()));
-    assert_eq!(rt; write_whole(&mut failing, b"ab"), Err(DeviceFault));
-    assert_eq!(rt; failing.flush(), Err(DeviceFault));
-    assert_eq!(rt; failing.as_slice(), b"a".as_slice());
+    assert_flush(&rt, &mut failing, Ok(()));
+    assert_write_whole(&rt, &mut failing, b"ab", Err(DeviceFault));
+    assert_flush(&rt, &mut failing, Err(DeviceFault));
+    assert_taken(&rt, &failing, b"a");
 }
 
 /// A device that fails in every call.
@@ -179,58 +225,62 @@ impl Write for Counting<'_> {
 #[test]
 fn each_call_is_passed_on_once(rt: HostRuntime) {
     let alloc = rt.alloc();
-    let mut room = [0u8; 4];
-    for (failing, want) in [
-        (1, b"!|x|x".as_slice()),
-        (2, b"|x!|x"),
-        (3, b"|x|x!"),
-        (4, b"|x|x|x"),
-    ] {
+    for &(failing, want) in &[(1, "!|x|x"), (2, "|x!|x"), (3, "|x|x!"), (4, "|x|x|x")] {
         let mut calls = 0usize;
-        let mut reader = Reader::new(Counting {
+        let reader = Reader::new(Counting {
             calls: &mut calls,
             failing,
         });
-        let found = bytes_given(&rt, alloc, &mut reader, &mut room, 3);
-        assert_eq!(rt; found.as_slice(), want);
-        drop(reader);
+        assert_gives(&rt, alloc, reader, 3, want.as_bytes());
         assert_eq!(rt; calls, 3);
     }
     for failing in 1..5usize {
-        let mut calls = 0usize;
-        let mut writer = Writer::new(Counting {
-            calls: &mut calls,
-            failing,
-        });
-        let answer = |call: usize| if call == failing { None } else { Some(1) };
-        assert_eq!(rt; writer.write(b"ab").ok(), answer(1));
-        assert_eq!(rt; writer.flush().is_err(), failing == 2);
-        assert_eq!(rt; writer.write(b"ab").ok(), answer(3));
-        assert_eq!(rt; writer.flush().is_err(), failing == 4);
-        drop(writer);
-        assert_eq!(rt; calls, 4);
+        assert_passed_on(&rt, failing);
     }
 }
 
-#[test]
-fn readers_and_writers_of_the_standard_library_are_devices(rt: HostRuntime) -> Result<(), Fail> {
-    let alloc = rt.alloc();
-    let mut room = [0u8; 4];
-    let mut reader = Reader::new(b"abcdef".as_slice());
-    let found = bytes_given(&rt, alloc, &mut reader, &mut room, 3);
-    assert_eq!(rt; found.as_slice(), b"|abcd|ef|".as_slice());
-    let found = bytes_given(&rt, alloc, &mut Reader::new(Broken), &mut room, 2);
-    assert_eq!(rt; found.as_slice(), b"!!".as_slice());
+/// Asserts that each of four calls of a writer is one call of its device, which fails in one of them.
+fn assert_passed_on(rt: &impl Abort, failing: usize) {
+    let mut calls = 0usize;
+    let mut writer = Writer::new(Counting {
+        calls: &mut calls,
+        failing,
+    });
+    for &(write, flush) in &[(1, 2), (3, 4)] {
+        let taken = if failing == write {
+            Err(DeviceFault)
+        } else {
+            Ok(1)
+        };
+        assert_write(rt, &mut writer, b"ab", taken);
+        let flushed = if failing == flush {
+            Err(DeviceFault)
+        } else {
+            Ok(())
+        };
+        assert_flush(rt, &mut writer, flushed);
+    }
+    drop(writer);
+    assert_eq!(rt; calls, 4);
+}
 
+#[test]
+fn readers_and_writers_of_the_standard_library_are_devices(rt: HostRuntime) {
+    let alloc = rt.alloc();
+    let reader = Reader::new(b"abcdef".as_slice());
+    assert_gives(&rt, alloc, reader, 3, b"|abcd|ef|");
     let mut taken = Vec::new(alloc);
-    let mut writer = Writer::new(&mut taken);
-    assert_eq!(rt; write_whole(&mut writer, b"abc"), Ok(()));
-    assert_eq!(rt; writer.flush(), Ok(()));
+    assert_written_to(&rt, Writer::new(&mut taken), b"abc", Ok(()));
     assert_eq!(rt; taken.as_slice(), b"abc".as_slice());
-    let mut writer = Writer::new(Broken);
-    assert_eq!(rt; write_whole(&mut writer, b"abc"), Err(DeviceFault));
-    assert_eq!(rt; writer.flush(), Err(DeviceFault));
-    Ok(())
+}
+
+#[test]
+fn readers_and_writers_that_fail_are_devices_that_fail(rt: HostRuntime) {
+    let alloc = rt.alloc();
+    assert_gives(&rt, alloc, Reader::new(Broken), 2, b"!!");
+    let mut broken = Writer::new(Broken);
+    assert_write_whole(&rt, &mut broken, b"abc", Err(DeviceFault));
+    assert_flush(&rt, &mut broken, Err(DeviceFault));
 }
 
 /// A script that counts its calls.
@@ -260,79 +310,78 @@ impl Source for Counted<'_> {
     }
 }
 
-#[test]
-fn a_record_comes_before_the_next_read(rt: HostRuntime) -> Result<(), Fail> {
-    let alloc = rt.alloc();
-    let schema = Schema::builtin(alloc)?;
-    let text = b"dn: dc=com\n\ndn: cn=a,";
-    let mut source = Counted {
-        script: Script::new(text).failing_from(2),
-        calls: 0,
-    };
-    let mut reader = RecordReader::new(alloc, &schema, &mut source)?;
-    assert!(rt; matches!(reader.next(), Ok(Some((1, Ok(_))))));
-    assert_eq!(rt; reader.into_source().calls, 1);
-    let reader = RecordReader::new(alloc, &schema, Script::new(text).failing_from(2))?;
-    assert_eq!(rt;
-        shown_answers(&rt, alloc, reader).as_str(),
-        "1 dn: dc=com||;L11 Read;L13 Ended;"
-    );
-    Ok(())
+/// Asserts what is read first of a script, the record of a line or a fault, and in how many calls.
+fn assert_first(
+    rt: &impl Abort,
+    alloc: Global,
+    script: Script,
+    want: Result<u64, StreamFault>,
+    calls: usize,
+) {
+    let schema = Schema::builtin(alloc).expect(rt, "a schema");
+    let mut source = Counted { script, calls: 0 };
+    let mut reader = RecordReader::new(alloc, &schema, &mut source).expect(rt, "a reader");
+    assert!(rt; next_line(rt, &mut reader) == want);
+    assert_eq!(rt; reader.into_source().calls, calls);
+}
+
+/// The line of the record that a reader answers next.
+fn next_line<R: Source + Drop>(
+    rt: &impl Abort,
+    reader: &mut RecordReader<R>,
+) -> Result<u64, StreamFault> {
+    match reader.next() {
+        Ok(Some((line, Ok(_)))) => Ok(line),
+        Ok(_) => panic!(rt; "no record"),
+        Err(fault) => Err(fault),
+    }
 }
 
 #[test]
-fn reading_ends_soon_after_a_line_is_too_long(rt: HostRuntime) -> Result<(), Fail> {
+fn a_record_comes_before_the_next_read(rt: HostRuntime) {
     let alloc = rt.alloc();
-    let schema = Schema::builtin(alloc)?;
+    let text = b"dn: dc=com\n\ndn: cn=a,";
+    let failing = Script::new(text).failing_from(2);
+    assert_first(&rt, alloc, failing, Ok(1), 1);
+    let failing = Script::new(text).failing_from(2);
+    assert_source(&rt, alloc, failing, "1 dn: dc=com||;L11 Read;L13 Ended;");
+}
+
+#[test]
+fn reading_ends_soon_after_a_line_is_too_long(rt: HostRuntime) {
+    let alloc = rt.alloc();
     // 256 pieces of 8,192 bytes are the greatest line; the next one has the first byte too many.
     for byte in [b'a', b'#'] {
-        let piece = vec![in alloc; byte; 8192]?;
-        let mut source = Counted {
-            script: Script::new(piece.as_slice()).endless(),
-            calls: 0,
-        };
-        let mut reader = RecordReader::new(alloc, &schema, &mut source)?;
-        assert!(rt; matches!(reader.next(), Err(StreamFault::LineTooLong)));
-        drop(reader);
-        assert_eq!(rt; source.calls, 257);
+        let piece = vec![in alloc; byte; 8192].expect(&rt, "memory");
+        let endless = Script::new(piece.as_slice()).endless();
+        assert_first(&rt, alloc, endless, Err(StreamFault::LineTooLong), 257);
     }
-    Ok(())
 }
 
 #[test]
-fn endless_texts_without_a_record_use_up_the_read_calls(rt: HostRuntime) -> Result<(), Fail> {
+fn endless_texts_without_a_record_use_up_the_read_calls(rt: HostRuntime) {
     let alloc = rt.alloc();
-    let schema = Schema::builtin(alloc)?;
-    for piece in [
-        b"\n".as_slice(),
-        b"\r\n",
-        b"#\n",
-        b"# a comment\n",
-        b" \n",
-        b" \r\n",
-    ] {
-        let source = Script::new(piece).endless();
-        let reader = RecordReader::with_turns(alloc, &schema, source, 100)?;
-        assert_eq!(rt;
-            shown_answers(&rt, alloc, reader).as_str(),
-            "L14 TooManyTurns;L13 Ended;"
-        );
+    for piece in &["\n", "\r\n", "#\n", "# a comment\n", " \n", " \r\n"] {
+        let endless = Script::new(piece.as_bytes()).endless();
+        assert_turns(&rt, alloc, endless, 100, "L14 TooManyTurns;L13 Ended;");
     }
-    Ok(())
 }
 
 #[test]
-fn tapes_take_and_stall(rt: HostRuntime) -> Result<(), Fail> {
+fn tapes_take_and_stall(rt: HostRuntime) {
     let mut room = [0u8; 8];
     let mut tape = Tape::new(&mut room).pieces(3);
-    assert!(rt; write_whole(&mut tape, b"abcdef").is_ok());
-    assert_eq!(rt; tape.as_slice(), b"abcdef".as_slice());
-    assert!(rt; write_whole(&mut tape, b"ghi").is_err());
-    assert_eq!(rt; tape.as_slice(), b"abcdefgh".as_slice());
+    assert_write_whole(&rt, &mut tape, b"abcdef", Ok(()));
+    assert_taken(&rt, &tape, b"abcdef");
+    assert_write_whole(&rt, &mut tape, b"ghi", Err(DeviceFault));
+    assert_taken(&rt, &tape, b"abcdefgh");
+}
+
+#[test]
+fn a_tape_fails_at_a_flush(rt: HostRuntime) {
     let mut room = [0u8; 8];
     let mut tape = Tape::new(&mut room).failing_from(2);
-    assert!(rt; write_whole(&mut tape, b"abc").is_ok());
-    assert!(rt; tape.flush().is_err());
-    assert_eq!(rt; tape.as_slice(), b"abc".as_slice());
-    Ok(())
+    assert_write_whole(&rt, &mut tape, b"abc", Ok(()));
+    assert_flush(&rt, &mut tape, Err(DeviceFault));
+    assert_taken(&rt, &tape, b"abc");
 }

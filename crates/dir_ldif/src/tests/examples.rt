@@ -319,33 +319,38 @@ control: 1.2.840.113556.1.4.805 true
 changetype: delete
 ";
 
-/// The records of a text: the line of each, after a `#`, and its text or its fault.
-fn records_text(rt: &impl Abort, alloc: Global, text: &str) -> String {
-    let schema = Schema::builtin(alloc).expect(rt, "a schema");
-    let answers = read_all(alloc, &schema, text.as_bytes()).expect(rt, "records");
-    let mut out = String::new(alloc);
-    for (line, answer) in &answers {
-        out.push_str(
-            format!(in alloc; "# {line}\n")
-                .expect(rt, "memory")
-                .as_str(),
-        )
-        .expect(rt, "memory");
-        let text = match answer {
-            Ok(record) => String::from_utf8(record_text(alloc, record).expect(rt, "memory")).expect(
-                rt, "ASCII",
-            ),
-            Err(fault) => format!(in alloc; "{fault}\n").expect(rt, "memory"),
-        };
-        out.push_str(text.as_str()).expect(rt, "memory");
+/// Asserts the records of a text: the line of each, after a `#`, and its text or its fault.
+fn assert_records(rt: &impl Abort, alloc: Global, text: &str, want: &str) {
+    let mut found = String::new(alloc);
+    for (line, answer) in &answers_on(rt, alloc, text.as_bytes()) {
+        push_answer(rt, alloc, &mut found, *line, answer);
     }
-    out
+    assert_eq!(rt; found.as_str(), want);
+}
+
+/// Appends the line of a record, after a `#`, and its text or its fault.
+fn push_answer(
+    rt: &impl Abort,
+    alloc: Global,
+    out: &mut String,
+    line: u64,
+    answer: &Result<Record, RecordFault>,
+) {
+    let text = match answer {
+        Ok(record) => {
+            let text = record_text(alloc, record).expect(rt, "memory");
+            let text = String::from_utf8(text).expect(rt, "ASCII");
+            format!(in alloc; "# {line}\n{text}").expect(rt, "memory")
+        }
+        Err(fault) => format!(in alloc; "# {line}\n{fault}\n").expect(rt, "memory"),
+    };
+    out.push_str(text.as_str()).expect(rt, "memory");
 }
 
 #[test]
 fn examples_of_the_standard_are_read(rt: HostRuntime) {
     let alloc = rt.alloc();
-    for (text, want) in [
+    for (text, want) in &[
         (SIMPLE, SIMPLE_RECORDS),
         (FOLDED_VALUE, FOLDED_VALUE_RECORDS),
         (LANGUAGES, LANGUAGES_RECORDS),
@@ -353,42 +358,38 @@ fn examples_of_the_standard_are_read(rt: HostRuntime) {
         (CHANGES, CHANGES_RECORDS),
         (CONTROLLED, "# 6\nL4 Control\n"),
     ] {
-        assert_eq!(rt; records_text(&rt, alloc, text).as_str(), want);
+        assert_records(&rt, alloc, text, want);
     }
 }
 
 #[test]
-fn the_careful_reader_is_read(rt: HostRuntime) -> Result<(), Fail> {
+fn the_careful_reader_is_read(rt: HostRuntime) {
     let alloc = rt.alloc();
-    let schema = Schema::builtin(alloc)?;
-    let answers = read_all(alloc, &schema, BASE64_VALUE.as_bytes())?;
-    assert_eq!(rt; answers.len(), 1);
-    let (line, Ok(Record::Content { dn: _, lines })) = &answers[0] else {
-        return Err("no entry".into());
-    };
-    assert_eq!(rt; *line, 2);
-    let last = lines.as_slice().last().expect(&rt, "a line");
-    assert_eq!(rt; last.1.as_slice(), CAREFUL_READER);
-    Ok(())
+    let answers = answers_on(&rt, alloc, BASE64_VALUE.as_bytes());
+    let record = only_record(&rt, answers.as_slice(), 2);
+    let (_, last) = lines_of(&rt, record).last().expect(&rt, "a line");
+    assert_eq!(rt; last.as_slice(), CAREFUL_READER);
 }
 
 #[test]
-fn the_japanese_values_are_read(rt: HostRuntime) -> Result<(), Fail> {
+fn the_japanese_values_are_read(rt: HostRuntime) {
     let alloc = rt.alloc();
-    let schema = Schema::builtin(alloc)?;
-    let answers = read_all(alloc, &schema, LANGUAGES.as_bytes())?;
     let mut found = Vec::new(alloc);
-    for (_, answer) in &answers {
-        let Ok(Record::Content { dn: _, lines }) = answer else {
-            return Err("no entry".into());
-        };
-        for (_, value) in lines.as_slice() {
-            if !value.as_slice().is_ascii() {
-                found.extend_from_slice(value.as_slice())?;
-                found.push(b'|')?;
-            }
-        }
+    for (_, answer) in &answers_on(&rt, alloc, LANGUAGES.as_bytes()) {
+        push_japanese(&rt, answer, &mut found);
     }
     assert_eq!(rt; found.as_slice(), JAPANESE.as_bytes());
-    Ok(())
+}
+
+/// Appends each value of an entry that is not ASCII, and a `|` after it.
+fn push_japanese(rt: &impl Abort, answer: &Result<Record, RecordFault>, found: &mut Vec<u8>) {
+    let record = answer.as_ref().expect(rt, "an entry");
+    for (_, value) in lines_of(rt, record) {
+        if !value.as_slice().is_ascii() {
+            found
+                .extend_from_slice(value.as_slice())
+                .expect(rt, "memory");
+            found.push(b'|').expect(rt, "memory");
+        }
+    }
 }

@@ -4,18 +4,23 @@ use super::*;
 use dir_names::NameFault;
 use std::fmt::Display;
 
-/// That a fault shows this text, and no other under `#` or with a width.
-fn shows<F: Display>(rt: &impl Abort, alloc: Global, fault: &F, want: &str) {
+/// Asserts that a fault shows this text, and no other under `#`.
+fn assert_shows<F: Display>(rt: &impl Abort, alloc: Global, fault: &F, want: &str) {
     let plain = format!(in alloc; "{fault}").expect(rt, "memory");
-    assert_eq!(rt; plain.as_str(), want);
+    assert_text(rt, plain, want);
     let alternate = format!(in alloc; "{fault:#}").expect(rt, "memory");
-    assert_eq!(rt; alternate.as_str(), want);
+    assert_text(rt, alternate, want);
+}
+
+/// Asserts that both texts are the same.
+fn assert_text(rt: &impl Abort, text: String, want: &str) {
+    assert_eq!(rt; text.as_str(), want);
 }
 
 #[test]
 fn each_fault_shows_its_text(rt: HostRuntime) {
     let alloc = rt.alloc();
-    for (fault, want) in [
+    for (fault, want) in &[
         (RecordFault::BadLine, "L1 BadLine"),
         (RecordFault::BadBase64, "L2 BadBase64"),
         (RecordFault::UrlValue, "L3 UrlValue"),
@@ -37,9 +42,9 @@ fn each_fault_shows_its_text(rt: HostRuntime) {
         (RecordFault::Name(NameFault::NameLimit), "L9 N5 NameLimit"),
         (RecordFault::Name(NameFault::Memory), "L9 N6 Memory"),
     ] {
-        shows(&rt, alloc, &fault, want);
+        assert_shows(&rt, alloc, fault, want);
     }
-    for (fault, want) in [
+    for (fault, want) in &[
         (StreamFault::LineTooLong, "L10 LineTooLong"),
         (StreamFault::Read, "L11 Read"),
         (StreamFault::Memory, "L12 Memory"),
@@ -47,7 +52,7 @@ fn each_fault_shows_its_text(rt: HostRuntime) {
         (StreamFault::TooManyTurns, "L14 TooManyTurns"),
         (StreamFault::BadVersion, "L15 BadVersion"),
     ] {
-        shows(&rt, alloc, &fault, want);
+        assert_shows(&rt, alloc, fault, want);
     }
-    shows(&rt, alloc, &DeviceFault, "the device failed");
+    assert_shows(&rt, alloc, &DeviceFault, "the device failed");
 }

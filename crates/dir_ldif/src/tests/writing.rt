@@ -3,16 +3,18 @@
 use super::*;
 use dir_names::{NameFault, Rdn, Texts};
 
-/// A text whose LF are written as `|`.
-fn with_line_feeds(rt: &impl Abort, alloc: Global, text: &str) -> String {
-    text.replace(alloc, "|", "\n").expect(rt, "memory")
+/// Asserts that a text, whose LF are given as `|`, is a record that is written so.
+fn assert_reads_back(rt: &impl Abort, alloc: Global, text: &str) {
+    let text = text.replace(alloc, "|", "\n").expect(rt, "memory");
+    let answers = answers_on(rt, alloc, text.as_bytes());
+    let record = only_record(rt, answers.as_slice(), 1);
+    assert_written(rt, alloc, record, text.as_str());
 }
 
 #[test]
-fn the_text_of_a_record_reads_back(rt: HostRuntime) -> Result<(), Fail> {
+fn the_text_of_a_record_reads_back(rt: HostRuntime) {
     let alloc = rt.alloc();
-    let schema = Schema::builtin(alloc)?;
-    for text in [
+    for text in &[
         "dn: DC=Example,dc=com|DC: Example|objectClass: domain||",
         "dn: DC=Example,dc=com|changetype: delete||",
         "dn: cn=a,dc=com|changetype: add|cn: a|description:: IGxlYWQ=|note:|userPassword:: AP8=||",
@@ -20,126 +22,177 @@ fn the_text_of_a_record_reads_back(rt: HostRuntime) -> Result<(), Fail> {
         "dn: dc=b,dc=com|changetype: modrdn|newrdn: dc=a|deleteoldrdn: 1||",
         "dn: ou=Team,ou=B,dc=com|changetype: modrdn|newrdn: ou=Team|deleteoldrdn: 1|newsuperior: ou=A,dc=com||",
     ] {
-        let text = with_line_feeds(&rt, alloc, text);
-        let answers = read_all(alloc, &schema, text.as_bytes())?;
-        assert_eq!(rt; answers.len(), 1);
-        let (1, Ok(record)) = &answers[0] else {
-            return Err("no record".into());
-        };
-        assert_eq!(rt; record_text(alloc, record)?.as_slice(), text.as_bytes());
+        assert_reads_back(&rt, alloc, text);
     }
-    Ok(())
 }
 
 /// The add of one value of `sn`.
-fn added_value(alloc: Global, schema: &Schema, value: &[u8]) -> Result<Mod, Fail> {
+fn added_value(rt: &impl Abort, alloc: Global, value: &[u8]) -> Mod {
+    let schema = Schema::builtin(alloc).expect(rt, "a schema");
+    let value = Bytes::copy_of(alloc, value).expect(rt, "memory");
     let mut values = Vec::new(alloc);
-    values.push(Bytes::copy_of(alloc, value)?)?;
-    Ok(Mod {
+    values.push(value).expect(rt, "memory");
+    Mod {
         op: ModOp::Add,
-        description: Description::read(alloc, schema, b"sn")?,
+        description: Description::read(alloc, &schema, b"sn").expect(rt, "a description"),
         values: Texts::new(values),
-    })
+    }
+}
+
+/// The modifications that add one value of `sn`.
+fn added_mods(rt: &impl Abort, alloc: Global, value: &[u8]) -> Mods {
+    let mut mods = Vec::new(alloc);
+    mods.push(added_value(rt, alloc, value))
+        .expect(rt, "memory");
+    Mods::new(mods)
+}
+
+/// The modify of an entry that adds one value of `sn`.
+fn modify(rt: &impl Abort, alloc: Global, dn: &[u8], value: &[u8]) -> Change {
+    let mods = added_mods(rt, alloc, value);
+    assert_eq!(rt; mods.as_slice().len(), 1);
+    Change {
+        dn: name(rt, alloc, dn),
+        kind: ChangeKind::Modify(mods),
+    }
+}
+
+/// The rename of an entry that deletes the old values.
+fn rename(
+    rt: &impl Abort,
+    alloc: Global,
+    dn: &[u8],
+    newrdn: &[u8],
+    newsuperior: Option<Dn>,
+) -> Change {
+    Change {
+        dn: name(rt, alloc, dn),
+        kind: ChangeKind::Rename {
+            newrdn: Rdn::read(alloc, newrdn).expect(rt, "an RDN"),
+            delete_old: true,
+            newsuperior,
+        },
+    }
+}
+
+/// Appends the modify of an entry that adds one value of `sn`.
+fn push_modify(rt: &impl Abort, alloc: Global, out: &mut Vec<u8>, dn: &[u8], value: &[u8]) {
+    let record = Record::Change(modify(rt, alloc, dn, value));
+    push_record(out, &record).expect(rt, "memory");
+}
+
+/// Appends the rename of an entry that stays below the same one.
+fn push_rename(rt: &impl Abort, alloc: Global, out: &mut Vec<u8>, dn: &[u8], newrdn: &[u8]) {
+    let change = rename(rt, alloc, dn, newrdn, None);
+    push_change(out, &change).expect(rt, "memory");
 }
 
 #[test]
-fn records_are_written(rt: HostRuntime) -> Result<(), Fail> {
+fn records_are_written(rt: HostRuntime) {
     let alloc = rt.alloc();
-    let schema = Schema::builtin(alloc)?;
-    let mut mods = Vec::new(alloc);
-    mods.push(added_value(alloc, &schema, b"Z")?)?;
-    let mods = Mods::new(mods);
-    assert_eq!(rt; mods.as_slice().len(), 1);
-    let rename = Change {
-        dn: Dn::read(alloc, b"cn=y + sn=z, dc=com")?,
-        kind: ChangeKind::Rename {
-            newrdn: Rdn::read(alloc, b"cn=x")?,
-            delete_old: true,
-            newsuperior: None,
-        },
-    };
-    let modify = Change {
-        dn: Dn::read(alloc, b"cn=x,dc=com")?,
-        kind: ChangeKind::Modify(mods),
-    };
     let mut out = Vec::new(alloc);
-    push_line(&mut out, b"version", b"1")?;
-    push_end(&mut out)?;
-    push_change(&mut out, &rename)?;
-    push_record(&mut out, &Record::Change(modify))?;
+    push_line(&mut out, b"version", b"1").expect(&rt, "memory");
+    push_end(&mut out).expect(&rt, "memory");
+    push_rename(&rt, alloc, &mut out, b"cn=y + sn=z, dc=com", b"cn=x");
+    push_modify(&rt, alloc, &mut out, b"cn=x,dc=com", b"Z");
     assert_eq!(rt;
         out.as_slice(),
         b"version: 1\n\ndn: cn=y+sn=z,dc=com\nchangetype: modrdn\nnewrdn: cn=x\ndeleteoldrdn: 1\n\ndn: cn=x,dc=com\nchangetype: modify\nadd: sn\nsn: Z\n-\n\n".as_slice()
     );
+}
+
+#[test]
+fn names_are_written(rt: HostRuntime) {
+    let alloc = rt.alloc();
+    let superior = name(&rt, alloc, b"ou=A, dc=com");
     let mut out = Vec::new(alloc);
-    push_name(&mut out, b"newsuperior", &Dn::read(alloc, b"ou=A, dc=com")?)?;
+    push_name(&mut out, b"newsuperior", &superior).expect(&rt, "memory");
     assert_eq!(rt; out.as_slice(), b"newsuperior: ou=A,dc=com\n".as_slice());
-    Ok(())
 }
 
 #[test]
-fn modifications_are_moved_out(rt: HostRuntime) -> Result<(), Fail> {
+fn modifications_are_moved_out(rt: HostRuntime) {
     let alloc = rt.alloc();
-    let schema = Schema::builtin(alloc)?;
-    let mut mods = Vec::new(alloc);
-    mods.push(added_value(alloc, &schema, b"Z")?)?;
-    let items = Mods::new(mods).into_items();
-    assert_eq!(rt; items.len(), 1);
-    assert!(rt; items[0].op == ModOp::Add);
-    assert_eq!(rt; items[0].description.spelling(), b"sn".as_slice());
-    assert_eq!(rt; items[0].values.as_slice().len(), 1);
-    Ok(())
-}
-
-#[test]
-fn changes_are_checked(rt: HostRuntime) -> Result<(), Fail> {
-    let alloc = rt.alloc();
-    let schema = Schema::builtin(alloc)?;
-    let renamed = |newrdn: &[u8], superior: &[u8]| -> Result<Change, Fail> {
-        Ok(Change {
-            dn: Dn::read(alloc, b"cn=x,dc=com")?,
-            kind: ChangeKind::Rename {
-                newrdn: Rdn::read(alloc, newrdn)?,
-                delete_old: true,
-                newsuperior: Some(Dn::read(alloc, superior)?),
-            },
-        })
+    let items = added_mods(&rt, alloc, b"Z").into_items();
+    let [item] = items.as_slice() else {
+        panic!(rt; "not one modification");
     };
-    let no_name = Err(RecordFault::Name(NameFault::BadDn));
-    assert_eq!(rt;
-        renamed(b"cn=y", b"ou=A,dc=com")?.check(alloc, &schema),
-        Ok(())
-    );
-    assert_eq!(rt;
-        renamed(b"member=y", b"ou=A,dc=com")?.check(alloc, &schema),
-        no_name
-    );
-    assert_eq!(rt;
-        renamed(b"cn=y", b"uidNumber=x")?.check(alloc, &schema),
-        no_name
-    );
+    assert_adds_one_value(&rt, item);
+}
 
-    for (length, want) in [
+/// Asserts that a modification adds one value of `sn`.
+fn assert_adds_one_value(rt: &impl Abort, item: &Mod) {
+    assert!(rt; item.op == ModOp::Add);
+    assert_eq!(rt; item.description.spelling(), b"sn".as_slice());
+    assert_eq!(rt; item.values.as_slice().len(), 1);
+}
+
+/// Asserts what the check of a change answers.
+fn assert_check(rt: &impl Abort, alloc: Global, change: &Change, want: Result<(), RecordFault>) {
+    let schema = Schema::builtin(alloc).expect(rt, "a schema");
+    assert_eq!(rt; change.check(alloc, &schema), want);
+}
+
+const NO_NAME: Result<(), RecordFault> = Err(RecordFault::Name(NameFault::BadDn));
+
+#[test]
+fn changes_are_checked(rt: HostRuntime) {
+    let alloc = rt.alloc();
+    for &(newrdn, superior, want) in &[
+        ("cn=y", "ou=A,dc=com", Ok(())),
+        ("member=y", "ou=A,dc=com", NO_NAME),
+        ("cn=y", "uidNumber=x", NO_NAME),
+    ] {
+        assert_rename_check(&rt, alloc, newrdn.as_bytes(), superior.as_bytes(), want);
+    }
+    for &(length, want) in &[
         (1_048_576, Ok(())),
         (1_048_577, Err(RecordFault::ValueTooLong)),
     ] {
-        let value = vec![in alloc; b'a'; length]?;
-        let mut mods = Vec::new(alloc);
-        mods.push(added_value(alloc, &schema, value.as_slice())?)?;
-        let modify = Change {
-            dn: Dn::read(alloc, b"cn=x,dc=com")?,
-            kind: ChangeKind::Modify(Mods::new(mods)),
-        };
-        assert_eq!(rt; modify.check(alloc, &schema), want);
-        let mut lines = Vec::new(alloc);
-        lines.push((Description::read(alloc, &schema, b"sn")?, Bytes::new(value)))?;
-        let add = Change {
-            dn: Dn::read(alloc, b"cn=x,dc=com")?,
-            kind: ChangeKind::Add(Lines::new(lines)),
-        };
-        assert_eq!(rt; add.check(alloc, &schema), want);
+        assert_checks_of_length(&rt, alloc, length, want);
     }
-    Ok(())
+}
+
+/// Asserts what the check of a rename to below another entry answers.
+fn assert_rename_check(
+    rt: &impl Abort,
+    alloc: Global,
+    newrdn: &[u8],
+    superior: &[u8],
+    want: Result<(), RecordFault>,
+) {
+    let superior = name(rt, alloc, superior);
+    let change = rename(rt, alloc, b"cn=x,dc=com", newrdn, Some(superior));
+    assert_check(rt, alloc, &change, want);
+}
+
+/// Asserts what the checks of a modify and an add with a value of this length answer.
+fn assert_checks_of_length(
+    rt: &impl Abort,
+    alloc: Global,
+    length: usize,
+    want: Result<(), RecordFault>,
+) {
+    let value = vec![in alloc; b'a'; length].expect(rt, "memory");
+    let change = modify(rt, alloc, b"cn=x,dc=com", value.as_slice());
+    assert_check(rt, alloc, &change, want);
+    assert_add_check(rt, alloc, b"cn=x,dc=com", b"sn", value, want);
+}
+
+/// Asserts what the check of the add of an entry that has one value answers.
+fn assert_add_check(
+    rt: &impl Abort,
+    alloc: Global,
+    dn: &[u8],
+    description: &[u8],
+    value: Vec<u8>,
+    want: Result<(), RecordFault>,
+) {
+    let change = Change {
+        dn: name(rt, alloc, dn),
+        kind: ChangeKind::Add(one_line(rt, alloc, description, value)),
+    };
+    assert_check(rt, alloc, &change, want);
 }
 
 #[test]
@@ -157,129 +210,113 @@ fn laws_are_called() {
 }
 
 #[test]
-fn lines_are_folded(rt: HostRuntime) -> Result<(), Fail> {
+fn lines_are_folded(rt: HostRuntime) {
+    let alloc = rt.alloc();
+    let folded = line_of(&rt, alloc, b"description", 70);
+    let start = joined(&rt, alloc, b"description: ", &[b'a'; 63]);
+    let want = joined(&rt, alloc, start.as_slice(), b"\n aaaaaaa\n");
+    assert_eq!(rt; folded.as_slice(), want.as_slice());
+}
+
+#[test]
+fn values_are_written_as_they_are_or_in_base64(rt: HostRuntime) {
     let alloc = rt.alloc();
     let mut out = Vec::new(alloc);
-    push_line(
-        &mut out,
-        b"description",
-        vec![in alloc; b'a'; 70]?.as_slice(),
-    )?;
-    let mut want = b"description: ".to_vec(alloc)?;
-    want.extend_from_slice(vec![in alloc; b'a'; 63]?.as_slice())?;
-    want.extend_from_slice(b"\n aaaaaaa\n")?;
-    assert_eq!(rt; out.as_slice(), want.as_slice());
-    let mut out = Vec::new(alloc);
-    push_line(&mut out, b"note", b"")?;
-    push_line(&mut out, b"note", b" lead")?;
-    push_line(&mut out, b"note", b"<x")?;
-    push_line(&mut out, b"note", b":x")?;
-    push_line(&mut out, b"note", b"a<: b")?;
+    for value in &["", " lead", "<x", ":x", "a<: b"] {
+        push_line(&mut out, b"note", value.as_bytes()).expect(&rt, "memory");
+    }
     assert_eq!(rt;
         out.as_slice(),
         b"note:\nnote:: IGxlYWQ=\nnote:: PHg=\nnote:: Ong=\nnote: a<: b\n".as_slice()
     );
-    Ok(())
+}
+
+/// The line of a value of so many `a`.
+fn line_of(rt: &impl Abort, alloc: Global, name: &[u8], length: usize) -> Vec<u8> {
+    let value = vec![in alloc; b'a'; length].expect(rt, "memory");
+    let mut out = Vec::new(alloc);
+    push_line(&mut out, name, value.as_slice()).expect(rt, "memory");
+    out
 }
 
 #[test]
-fn a_line_of_77_bytes_is_folded(rt: HostRuntime) -> Result<(), Fail> {
+fn a_line_of_77_bytes_is_folded(rt: HostRuntime) {
     let alloc = rt.alloc();
     // `x: ` and a value: how long the physical lines are.
-    for (length, want) in [
+    for &(length, want) in &[
         (73, [76usize, 0, 0]),
         (74, [76, 2, 0]),
         (148, [76, 76, 0]),
         (149, [76, 76, 2]),
     ] {
-        let mut out = Vec::new(alloc);
-        push_line(&mut out, b"x", vec![in alloc; b'a'; length]?.as_slice())?;
-        let mut lengths = [0usize; 3];
-        for (found, line) in lengths
-            .iter_mut()
-            .zip(out.as_slice().split(|b| *b == b'\n'))
-        {
-            *found = line.len();
-        }
-        assert_eq!(rt; lengths, want);
+        let text = line_of(&rt, alloc, b"x", length);
+        assert_eq!(rt; lengths_of_lines(text.as_slice()), want);
     }
-    Ok(())
 }
 
-/// The value of a content record's first line.
-fn first_value(record: &Record) -> Option<&[u8]> {
-    match record {
-        Record::Content { dn: _, lines } => match lines.as_slice().first() {
-            Some(line) => Some(line.1.as_slice()),
-            None => None,
-        },
-        Record::Change(_) => None,
+/// The lengths of a text's first three physical lines.
+fn lengths_of_lines(text: &[u8]) -> [usize; 3] {
+    let mut lengths = [0; 3];
+    for (found, line) in lengths.iter_mut().zip(text.split(|b| *b == b'\n')) {
+        *found = line.len();
     }
+    lengths
 }
 
 #[test]
-fn values_of_each_last_byte_read_back(rt: HostRuntime) -> Result<(), Fail> {
+fn values_of_each_last_byte_read_back(rt: HostRuntime) {
     let alloc = rt.alloc();
-    let schema = Schema::builtin(alloc)?;
     // With no padding, two signs of it, and one; the value is written in base64 for its first byte, where there
     // is one before the last.
     for start in [b"\x80a".as_slice(), b"\x80ab", b"\x80", b""] {
         for last in 0..=255u8 {
-            let mut value = start.to_vec(alloc)?;
-            value.push(last)?;
-            let mut text = b"dn: cn=a\n".to_vec(alloc)?;
-            push_line(&mut text, b"x", value.as_slice())?;
+            let value = joined(&rt, alloc, start, &[last]);
+            let text = entry_of(&rt, alloc, value.as_slice());
             if !start.is_empty() {
                 assert!(rt; text.as_slice().starts_with(b"dn: cn=a\nx:: "), "{last}");
             }
-            let answers = read_all(alloc, &schema, text.as_slice())?;
-            assert_eq!(rt; answers.len(), 1);
-            let (1, Ok(record)) = &answers[0] else {
-                return Err("no record".into());
-            };
-            assert_eq!(rt; first_value(record), Some(value.as_slice()), "{last}");
+            assert_first_value(&rt, alloc, text.as_slice(), value.as_slice());
         }
     }
-    Ok(())
+}
+
+/// The text of an entry with one value.
+fn entry_of(rt: &impl Abort, alloc: Global, value: &[u8]) -> Vec<u8> {
+    let mut text = b"dn: cn=a\n".to_vec(alloc).expect(rt, "memory");
+    push_line(&mut text, b"x", value).expect(rt, "memory");
+    text
+}
+
+/// Asserts that a text is an entry from its first line on, whose first value is this.
+fn assert_first_value(rt: &impl Abort, alloc: Global, text: &[u8], want: &[u8]) {
+    let answers = answers_on(rt, alloc, text);
+    let record = only_record(rt, answers.as_slice(), 1);
+    let (_, value) = lines_of(rt, record).first().expect(rt, "a line");
+    assert_eq!(rt; value.as_slice(), want);
 }
 
 #[test]
-fn legal_changes_pass(rt: HostRuntime) -> Result<(), Fail> {
+fn legal_changes_pass(rt: HostRuntime) {
     let alloc = rt.alloc();
-    let schema = Schema::builtin(alloc)?;
-    let mut items = Vec::new(alloc);
-    items.push((
-        Description::read(alloc, &schema, b"description")?,
-        Bytes::copy_of(alloc, b"staff")?,
-    ))?;
-    let change = Change {
-        dn: Dn::read(alloc, b"ou=people,DC=COM")?,
-        kind: ChangeKind::Add(Lines::new(items)),
-    };
-    assert_eq!(rt; change.check(alloc, &schema), Ok(()));
-    Ok(())
+    let staff = b"staff".to_vec(alloc).expect(&rt, "memory");
+    assert_add_check(
+        &rt,
+        alloc,
+        b"ou=people,DC=COM",
+        b"description",
+        staff,
+        Ok(()),
+    );
 }
 
 #[test]
-fn the_first_fault_of_a_change_is_told(rt: HostRuntime) -> Result<(), Fail> {
+fn the_first_fault_of_a_change_is_told(rt: HostRuntime) {
     let alloc = rt.alloc();
-    let schema = Schema::builtin(alloc)?;
-    let no_name = Err(RecordFault::Name(NameFault::BadDn));
     let keyless = Change {
-        dn: Dn::read(alloc, b"cn=a+commonName=b")?,
+        dn: name(&rt, alloc, b"cn=a+commonName=b"),
         kind: ChangeKind::Delete,
     };
-    assert_eq!(rt; keyless.check(alloc, &schema), no_name);
-    let long = vec![in alloc; b'a'; 1_048_577]?;
-    let mut lines = Vec::new(alloc);
-    lines.push((
-        Description::read(alloc, &schema, b"sn")?,
-        Bytes::copy_of(alloc, long.as_slice())?,
-    ))?;
-    let keyless = Change {
-        dn: Dn::read(alloc, b"cn=a+commonName=b")?,
-        kind: ChangeKind::Add(Lines::new(lines)),
-    };
-    assert_eq!(rt; keyless.check(alloc, &schema), no_name);
-    Ok(())
+    assert_check(&rt, alloc, &keyless, NO_NAME);
+    let long = vec![in alloc; b'a'; 1_048_577].expect(&rt, "memory");
+    assert_add_check(&rt, alloc, b"cn=a+commonName=b", b"sn", long, NO_NAME);
 }
