@@ -266,18 +266,31 @@ fn lengths_of_lines(text: &[u8]) -> [usize; 3] {
 #[test]
 fn values_of_each_last_byte_read_back(rt: HostRuntime) {
     let alloc = rt.alloc();
+    let schema = Schema::builtin(alloc).expect(&rt, "a schema");
     // With no padding, two signs of it, and one; the value is written in base64 for its first byte, where there
     // is one before the last.
     for start in [b"\x80a".as_slice(), b"\x80ab", b"\x80", b""] {
         for last in 0..=255u8 {
-            let value = joined(&rt, alloc, start, &[last]);
-            let text = entry_of(&rt, alloc, value.as_slice());
-            if !start.is_empty() {
-                assert!(rt; text.as_slice().starts_with(b"dn: cn=a\nx:: "), "{last}");
-            }
-            assert_first_value(&rt, alloc, text.as_slice(), value.as_slice());
+            assert_value_reads_back(&rt, alloc, &schema, start, last);
         }
     }
+}
+
+/// Asserts that a value of these bytes and a last one reads back, and that it is written in base64 unless it has
+/// the last one alone.
+fn assert_value_reads_back(
+    rt: &impl Abort,
+    alloc: Global,
+    schema: &Schema,
+    start: &[u8],
+    last: u8,
+) {
+    let value = joined(rt, alloc, start, &[last]);
+    let text = entry_of(rt, alloc, value.as_slice());
+    if !start.is_empty() {
+        assert!(rt; text.as_slice().starts_with(b"dn: cn=a\nx:: "), "{last}");
+    }
+    assert_first_value(rt, alloc, schema, text.as_slice(), value.as_slice());
 }
 
 /// The text of an entry with one value.
@@ -288,8 +301,8 @@ fn entry_of(rt: &impl Abort, alloc: Global, value: &[u8]) -> Vec<u8> {
 }
 
 /// Asserts that a text is an entry from its first line on, whose first value is this.
-fn assert_first_value(rt: &impl Abort, alloc: Global, text: &[u8], want: &[u8]) {
-    let answers = answers_on(rt, alloc, text);
+fn assert_first_value(rt: &impl Abort, alloc: Global, schema: &Schema, text: &[u8], want: &[u8]) {
+    let answers = read_all(alloc, schema, text).expect(rt, "answers");
     let record = only_record(rt, answers.as_slice(), 1);
     let (_, value) = lines_of(rt, record).first().expect(rt, "a line");
     assert_eq!(rt; value.as_slice(), want);
