@@ -292,7 +292,7 @@ step_at_key : (rows : List TypeRow) (d : Dir) (change : Change) (k : DnKeys) →
 step_at_key rows d change k e = ap (step_at rows d change) e
 
 pub add_taken_back : (rows : List TypeRow) (d : Dir) → IsClosed d → HasOwnNames rows d → (k : DnKeys) (name : SpelledName) (lines : List (Described × List ℕ)) → name_key rows name ≡ Some k → (new : Dir) → directory_after_add rows d k name lines ≡ Ok new →
-    TakesBack rows d new (undo_of d new k (kind.Add lines))
+    TakesBack rows d new (undo_of rows d new k (kind.Add lines))
 add_taken_back rows d closed names k name lines named new is =
     ap (λ r. and_then r (λ e. Ok e)) (step_at_key rows new (record { dn = spelled_name new k; kind = kind.Delete }) k key ∙ delete_leaf new k there leaf ∙ ap Ok back)
   where
@@ -338,7 +338,7 @@ own_spelled rows d well k e known = by (dn_key_eq k d.suffix) refl
             let part : name_key rows e.own ≡ Some (child.0 ∷ []) = (well.2 k e known).1 ∙ ap (λ b. Some (cond b k (take 1 (reverse k)))) t ∙ ap (λ z. Some (take 1 (reverse z))) child.1 ∙ ap Some (last_of above child.0) in
             ap (take 1) (spelled_here d well.1 k (ap is_some known) ∙ ap (λ z. z ++ name_of_parent d k) here) ∙ front_own rows e.own (name_of_parent d k) child.0 part
 
-pub delete_taken_back : (rows : List TypeRow) (d : Dir) → IsWellFormed rows d → (k : DnKeys) (new : Dir) → directory_after_delete d k ≡ Ok new → TakesBack rows d new (undo_of d new k kind.Delete)
+pub delete_taken_back : (rows : List TypeRow) (d : Dir) → IsWellFormed rows d → (k : DnKeys) (new : Dir) → directory_after_delete d k ≡ Ok new → TakesBack rows d new (undo_of rows d new k kind.Delete)
 delete_taken_back rows d well k new is =
     ap (λ r. and_then r (λ e. Ok e))
     (step_at_key rows new again k key

@@ -1,6 +1,7 @@
 -- The tests of a step, and what they say of keys.
-use Rattle.std.proofs.Common.{◌≡◌, ℕ, suc, Bool, true, false, not, ◌||◌, List, [], ◌∷◌, ◌++◌, length, take, drop, Option, Some, None, is_some, Ok, Err, refl, sym, ap, subst, ◌∙◌, true≢false, arith, length-append}
+use Rattle.std.proofs.Common.{◌≡◌, ℕ, suc, Bool, true, false, not, ◌||◌, List, [], ◌∷◌, ◌++◌, length, take, drop, Option, Some, None, is_some, Ok, Err, refl, sym, ap, subst, ◌∙◌, true≢false, arith, length-append, Bor}
 use Rattle.std.specs.List.{list_any}
+use Rattle.std.specs.Option.{option_copied}
 use Rattle.std.proofs.lemmas.List.{take-append-drop}
 use Rattle.std.proofs.Math.Seq.{take-append_seam}
 use Rattle.std.specs.FinMap as fin
@@ -33,6 +34,15 @@ below_false k above h = by (is_at_or_below k above) refl
     by : (b : Bool) → is_at_or_below k above ≡ b → b ≡ false
     by true e = absurd (h (below_is k above e))
     by false e = refl
+
+-- what a look-up finds, by reference
+pub copied_some : {A : Type 0} (o : Option (Bor A)) → is_some o ≡ true → is_some (option_copied o) ≡ true
+copied_some None e = e
+copied_some (Some x) e = refl
+
+pub copied_none : {A : Type 0} (o : Option (Bor A)) → is_some o ≡ false → is_some (option_copied o) ≡ false
+copied_none None e = refl
+copied_none (Some x) e = e
 
 pub parent_snoc : (k : DnKeys) (part : RdnKeys) → parent_of (k ++ part ∷ []) ≡ Some k
 parent_snoc [] part = refl

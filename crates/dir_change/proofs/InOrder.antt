@@ -14,6 +14,7 @@ use Rattle.dir_change.specs.Runs.{Ending, RunsStayInOrder, StaysInOrder, accepte
 use Rattle.dir_change.specs.SoundChange.{IsSoundChange}
 use Rattle.dir_change.proofs.AfterOperations.{added_is, deleted_is}
 use Rattle.dir_change.proofs.ModifyBack.{modified_at}
+use Rattle.dir_change.proofs.RenameAccepted.{renamed_at}
 use Rattle.dir_change.proofs.StaysWellFormed.{step_keeps}
 use Rattle.dir_change.proofs.StaysWithinLimits.{step_within}
 
@@ -25,7 +26,7 @@ step_suffix rows d new change is = by (name_key rows change.dn) is
     done k (kind.Add lines) h = ap (λ (e : Dir). e.suffix) (added_is rows d k change.dn lines new h).5
     done k kind.Delete h = ap (λ (e : Dir). e.suffix) (deleted_is d k new h).3
     done k (kind.Modify mods) h = ap (λ (e : Dir). e.suffix) (modified_at rows d k mods new h).is
-    done k (kind.Rename rdn delete_old superior) h = absurd (cc)
+    done k (kind.Rename rdn delete_old superior) h = ap (λ (e : Dir). e.suffix) (renamed_at rows d k rdn delete_old superior new h).is
 
     by : (o : Option DnKeys) → step_at rows d change o ≡ Ok new → new.suffix ≡ d.suffix
     by None h = absurd (cc)

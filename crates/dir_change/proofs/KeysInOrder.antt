@@ -68,6 +68,10 @@ fold_rises : (set xs : List Attr) → T (rises attr_cmp set) → T (rises attr_c
 fold_rises set [] t = t
 fold_rises set (x ∷ xs) t = fold_rises (with_member attr_cmp x set) xs (rises-with_member attr_cmp attr_cmp_total x set t)
 
+-- a set with one member more is in order too
+pub member_rises : (k : Attr) (ks : List Attr) → rises attr_cmp ks ≡ true → rises attr_cmp (with_member attr_cmp k ks) ≡ true
+member_rises k ks t = truth (rises-with_member attr_cmp attr_cmp_total k ks (so (rises attr_cmp ks) t))
+
 pub set_rises : (xs : List Attr) → rises attr_cmp (set_of attr_cmp xs) ≡ true
 set_rises xs = truth (fold_rises [] xs tt)
 

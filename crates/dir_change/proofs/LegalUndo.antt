@@ -1,5 +1,5 @@
 -- The changes that take a change back are legal.
-use Rattle.std.proofs.Common.{◌≡◌, ℕ, Bool, true, false, ◌&&◌, List, [], ◌∷◌, ◌++◌, map, Option, Some, None, is_some, Ok, refl, ap, ◌∙◌, arith}
+use Rattle.std.proofs.Common.{◌≡◌, ℕ, Bool, true, false, ◌&&◌, List, [], ◌∷◌, ◌++◌, map, Option, Some, None, is_some, Ok, refl, sym, ap, subst, ◌∙◌, arith}
 use Rattle.std.specs.List.{flat_map, list_all}
 use Rattle.std.proofs.lemmas.Bool.Decides.{nat_tests}
 use Rattle.std.specs.FinMap as fin
@@ -19,7 +19,7 @@ use Rattle.dir_ldif.specs.declared.records.Mod.{Mod}
 use Rattle.dir_names.proofs.Both.{right}
 use Rattle.dir_tree.specs.Dir.{Dir, entry_at}
 use Rattle.dir_tree.specs.SpelledNames.{spelled_name}
-use Rattle.dir_tree.specs.WellFormed.{Each, IsSoundAttribute, IsSoundValue, IsWellFormed, attribute_lines}
+use Rattle.dir_tree.specs.WellFormed.{Each, IsSoundAttribute, IsSoundValue, IsWellFormed, IsWithinLimits, attribute_lines}
 use Rattle.dir_change.specs.Operation.{directory_after, step, step_at}
 use Rattle.dir_change.specs.Runs.{group_at, group_of}
 use Rattle.dir_change.specs.Difference.{difference}
@@ -29,7 +29,9 @@ use Rattle.dir_change.proofs.LegalDifference.{difference_legal}
 use Rattle.dir_change.proofs.LegalValues.{legal_mods}
 use Rattle.dir_change.proofs.ModifiedEntry.{slots_of_entry}
 use Rattle.dir_change.proofs.ModifyBack.{ModifiedAt, modified_at, modified_key, new_there}
-use Rattle.dir_change.proofs.StaysWellFormed.{step_keeps}
+use Rattle.dir_change.proofs.RenameAccepted.{renamed_at}
+use Rattle.dir_change.proofs.RenameBack.{group_is, rename_legal}
+use Rattle.dir_change.proofs.StaysWellFormed.{legal_rdn, step_keeps}
 use Rattle.dir_change.proofs.AfterOperations.{added_key, deleted_is, spelled_key}
 
 module _ (rows : List TypeRow) where
@@ -56,10 +58,10 @@ module _ (rows : List TypeRow) where
   legal_attributes [] sound = refl
   legal_attributes (a ∷ es) sound = all_append (is_legal_line rows) (attribute_lines a) (flat_map attribute_lines es) (legal_attribute a sound.0) (legal_attributes es sound.1)
 
-  pub group_legal : (d : Dir) (change : Change) → IsWellFormed rows d → IsSoundChange rows change → (new : Dir) → step rows d change ≡ Ok new → Each (λ c. is_legal rows c ≡ true) (group_of rows d new change)
-  group_legal d change well sound new is = by (name_key rows change.dn) refl is
+  pub group_legal : (d : Dir) (change : Change) → IsWellFormed rows d → IsWithinLimits d → IsSoundChange rows change → (new : Dir) → step rows d change ≡ Ok new → Each (λ c. is_legal rows c ≡ true) (group_of rows d new change)
+  group_legal d change well within sound new is = by (name_key rows change.dn) refl is
     where
-      done : (k : DnKeys) → name_key rows change.dn ≡ Some k → (c : ChangeKind) → is_legal_kind rows c ≡ true → IsSoundKind c → directory_after rows d k change.dn c ≡ Ok new → Each (λ c. is_legal rows c ≡ true) (undo_of d new k c)
+      done : (k : DnKeys) → name_key rows change.dn ≡ Some k → (c : ChangeKind) → is_legal_kind rows c ≡ true → IsSoundKind c → directory_after rows d k change.dn c ≡ Ok new → Each (λ c. is_legal rows c ≡ true) (undo_of rows d new k c)
       done k t (kind.Add lines) legal bytes h = (ap (λ o. is_some o && true) (added_key rows d well.1 (λ q x there. (well.2 q x there).1) k change.dn lines t new h), tt)
       done k t kind.Delete legal bytes h =
           let known = deleted_is d k new h in
@@ -85,8 +87,13 @@ module _ (rows : List TypeRow) where
           back : (ms : List Mod) → list_all (is_legal_mod rows) ms ≡ true → Each (λ c. is_legal rows c ≡ true) (modify_if_any (spelled_name new k) ms)
           back [] e = tt
           back (m ∷ ms) e = (λ i. is_some (modified_key rows d well k mods (legal_mods rows mods legal bytes) new kept h i) && e i, tt)
-      done k t (kind.Rename rdn delete_old superior) legal bytes h = absurd (cc)
+      done k t (kind.Rename rdn delete_old superior) legal bytes h =
+          let known = renamed_at rows d k rdn delete_old superior new h in
+          let pairs = legal_rdn rdn bytes.0.0 bytes.0.1 in
+          let kept = subst (IsWellFormed rows) known.is (step_keeps rows d change well sound new is) in
+          subst (λ z. Each (λ c. is_legal rows c ≡ true) (undo_of rows d z k (kind.Rename rdn delete_old superior))) (sym known.is)
+          (subst (Each (λ c. is_legal rows c ≡ true)) (sym (group_is rows d well within k rdn delete_old superior new known pairs)) (rename_legal rows d well within k rdn delete_old superior new known pairs kept))
 
-      by : (o : Option DnKeys) → name_key rows change.dn ≡ o → step_at rows d change o ≡ Ok new → Each (λ c. is_legal rows c ≡ true) (group_at d new change o)
+      by : (o : Option DnKeys) → name_key rows change.dn ≡ o → step_at rows d change o ≡ Ok new → Each (λ c. is_legal rows c ≡ true) (group_at rows d new change o)
       by None t h = absurd (cc)
       by (Some k) t h = done k t change.kind (right (is_some (name_key rows change.dn)) (is_legal_kind rows change.kind) sound.0) sound.1.1 h

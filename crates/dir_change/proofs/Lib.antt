@@ -25,6 +25,12 @@ pub mod PartDifference
 pub mod PartOfSlot
 pub mod PatchedParts
 pub mod ReadBack
+pub mod RenameAccepted
+pub mod RenameBack
+pub mod RenameStays
+pub mod RenameUndo
+pub mod RenamedEntry
+pub mod RenamedValues
 pub mod SlotBack
 pub mod StaysWellFormed
 pub mod StaysWithinLimits

@@ -49,7 +49,7 @@ module _ (rows : List TypeRow) where
       subst (IsSoundEntry rows) (sym known.is) (sound.0, each, own_values rows (with_attributes e known.xs) sound.0 ∙ known.named, known.single)
 
   -- a sound entry is accepted
-  sound_accepted : (e : Content) → IsSoundEntry rows e → entry_or_code (changed_entry rows e) ≡ Ok e
+  pub sound_accepted : (e : Content) → IsSoundEntry rows e → entry_or_code (changed_entry rows e) ≡ Ok e
   sound_accepted e sound = λ i. entry_or_code (cond ((sym (own_values rows e sound.0) ∙ sound.2) i) (cond (sound.3 i) (Err Single) (Ok e)) (Err NotNamed))
 
   -- from the entry after an accepted modify the difference leads to the entry before it

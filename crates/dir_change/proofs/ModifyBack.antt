@@ -93,7 +93,7 @@ module _ (rows : List TypeRow) (d : Dir) (well : IsWellFormed rows d) (k : DnKey
       ∙ ap (λ z. Ok (put_entry z k known.old_entry)) known.is
       ∙ ap Ok (put_again d k known.new_entry known.old_entry known.there)
 
-  pub modify_taken_back : TakesBack rows d new (undo_of d new k (kind.Modify mods))
+  pub modify_taken_back : TakesBack rows d new (undo_of rows d new k (kind.Modify mods))
   modify_taken_back = by (entry_difference new d k) directory_back
     where
       by : (ms : List Mod) → directory_after_modify rows new k ms ≡ Ok d → TakesBack rows d new (modify_if_any (spelled_name new k) ms)

@@ -45,7 +45,7 @@ slot_there spelling values some = ap (λ b. cond b None (Some (record { spelling
     by false t = refl
     by true t = absurd (some (length_zero (fin.entries values) (ap (λ n. n == 0) (sym (len-entries values)) ∙ t)))
 
-empty_of_zero : (values : StoredValues) → (fin.len values == 0) ≡ true → (v : ValueKey) → fin.get values v ≡ None
+pub empty_of_zero : (values : StoredValues) → (fin.len values == 0) ≡ true → (v : ValueKey) → fin.get values v ≡ None
 empty_of_zero values t v =
     sym (found_entries values v) ∙ ap (found v) (length_zero (fin.entries values) (ap (λ n. n == 0) (sym (len-entries values)) ∙ t))
 

@@ -30,6 +30,8 @@ use Rattle.dir_change.proofs.AfterOperations.{added_is, deleted_is, made_own, ow
 use Rattle.dir_change.proofs.LegalValues.{legal_lines, legal_mods}
 use Rattle.dir_change.proofs.ModifiedEntry.{modified_is, modified_sound}
 use Rattle.dir_change.proofs.ModifyBack.{modified_at}
+use Rattle.dir_change.proofs.RenameAccepted.{renamed_at}
+use Rattle.dir_change.proofs.RenameStays.{rename_keeps}
 use Rattle.dir_names.proofs.Both.{left, right}
 
 -- ---- pairs
@@ -87,7 +89,7 @@ legal_pairs : (rdn : SpelledRdn) → list_all is_sound_pair rdn ≡ true → Eac
 legal_pairs [] e h = tt
 legal_pairs (p ∷ ps) e h = let short = h.0 in ((left (is_sound_pair p) _ e, omega (arith, short)), legal_pairs ps (right (is_sound_pair p) _ e) h.1)
 
-legal_rdn : (rdn : SpelledRdn) → is_sound_rdn rdn ≡ true → is_rdn_within_limit rdn ≡ true → Each IsLegalPair rdn
+pub legal_rdn : (rdn : SpelledRdn) → is_sound_rdn rdn ≡ true → is_rdn_within_limit rdn ≡ true → Each IsLegalPair rdn
 legal_rdn rdn sound small = legal_pairs rdn (right (not (length rdn == 0)) _ sound) (small_pairs 4096 rdn (grind (arith, nat_tests)))
 
 -- the own RDN of a name within the limits
@@ -147,7 +149,7 @@ step_keeps rows d change well sound new is = by (name_key rows change.dn) refl i
         let before = well.2 k known.old_entry known.there in
         let named = ap (λ (e : Content). name_key rows e.own) (modified_is rows known.old_entry mods known.new_entry known.after).is ∙ before.1 in
         subst (IsWellFormed rows) (sym known.is) (keeps_put rows d k known.new_entry well (well.1 k (ap is_some known.there)) (modified_sound rows known.old_entry mods known.new_entry (legal_mods rows mods legal bytes) before.0 known.after) named)
-    done k t (kind.Rename rdn delete_old superior) legal bytes h = absurd (cc)
+    done k t (kind.Rename rdn delete_old superior) legal bytes h = rename_keeps rows d k rdn delete_old superior new (renamed_at rows d k rdn delete_old superior new h) well (legal_rdn rdn bytes.0.0 bytes.0.1)
 
     by : (o : Option DnKeys) → name_key rows change.dn ≡ o → step_at rows d change o ≡ Ok new → IsWellFormed rows new
     by None t h = absurd (cc)

@@ -37,7 +37,10 @@ use Rattle.dir_change.proofs.LegalDifference.{difference_legal}
 use Rattle.dir_change.proofs.LegalValues.{legal_mods}
 use Rattle.dir_change.proofs.ModifiedEntry.{modified_is, slots_of_entry}
 use Rattle.dir_change.proofs.ModifyBack.{ModifiedAt, modified_at, new_there}
-use Rattle.dir_change.proofs.StaysWellFormed.{step_keeps}
+use Rattle.dir_change.proofs.RenameAccepted.{renamed_at}
+use Rattle.dir_change.proofs.RenameBack.{after, group_is, rename_sound}
+use Rattle.dir_change.proofs.RenameStays.{rename_within}
+use Rattle.dir_change.proofs.StaysWellFormed.{legal_rdn, step_keeps}
 use Rattle.dir_change.proofs.LegalUndo.{group_legal}
 use Rattle.dir_change.proofs.AfterOperations.{added_is, deleted_is, itself, key_length, made_own, spelled_key}
 use Rattle.dir_names.proofs.Both.{left, right}
@@ -93,8 +96,8 @@ step_within rows d change within sound new is = by (name_key rows change.dn) ref
     name : (is_sound_name change.dn ≡ true) × (is_within_limits change.dn ≡ true)
     name = sound.1.0
 
-    done : (k : DnKeys) → name_key rows change.dn ≡ Some k → (c : ChangeKind) → directory_after rows d k change.dn c ≡ Ok new → IsWithinLimits new
-    done k t (kind.Add lines) h =
+    done : (k : DnKeys) → name_key rows change.dn ≡ Some k → (c : ChangeKind) → IsSoundKind c → directory_after rows d k change.dn c ≡ Ok new → IsWithinLimits new
+    done k t (kind.Add lines) bytes h =
         let known = added_is rows d k change.dn lines new h in
         let e = known.3 in
         let own = made_own rows (own_rdns d.suffix k change.dn) lines e known.4 in
@@ -107,23 +110,23 @@ step_within rows d change within sound new is = by (name_key rows change.dn) ref
           ap (list_all is_rdn_within_limit) own ∙ all_own_of is_rdn_within_limit d.suffix k change.dn (right (nat_le (length change.dn) 64) _ name.1),
         ) in
         subst IsWithinLimits (sym known.5) (put_within d within k e one)
-    done k t kind.Delete h =
+    done k t kind.Delete bytes h =
         let known = deleted_is d k new h in
         subst IsWithinLimits (sym known.3) (λ q x there. by q x (eq_by_cmp dn_key_cmp q k) (sym (get_without d k q) ∙ there))
       where
         by : (q : DnKeys) (x : Content) (b : Bool) → cond b None (entry_at d q) ≡ Some x → (length q ≤ 64) × (is_sound_name x.own ≡ true) × (list_all is_rdn_within_limit x.own ≡ true)
         by q x true h = absurd (cc)
         by q x false h = within q x h
-    done k t (kind.Modify mods) h =
+    done k t (kind.Modify mods) bytes h =
         let known = modified_at rows d k mods new h in
         let own = ap (λ (e : Content). e.own) (modified_is rows known.old_entry mods known.new_entry known.after).is in
         let before = within k known.old_entry known.there in
         subst IsWithinLimits (sym known.is) (put_within d within k known.new_entry (before.0, ap is_sound_name own ∙ before.1, ap (list_all is_rdn_within_limit) own ∙ before.2))
-    done k t (kind.Rename rdn delete_old superior) h = absurd (cc)
+    done k t (kind.Rename rdn delete_old superior) bytes h = rename_within rows d k rdn delete_old superior new (renamed_at rows d k rdn delete_old superior new h) within bytes.0.0 bytes.0.1
 
     by : (o : Option DnKeys) → name_key rows change.dn ≡ o → step_at rows d change o ≡ Ok new → IsWithinLimits new
     by None t h = absurd (cc)
-    by (Some k) t h = done k t change.kind h
+    by (Some k) t h = done k t change.kind sound.1.1 h
 
 -- ---- values
 
@@ -147,9 +150,9 @@ module _ (rows : List TypeRow) where
 
   -- the changes that take a change back are sound
   pub group_sound : (d : Dir) (change : Change) → IsWellFormed rows d → IsWithinLimits d → IsSoundChange rows change → (new : Dir) → step rows d change ≡ Ok new → Each (IsSoundChange rows) (group_of rows d new change)
-  group_sound d change well within sound new is = by (name_key rows change.dn) refl is (group_legal rows d change well sound new is)
+  group_sound d change well within sound new is = by (name_key rows change.dn) refl is (group_legal rows d change well within sound new is)
     where
-      done : (k : DnKeys) → name_key rows change.dn ≡ Some k → (c : ChangeKind) → directory_after rows d k change.dn c ≡ Ok new → is_legal_kind rows c ≡ true → IsSoundKind c → Each (λ x. is_legal rows x ≡ true) (undo_of d new k c) → Each (IsSoundChange rows) (undo_of d new k c)
+      done : (k : DnKeys) → name_key rows change.dn ≡ Some k → (c : ChangeKind) → directory_after rows d k change.dn c ≡ Ok new → is_legal_kind rows c ≡ true → IsSoundKind c → Each (λ x. is_legal rows x ≡ true) (undo_of rows d new k c) → Each (IsSoundChange rows) (undo_of rows d new k c)
       done k t (kind.Add lines) h legal_kind bytes legal =
           let known = added_is rows d k change.dn lines new h in
           let there : entry_at new k ≡ Some known.3 = ap (λ z. entry_at z k) known.5 ∙ get_put d k known.3 k ∙ ap (λ b. cond b (Some known.3) (entry_at d k)) (itself k) in
@@ -177,8 +180,15 @@ module _ (rows : List TypeRow) where
           back : (ms : List Mod) → ModsAreBytes ms → Each (λ x. is_legal rows x ≡ true) (modify_if_any (spelled_name new k) ms) → Each (IsSoundChange rows) (modify_if_any (spelled_name new k) ms)
           back [] b e = tt
           back (m ∷ ms) b e = ((e.0, (name_sound rows new kept (step_within rows d change within sound new is) k changed.new_entry there, b)), tt)
-      done k t (kind.Rename rdn delete_old superior) h legal_kind bytes legal = absurd (cc)
+      done k t (kind.Rename rdn delete_old superior) h legal_kind bytes legal =
+          let known = renamed_at rows d k rdn delete_old superior new h in
+          let pairs = legal_rdn rdn bytes.0.0 bytes.0.1 in
+          let kept = subst (IsWellFormed rows) known.is (step_keeps rows d change well sound new is) in
+          let kept_within = subst IsWithinLimits known.is (step_within rows d change within sound new is) in
+          subst (λ z. Each (IsSoundChange rows) (undo_of rows d z k (kind.Rename rdn delete_old superior))) (sym known.is)
+          (subst (Each (IsSoundChange rows)) (sym (group_is rows d well within k rdn delete_old superior new known pairs))
+          (rename_sound rows d well within k rdn delete_old superior new known pairs kept (λ q x there. name_sound rows (after rows d well within k rdn delete_old superior new known pairs) kept kept_within q x there) (name_sound rows d well within k known.old_entry known.there)))
 
-      by : (o : Option DnKeys) → name_key rows change.dn ≡ o → step_at rows d change o ≡ Ok new → Each (λ x. is_legal rows x ≡ true) (group_at d new change o) → Each (IsSoundChange rows) (group_at d new change o)
+      by : (o : Option DnKeys) → name_key rows change.dn ≡ o → step_at rows d change o ≡ Ok new → Each (λ x. is_legal rows x ≡ true) (group_at rows d new change o) → Each (IsSoundChange rows) (group_at rows d new change o)
       by None t h legal = absurd (cc)
       by (Some k) t h legal = done k t change.kind h (right (is_some (name_key rows change.dn)) (is_legal_kind rows change.kind) sound.0) sound.1.1 legal

@@ -1,5 +1,5 @@
 -- The group of an accepted change is an undo of it, of the size that its operation asks for.
-use Rattle.std.proofs.Common.{◌≡◌, true, false, List, [], ◌∷◌, map, Option, Some, None, is_some, Result, Ok, refl, sym, ap, ◌∙◌}
+use Rattle.std.proofs.Common.{◌≡◌, true, false, List, [], ◌∷◌, map, Option, Some, None, is_some, Result, Ok, refl, sym, ap, subst, ◌∙◌}
 use Rattle.std.specs.List.{list_all, list_any}
 use Rattle.std.specs.FinMap as fin
 use Rattle.std.specs.Option.{option_and_then}
@@ -20,7 +20,7 @@ use Rattle.dir_ldif.specs.SoundRecords.{IsSoundKind}
 use Rattle.dir_tree.specs.Content.{Content}
 use Rattle.dir_tree.specs.Dir.{Dir, entry_at}
 use Rattle.dir_tree.specs.SpelledNames.{spelled_name}
-use Rattle.dir_tree.specs.WellFormed.{IsWellFormed}
+use Rattle.dir_tree.specs.WellFormed.{IsWellFormed, IsWithinLimits}
 use Rattle.dir_change.specs.Difference.{difference}
 use Rattle.dir_change.specs.Operation.{directory_after, step, step_at}
 use Rattle.dir_change.specs.Runs.{GroupsUndo, group_at, group_of}
@@ -34,10 +34,12 @@ use Rattle.dir_change.proofs.LegalValues.{legal_mods}
 use Rattle.dir_change.proofs.ModifiedAttributes.{difference_named, named_keys, only_named, untouched}
 use Rattle.dir_change.proofs.ModifiedEntry.{modified_is}
 use Rattle.dir_change.proofs.ModifyBack.{ModifiedAt, modified_at, modified_key, new_there}
-use Rattle.dir_change.proofs.StaysWellFormed.{step_keeps}
+use Rattle.dir_change.proofs.RenameAccepted.{renamed_at}
+use Rattle.dir_change.proofs.RenameBack.{after, group_is, rename_named, rename_size}
+use Rattle.dir_change.proofs.StaysWellFormed.{legal_rdn, step_keeps}
 use Rattle.dir_change.proofs.TakenBack.{group_back}
 
-module _ (rows : List TypeRow) (d : Dir) (change : Change) (well : IsWellFormed rows d) (sound : IsSoundChange rows change) (new : Dir) (is : step rows d change ≡ Ok new) where
+module _ (rows : List TypeRow) (d : Dir) (change : Change) (well : IsWellFormed rows d) (within : IsWithinLimits d) (sound : IsSoundChange rows change) (new : Dir) (is : step rows d change ≡ Ok new) where
   kept : IsWellFormed rows new
   kept = step_keeps rows d change well sound new is
 
@@ -80,18 +82,23 @@ module _ (rows : List TypeRow) (d : Dir) (change : Change) (well : IsWellFormed 
   group_size : has_undo_size rows (entry_named rows d change) change.kind (group_of rows d new change) ≡ true
   group_size = by (name_key rows change.dn) refl is
     where
-      done : (k : DnKeys) (o : Option Content) → (c : ChangeKind) → is_legal_kind rows c ≡ true → IsSoundKind c → directory_after rows d k change.dn c ≡ Ok new → has_undo_size rows o c (undo_of d new k c) ≡ true
-      done k o (kind.Add lines) legal bytes h = refl
-      done k o kind.Delete legal bytes h = refl
-      done k o (kind.Modify mods) legal bytes h = at_most_one k mods legal bytes h
-      done k o (kind.Rename rdn delete_old superior) legal bytes h = absurd (cc)
+      done : (k : DnKeys) (o : Option Content) → o ≡ entry_at d k → (c : ChangeKind) → is_legal_kind rows c ≡ true → IsSoundKind c → directory_after rows d k change.dn c ≡ Ok new → has_undo_size rows o c (undo_of rows d new k c) ≡ true
+      done k o same (kind.Add lines) legal bytes h = refl
+      done k o same kind.Delete legal bytes h = refl
+      done k o same (kind.Modify mods) legal bytes h = at_most_one k mods legal bytes h
+      done k o same (kind.Rename rdn delete_old superior) legal bytes h =
+          let known = renamed_at rows d k rdn delete_old superior new h in
+          let pairs = legal_rdn rdn bytes.0.0 bytes.0.1 in
+          let kept_after = subst (IsWellFormed rows) known.is kept in
+          subst (λ z. has_undo_size rows o (kind.Rename rdn delete_old superior) (undo_of rows d z k (kind.Rename rdn delete_old superior)) ≡ true) (sym known.is)
+          (ap (has_undo_size rows o (kind.Rename rdn delete_old superior)) (group_is rows d well within k rdn delete_old superior new known pairs) ∙ rename_size rows d well within k rdn delete_old superior new known pairs kept_after o (same ∙ known.there))
 
-      by : (o : Option DnKeys) → name_key rows change.dn ≡ o → step_at rows d change o ≡ Ok new → has_undo_size rows (option_and_then (entry_at d) (name_key rows change.dn)) change.kind (group_at d new change o) ≡ true
+      by : (o : Option DnKeys) → name_key rows change.dn ≡ o → step_at rows d change o ≡ Ok new → has_undo_size rows (option_and_then (entry_at d) (name_key rows change.dn)) change.kind (group_at rows d new change o) ≡ true
       by None t h = absurd (cc)
-      by (Some k) t h = done k (option_and_then (entry_at d) (name_key rows change.dn)) change.kind (right (is_some (name_key rows change.dn)) (is_legal_kind rows change.kind) sound.0) sound.1.1 h
+      by (Some k) t h = done k (option_and_then (entry_at d) (name_key rows change.dn)) (ap (option_and_then (entry_at d)) t) change.kind (right (is_some (name_key rows change.dn)) (is_legal_kind rows change.kind) sound.0) sound.1.1 h
 
   group_named : AreNamedAsSpelled rows new (group_of rows d new change)
-  group_named = by (name_key rows change.dn) refl is (group_back rows d change well sound new is)
+  group_named = by (name_key rows change.dn) refl is (group_back rows d change well within sound new is)
     where
       -- where the one record is accepted, it leads to the directory before the change
       leads : (c : Change) → TakesBack rows d new (c ∷ []) → (e : Dir) → step rows new c ≡ Ok e → e ≡ d
@@ -100,18 +107,23 @@ module _ (rows : List TypeRow) (d : Dir) (change : Change) (well : IsWellFormed 
           ok_same : {a b : Dir} → ◌≡◌ {A = Result Dir ResultCode} (Ok a) (Ok b) → a ≡ b
           ok_same e = cc
 
-      done : (k : DnKeys) → name_key rows change.dn ≡ Some k → (c : ChangeKind) → is_legal_kind rows c ≡ true → IsSoundKind c → directory_after rows d k change.dn c ≡ Ok new → TakesBack rows d new (undo_of d new k c) → AreNamedAsSpelled rows new (undo_of d new k c)
+      done : (k : DnKeys) → name_key rows change.dn ≡ Some k → (c : ChangeKind) → is_legal_kind rows c ≡ true → IsSoundKind c → directory_after rows d k change.dn c ≡ Ok new → TakesBack rows d new (undo_of rows d new k c) → AreNamedAsSpelled rows new (undo_of rows d new k c)
       done k t (kind.Add lines) legal bytes h back = λ e u. ((k, added_key rows d well.1 (λ q x there. (well.2 q x there).1) k change.dn lines t new h, refl), tt)
       done k t kind.Delete legal bytes h back = λ e u.
           let same = leads (record { dn = spelled_name d k; kind = kind.Add (lines_of_entry (entry_at d k)) }) back e u in
           ((k, spelled_key rows d well.1 (λ q x there. (well.2 q x there).1) k (ap is_some (deleted_is d k new h).1), ap (λ z. spelled_name z k) (sym same)), tt)
       done k t (kind.Modify mods) legal bytes h back = named_as_spelled k mods legal bytes h
-      done k t (kind.Rename rdn delete_old superior) legal bytes h back = absurd (cc)
+      done k t (kind.Rename rdn delete_old superior) legal bytes h back =
+          let known = renamed_at rows d k rdn delete_old superior new h in
+          let pairs = legal_rdn rdn bytes.0.0 bytes.0.1 in
+          let kept_after = subst (IsWellFormed rows) known.is kept in
+          subst (λ z. AreNamedAsSpelled rows z (undo_of rows d z k (kind.Rename rdn delete_old superior))) (sym known.is)
+          (subst (AreNamedAsSpelled rows (after rows d well within k rdn delete_old superior new known pairs)) (sym (group_is rows d well within k rdn delete_old superior new known pairs)) (rename_named rows d well within k rdn delete_old superior new known pairs kept_after))
 
-      by : (o : Option DnKeys) → name_key rows change.dn ≡ o → step_at rows d change o ≡ Ok new → TakesBack rows d new (group_at d new change o) → AreNamedAsSpelled rows new (group_at d new change o)
+      by : (o : Option DnKeys) → name_key rows change.dn ≡ o → step_at rows d change o ≡ Ok new → TakesBack rows d new (group_at rows d new change o) → AreNamedAsSpelled rows new (group_at rows d new change o)
       by None t h back = absurd (cc)
       by (Some k) t h back = done k t change.kind (right (is_some (name_key rows change.dn)) (is_legal_kind rows change.kind) sound.0) sound.1.1 h back
 
 pub groups_undo : GroupsUndo
 groups_undo rows d new change well within sound is =
-    ((is, group_legal rows d change well sound new is, group_back rows d change well sound new is), group_size rows d change well sound new is, group_named rows d change well sound new is)
+    ((is, group_legal rows d change well within sound new is, group_back rows d change well within sound new is), group_size rows d change well within sound new is, group_named rows d change well within sound new is)

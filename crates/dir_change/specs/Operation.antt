@@ -1,4 +1,4 @@
--- The update operations (RFC 4511, sections 4.6 to 4.8): the directory after a change, or the result code of the first test that refuses it.
+-- The update operations (RFC 4511, sections 4.6 to 4.9): the directory after a change, or the result code of the first test that refuses it.
 use Rattle.std.specs.Prelude.{◌≡◌, ℕ, not, List, Option, None, Some, is_some, Result, Ok, Err, ⊤}
 use Rattle.dir_names.specs.declared.schema.TypeRow.{TypeRow}
 use Rattle.dir_names.specs.Described.{Described}
@@ -18,10 +18,11 @@ use Rattle.dir_ldif.specs.declared.records.Mod.{Mod}
 use Rattle.dir_names.specs.Results.{and_then}
 use Rattle.dir_change.specs.Modify.{entry_after}
 use Rattle.dir_change.specs.Refusals.{entry_or_code, unless}
+use Rattle.dir_change.specs.Rename.{directory_after_rename}
 use Rattle.dir_change.specs.declared.operation.Refusal.{Refusal}
 use Rattle.dir_change.specs.declared.operation.Refusal.TheVariants as refusal
 use Rattle.dir_change.specs.declared.result_code.ResultCode.{ResultCode}
-use Rattle.dir_change.specs.declared.result_code.ResultCode.TheVariants.{NoSuchObject, NotAllowedOnNonLeaf, EntryAlreadyExists, UnwillingToPerform}
+use Rattle.dir_change.specs.declared.result_code.ResultCode.TheVariants.{NoSuchObject, NotAllowedOnNonLeaf, EntryAlreadyExists}
 
 -- the directory with the new entry at the key, or its fault's result code
 abbrev pub with_new_entry : Dir → DnKeys → Result Content EntryFault → Result Dir ResultCode
@@ -54,14 +55,14 @@ abbrev pub directory_after : List TypeRow → Dir → DnKeys → SpelledName →
 directory_after rows d k name (kind.Add lines) = directory_after_add rows d k name lines
 directory_after rows d k name kind.Delete = directory_after_delete d k
 directory_after rows d k name (kind.Modify mods) = directory_after_modify rows d k mods
-directory_after rows d k name (kind.Rename rdn delete_old superior) = Err UnwillingToPerform
+directory_after rows d k name (kind.Rename rdn delete_old superior) = directory_after_rename rows d k rdn delete_old superior
 
 -- a name that has no key names no entry
 abbrev pub step_at : List TypeRow → Dir → Change → Option DnKeys → Result Dir ResultCode
 step_at rows d change None = Err NoSuchObject
 step_at rows d change (Some k) = directory_after rows d k change.dn change.kind
 
--- the directory after one change, or its result code. A rename is refused for now
+-- the directory after one change, or its result code
 abbrev pub step : List TypeRow → Dir → Change → Result Dir ResultCode
 step rows d change = step_at rows d change (name_key rows change.dn)
 

@@ -16,13 +16,13 @@ use Rattle.dir_change.specs.SoundChange.{IsSoundChange}
 use Rattle.dir_change.specs.Undo.{IsUndo, directory_after_all, undo_of}
 use Rattle.dir_change.specs.UndoText.{undo_text_of}
 
-abbrev pub group_at : Dir → Dir → Change → Option DnKeys → List Change
-group_at before after change None = []
-group_at before after change (Some k) = undo_of before after k change.kind
+abbrev pub group_at : List TypeRow → Dir → Dir → Change → Option DnKeys → List Change
+group_at rows before after change None = []
+group_at rows before after change (Some k) = undo_of rows before after k change.kind
 
 -- the group of an accepted change
 abbrev pub group_of : List TypeRow → Dir → Dir → Change → List Change
-group_of rows before after change = group_at before after change (name_key rows change.dn)
+group_of rows before after change = group_at rows before after change (name_key rows change.dn)
 
 -- the group of a sound change on a well-formed directory within the limits is an undo of it
 abbrev pub GroupsUndo : Type 0

@@ -6,7 +6,7 @@ use Rattle.dir_names.specs.declared.schema.TypeRow.{TypeRow}
 use Rattle.dir_names.specs.Described.{Described}
 use Rattle.dir_names.specs.Attr.{Attr}
 use Rattle.dir_names.specs.Keys.{DnKeys, RdnKeys, parent_of}
-use Rattle.dir_names.specs.Names.{SpelledName}
+use Rattle.dir_names.specs.Names.{SpelledName, SpelledRdn}
 use Rattle.dir_names.specs.NameKeys.{name_key, rdn_key}
 use Rattle.dir_names.specs.Orders.{attr_eq, dn_key_eq}
 use Rattle.dir_ldif.specs.declared.records.Change.{Change}
@@ -16,11 +16,13 @@ use Rattle.dir_ldif.specs.declared.records.Mod.{Mod}
 use Rattle.dir_ldif.specs.LegalRecords.{is_legal}
 use Rattle.dir_tree.specs.Content.{Content, StoredAttributes}
 use Rattle.dir_tree.specs.Dir.{Dir, entry_at}
+use Rattle.dir_tree.specs.NewEntry.{leaf_key, leaf_of}
 use Rattle.dir_tree.specs.SpelledNames.{spelled_name}
 use Rattle.dir_tree.specs.WellFormed.{Each, all_lines}
 use Rattle.dir_names.specs.Results.{and_then}
 use Rattle.dir_change.specs.Difference.{difference}
 use Rattle.dir_change.specs.Operation.{step}
+use Rattle.dir_change.specs.Rename.{renamed_attributes, superior_key}
 use Rattle.dir_change.specs.declared.result_code.ResultCode.{ResultCode}
 
 -- the directory after changes, one after the other, or the first refusal
@@ -113,6 +115,11 @@ spelled_name_or_empty d (Some k) = spelled_name d k
 abbrev pub name_of_parent : Dir → DnKeys → SpelledName
 name_of_parent d k = cond (dn_key_eq k d.suffix) [] (spelled_name_or_empty d (parent_of k))
 
+-- whether the two keys are there and the same
+abbrev pub is_parent : Option DnKeys → Option DnKeys → Bool
+is_parent (Some p) (Some q) = dn_key_eq p q
+is_parent p q = false
+
 abbrev pub lines_of_entry : Option Content → List (Described × List ℕ)
 lines_of_entry None = []
 lines_of_entry (Some e) = all_lines e.attributes
@@ -130,9 +137,32 @@ abbrev pub modify_if_any : SpelledName → List Mod → List Change
 modify_if_any name [] = []
 modify_if_any name (m ∷ mods) = record { dn = name; kind = kind.Modify (m ∷ mods) } ∷ []
 
--- an add is taken back by one delete, a delete by one add of all values, and a modify by the modifications that lead back, each of the entry's name as spelled
-abbrev pub undo_of : Dir → Dir → DnKeys → ChangeKind → List Change
-undo_of before after k (kind.Add lines) = record { dn = spelled_name after k; kind = kind.Delete } ∷ []
-undo_of before after k kind.Delete = record { dn = spelled_name before k; kind = kind.Add (lines_of_entry (entry_at before k)) } ∷ []
-undo_of before after k (kind.Modify mods) = modify_if_any (spelled_name after k) (entry_difference after before k)
-undo_of before after k (kind.Rename rdn delete_old superior) = []
+-- the key of an entry that is renamed
+abbrev pub joined_key : Option DnKeys → Option RdnKeys → Option DnKeys
+joined_key (Some parent) (Some key) = Some (parent ++ key ∷ [])
+joined_key parent key = None
+
+-- the superior that a rename back names: the old parent, as it is spelled after the rename, if that isn't the parent any more
+abbrev pub superior_back : List TypeRow → Dir → DnKeys → Option SpelledName → Option SpelledName
+superior_back rows after k superior = cond (is_parent (parent_of k) (superior_key rows k superior)) None (Some (spelled_name_or_empty after (parent_of k)))
+
+-- the rename to the RDN that the entry had, which takes the values of the new RDN away, and then the modifications that lead to what the entry was; nothing if it had no RDN with a key
+abbrev pub rename_back : List TypeRow → SpelledName → Option SpelledName → SpelledName → Content → Content → Option SpelledRdn → Option RdnKeys → List Change
+rename_back rows new_name superior old_name after before (Some leaf) (Some key) =
+    record { dn = new_name; kind = kind.Rename leaf true superior }
+    ∷ modify_if_any old_name (difference (renamed_attributes rows after.attributes after.key leaf key true) before.attributes)
+rename_back rows new_name superior old_name after before leaf key = []
+
+abbrev pub undo_of_rename : List TypeRow → Dir → Dir → DnKeys → Option DnKeys → Option SpelledName → Option Content → Option Content → List Change
+undo_of_rename rows before after k (Some new) superior (Some y) (Some e) =
+    rename_back rows (spelled_name after new) superior (spelled_name before k) y e (leaf_of e.own) (leaf_key rows e.own)
+undo_of_rename rows before after k new superior y e = []
+
+-- an add is taken back by one delete, a delete by one add of all values, a modify by the modifications that lead back, and a rename by a rename back and the modifications that are left, each of the entry's name as spelled
+abbrev pub undo_of : List TypeRow → Dir → Dir → DnKeys → ChangeKind → List Change
+undo_of rows before after k (kind.Add lines) = record { dn = spelled_name after k; kind = kind.Delete } ∷ []
+undo_of rows before after k kind.Delete = record { dn = spelled_name before k; kind = kind.Add (lines_of_entry (entry_at before k)) } ∷ []
+undo_of rows before after k (kind.Modify mods) = modify_if_any (spelled_name after k) (entry_difference after before k)
+undo_of rows before after k (kind.Rename rdn delete_old superior) =
+    let new = joined_key (superior_key rows k superior) (rdn_key rows rdn) in
+    undo_of_rename rows before after k new (superior_back rows after k superior) (option_and_then (entry_at after) new) (entry_at before k)

@@ -25,7 +25,7 @@ pub(crate) fn add<D: Directory>(
     ensures ok { OnOk result (directory_after_add schema.now (D.state directory.old) key.now name.now lines.now ≡ Ok (D.state directory.new)) }
     ensures refused { IfErr result (λ e. IsRefused e (directory_after_add schema.now (D.state directory.old) key.now name.now lines.now)) }
     ensures err { OnErr result (D.state directory.new ≡ D.state directory.old) }
-    ensures undo { IfOk result (λ undo. undo ≡ undo_of (D.state directory.old) (D.state directory.new) key.now (kind.Add lines.now)) }
+    ensures undo { IfOk result (λ undo. undo ≡ undo_of schema.now (D.state directory.old) (D.state directory.new) key.now (kind.Add lines.now)) }
 {
     if !key.at_or_below(directory.suffix()) {
         return Err(Refusal::Code(ResultCode::NoSuchObject));
@@ -85,7 +85,7 @@ fn name_of_parent<D: Directory>(
 }
 
 /// The own RDNs, and then the parent's.
-fn joined_name(alloc: Global, key: &DnKey, own: &[Rdn], above: Dn) -> Result<Dn, Refusal>
+pub(crate) fn joined_name(alloc: Global, key: &DnKey, own: &[Rdn], above: Dn) -> Result<Dn, Refusal>
     requires { length own.now + length above ≤ length key.now }
     ensures ok { IfOk result (λ name. name ≡ own.now ++ above) }
     ensures memory { IfErr result (λ e. e ≡ Refusal.Memory) }

@@ -1,9 +1,11 @@
 //! The delete operation (RFC 4511, section 4.8) and the add that takes it back.
 
-ghost use Rattle.std.specs.Prelude.{◌≡◌, ◌++◌, IfErr, IfOk, Ok, OnErr, OnOk};
+ghost use Rattle.std.specs.Prelude.{◌≡◌, [], ◌∷◌, ◌++◌, IfErr, IfOk, Ok, OnErr, OnOk};
 ghost use Rattle.dir_ldif.specs.declared.records.ChangeKind.TheVariants as kind;
 ghost use Rattle.dir_tree.specs.WellFormed.{all_lines, attribute_lines};
-ghost use Rattle.dir_change.specs.Undo.{undo_of};
+ghost use Rattle.dir_tree.specs.Dir.{entry_at};
+ghost use Rattle.dir_tree.specs.SpelledNames.{spelled_name};
+ghost use Rattle.dir_change.specs.Undo.{lines_of_entry};
 ghost use Rattle.dir_change.specs.Operation.{IsRefused, directory_after_delete};
 
 use crate::{Refusal, ResultCode, Undo};
@@ -22,7 +24,7 @@ pub(crate) fn delete<D: Directory>(
     ensures ok { OnOk result (directory_after_delete (D.state directory.old) key.now ≡ Ok (D.state directory.new)) }
     ensures refused { IfErr result (λ e. IsRefused e (directory_after_delete (D.state directory.old) key.now)) }
     ensures err { OnErr result (D.state directory.new ≡ D.state directory.old) }
-    ensures undo { IfOk result (λ undo. undo ≡ undo_of (D.state directory.old) (D.state directory.new) key.now kind.Delete) }
+    ensures undo { IfOk result (λ undo. undo ≡ record { dn = spelled_name (D.state directory.old) key.now; kind = kind.Add (lines_of_entry (entry_at (D.state directory.old) key.now)) } ∷ []) }
 {
     let Some(entry) = directory.get(key) else {
         return Err(Refusal::Code(ResultCode::NoSuchObject));

@@ -11,6 +11,7 @@ mod laws;
 mod looked;
 mod modify;
 mod operation;
+mod rename;
 mod result_code;
 mod undo;
 

@@ -39,7 +39,7 @@ pub(crate) fn modify<D: Directory>(
     ensures ok { OnOk result (directory_after_modify schema.now (D.state directory.old) key.now mods.now ≡ Ok (D.state directory.new)) }
     ensures refused { IfErr result (λ e. IsRefused e (directory_after_modify schema.now (D.state directory.old) key.now mods.now)) }
     ensures err { OnErr result (D.state directory.new ≡ D.state directory.old) }
-    ensures undo { IfOk result (λ undo. undo ≡ undo_of (D.state directory.old) (D.state directory.new) key.now (kind.Modify mods.now)) }
+    ensures undo { IfOk result (λ undo. undo ≡ undo_of schema.now (D.state directory.old) (D.state directory.new) key.now (kind.Modify mods.now)) }
 {
     let Some(entry) = directory.get(key) else {
         return Err(Refusal::Code(ResultCode::NoSuchObject));
@@ -243,7 +243,7 @@ fn new_attribute(alloc: Global, m: &Mod) -> Result<Attribute, Refusal>
 }
 
 /// The attribute, unless it has no value.
-fn if_any(attribute: Attribute) -> Option<Attribute>
+pub(crate) fn if_any(attribute: Attribute) -> Option<Attribute>
     ensures slot { option_map (λ a. a.stored) result ≡ slot_of attribute.stored.spelling attribute.stored.values }
     ensures key { IfSome result (λ a. a.key ≡ attribute.key) }
 {

@@ -13,6 +13,7 @@ ghost use Rattle.dir_change.specs.Undo.{IsUndo, undo_of};
 use crate::add::add;
 use crate::delete::delete;
 use crate::modify::modify;
+use crate::rename::rename;
 use crate::{ResultCode, Undo};
 use dir_ldif::{Change, ChangeKind};
 use dir_names::{Dn, DnKey, Memory, NameFault, Schema};
@@ -28,8 +29,8 @@ pub enum Refusal {
     Memory,
 }
 
-/// Applies one change as the root identity (RFC 4511, sections 4.6 to 4.8): an add, a delete or a
-/// modify; a rename is refused with 53 for now. Answers the changes that take it back.
+/// Applies one change as the root identity (RFC 4511, sections 4.6 to 4.9): an add, a delete, a modify
+/// or a rename. Answers the changes that take it back.
 ///
 /// A refused change leaves the directory as it was. A sound change leaves a well-formed directory
 /// within the limits so, and the answer takes it back.
@@ -69,13 +70,25 @@ fn perform<D: Directory>(
     ensures ok { OnOk result (directory_after schema.now (D.state directory.old) key.now change.now.dn change.now.kind ≡ Ok (D.state directory.new)) }
     ensures refused { IfErr result (λ e. IsRefused e (directory_after schema.now (D.state directory.old) key.now change.now.dn change.now.kind)) }
     ensures err { OnErr result (D.state directory.new ≡ D.state directory.old) }
-    ensures undo { IfOk result (λ undo. undo ≡ undo_of (D.state directory.old) (D.state directory.new) key.now change.now.kind) }
+    ensures undo { IfOk result (λ undo. undo ≡ undo_of schema.now (D.state directory.old) (D.state directory.new) key.now change.now.kind) }
 {
     match &change.kind {
         ChangeKind::Add(lines) => add(alloc, schema, directory, &change.dn, key, lines),
         ChangeKind::Delete => delete(alloc, directory, key),
         ChangeKind::Modify(mods) => modify(alloc, schema, directory, key, mods.as_slice()),
-        ChangeKind::Rename { .. } => Err(Refusal::Code(ResultCode::UnwillingToPerform)),
+        ChangeKind::Rename {
+            newrdn,
+            delete_old,
+            newsuperior,
+        } => rename(
+            alloc,
+            schema,
+            directory,
+            key,
+            newrdn,
+            *delete_old,
+            newsuperior,
+        ),
     }
 }
 

@@ -47,6 +47,15 @@ impl Undo {
         Undo::one(alloc, Change { dn, kind })
     }
 
+    /// The change, and then those of the undo.
+    pub(crate) fn with_first(self, change: Change) -> Result<Undo, Memory>
+        ensures { IfOk result (λ u. u ≡ change ∷ self) }
+    {
+        let mut records = self.records;
+        records.insert(0, change)?;
+        Ok(Undo::new(records))
+    }
+
     pub(crate) fn one(alloc: Global, change: Change) -> Result<Undo, Memory>
         ensures { IfOk result (λ u. u ≡ change ∷ []) }
     {

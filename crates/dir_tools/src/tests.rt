@@ -3,6 +3,7 @@
 mod devices;
 mod faults;
 mod modifies;
+mod renames;
 mod runs;
 mod taken_back;
 

@@ -3,6 +3,7 @@ pub mod DirLemmas
 pub mod EachEntry
 pub mod Examples
 pub mod Faults
+pub mod GainedValues
 pub mod KeyPlaces
 pub mod MadeAgain
 pub mod MapWrites
@@ -18,5 +19,6 @@ pub mod RestBelow
 pub mod SortedVecs
 pub mod SoundMade
 pub mod SpelledLemmas
+pub mod SpelledMoves
 pub mod StableSorts
 pub mod Walk

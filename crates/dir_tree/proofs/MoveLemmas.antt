@@ -246,6 +246,10 @@ place_of d old new there inner parent place = by (parent_of new) refl parent
     by (Some p) t h = record { there = there; inner = inner; parent = p; parent_is = t; parent_there = h; place = place }
 
 module _ (d : Dir) (closed : IsClosed d) (old new : DnKeys) (at : Place d old new) where
+  -- the new key is below the suffix
+  pub new_longer : length d.suffix < length new
+  new_longer = let up = reaches d closed (length at.parent) at.parent (omega arith) at.parent_there in let count = parent_longer new at.parent at.parent_is in omega (arith, up, count)
+
   long : length d.suffix ≤ length new
   long = let up = reaches d closed (length at.parent) at.parent (omega arith) at.parent_there in let count = parent_longer new at.parent at.parent_is in omega (arith, up, count)
 
@@ -292,7 +296,7 @@ module _ (d : Dir) (closed : IsClosed d) (old new : DnKeys) (at : Place d old ne
       by (Some p) t h = (p, t, h)
 
   -- the old key is below the suffix
-  old_longer : length d.suffix < length old
+  pub old_longer : length d.suffix < length old
   old_longer =
       let up = reaches d closed (length old_parent.0) old_parent.0 (omega arith) old_parent.2 in
       let count = parent_longer old old_parent.0 old_parent.1 in

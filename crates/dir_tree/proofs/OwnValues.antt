@@ -7,6 +7,7 @@ use Rattle.std.specs.Ordering.{match_ordering}
 use Rattle.std.specs.declared.cmp.Ordering.{Ordering}
 use Rattle.std.specs.declared.cmp.Ordering.TheVariants.{Less, Equal, Greater}
 use Rattle.dir_names.specs.declared.schema.TypeRow.{TypeRow}
+use Rattle.dir_names.specs.declared.value.ValueKey.{ValueKey}
 use Rattle.dir_names.specs.declared.value.ValueKey.TheVariants as key
 use Rattle.dir_names.specs.Attr.{Attr}
 use Rattle.dir_names.specs.Keys.{RdnKeys}
@@ -63,52 +64,61 @@ module _ {K : Type 0} (R : K → K → Ordering) (exact : IsAntisymmetric R) (te
   all_in_set : (xs : List K) → list_all test (set_of R xs) ≡ list_all test xs
   all_in_set xs = all_fold [] xs ∙ and_true (list_all test xs)
 
-module _ (rows : List TypeRow) (xs : StoredAttributes) where
-  abbrev has_pair : Attr × List ℕ → Bool
-  has_pair p = has_value xs p.0 (key.Text p.1)
+-- ---- the pairs of an RDN, as lines and by key
 
-  abbrev has_keys : Option (List (Attr × List ℕ)) → Bool
-  has_keys None = false
-  has_keys (Some keys) = list_all has_pair keys
+module _ (rows : List TypeRow) (test : Attr → ValueKey → Bool) where
+  -- the lines are there, and each passes
+  abbrev pub all_lines_pass : Option (List KeyedLine) → Bool
+  all_lines_pass None = false
+  all_lines_pass (Some ls) = list_all (λ l. test l.description.key l.key) ls
+
+  abbrev passes : Attr × List ℕ → Bool
+  passes p = test p.0 (key.Text p.1)
+
+  abbrev all_pass : Option (List (Attr × List ℕ)) → Bool
+  all_pass None = false
+  all_pass (Some keys) = list_all passes keys
 
   abbrev line_of : SpelledPair → Option (Attr × List ℕ) → Option KeyedLine
   line_of p o = option_map (λ (k : Attr × List ℕ). record { description = record { spelling = p.0; key = k.0 }; key = key.Text k.1; bytes = p.1 }) o
 
-  by_pairs : (rdn : SpelledRdn) → has_each xs (rdn_lines rows rdn) ≡ has_keys (option_collect (pair_key rows) rdn)
+  by_pairs : (rdn : SpelledRdn) → all_lines_pass (rdn_lines rows rdn) ≡ all_pass (option_collect (pair_key rows) rdn)
   by_pairs [] = refl
   by_pairs (p ∷ ps) = by (pair_key rows p) (rdn_lines rows ps) (option_collect (pair_key rows) ps) (by_pairs ps)
     where
-      by : (o : Option (Attr × List ℕ)) (ls : Option (List KeyedLine)) (ks : Option (List (Attr × List ℕ))) → has_each xs ls ≡ has_keys ks →
-          has_each xs (option_cons (line_of p o) ls) ≡ has_keys (option_cons o ks)
+      by : (o : Option (Attr × List ℕ)) (ls : Option (List KeyedLine)) (ks : Option (List (Attr × List ℕ))) → all_lines_pass ls ≡ all_pass ks →
+          all_lines_pass (option_cons (line_of p o) ls) ≡ all_pass (option_cons o ks)
       by None ls ks e = refl
       by (Some k) None None e = refl
-      by (Some k) None (Some ks) e = none_left k ks e
+      by (Some k) None (Some ks) e = by_head (passes k)
         where
-          none_left : (k : Attr × List ℕ) (ks : List (Attr × List ℕ)) → false ≡ list_all has_pair ks → false ≡ (has_pair k && list_all has_pair ks)
-          none_left k ks e = by_head (has_pair k)
-            where
-              by_head : (b : Bool) → false ≡ (b && list_all has_pair ks)
-              by_head true = e
-              by_head false = refl
-      by (Some k) (Some ls) None e = by_head (has_pair k)
-        where
-          by_head : (b : Bool) → (b && list_all (λ l. has_value xs l.description.key l.key) ls) ≡ false
+          by_head : (b : Bool) → false ≡ (b && list_all passes ks)
           by_head true = e
           by_head false = refl
-      by (Some k) (Some ls) (Some ks) e = ap (λ b. has_pair k && b) e
+      by (Some k) (Some ls) None e = by_head (passes k)
+        where
+          by_head : (b : Bool) → (b && list_all (λ l. test l.description.key l.key) ls) ≡ false
+          by_head true = e
+          by_head false = refl
+      by (Some k) (Some ls) (Some ks) e = ap (λ b. passes k && b) e
 
-  by_rdn_key : (rdn : SpelledRdn) (keys : RdnKeys) → rdn_key rows rdn ≡ Some keys → has_each xs (rdn_lines rows rdn) ≡ list_all has_pair keys
+  -- each line of an RDN passes exactly if each pair of its key does
+  pub by_rdn_key : (rdn : SpelledRdn) (keys : RdnKeys) → rdn_key rows rdn ≡ Some keys → all_lines_pass (rdn_lines rows rdn) ≡ list_all (λ p. test p.0 (key.Text p.1)) keys
   by_rdn_key rdn keys e = by_pairs rdn ∙ by (option_collect (pair_key rows) rdn) e
     where
-      by_set : (ks : List (Attr × List ℕ)) (b : Bool) → cond b (Some (set_of pair_cmp ks)) None ≡ Some keys → list_all has_pair ks ≡ list_all has_pair keys
+      by_set : (ks : List (Attr × List ℕ)) (b : Bool) → cond b (Some (set_of pair_cmp ks)) None ≡ Some keys → list_all passes ks ≡ list_all passes keys
       by_set ks false h = absurd (cc)
       by_set ks true h =
           let same : set_of pair_cmp ks ≡ keys = cc in
-          sym (all_in_set pair_cmp pair_cmp_exact has_pair ks) ∙ ap (list_all has_pair) same
+          sym (all_in_set pair_cmp pair_cmp_exact passes ks) ∙ ap (list_all passes) same
 
-      by : (o : Option (List (Attr × List ℕ))) → option_and_then set_if_distinct o ≡ Some keys → has_keys o ≡ list_all has_pair keys
+      by : (o : Option (List (Attr × List ℕ))) → option_and_then set_if_distinct o ≡ Some keys → all_pass o ≡ list_all passes keys
       by None h = absurd (cc)
       by (Some ks) h = by_set ks (have_distinct_types ks) h
+
+pub each_passes : (xs : StoredAttributes) (rows : List TypeRow) (o : Option (List KeyedLine)) → has_each xs o ≡ all_lines_pass rows (has_value xs) o
+each_passes xs rows None = refl
+each_passes xs rows (Some ls) = refl
 
 -- an entry has the lines of its own RDN exactly if it has the values of the RDN's key
 pub own_values : (rows : List TypeRow) (e : Content) → leaf_key rows e.own ≡ Some e.key → has_each e.attributes (leaf_lines rows e.own) ≡ has_own_values e
@@ -116,4 +126,4 @@ own_values rows e named = by (leaf_of e.own) named
   where
     by : (o : Option SpelledRdn) → option_and_then (rdn_key rows) o ≡ Some e.key → has_each e.attributes (option_and_then (rdn_lines rows) o) ≡ has_own_values e
     by None h = absurd (cc)
-    by (Some leaf) h = by_rdn_key rows e.attributes leaf e.key h
+    by (Some leaf) h = each_passes e.attributes rows (rdn_lines rows leaf) ∙ by_rdn_key rows (has_value e.attributes) leaf e.key h

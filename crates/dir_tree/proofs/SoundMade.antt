@@ -114,7 +114,7 @@ module _ (rows : List TypeRow) where
       by true = each
       by false = line_keeps xs l line each
 
-  gained_keeps : (xs : StoredAttributes) (ls : List KeyedLine) → Each (IsSoundLine rows) ls → Each (IsSoundAttribute rows) (fin.entries xs) → Each (IsSoundAttribute rows) (fin.entries (with_missing_lines xs ls))
+  pub gained_keeps : (xs : StoredAttributes) (ls : List KeyedLine) → Each (IsSoundLine rows) ls → Each (IsSoundAttribute rows) (fin.entries xs) → Each (IsSoundAttribute rows) (fin.entries (with_missing_lines xs ls))
   gained_keeps xs [] lines each = each
   gained_keeps xs (l ∷ ls) lines each = gained_keeps (with_missing_line xs l) ls lines.1 (missing_keeps xs l lines.0 each)
 
@@ -167,7 +167,7 @@ module _ (rows : List TypeRow) where
           let same : first ∷ more ≡ ks = cc in
           subst (Each (IsSoundLine rows)) same ((legal.0.0, t, legal.0.1, legal.0.2), rest more legal.1 u)
 
-  pairs_sound : (rdn : SpelledRdn) (ls : List KeyedLine) → Each IsLegalPair rdn → rdn_lines rows rdn ≡ Some ls → Each (IsSoundLine rows) ls
+  pub pairs_sound : (rdn : SpelledRdn) (ls : List KeyedLine) → Each IsLegalPair rdn → rdn_lines rows rdn ≡ Some ls → Each (IsSoundLine rows) ls
   pairs_sound [] ls legal e = let none : [] ≡ ls = cc in subst (Each (IsSoundLine rows)) none tt
   pairs_sound (p ∷ ps) ls legal e = by (pair_line rows p) refl (rdn_lines rows ps) refl e (pairs_sound ps)
     where

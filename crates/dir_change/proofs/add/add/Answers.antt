@@ -1,5 +1,4 @@
-use Rattle.std.proofs.Common.{◌≡◌, true, false, cond, length, take, [], ◌∷◌, ◌++◌, IfSome, Option, Some, None, is_some, Result, Ok, refl, sym, ap, subst, ◌∙◌, true≢false, Bor, arith}
-use Rattle.std.specs.Option.{option_copied}
+use Rattle.std.proofs.Common.{◌≡◌, true, false, cond, length, take, [], ◌∷◌, ◌++◌, IfSome, Option, Some, None, is_some, Result, Ok, refl, sym, ap, subst, ◌∙◌, true≢false, arith}
 use Rattle.std.proofs.lemmas.Result.{err_from_is_err_and}
 use Rattle.std.specs.Prelude.{Err, IsErrAnd, MatchResult}
 use Rattle.dir_names.specs.declared.fault.NameFault.{NameFault}
@@ -19,16 +18,8 @@ use Rattle.dir_ldif.specs.declared.records.ChangeKind.TheVariants as kind
 use Rattle.dir_tree.specs.SpelledNames.{own_depth, own_rdns, spelled_name}
 use Rattle.dir_change.specs.Undo.{name_of_parent}
 use Rattle.dir_change.proofs.AfterOperations.{add_spelled, joined_fits}
-use Rattle.dir_change.proofs.Conditions.{below_true, below_false, add_outside, add_taken, add_placed}
+use Rattle.dir_change.proofs.Conditions.{below_true, below_false, copied_none, copied_some, add_outside, add_taken, add_placed}
 use Rattle.dir_change.proofs.add.add.Goals as goal
-
-copied_some : {A : Type 0} (o : Option (Bor A)) → is_some o ≡ true → is_some (option_copied o) ≡ true
-copied_some None e = e
-copied_some (Some x) e = refl
-
-copied_none : {A : Type 0} (o : Option (Bor A)) → is_some o ≡ false → is_some (option_copied o) ≡ false
-copied_none None e = refl
-copied_none (Some x) e = e
 
 -- an entry that isn't made is refused with its code
 fails_refused : (d : Dir) (k : DnKeys) (fault : EntryFault) (wanted : Result Content EntryFault) → IsEntryFaultOf fault wanted → IsRefused (entry_refusal fault) (with_new_entry d k wanted)

@@ -42,7 +42,7 @@ returns-clause-undoes g c =
     let change = c.args.change.now in
     let named = c.in_ok-key.ensures.ok in
     if_both c.perform.result c.perform.ensures.ok c.perform.ensures.undo (λ undo led group well within sound.
-    subst (IsUndo rows d new change) (ap (group_at d new change) named ∙ sym group) (groups_undo rows d new change well within sound (ap (step_at rows d change) named ∙ led)))
+    subst (IsUndo rows d new change) (ap (group_at rows d new change) named ∙ sym group) (groups_undo rows d new change well within sound (ap (step_at rows d change) named ∙ led)))
 
 pub returns-clause-sound : goal.returns-clause-sound
 returns-clause-sound g c =
@@ -52,4 +52,4 @@ returns-clause-sound g c =
     let change = c.args.change.now in
     let named = c.in_ok-key.ensures.ok in
     if_both c.perform.result c.perform.ensures.ok c.perform.ensures.undo (λ undo led group well within sound.
-    subst (Each (IsSoundChange rows)) (ap (group_at d new change) named ∙ sym group) (group_sound rows d change well within sound new (ap (step_at rows d change) named ∙ led)))
+    subst (Each (IsSoundChange rows)) (ap (group_at rows d new change) named ∙ sym group) (group_sound rows d change well within sound new (ap (step_at rows d change) named ∙ led)))

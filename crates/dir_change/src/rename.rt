@@ -1,0 +1,341 @@
+//! The modify DN operation (RFC 4511, section 4.9), which moves an entry with all that is below it, and the
+//! changes that take it back: a rename, and a modify of what is left.
+
+ghost use Rattle.std.specs.Prelude.{◌≡◌, [], ◌∷◌, ◌++◌, IfErr, IfOk, IfSome, IsSome, None, Ok, OnErr, OnOk, Some, cond};
+ghost use Rattle.std.specs.List.{list_any};
+ghost use Rattle.std.specs.Option.{option_map};
+ghost use Rattle.dir_ldif.specs.declared.records.ChangeKind.TheVariants as kind;
+ghost use Rattle.dir_names.specs.NameKeys.{rdn_key};
+ghost use Rattle.dir_names.specs.Keys.{DnKeys, parent_of};
+ghost use Rattle.dir_names.specs.Orders.{pair_eq};
+ghost use Rattle.dir_tree.specs.Dir.{entry_at};
+ghost use Rattle.dir_tree.specs.Moves.{IsShallow};
+ghost use Rattle.dir_tree.specs.NewEntry.{leaf_key, leaf_of};
+ghost use Rattle.dir_change.specs.Operation.{IsRefused};
+ghost use Rattle.dir_change.specs.Rename.{directory_after_rename, pairs_missing_in, place_at, renamed_attributes, renamed_entry, slot_without_value, superior_at, superior_key, without_pair, without_pairs};
+ghost use Rattle.dir_change.specs.Undo.{is_parent, rename_back, spelled_name_or_empty, undo_of};
+ghost use Rattle.dir_change.specs.declared.operation.Refusal.TheVariants as refusal;
+
+use crate::add::joined_name;
+use crate::difference::{all_keys, difference};
+use crate::modify::if_any;
+use crate::{Refusal, ResultCode, Undo};
+use dir_ldif::{Change, ChangeKind};
+use dir_names::{AttrKey, Bytes, Dn, DnKey, NameFault, Rdn, RdnKey, Schema, ValueKey};
+use dir_tree::{Attribute, AttributeMap, Directory, Entry, Parts};
+use std::alloc::Global;
+
+/// Renames an entry (RFC 4511, section 4.9): 32 where it is missing; 53 for the suffix's entry; 53 where
+/// the new superior is the entry or is below it; 32 where there is no such superior; 68 where the new name
+/// is another entry's; 11 where a name would have more than 64 RDNs; 19 where a single type would have
+/// more than one value. All that is below the entry moves with it.
+///
+/// A rename back takes it back, and then a modify of what that leaves.
+pub(crate) fn rename<D: Directory>(
+    alloc: Global,
+    schema: &Schema,
+    directory: &mut D,
+    key: &DnKey,
+    newrdn: &Rdn,
+    delete_old: bool,
+    newsuperior: &Option<Dn>,
+) -> Result<Undo, Refusal>
+    ensures ok { OnOk result (directory_after_rename schema.now (D.state directory.old) key.now newrdn.now delete_old newsuperior.now ≡ Ok (D.state directory.new)) }
+    ensures refused { IfErr result (λ e. IsRefused e (directory_after_rename schema.now (D.state directory.old) key.now newrdn.now delete_old newsuperior.now)) }
+    ensures err { OnErr result (D.state directory.new ≡ D.state directory.old) }
+    ensures undo { IfOk result (λ undo. undo ≡ undo_of schema.now (D.state directory.old) (D.state directory.new) key.now (kind.Rename newrdn.now delete_old newsuperior.now)) }
+{
+    let Some(entry) = directory.get(key) else {
+        return Err(Refusal::Code(ResultCode::NoSuchObject));
+    };
+    if key == directory.suffix() {
+        return Err(Refusal::Code(ResultCode::UnwillingToPerform));
+    }
+    let superior = superior(alloc, schema, directory, key, newsuperior)?;
+    let Some(rdn_key) = key_of(alloc, schema, newrdn)? else {
+        return Err(Refusal::Code(ResultCode::NoSuchObject));
+    };
+    let place = place(alloc, directory, key, &superior, &rdn_key)?;
+    let renamed = renamed_entry(alloc, schema, entry, newrdn, rdn_key, delete_old)?;
+    let new_name = joined_name(alloc, &place, renamed.own(), directory.spelled(&superior)?)?;
+    let superior_back = superior_back(alloc, directory, key, &superior)?;
+    let old_name = directory.spelled(key)?;
+    let undo = rename_back(
+        alloc,
+        schema,
+        new_name,
+        superior_back,
+        old_name,
+        &renamed,
+        entry,
+    )?;
+    match directory.move_subtree(key, &place, renamed) {
+        Ok(_) => Ok(undo),
+        Err(_) => Err(Refusal::Memory),
+    }
+}
+
+/// The key of the entry below which the renamed one is to be.
+fn superior<D: Directory>(
+    alloc: Global,
+    schema: &Schema,
+    directory: &D,
+    key: &DnKey,
+    newsuperior: &Option<Dn>,
+) -> Result<DnKey, Refusal>
+    ensures ok { IfOk result (λ p. superior_at (D.state directory.now) key.now (superior_key schema.now key.now newsuperior.now) ≡ Ok p) }
+    ensures refused { IfErr result (λ e. IsRefused e (superior_at (D.state directory.now) key.now (superior_key schema.now key.now newsuperior.now))) }
+{
+    let Some(superior) = superior_key(alloc, schema, key, newsuperior)? else {
+        return Err(Refusal::Code(ResultCode::NoSuchObject));
+    };
+    if superior.at_or_below(key) {
+        return Err(Refusal::Code(ResultCode::UnwillingToPerform));
+    }
+    if directory.get(&superior).is_none() {
+        return Err(Refusal::Code(ResultCode::NoSuchObject));
+    }
+    Ok(superior)
+}
+
+/// The key of the new superior, or of the parent where none is named. A name without a key has none.
+fn superior_key(
+    alloc: Global,
+    schema: &Schema,
+    key: &DnKey,
+    newsuperior: &Option<Dn>,
+) -> Result<Option<DnKey>, Refusal>
+    ensures ok { IfOk result (λ p. p ≡ superior_key schema.now key.now newsuperior.now) }
+    ensures memory { IfErr result (λ e. e ≡ refusal.Memory) }
+{
+    let Some(name) = newsuperior else {
+        return key.parent(alloc).map_err(|_| Refusal::Memory);
+    };
+    match name.key(alloc, schema) {
+        Ok(key) => Ok(Some(key)),
+        Err(NameFault::Memory) => Err(Refusal::Memory),
+        Err(_) => Ok(None),
+    }
+}
+
+/// The new key of the entry.
+fn place<D: Directory>(
+    alloc: Global,
+    directory: &D,
+    key: &DnKey,
+    superior: &DnKey,
+    rdn: &RdnKey,
+) -> Result<DnKey, Refusal>
+    requires there { IsSome (entry_at (D.state directory.now) key.now) }
+    requires shallow { IsShallow (D.state directory.now) }
+    ensures is { IfOk result (λ new. new ≡ superior.now ++ rdn.now ∷ []) }
+    ensures ok { IfOk result (λ new. place_at (D.state directory.now) key.now new ≡ Ok new) }
+    ensures refused { IfErr result (λ e. IsRefused e (place_at (D.state directory.now) key.now (superior.now ++ rdn.now ∷ []))) }
+{
+    let place = match superior.child(alloc, rdn) {
+        Ok(place) => place,
+        Err(NameFault::Memory) => return Err(Refusal::Memory),
+        Err(_) => return Err(Refusal::Code(ResultCode::AdminLimitExceeded)),
+    };
+    if directory.get(&place).is_some() && &place != key {
+        return Err(Refusal::Code(ResultCode::EntryAlreadyExists));
+    }
+    if directory.height_below(key) > 64 - place.depth() {
+        return Err(Refusal::Code(ResultCode::AdminLimitExceeded));
+    }
+    Ok(place)
+}
+
+/// The entry with the new RDN. 19 where a single type would have more than one value.
+fn renamed_entry(
+    alloc: Global,
+    schema: &Schema,
+    entry: &Entry,
+    rdn: &Rdn,
+    key: RdnKey,
+    delete_old: bool,
+) -> Result<Entry, Refusal>
+    requires { rdn_key schema.now rdn.now ≡ Some key }
+    ensures ok { IfOk result (λ renamed. renamed_entry schema.now entry.now rdn.now key delete_old ≡ Ok renamed) }
+    ensures refused { IfErr result (λ e. IsRefused e (renamed_entry schema.now entry.now rdn.now key delete_old)) }
+{
+    let attributes = renamed_attributes(
+        alloc,
+        schema,
+        entry.attribute_map().try_clone(alloc)?,
+        entry.key(),
+        rdn,
+        &key,
+        delete_old,
+    )?;
+    if attributes.exceeds_single_value(schema) {
+        return Err(Refusal::Code(ResultCode::ConstraintViolation));
+    }
+    Ok(Entry::of(Parts {
+        own: one_rdn(alloc, rdn)?,
+        key,
+        attributes,
+    }))
+}
+
+fn one_rdn(alloc: Global, rdn: &Rdn) -> Result<Vec<Rdn>, Refusal>
+    ensures ok { IfOk result (λ own. own.items ≡ rdn.now ∷ []) }
+    ensures memory { IfErr result (λ e. e ≡ refusal.Memory) }
+{
+    let mut own = Vec::with_capacity(alloc, 1)?;
+    own.push(rdn.try_clone(alloc).map_err(|_| Refusal::Memory)?)?;
+    Ok(own)
+}
+
+/// The attributes with the values of the new RDN that are missing and, if asked, then without those of the
+/// old RDN that are not of the new one.
+fn renamed_attributes(
+    alloc: Global,
+    schema: &Schema,
+    attributes: AttributeMap,
+    old: &RdnKey,
+    rdn: &Rdn,
+    new: &RdnKey,
+    delete_old: bool,
+) -> Result<AttributeMap, Refusal>
+    requires { rdn_key schema.now rdn.now ≡ Some new.now }
+    ensures ok { IfOk result (λ renamed. renamed ≡ renamed_attributes schema.now attributes old.now rdn.now new.now delete_old) }
+    ensures memory { IfErr result (λ e. e ≡ refusal.Memory) }
+{
+    let mut renamed = attributes;
+    if renamed.add_missing(alloc, schema, rdn).is_err() {
+        return Err(Refusal::Memory);
+    }
+    if delete_old {
+        remove_missing(alloc, &mut renamed, old.pairs(), new.pairs())?;
+    }
+    Ok(renamed)
+}
+
+/// Removes the values of these pairs that are not among the others.
+fn remove_missing(
+    alloc: Global,
+    attributes: &mut AttributeMap,
+    pairs: &[(AttrKey, Bytes)],
+    others: &[(AttrKey, Bytes)],
+) -> Result<(), Refusal>
+    ensures ok { OnOk result (attributes.new ≡ without_pairs attributes.old (pairs_missing_in pairs.now others.now)) }
+    ensures memory { IfErr result (λ e. e ≡ refusal.Memory) }
+{
+    for pair in pairs {
+        if !has_pair(others, pair) {
+            remove_pair(alloc, attributes, pair)?;
+        }
+    }
+    Ok(())
+}
+
+fn has_pair(pairs: &[(AttrKey, Bytes)], pair: &(AttrKey, Bytes)) -> bool
+    ensures { result ≡ list_any (pair_eq pair.now) pairs.now }
+{
+    pairs.contains(pair)
+}
+
+/// Removes the value of a pair, and its attribute if that has no other.
+fn remove_pair(
+    alloc: Global,
+    attributes: &mut AttributeMap,
+    pair: &(AttrKey, Bytes),
+) -> Result<(), Refusal>
+    ensures ok { OnOk result (attributes.new ≡ without_pair attributes.old pair.now) }
+    ensures memory { IfErr result (λ e. e ≡ refusal.Memory) }
+{
+    let Ok(text) = pair.1.try_clone(alloc) else {
+        return Err(Refusal::Memory);
+    };
+    if let Some(attribute) = attributes.take(&pair.0) {
+        if let Some(left) = without_value(alloc, attribute, &ValueKey::Text(text)) {
+            attributes.put(left)?;
+        }
+    }
+    Ok(())
+}
+
+/// The attribute without a value, if it has another.
+fn without_value(alloc: Global, attribute: Attribute, value: &ValueKey) -> Option<Attribute>
+    ensures slot { option_map (λ a. a.stored) result ≡ slot_without_value value.now (Some attribute.stored) }
+    ensures key { IfSome result (λ a. a.key ≡ attribute.key) }
+{
+    let mut attribute = attribute;
+    let _ = attribute.remove(alloc, value);
+    if_any(attribute)
+}
+
+/// The superior that the rename back names: the old parent, if it isn't the parent any more.
+fn superior_back<D: Directory>(
+    alloc: Global,
+    directory: &D,
+    key: &DnKey,
+    superior: &DnKey,
+) -> Result<Option<Dn>, Refusal>
+    requires { (p : DnKeys) → parent_of key.now ≡ Some p → IsSome (entry_at (D.state directory.now) p) }
+    ensures ok { IfOk result (λ back. IsSome (parent_of key.now) → back ≡ cond (is_parent (parent_of key.now) (Some superior.now)) None (Some (spelled_name_or_empty (D.state directory.now) (parent_of key.now)))) }
+    ensures memory { IfErr result (λ e. e ≡ refusal.Memory) }
+{
+    let Some(parent) = key.parent(alloc).map_err(|_| Refusal::Memory)? else {
+        return Ok(None);
+    };
+    if &parent == superior {
+        return Ok(None);
+    }
+    Ok(Some(directory.spelled(&parent)?))
+}
+
+/// The rename back, and the modify of what it leaves.
+fn rename_back(
+    alloc: Global,
+    schema: &Schema,
+    new_name: Dn,
+    superior: Option<Dn>,
+    old_name: Dn,
+    after: &Entry,
+    before: &Entry,
+) -> Result<Undo, Refusal>
+    ensures ok { IfOk result (λ undo. undo ≡ rename_back schema.now new_name superior old_name after.now before.now (leaf_of before.now.own) (leaf_key schema.now before.now.own)) }
+    ensures memory { IfErr result (λ e. e ≡ refusal.Memory) }
+{
+    let Some(leaf) = before.own().first() else {
+        return Ok(Undo::new(Vec::new(alloc)));
+    };
+    let Some(key) = key_of(alloc, schema, leaf)? else {
+        return Ok(Undo::new(Vec::new(alloc)));
+    };
+    let left = renamed_attributes(
+        alloc,
+        schema,
+        after.attribute_map().try_clone(alloc)?,
+        after.key(),
+        leaf,
+        &key,
+        true,
+    )?;
+    let keys = all_keys(alloc, &left, before.attribute_map())?;
+    let mods = difference(alloc, keys.as_slice(), &left, before.attribute_map())?;
+    let Ok(newrdn) = leaf.try_clone(alloc) else {
+        return Err(Refusal::Memory);
+    };
+    let kind = ChangeKind::Rename {
+        newrdn,
+        delete_old: true,
+        newsuperior: superior,
+    };
+    let undo = Undo::modify(alloc, old_name, mods)?;
+    Ok(undo.with_first(Change { dn: new_name, kind })?)
+}
+
+/// The key of an RDN, if it has one.
+fn key_of(alloc: Global, schema: &Schema, rdn: &Rdn) -> Result<Option<RdnKey>, Refusal>
+    ensures ok { IfOk result (λ key. key ≡ rdn_key schema.now rdn.now) }
+    ensures memory { IfErr result (λ e. e ≡ refusal.Memory) }
+{
+    match rdn.key(alloc, schema) {
+        Ok(key) => Ok(Some(key)),
+        Err(NameFault::Memory) => Err(Refusal::Memory),
+        Err(_) => Ok(None),
+    }
+}
