@@ -21,7 +21,7 @@ import tempfile
 
 from bench import ROOT, UNITS, line, modify, person, write_copy
 
-GROUPS = 200
+PEOPLE_FOR_EACH_GROUP = 500
 MEMBERS_OF_EACH = 500
 
 
@@ -117,12 +117,13 @@ def modify_of_person(k):
 
 
 def measure_mixed(how, program, folder, people, changes):
+    groups = max(1, people // PEOPLE_FOR_EACH_GROUP)
     copy = os.path.join(folder, "people.ldif")
     write_copy(copy, 0)
     with open(copy, "ab") as f:
         for i in range(people):
             f.write(record_of_person(i))
-        for g in range(GROUPS):
+        for g in range(groups):
             f.write(group(f"group{g}", (member((g * 31 + k * 7) % people) for k in range(MEMBERS_OF_EACH))))
     step = max(1, people // max(1, changes))
     records = range(min(people, changes))
@@ -130,10 +131,10 @@ def measure_mixed(how, program, folder, people, changes):
         "adds": [record_of_person(k * step, "new", "add") for k in records],
         "deletes": [delete_of_person(k * step) for k in records],
         "modifies of people": [modify_of_person(k * step) for k in records],
-        "modifies of groups": [change_of_member(f"group{k % GROUPS}", "add", people + k) for k in records],
+        "modifies of groups": [change_of_member(f"group{k % groups}", "add", people + k) for k in records],
     }
     for what, each in zip(kinds, each_of(how, program, folder, copy, kinds.values())):
-        print(f"{people} people and {GROUPS} groups, {len(records)} {what}: {each:.3f} {how.unit} each", flush=True)
+        print(f"{people} people and {groups} groups, {len(records)} {what}: {each:.3f} {how.unit} each", flush=True)
 
 
 def main():
