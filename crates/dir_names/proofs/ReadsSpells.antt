@@ -144,13 +144,13 @@ module _ (text : List ℕ) where
   parted e attr_type value k typed free start s =
       let front = front_split kind_text in
       let end = end_split (without_leading_spaces kind_text) in
-      let behind = front_split value_text in
-      let whole : text ≡ replicate front.0 32 ++ (attr_type ++ (replicate end.0 32 ++ 61 ∷ (replicate behind.0 32 ++ without_leading_spaces value_text))) =
-      e ∙ (λ i. front.1 i ++ 61 ∷ behind.1 i) ∙ (λ i. (replicate front.0 32 ++ end.1 i) ++ 61 ∷ (replicate behind.0 32 ++ without_leading_spaces value_text))
-      ∙ (λ i. (replicate front.0 32 ++ (sym k i ++ replicate end.0 32)) ++ 61 ∷ (replicate behind.0 32 ++ without_leading_spaces value_text))
-      ∙ append_assoc (replicate front.0 32) (attr_type ++ replicate end.0 32) (61 ∷ (replicate behind.0 32 ++ without_leading_spaces value_text))
-      ∙ ap (λ l. replicate front.0 32 ++ l) (append_assoc attr_type (replicate end.0 32) (61 ∷ (replicate behind.0 32 ++ without_leading_spaces value_text))) in
-      subst (λ t. SpellsPair t (attr_type, value)) (sym whole) (pair front.0 end.0 behind.0 attr_type (without_leading_spaces value_text) value typed free start s)
+      let after = front_split value_text in
+      let whole : text ≡ replicate front.0 32 ++ (attr_type ++ (replicate end.0 32 ++ 61 ∷ (replicate after.0 32 ++ without_leading_spaces value_text))) =
+      e ∙ (λ i. front.1 i ++ 61 ∷ after.1 i) ∙ (λ i. (replicate front.0 32 ++ end.1 i) ++ 61 ∷ (replicate after.0 32 ++ without_leading_spaces value_text))
+      ∙ (λ i. (replicate front.0 32 ++ (sym k i ++ replicate end.0 32)) ++ 61 ∷ (replicate after.0 32 ++ without_leading_spaces value_text))
+      ∙ append_assoc (replicate front.0 32) (attr_type ++ replicate end.0 32) (61 ∷ (replicate after.0 32 ++ without_leading_spaces value_text))
+      ∙ ap (λ l. replicate front.0 32 ++ l) (append_assoc attr_type (replicate end.0 32) (61 ∷ (replicate after.0 32 ++ without_leading_spaces value_text))) in
+      subst (λ t. SpellsPair t (attr_type, value)) (sym whole) (pair front.0 end.0 after.0 attr_type (without_leading_spaces value_text) value typed free start s)
 
   joined_text : nat_lt (position_or_len (λ b. b == 61) text) (length text) ≡ true → text ≡ kind_text ++ 61 ∷ value_text
   joined_text e =

@@ -165,15 +165,15 @@ fn is_unescaped(b: u8, wanted: u8, is_escaped: bool) -> bool
 fn read_pair(alloc: Global, text: &[u8]) -> Result<(Bytes, Bytes), NameFault>
     ensures { Gives (λ pair. pair) result (ok_or_bad_dn (pair_of text.now)) }
 {
-    let (before, behind) = split_once(text, b'=');
-    let Some(behind) = behind else {
+    let (before, after) = split_once(text, b'=');
+    let Some(after) = after else {
         return Err(NameFault::BadDn);
     };
     let attr_type = without_trailing_spaces(without_leading_spaces(before));
     if !is_type(attr_type) || is_reserved(attr_type) {
         return Err(NameFault::BadDn);
     }
-    let value = read_value(alloc, without_leading_spaces(behind))?;
+    let value = read_value(alloc, without_leading_spaces(after))?;
     Ok((Bytes::copy_of(alloc, attr_type)?, Bytes::new(value)))
 }
 
