@@ -6,6 +6,7 @@ pub mod Faults
 pub mod KeyPlaces
 pub mod MadeAgain
 pub mod MapWrites
+pub mod MoveLemmas
 pub mod NewEntryHolds
 pub mod NextKey
 pub mod Orderless
@@ -13,8 +14,10 @@ pub mod OwnLines
 pub mod OwnNames
 pub mod OwnValues
 pub mod Relisted
+pub mod RestBelow
 pub mod SortedVecs
 pub mod SoundMade
 pub mod SpelledLemmas
 pub mod StableSorts
+pub mod TreeNodes
 pub mod Walk

@@ -11,6 +11,7 @@ mod lines;
 mod list;
 mod parts;
 mod stored;
+mod tree;
 mod values;
 
 pub use attributes::{Attribute, AttributeMap, Attributes};

@@ -1,0 +1,3 @@
+//! A directory as a tree of owned nodes.
+
+mod node;
