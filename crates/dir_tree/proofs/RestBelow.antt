@@ -3,7 +3,7 @@ use Rattle.std.proofs.Common.{◌≡◌, Bool, true, false, cond, [], ◌∷◌,
 use Rattle.std.proofs.lemmas.List.{take-append-drop}
 use Rattle.std.proofs.Math.Seq.{take-append_seam}
 use Rattle.dir_names.specs.Below.{is_at_or_below}
-use Rattle.dir_names.specs.Keys.{DnKeys, RdnKeys}
+use Rattle.dir_names.specs.Keys.{DnKeys}
 use Rattle.dir_names.specs.Orders.{dn_key_eq_decides, rdn_key_eq, rdn_key_eq_decides}
 use Rattle.dir_tree.specs.Moves.{rest_below}
 

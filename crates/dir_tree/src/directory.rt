@@ -1,8 +1,10 @@
 //! What every directory offers, and which keys may take an entry.
 
 ghost use Rattle.dir_names.specs.declared.fault.NameFault.TheVariants as NameFault;
-ghost use Rattle.std.specs.Prelude.{◌≡◌, ◌↔◌, IfErr, IfOk, IsSome, IsTrue, None, OnErr, OnOk, Some, map, option_copied, take};
-ghost use Rattle.dir_tree.specs.Dir.{Dir, HasChild, IsClosed, entry_at, has_parent, put_entry, remove_entry};
+ghost use Rattle.std.specs.Prelude.{◌≡◌, ◌↔◌, ◌+◌, ◌≤◌, IfErr, IfOk, IsSome, IsTrue, None, OnErr, OnOk, Some, length, map, option_copied, take};
+ghost use Rattle.dir_names.specs.Keys.{parent_of};
+ghost use Rattle.dir_tree.specs.Dir.{Dir, HasChild, IsClosed, entry_at, has_parent, is_there, put_entry, remove_entry};
+ghost use Rattle.dir_tree.specs.Moves.{IsShallow, MayMoveTo, height_below, move_subtree};
 ghost use Rattle.dir_tree.specs.SpelledNames.{named_entries, own_depth, spelled_name};
 
 use crate::Entry;
@@ -18,7 +20,8 @@ pub trait Directory {
     /// The key of the suffix: the name of each entry is it or is below it.
     fn suffix(&self) -> &DnKey
         ensures key { result.now ≡ (state self.now).suffix }
-        ensures closed { IsClosed (state self.now) };
+        ensures closed { IsClosed (state self.now) }
+        ensures shallow { IsShallow (state self.now) };
 
     fn get(&self, key: &DnKey) -> Option<&Entry>
         ensures { option_copied result ≡ entry_at (state self.now) key.now };
@@ -49,6 +52,33 @@ pub trait Directory {
         requires free { entry_at (state self.old) key.now ≡ None }
         requires parent { IsTrue (has_parent (state self.old) key.now) }
         ensures ok { OnOk result (state self.new ≡ put_entry (state self.old) key.now entry) }
+        ensures err { OnErr result (state self.new ≡ state self.old) }
+        ensures value_returned { IfErr result (λ e. e ≡ entry) };
+
+    /// By how many RDNs the longest key at or below this one is longer: 0 for an entry without children.
+    /// There must be an entry.
+    fn height_below(&self, key: &DnKey) -> usize
+        requires { IsSome (entry_at (state self.now) key.now) }
+        ensures { result ≡ height_below (state self.now) key.now };
+
+    /// Moves an entry and all that is below it to a new key, which may be its own, puts another entry in
+    /// its place there, and returns the old one.
+    ///
+    /// There must be an entry, and it is not the suffix's. The parent of the new key must be in the map,
+    /// and the new key is free and not below the old one, or is the old one. No key may become longer than
+    /// 64 RDNs.
+    ///
+    /// # Errors
+    ///
+    /// The given entry, if memory runs out. Then the map is as it was.
+    fn move_subtree(&mut self, old: &DnKey, new: &DnKey, entry: Entry) -> Result<Entry, Entry>
+        requires there { IsSome (entry_at (state self.old) old.now) }
+        requires inner { ¬ (old.now ≡ (state self.old).suffix) }
+        requires parent { IsTrue (is_there (state self.old) (parent_of new.now)) }
+        requires place { MayMoveTo (state self.old) old.now new.now }
+        requires fits { length new.now + height_below (state self.old) old.now ≤ 64 }
+        ensures old { IfOk result (λ e. entry_at (state self.old) old.now ≡ Some e) }
+        ensures ok { OnOk result (state self.new ≡ move_subtree (state self.old) old.now new.now entry) }
         ensures err { OnErr result (state self.new ≡ state self.old) }
         ensures value_returned { IfErr result (λ e. e ≡ entry) };
 

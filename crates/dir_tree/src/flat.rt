@@ -2,13 +2,14 @@
 
 ghost use Rattle.std.specs.Prelude.{◌≡◌, ◌++◌, IfNone, IfOk, IfSome, IsSome, None, OnOk, false, map, reverse};
 ghost use Rattle.std.specs.List.{flat_map};
-ghost use Rattle.std.specs.BTreeMap.{get};
+ghost use Rattle.std.specs.BTreeMap.{IsOrdered, get};
 ghost use Rattle.std.specs.Ordering.{is_gt};
 ghost use Rattle.std.specs.declared.cmp.Ordering.TheVariants.{Less};
 ghost use Rattle.dir_names.specs.Keys.{DnKeys};
 ghost use Rattle.dir_names.specs.Orders.{dn_key_cmp};
 ghost use Rattle.std.specs.FinMap as fin;
 ghost use Rattle.dir_tree.specs.Dir.{IsClosed, dir_over};
+ghost use Rattle.dir_tree.specs.Moves.{IsShallow, greatest, length_or_zero, moved_key, rest_below};
 ghost use Rattle.dir_tree.specs.SpelledNames.{named_entries};
 
 use crate::{Directory, Entry, spelled_own};
@@ -30,6 +31,7 @@ pub struct FlatDirectory {
 impl Model for FlatDirectory {
     ghost use Rattle.dir_tree.specs.Dir.{Dir, IsClosed, dir_over};
     ghost use Rattle.dir_tree.specs.Inside.Codes.{dir_code};
+    ghost use Rattle.dir_tree.specs.Moves.{IsShallow};
 
     ghost Value = { Dir };
 
@@ -37,7 +39,7 @@ impl Model for FlatDirectory {
 
     ghost view = { λ d. dir_over d.suffix d.entries.entries };
 
-    ghost invariant = { λ d. IsClosed (dir_over d.suffix d.entries.entries) };
+    ghost invariant = { λ d. IsClosed (dir_over d.suffix d.entries.entries) × IsShallow (dir_over d.suffix d.entries.entries) };
 }
 
 impl FlatDirectory {
@@ -80,6 +82,8 @@ impl Directory for FlatDirectory {
     }
 
     fn insert(&mut self, key: &DnKey, entry: Entry) -> Result<(), Entry> {
+        let depth = key.depth();
+        prove!(depth <= 64);
         let Ok(key) = key.try_clone(self.alloc) else {
             return Err(entry);
         };
@@ -87,6 +91,18 @@ impl Directory for FlatDirectory {
             Ok(_) => Ok(()),
             Err(refused) => Err(refused.value.1),
         }
+    }
+
+    fn height_below(&self, key: &DnKey) -> usize {
+        height_in(&self.entries, key)
+    }
+
+    fn move_subtree(&mut self, old: &DnKey, new: &DnKey, entry: Entry) -> Result<Entry, Entry> {
+        let Ok(moved) = moved_entries(self.alloc, &self.entries, old, new) else {
+            return Err(entry);
+        };
+        self.entries = moved;
+        Ok(mem::replace(self.entries.get_mut(new).unwrap(), entry))
     }
 
     fn spelled(&self, key: &DnKey) -> Result<Dn, Memory> {
@@ -134,6 +150,69 @@ fn walk_over<'m>(
         walk.push((Dn::of_rdns(rdns), entry))?;
     }
     Ok(walk)
+}
+
+/// By how many RDNs the longest key at or below this one is longer.
+fn height_in(entries: &BTreeMap<DnKey, Entry>, key: &DnKey) -> usize
+    ensures { result ≡ greatest (map (λ p. length_or_zero (rest_below key.now p.0)) entries.now.entries) }
+{
+    let mut height = 0;
+    for (below, _) in entries {
+        if below.at_or_below(key) {
+            let deeper = below.depth() - key.depth();
+            height = if deeper > height { deeper } else { height };
+        }
+    }
+    height
+}
+
+/// Clones of all entries, those at or below the old key under their keys below the new one.
+fn moved_entries(
+    alloc: Global,
+    entries: &BTreeMap<DnKey, Entry>,
+    old: &DnKey,
+    new: &DnKey,
+) -> Result<BTreeMap<DnKey, Entry>, Memory>
+    ensures ordered { IsOrdered dn_key_cmp entries.now }
+    ensures ok { IfOk result (λ moved. fin.from_entries {R = dn_key_cmp} moved.entries ≡ fin.from_entries (map (λ p. (moved_key old.now new.now p.0, p.1)) entries.now.entries)) }
+{
+    let mut moved = BTreeMap::new(alloc);
+    for (key, entry) in entries.iter().rev() {
+        let key = moved_key(alloc, key, old, new)?;
+        let Ok(entry) = entry.try_clone(alloc) else {
+            return Err(Memory);
+        };
+        let Ok(_) = moved.insert(key, entry) else {
+            return Err(Memory);
+        };
+    }
+    Ok(moved)
+}
+
+/// The key, with the old key at its beginning exchanged for the new one.
+fn moved_key(alloc: Global, key: &DnKey, old: &DnKey, new: &DnKey) -> Result<DnKey, Memory>
+    ensures { IfOk result (λ moved. moved ≡ moved_key old.now new.now key.now) }
+{
+    if !key.at_or_below(old) {
+        return cloned(alloc, key);
+    }
+    let mut moved = cloned(alloc, new)?;
+    for part in &key.parts()[old.depth()..] {
+        let Ok(child) = moved.child(alloc, part) else {
+            return Err(Memory);
+        };
+        moved = child;
+    }
+    Ok(moved)
+}
+
+fn cloned(alloc: Global, key: &DnKey) -> Result<DnKey, Memory>
+    ensures { IfOk result (λ clone. clone ≡ key.now) }
+{
+    match key.try_clone(alloc) {
+        Ok(clone) => Ok(clone),
+        Err(_) => Err(Memory),
+    }
 }
 
 /// The first key of the map that is greater than this one.

@@ -12,7 +12,7 @@ none_there e = cc
 pub returns-in-Some : goal.returns-in-Some
 returns-in-Some c =
     let at = λ (q : DnKeys). get_entries dn_key_cmp_total c.self.inside.entries.entries q ∙ ap (λ d. entry_at d q) c.self.view_is in
-    let closed : IsClosed c.args.self.now = subst IsClosed c.self.view_is c.self.invariant in
+    let closed : IsClosed c.args.self.now = subst IsClosed c.self.view_is c.self.invariant.0 in
     let next = c.in-Some.next.now in
     let there : is_some (entry_at c.args.self.now next) ≡ true = sym (ap is_some (at next)) ∙ c.in-Some.ensures.there in (
       λ is. let part = c.is_parent_of.ensures.0 is in (part.0, subst (λ q. is_some (entry_at c.args.self.now q) ≡ true) part.1 there),

@@ -1,10 +1,12 @@
-use Rattle.std.proofs.Common.{◌≡◌, true, sym, ap, ◌∙◌, subst}
+use Rattle.std.proofs.Common.{◌≡◌, ◌≤◌, length, true, sym, ap, ◌∙◌, subst}
 use Rattle.std.specs.FinMap as fin
 use Rattle.dir_names.specs.Orders.{dn_key_cmp, dn_key_cmp_total, dn_key_cmp_exact}
 use Rattle.dir_names.proofs.Maps.{one_put}
 use Rattle.dir_tree.specs.Content.{Content}
 use Rattle.dir_tree.specs.Dir.{Dir, IsClosed, has_parent, put_entry}
+use Rattle.dir_tree.specs.Moves.{IsShallow}
 use Rattle.dir_tree.proofs.DirLemmas.{closed_put}
+use Rattle.dir_tree.proofs.MoveLemmas.{shallow_put}
 use Rattle.dir_tree.proofs.flat.FlatDirectoryDirectory.insert.Goals as goal
 
 pub invariant_of-self : goal.invariant_of-self
@@ -14,7 +16,9 @@ invariant_of-self c =
     let same : c.args.key.now ≡ c.in-Ok.key = cc in
     let parent : has_parent before c.in-Ok.key ≡ true = subst (λ k. has_parent before k ≡ true) same (subst (λ d. has_parent d c.args.key.now ≡ true) (sym c.self.view_is) c.requires.parent) in
     let put = ap (λ entries. fin.from_entries entries) c.in-Ok-insert.ensures.entries ∙ one_put dn_key_cmp_total dn_key_cmp_exact c.self.inside.entries.entries c.in-Ok.key c.args.entry in
-    subst (λ entries. IsClosed (record { suffix = c.self.inside.suffix; entries = entries })) (sym put) (closed_put before c.in-Ok.key c.args.entry c.self.invariant parent)
+    let short : length c.in-Ok.key ≤ 64 = subst (λ k. length k ≤ 64) same c.depth-depth.ensures.within_limit in
+    subst (λ entries. IsClosed (record { suffix = c.self.inside.suffix; entries = entries }) × IsShallow (record { suffix = c.self.inside.suffix; entries = entries })) (sym put)
+    (closed_put before c.in-Ok.key c.args.entry c.self.invariant.0 parent, shallow_put before c.in-Ok.key c.args.entry c.self.invariant.1 short)
 
 pub returns-in-Ok-insert-clause-ok : goal.returns-in-Ok-insert-clause-ok
 returns-in-Ok-insert-clause-ok c =

@@ -5,7 +5,9 @@ use Rattle.dir_names.specs.Orders.{dn_key_cmp, dn_key_cmp_total, dn_key_cmp_exac
 use Rattle.dir_names.proofs.Maps.{get_entries, one_gone}
 use Rattle.dir_tree.specs.Content.{Content}
 use Rattle.dir_tree.specs.Dir.{Dir, HasChild, IsClosed, entry_at, remove_entry}
+use Rattle.dir_tree.specs.Moves.{IsShallow}
 use Rattle.dir_tree.proofs.DirLemmas.{closed_without}
+use Rattle.dir_tree.proofs.MoveLemmas.{shallow_without}
 use Rattle.dir_tree.proofs.flat.FlatDirectoryDirectory.remove_leaf.Goals as goal
 
 pub unwrap-requires : goal.unwrap-requires
@@ -18,7 +20,8 @@ invariant_of-self c =
     let before : Dir = record { suffix = c.self.inside.suffix; entries = fin.from_entries c.self.inside.entries.entries } in
     let leaf : HasChild before c.args.key.now → ⊥ = λ child. c.requires.leaf (subst (λ d. HasChild d c.args.key.now) c.self.view_is child) in
     let gone = one_gone dn_key_cmp_total dn_key_cmp_exact c.self.inside.entries.entries c.remove.new.self.entries c.args.key.now c.remove.ensures.updates.0 in
-    subst (λ entries. IsClosed (record { suffix = c.self.inside.suffix; entries = entries })) (sym gone) (closed_without before c.args.key.now c.self.invariant leaf)
+    subst (λ entries. IsClosed (record { suffix = c.self.inside.suffix; entries = entries }) × IsShallow (record { suffix = c.self.inside.suffix; entries = entries })) (sym gone)
+    (closed_without before c.args.key.now c.self.invariant.0 leaf, shallow_without before c.args.key.now c.self.invariant.1)
 
 pub returns-clause-old : goal.returns-clause-old
 returns-clause-old c =

@@ -4,7 +4,9 @@ use Rattle.std.specs.Option.{option_copied_mut}
 use Rattle.dir_names.specs.Orders.{dn_key_cmp, dn_key_cmp_total, dn_key_cmp_exact}
 use Rattle.dir_names.proofs.Maps.{get_entries}
 use Rattle.dir_tree.specs.Dir.{Dir, IsClosed, entry_at, put_entry, dir_over}
+use Rattle.dir_tree.specs.Moves.{IsShallow}
 use Rattle.dir_tree.proofs.DirLemmas.{closed_put}
+use Rattle.dir_tree.proofs.MoveLemmas.{shallow_put}
 use Rattle.dir_tree.proofs.MapWrites.{one_written, lent}
 use Rattle.dir_tree.proofs.flat.FlatDirectoryDirectory.replace.Goals as goal
 use Rattle.dir_tree.proofs.flat.FlatDirectoryDirectory.replace.Goals.{After-get_mut, After-replace}
@@ -30,7 +32,8 @@ pub invariant_of-self : goal.invariant_of-self
 invariant_of-self c =
     let before : Dir = dir_over c.self.inside.suffix c.self.inside.entries.entries in
     let there : is_some (entry_at before c.args.key.now) ≡ true = ap (λ d. is_some (entry_at d c.args.key.now)) c.self.view_is ∙ c.requires in
-    subst IsClosed (sym (put (goal.at.invariant_of-self c).After-replace)) (closed_put before c.args.key.now c.args.entry c.self.invariant (c.self.invariant c.args.key.now there))
+    subst (λ d. IsClosed d × IsShallow d) (sym (put (goal.at.invariant_of-self c).After-replace))
+    (closed_put before c.args.key.now c.args.entry c.self.invariant.0 (c.self.invariant.0 c.args.key.now there), shallow_put before c.args.key.now c.args.entry c.self.invariant.1 (c.self.invariant.1 c.args.key.now there))
 
 pub returns-clause-old : goal.returns-clause-old
 returns-clause-old c = sym (found (goal.at.returns-clause-old c).After-get_mut) ∙ ap option_copied_mut c.unwrap.ensures ∙ ap (λ e. Some e) (sym c.replace.ensures.value)

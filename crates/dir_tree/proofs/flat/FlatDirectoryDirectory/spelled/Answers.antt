@@ -18,7 +18,7 @@ loop-above-smaller c =
 
 pub loop-above-preserved : goal.loop-above-preserved
 loop-above-preserved c =
-    let closed : IsClosed c.args.self.now = subst IsClosed c.self.view_is c.self.invariant in
+    let closed : IsClosed c.args.self.now = subst IsClosed c.self.view_is c.self.invariant.0 in
     let at : Some c.in-Some-get.entry.now ≡ entry_at c.args.self.now c.in-Some.key = c.in-Some-get.ensures.value ∙ get_entries dn_key_cmp_total c.self.inside.entries.entries c.in-Some.key ∙ ap (λ d. entry_at d c.in-Some.key) c.self.view_is in
     let above : parent_of c.in-Some.key ≡ c.in-Ok-parent.parent = given c.in-Ok-parent.ensures in
     let pushed : c.push_clones.new.rdns.items ≡ c.loop-above.rdns.items ++ take (own_depth c.args.self.now.suffix c.in-Some.key) c.in-Some-get.entry.now.own =
@@ -37,7 +37,7 @@ whole d k done above nothing so_far = sym (append-nil done) ∙ ap (λ names. do
 
 pub of_rdns-requires : goal.of_rdns-requires
 of_rdns-requires c =
-    let closed : IsClosed c.args.self.now = subst IsClosed c.self.view_is c.self.invariant in
+    let closed : IsClosed c.args.self.now = subst IsClosed c.self.view_is c.self.invariant.0 in
     let nothing : left_above c.args.self.now c.loop-above.above ≡ [] = elim c.match-above.branch [
       | in-Some+in_default-get w ↦
           let none : entry_at c.args.self.now w.in-Some.key ≡ None = sym (w.in_default-get.ensures.value ∙ get_entries dn_key_cmp_total c.self.inside.entries.entries w.in-Some.key ∙ ap (λ d. entry_at d w.in-Some.key) c.self.view_is) in
@@ -51,7 +51,7 @@ of_rdns-requires c =
 
 pub returns : goal.returns
 returns c =
-    let closed : IsClosed c.args.self.now = subst IsClosed c.self.view_is c.self.invariant in
+    let closed : IsClosed c.args.self.now = subst IsClosed c.self.view_is c.self.invariant.0 in
     let nothing : left_above c.args.self.now c.loop-above.above ≡ [] = elim c.match-above.branch [
       | in-Some+in_default-get w ↦
           let none : entry_at c.args.self.now w.in-Some.key ≡ None = sym (w.in_default-get.ensures.value ∙ get_entries dn_key_cmp_total c.self.inside.entries.entries w.in-Some.key ∙ ap (λ d. entry_at d w.in-Some.key) c.self.view_is) in
