@@ -19,5 +19,10 @@ pub mod SortedVecs
 pub mod SoundMade
 pub mod SpelledLemmas
 pub mod StableSorts
+pub mod TreeChildren
+pub mod TreeDirs
+pub mod TreeMoves
+pub mod TreeNames
 pub mod TreeNodes
+pub mod TreeWrites
 pub mod Walk

@@ -22,7 +22,7 @@ use Rattle.dir_tree.specs.Inside.TreeOrder.{AreOrdered, Children, Found, node_so
 use Rattle.dir_tree.specs.Inside.TreePlaces.{HasPlace, IsAt, IsGraft, Places, begins_with, below_children, below_part, entry_in, entry_on, grafted, node_map, place_map, with_child}
 use Rattle.dir_tree.proofs.EachEntry.{apart}
 
-truth : {b : Bool} → T b → b ≡ true
+pub truth : {b : Bool} → T b → b ≡ true
 truth {b} t = elim b as (λ b. T b → b ≡ true) [ true ↦ λ _. refl | _ ↦ λ f. absurd f ] t
 
 -- ---- looking for a path in a list

@@ -5,6 +5,7 @@ pub mod Codes
 pub mod Stored
 pub mod TreeFalls
 pub mod TreeLends
+pub mod TreeNames
 pub mod TreeOrder
 pub mod TreePlaces
 pub mod Trees

@@ -1,6 +1,7 @@
 -- What the nodes of a tree stand for: a finite map from paths to places. A path is the keys of the RDNs from a node down to what is at or below it. A place is empty or has an entry.
-use Rattle.std.specs.Prelude.{◌≡◌, Bool, false, IsSome, not, List, [], ◌∷◌, ◌++◌, map, Option, Some, None}
+use Rattle.std.specs.Prelude.{◌≡◌, Bool, cond, false, IsSome, not, List, [], ◌∷◌, ◌++◌, map, Option, Some, None}
 use Rattle.std.specs.List.{flat_map, filter}
+use Rattle.std.specs.Ordering.{eq_by_cmp}
 use Rattle.std.specs.FinMap as fin
 use Rattle.std.specs.Coded.{Coded, coded×, coded_list, coded_option, coded_ℕ}
 use Rattle.dir_names.specs.Keys.{DnKeys, RdnKeys}
@@ -65,3 +66,12 @@ HasPlace m part = (rest : DnKeys) × IsSome (fin.get m (part ∷ rest))
 -- what is there at or below a path, by the rests of paths
 abbrev pub IsAt : Places → DnKeys → Places → Type 0
 IsAt m path part = (q : DnKeys) → fin.get part q ≡ fin.get m (path ++ q)
+
+-- what was at or below the old path is at or below the new one, with this entry there, and all else is as it was
+abbrev pub moved_place : Places → DnKeys → Content → Option DnKeys → Option DnKeys → Option (Option Content) → Option (Option Content)
+moved_place before old e None None place = place
+moved_place before old e None (Some rest) place = None
+moved_place before old e (Some rest) was place = cond (eq_by_cmp dn_key_cmp rest []) (Some (Some e)) (fin.get before (old ++ rest))
+
+abbrev pub IsMove : Places → DnKeys → DnKeys → Content → Places → Type 0
+IsMove before old new e after = (q : DnKeys) → fin.get after q ≡ moved_place before old e (rest_below new q) (rest_below old q) (fin.get before q)

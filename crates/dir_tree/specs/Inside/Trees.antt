@@ -2,7 +2,7 @@
 use Rattle.std.specs.Prelude.{◌≡◌, ℕ, ◌≤◌, List, [], ◌∷◌, ◌++◌, length, Option, Some, None, IsSome}
 use Rattle.std.specs.List.{flat_map}
 use Rattle.std.specs.FinMap as fin
-use Rattle.dir_names.specs.Keys.{DnKeys}
+use Rattle.dir_names.specs.Keys.{DnKeys, RdnKeys}
 use Rattle.dir_tree.specs.Content.{Content}
 use Rattle.dir_tree.specs.Dir.{Dir, IsClosed, dir_over}
 use Rattle.dir_tree.specs.Moves.{IsShallow}
@@ -24,6 +24,10 @@ root_places (Some m) = fin.entries m
 -- the directory of a tree: each entry has the key of its path, below the suffix
 abbrev pub tree_dir : DnKeys → Option Places → Dir
 tree_dir suffix root = dir_over suffix (entries_below suffix (root_places root))
+
+-- the key has more parts than the suffix with which it begins
+abbrev pub IsBelow : DnKeys → DnKeys → Type 0
+IsBelow suffix k = (first : RdnKeys) × (rest : DnKeys) × (k ≡ suffix ++ first ∷ rest)
 
 -- no place is empty
 abbrev pub IsFilled : Option Places → Type 0

@@ -1,14 +1,17 @@
 //! The nodes of a tree: each owns its entry and its children, in the order of the keys of their RDNs.
 
 ghost use Rattle.std.specs.Borrow.{sem};
-ghost use Rattle.std.specs.Prelude.{◌≡◌, [], ◌∷◌, ◌++◌, IfErr, IfNone, IfSome, IsSome, None, OnErr, OnOk, Some, length, take};
+ghost use Rattle.std.specs.Prelude.{◌≡◌, ◌↔◌, ◌+◌, ◌≤◌, ℕ, [], ◌∷◌, ◌++◌, IfErr, IfNone, IfOk, IfSome, IsSome, IsTrue, None, OnErr, OnOk, Some, length, map, take};
 ghost use Rattle.std.specs.FinMap as fin;
-ghost use Rattle.dir_names.specs.Keys.{DnKeys};
+ghost use Rattle.dir_names.specs.Keys.{DnKeys, RdnKeys};
 ghost use Rattle.dir_tree.specs.Inside.TreeLends.{LendsNode, LendsPlace};
-ghost use Rattle.dir_tree.specs.Inside.TreePlaces.{HasPlace, IsAt, IsGraft, entry_on, place_map};
+ghost use Rattle.dir_tree.specs.Moves.{rest_below};
+ghost use Rattle.dir_tree.specs.Inside.TreeNames.{name_in, named_places};
+ghost use Rattle.dir_tree.specs.Inside.TreePlaces.{HasPlace, IsAt, IsGraft, IsMove, entry_on, place_map};
 
 use crate::Entry;
-use dir_names::RdnKey;
+use crate::flat::push_clones;
+use dir_names::{Dn, Memory, Rdn, RdnKey};
 use std::alloc::Global;
 use std::collections::BTreeMap;
 use std::marker::Model;
@@ -171,6 +174,116 @@ impl Node {
             None => *self.place(first) = Some(node),
         }
     }
+
+    /// Moves the node at a path below this one, with all below it, to another path, puts another entry into
+    /// it, and returns the old one. At the new path there is nothing, its parent has a node, and neither
+    /// path begins with the other.
+    ///
+    /// # Errors
+    ///
+    /// The entry, if memory runs out. Then this node is as it was.
+    pub(crate) fn move_at(
+        &mut self,
+        alloc: Global,
+        first: &RdnKey,
+        rest: &[RdnKey],
+        new_first: &RdnKey,
+        new_rest: &[RdnKey],
+        entry: Entry,
+    ) -> Result<Entry, Entry>
+        requires there { IsSome (entry_on self.old (first.now ∷ rest.now)) }
+        requires parent { IsSome (entry_on self.old (take (length new_rest.now) (new_first.now ∷ new_rest.now))) }
+        requires free { fin.get self.old (new_first.now ∷ new_rest.now) ≡ None }
+        requires outside { rest_below (first.now ∷ rest.now) (new_first.now ∷ new_rest.now) ≡ None }
+        requires apart { rest_below (new_first.now ∷ new_rest.now) (first.now ∷ rest.now) ≡ None }
+        ensures old { IfOk result (λ e. entry_on self.old (first.now ∷ rest.now) ≡ Some e) }
+        ensures ok { OnOk result (IsMove self.old (first.now ∷ rest.now) (new_first.now ∷ new_rest.now) entry self.new) }
+        ensures err { OnErr result (self.new ≡ self.old) }
+        ensures value_returned { IfErr result (λ e. e ≡ entry) }
+    {
+        let Ok(()) = self.grow_at(alloc, new_first, new_rest, None) else {
+            return Err(entry);
+        };
+        let mut node = self.cut_at(first, rest);
+        let former = node.exchange(entry);
+        self.put_at(new_first, new_rest, node);
+        Ok(former)
+    }
+
+    /// Whether the node has a child.
+    pub(crate) fn has_child(&self) -> bool
+        ensures { IsTrue result ↔ ((part : RdnKeys) × IsSome (entry_on self.now (part ∷ []))) }
+    {
+        for (_, place) in &self.children {
+            if let Some(child) = place {
+                // The child is opened, so that the proof knows that it has an entry.
+                let _entry = &child.entry;
+                return true;
+            }
+        }
+        false
+    }
+
+    /// The length of the longest path from this node to one at or below it.
+    pub(crate) fn height(&self) -> usize
+        requires { (path : DnKeys) → IsSome (entry_on self.now path) → length path ≤ 64 }
+        ensures root { IsSome (entry_on self.now []) }
+        ensures reaches { (path : DnKeys) → IsSome (entry_on self.now path) → length path ≤ result }
+        ensures least { (n : ℕ) → ((path : DnKeys) → IsSome (entry_on self.now path) → length path ≤ n) → result ≤ n }
+    {
+        let mut height = 0;
+        for (_, place) in &self.children {
+            if let Some(child) = place {
+                let below = child.height() + 1;
+                if below > height {
+                    height = below;
+                }
+            }
+        }
+        height
+    }
+
+    /// Clones the own names of the entries on a path onto the end of a list, the last first. Of the node's
+    /// own name at most `depth` RDNs count, of each other one.
+    pub(crate) fn push_name(
+        &self,
+        alloc: Global,
+        depth: usize,
+        path: &[RdnKey],
+        rdns: &mut Vec<Rdn>,
+    ) -> Result<(), Memory>
+        requires { IsSome (entry_on self.now path.now) }
+        ensures { OnOk result (rdns.new.items ≡ rdns.old.items ++ name_in self.now depth path.now) }
+    {
+        if let Some((first, rest)) = path.split_first() {
+            self.child(first).unwrap().push_name(alloc, 1, rest, rdns)?;
+        }
+        push_clones(rdns, first_rdns(self.entry.own(), depth), alloc)
+    }
+
+    /// Appends every entry with its name as spelled, in order of paths. The RDNs above this node are given;
+    /// of its own name at most `depth` count.
+    pub(crate) fn walk<'t>(
+        &'t self,
+        alloc: Global,
+        depth: usize,
+        above: &[Rdn],
+        walk: &mut Vec<(Dn, &'t Entry)>,
+    ) -> Result<(), Memory>
+        requires { (path : DnKeys) → IsSome (entry_on self.now path) → length path + (depth + length above.now) ≤ 64 }
+        ensures { OnOk result (map (λ item. (item.0, item.1.now)) walk.new.items ≡ map (λ item. (item.0, item.1.now)) walk.old.items ++ named_places self.now depth above.now) }
+    {
+        let own = first_rdns(self.entry.own(), depth);
+        let name = joined(alloc, own, above)?;
+        walk.push((Dn::of_rdns(name), &self.entry))?;
+        let name = joined(alloc, own, above)?;
+        for (_, place) in &self.children {
+            if let Some(child) = place {
+                child.walk(alloc, 1, name.as_slice(), walk)?;
+            }
+        }
+        Ok(())
+    }
 }
 
 /// The node in a place, for writing.
@@ -180,4 +293,21 @@ pub(crate) fn node_in(place: &mut Option<Node>) -> &mut Node
     ensures is { place.old ≡ Some result.now }
 {
     place.as_mut().unwrap()
+}
+
+/// The first RDNs of a name, at most so many.
+fn first_rdns(own: &[Rdn], depth: usize) -> &[Rdn]
+    ensures { result.now ≡ take depth own.now }
+{
+    &own[..own.len().min(depth)]
+}
+
+/// Clones of two lists of RDNs, one after the other.
+fn joined(alloc: Global, first: &[Rdn], second: &[Rdn]) -> Result<Vec<Rdn>, Memory>
+    ensures { IfOk result (λ rdns. rdns.items ≡ first.now ++ second.now) }
+{
+    let mut rdns = Vec::with_capacity(alloc, first.len().saturating_add(second.len()))?;
+    push_clones(&mut rdns, first, alloc)?;
+    push_clones(&mut rdns, second, alloc)?;
+    Ok(rdns)
 }
