@@ -322,8 +322,12 @@ impl AttributeMap {
     }
 
     /// Adds the value of each pair of an RDN, unless its key is there already. A new attribute is spelled
-    /// as in the RDN.
-    pub(crate) fn add_missing(
+    /// as in the RDN. Each pair must have a key.
+    ///
+    /// # Errors
+    ///
+    /// `Memory` alone. Then some of the values may have been added.
+    pub fn add_missing(
         &mut self,
         alloc: Global,
         schema: &Schema,

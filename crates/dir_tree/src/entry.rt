@@ -117,6 +117,13 @@ impl Entry {
         self.attributes.iter()
     }
 
+    /// The attributes as a map, to look them up or to clone them.
+    pub fn attribute_map(&self) -> &AttributeMap
+        ensures { result.now ≡ self.now.attributes }
+    {
+        &self.attributes
+    }
+
     /// The fields of the entry. The call doesn't allocate.
     pub fn into_parts(self) -> Parts
         ensures { content_of result ≡ self }
