@@ -276,6 +276,9 @@ impl Node {
         let own = first_rdns(self.entry.own(), depth);
         let name = joined(alloc, own, above)?;
         walk.push((Dn::of_rdns(name), &self.entry))?;
+        if self.children.is_empty() {
+            return Ok(());
+        }
         let name = joined(alloc, own, above)?;
         for (_, place) in &self.children {
             if let Some(child) = place {
