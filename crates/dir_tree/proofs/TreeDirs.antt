@@ -1,11 +1,11 @@
 -- A tree of nodes as a directory: the entry at each key, and all entries in order.
-use Rattle.std.proofs.Common.{◌≡◌, ℕ, ◌+◌, Bool, true, false, cond, T, List, [], ◌∷◌, ◌++◌, length, map, take, Option, Some, None, is_some, refl, sym, ap, subst, ◌∙◌, arith, append_assoc, length-append, true≢false}
+use Rattle.std.proofs.Common.{◌≡◌, Bool, true, false, cond, T, List, [], ◌∷◌, ◌++◌, length, map, take, Option, Some, None, refl, sym, ap, subst, ◌∙◌, arith, append_assoc, length-append}
 use Rattle.std.proofs.lemmas.List.{append-nil}
 use Rattle.std.specs.List.{flat_map, list_all}
-use Rattle.std.specs.Ordering.{eq_by_cmp, is_eq, is_lt, ordering_then}
+use Rattle.std.specs.Ordering.{eq_by_cmp, is_lt, ordering_then}
 use Rattle.std.specs.Cmp.{tied_itself}
 use Rattle.std.specs.FinMap as fin
-use Rattle.std.specs.FinMap.{entries_sorted, entries-from_sorted, find, get-empty, get-entries, get-from_entries, is_sorted, same_map}
+use Rattle.std.specs.FinMap.{entries_sorted, entries-from_sorted, find, get-entries, get-from_entries, is_sorted, same_map}
 use Rattle.std.specs.FinMap.Entries.{below_all}
 use Rattle.dir_names.specs.Keys.{DnKeys, RdnKeys}
 use Rattle.dir_names.specs.Names.{SpelledName}
@@ -13,7 +13,7 @@ use Rattle.dir_names.specs.Orders.{dn_key_cmp, dn_key_cmp_exact, dn_key_cmp_tota
 use Rattle.dir_names.proofs.Maps.{sorted_entries}
 use Rattle.dir_names.proofs.Placed.{both, first, second, is_sorted-keys, keys_of}
 use Rattle.dir_tree.specs.Content.{Content}
-use Rattle.dir_tree.specs.Dir.{Dir, IsClosed, dir_over, entry_at}
+use Rattle.dir_tree.specs.Dir.{Dir, IsClosed, entry_at}
 use Rattle.dir_tree.specs.Moves.{rest_below}
 use Rattle.dir_tree.specs.SpelledNames.{named_entries, own_name_at, own_name_of, spelled_name}
 use Rattle.dir_tree.specs.Inside.TreeNames.{name_in, named_place, named_places, own_in}

@@ -1,17 +1,17 @@
 -- A subtree that moves in a tree of nodes, as a move in its directory.
-use Rattle.std.proofs.Common.{◌≡◌, ℕ, ◌+◌, ◌≤◌, Bool, true, false, cond, inl, inr, ◌⊎◌, [], ◌∷◌, ◌++◌, length, take, Option, Some, None, is_some, refl, sym, ap, subst, ◌∙◌, append_assoc, true≢false}
+use Rattle.std.proofs.Common.{◌≡◌, ◌+◌, ◌≤◌, Bool, true, false, cond, inl, inr, [], ◌∷◌, ◌++◌, length, take, Option, Some, None, is_some, refl, sym, ap, subst, ◌∙◌, append_assoc, true≢false}
 use Rattle.std.specs.Ordering.{eq_by_cmp}
 use Rattle.std.specs.FinMap as fin
-use Rattle.dir_names.specs.Keys.{DnKeys, RdnKeys, parent_of}
+use Rattle.dir_names.specs.Keys.{DnKeys, RdnKeys}
 use Rattle.dir_names.specs.Orders.{dn_key_cmp}
 use Rattle.dir_tree.specs.Content.{Content}
 use Rattle.dir_tree.specs.Dir.{Dir, IsClosed, entry_at, put_entry}
 use Rattle.dir_tree.specs.Moves.{IsShallow, MayMoveTo, height_below, move_subtree, rest_below}
 use Rattle.dir_tree.specs.Inside.TreePlaces.{IsMove, Places, entry_in, entry_on, moved_place}
-use Rattle.dir_tree.specs.Inside.Trees.{IsFilled, IsTree, tree_dir}
+use Rattle.dir_tree.specs.Inside.Trees.{IsTree, tree_dir}
 use Rattle.dir_tree.proofs.DirLemmas.{get_put}
 use Rattle.dir_tree.proofs.MoveLemmas.{IsClear, Place, clear_place, closed_moved, get_moved, shallow_moved, was_at}
-use Rattle.dir_tree.proofs.RestBelow.{rest_is, rest_of}
+use Rattle.dir_tree.proofs.RestBelow.{rest_is}
 use Rattle.dir_tree.proofs.TreeDirs.{entry_of, get_path, get_tree, same_tree}
 use Rattle.dir_tree.proofs.TreeWrites.{inner, long_path, no_entry, none_below_free, not_both, other_test, parent_at, rest_outside, rest_under, same_test}
 

@@ -1,5 +1,5 @@
 -- Names as spelled from a node down: from a node to its child, and all of them in order.
-use Rattle.std.proofs.Common.{◌≡◌, ℕ, ◌+◌, List, [], ◌∷◌, ◌++◌, map, length, take, Option, Some, None, refl, sym, ap, ◌∙◌, append_assoc, arith}
+use Rattle.std.proofs.Common.{◌≡◌, ℕ, List, [], ◌∷◌, ◌++◌, map, length, take, Option, Some, None, refl, sym, ap, ◌∙◌, append_assoc, arith}
 use Rattle.std.proofs.lemmas.List.{append-nil}
 use Rattle.std.specs.List.{flat_map}
 use Rattle.std.specs.FinMap as fin
@@ -13,7 +13,7 @@ use Rattle.dir_tree.specs.SpelledNames.{own_name_of}
 use Rattle.dir_tree.specs.WellFormed.{Each}
 use Rattle.dir_tree.specs.Inside.TreeNames.{name_in, named_place, named_places, own_in}
 use Rattle.dir_tree.specs.Inside.TreeOrder.{AreOrdered, Children, Found, node_entries}
-use Rattle.dir_tree.specs.Inside.TreePlaces.{IsAt, Places, below_children, below_part, entry_in, entry_on, node_map, place_map}
+use Rattle.dir_tree.specs.Inside.TreePlaces.{IsAt, Places, below_children, below_part, entry_in, node_map, place_map}
 use Rattle.dir_tree.proofs.SpelledLemmas.{by_last, prefixes_child}
 use Rattle.dir_tree.proofs.TreeChildren.{IsChildOf, children_of}
 use Rattle.dir_tree.proofs.TreeNodes.{get_root}

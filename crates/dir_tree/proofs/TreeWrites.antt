@@ -1,5 +1,5 @@
 -- Writes into a tree of nodes, as writes into its directory.
-use Rattle.std.proofs.Common.{◌≡◌, ℕ, ◌+◌, ◌≤◌, Bool, true, false, cond, ◌||◌, [], ◌∷◌, ◌++◌, length, take, drop, Bor, MatchOption, Option, Some, None, is_some, refl, sym, ap, subst, ◌∙◌, arith, append_assoc, length-append, true≢false}
+use Rattle.std.proofs.Common.{◌≡◌, ◌+◌, ◌≤◌, Bool, true, false, cond, [], ◌∷◌, ◌++◌, length, take, drop, Bor, MatchOption, Option, Some, None, is_some, refl, sym, ap, subst, ◌∙◌, arith, append_assoc, length-append, true≢false}
 use Rattle.std.proofs.lemmas.List.{append-nil, take-append-drop}
 use Rattle.std.specs.Option.{option_map}
 use Rattle.std.specs.Cmp.{tied_itself}
@@ -13,7 +13,7 @@ use Rattle.dir_tree.specs.Dir.{Dir, HasChild, IsClosed, entry_at, has_parent, is
 use Rattle.dir_tree.specs.Moves.{IsShallow, rest_below}
 use Rattle.dir_tree.specs.SpelledNames.{spelled_name}
 use Rattle.dir_tree.specs.Inside.TreeNames.{name_in}
-use Rattle.dir_tree.specs.Inside.TreePlaces.{IsGraft, Places, entry_in, entry_on, grafted, place_map}
+use Rattle.dir_tree.specs.Inside.TreePlaces.{IsGraft, Places, entry_in, entry_on, grafted}
 use Rattle.dir_tree.specs.Inside.Trees.{IsBelow, IsFilled, IsTree, tree_dir}
 use Rattle.dir_tree.proofs.DirLemmas.{closed_put, closed_without, get_put, get_without, last_part, parent_child, same_key}
 use Rattle.dir_tree.proofs.MoveLemmas.{ancestor_there, shallow_put, shallow_without}

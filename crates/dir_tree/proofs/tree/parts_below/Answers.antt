@@ -1,7 +1,6 @@
-use Rattle.std.proofs.Common.{◌≡◌, ◌<◌, ◌++◌, ◌∷◌, MatchOption, Some, is_some, length, sym, ap, subst, ◌∙◌, arith}
+use Rattle.std.proofs.Common.{◌≡◌, ◌++◌, ◌∷◌, MatchOption, Some, is_some, length, sym, ap, subst, ◌∙◌, arith}
 use Rattle.std.specs.List.{IsFirstAndRest}
 use Rattle.std.specs.Option.{option_map}
-use Rattle.dir_names.specs.Keys.{DnKeys}
 use Rattle.dir_tree.specs.Moves.{rest_below}
 use Rattle.dir_tree.proofs.RestBelow.{rest_is, rest_of}
 use Rattle.dir_tree.proofs.TreeWrites.{inner, mapped_some}

@@ -1,9 +1,8 @@
-use Rattle.std.proofs.Common.{◌≡◌, [], ◌++◌, Bor, IfNone, IfSome, None, Option, Some, append_assoc, refl, sym, ap, ◌∙◌}
-use Rattle.std.specs.FinMap as fin
+use Rattle.std.proofs.Common.{◌≡◌, ◌++◌, IfNone, IfSome, None, Option, Some, append_assoc, refl, sym, ap, ◌∙◌}
 use Rattle.dir_names.specs.Keys.{DnKeys}
 use Rattle.dir_tree.specs.Dir.{entry_at}
 use Rattle.dir_tree.specs.Moves.{rest_below}
-use Rattle.dir_tree.specs.Inside.TreePlaces.{IsAt, Places, entry_in, entry_on}
+use Rattle.dir_tree.specs.Inside.TreePlaces.{IsAt, entry_in, entry_on}
 use Rattle.dir_tree.specs.Inside.Trees.{tree_dir}
 use Rattle.dir_tree.proofs.RestBelow.{rest_is}
 use Rattle.dir_tree.proofs.TreeDirs.{entry_of, get_path, get_tree}

@@ -1,5 +1,4 @@
-use Rattle.std.proofs.Common.{◌≡◌, ◌∷◌, [], ◌++◌, is_some, refl, sym, ap, ◌∙◌, true≢false}
-use Rattle.dir_names.specs.Keys.{DnKeys}
+use Rattle.std.proofs.Common.{◌≡◌, is_some, refl, sym, ap, ◌∙◌, true≢false}
 use Rattle.dir_tree.specs.Dir.{entry_at}
 use Rattle.dir_tree.proofs.TreeWrites.{child_of_none, mapped_some}
 use Rattle.dir_tree.proofs.tree.TreeDirectoryDirectory.has_child.Goals as goal

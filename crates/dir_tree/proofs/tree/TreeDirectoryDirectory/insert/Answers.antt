@@ -1,12 +1,9 @@
-use Rattle.std.proofs.Common.{◌≡◌, true, [], ◌∷◌, ◌++◌, Err, IfErr, None, Ok, OnOk, Result, Some, length, take, is_some, sym, ap, subst, ◌∙◌}
+use Rattle.std.proofs.Common.{◌≡◌, true, ◌∷◌, ◌++◌, IfErr, None, OnOk, Some, length, take, is_some, sym, ap, subst, ◌∙◌}
 use Rattle.std.specs.Option.{option_map}
-use Rattle.std.specs.FinMap as fin
-use Rattle.dir_names.specs.Keys.{DnKeys, RdnKeys, parent_of}
-use Rattle.dir_tree.specs.Content.{Content}
-use Rattle.dir_tree.specs.Dir.{Dir, HasChild, entry_at, has_parent, is_there, put_entry, remove_entry}
+use Rattle.dir_names.specs.Keys.{DnKeys}
+use Rattle.dir_tree.specs.Dir.{entry_at, has_parent, put_entry}
 use Rattle.dir_tree.specs.Moves.{rest_below}
-use Rattle.dir_tree.specs.Inside.TreePlaces.{IsGraft, Places, entry_in, entry_on, place_map}
-use Rattle.dir_tree.specs.Inside.Trees.{IsFilled, IsTree, tree_dir}
+use Rattle.dir_tree.specs.Inside.Trees.{IsTree, tree_dir}
 use Rattle.dir_tree.proofs.RestBelow.{rest_is, rest_of}
 use Rattle.dir_tree.proofs.TreeWrites.{Spot, inner, leaf_entry, mapped_some, on_path, parent_below, parent_there, root_there, spot_grown, suffix_key, suffix_put, tree_begun, tree_grown}
 use Rattle.dir_tree.proofs.tree.TreeDirectoryDirectory.insert.Goals as goal

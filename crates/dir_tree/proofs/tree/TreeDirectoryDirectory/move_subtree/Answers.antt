@@ -1,11 +1,9 @@
-use Rattle.std.proofs.Common.{◌≡◌, ◌+◌, ◌≤◌, true, [], ◌∷◌, ◌++◌, Err, IfOk, Ok, OnErr, OnOk, Result, Some, length, is_some, sym, ap, subst, ◌∙◌, true≢false}
-use Rattle.std.specs.FinMap as fin
+use Rattle.std.proofs.Common.{◌≡◌, ◌+◌, ◌≤◌, ◌∷◌, Err, IfOk, Ok, OnErr, OnOk, Result, Some, length, is_some, sym, ap, subst, ◌∙◌, true≢false}
 use Rattle.dir_names.specs.Keys.{DnKeys, parent_of}
 use Rattle.dir_names.specs.Orders.{dn_key_eq_decides}
-use Rattle.dir_tree.specs.Content.{Content}
-use Rattle.dir_tree.specs.Dir.{Dir, entry_at, is_there}
+use Rattle.dir_tree.specs.Dir.{entry_at, is_there}
 use Rattle.dir_tree.specs.Moves.{height_below, move_subtree, rest_below}
-use Rattle.dir_tree.specs.Inside.TreePlaces.{IsMove, Places, entry_on}
+use Rattle.dir_tree.specs.Inside.TreePlaces.{IsMove, entry_on}
 use Rattle.dir_tree.specs.Inside.Trees.{IsTree, tree_dir}
 use Rattle.dir_tree.proofs.MoveLemmas.{Place, place_of}
 use Rattle.dir_tree.proofs.RestBelow.{rest_of}

@@ -1,13 +1,10 @@
-use Rattle.std.proofs.Common.{◌≡◌, true, [], ◌∷◌, ◌++◌, None, Some, is_some, sym, ap, subst, ◌∙◌}
+use Rattle.std.proofs.Common.{◌≡◌, true, [], ◌∷◌, Some, is_some, sym, ap, subst, ◌∙◌}
 use Rattle.std.proofs.lemmas.List.{append-nil}
 use Rattle.std.specs.Option.{option_map}
-use Rattle.std.specs.FinMap as fin
-use Rattle.dir_names.specs.Keys.{DnKeys, RdnKeys, parent_of}
-use Rattle.dir_tree.specs.Content.{Content}
-use Rattle.dir_tree.specs.Dir.{Dir, HasChild, entry_at, has_parent, is_there, put_entry, remove_entry}
+use Rattle.dir_tree.specs.Dir.{HasChild, entry_at, remove_entry}
 use Rattle.dir_tree.specs.Moves.{rest_below}
-use Rattle.dir_tree.specs.Inside.TreePlaces.{IsGraft, Places, entry_in, entry_on, place_map}
-use Rattle.dir_tree.specs.Inside.Trees.{IsFilled, IsTree, tree_dir}
+use Rattle.dir_tree.specs.Inside.TreePlaces.{Places, entry_in, entry_on}
+use Rattle.dir_tree.specs.Inside.Trees.{tree_dir}
 use Rattle.dir_tree.proofs.TreeNodes.{no_length}
 use Rattle.dir_tree.proofs.TreeWrites.{Spot, mapped_some, on_path, path_there, root_there, spot_cut, spot_entry, spot_there, suffix_cut, suffix_key, tree_cut, tree_emptied}
 use Rattle.dir_tree.proofs.tree.TreeDirectoryDirectory.remove_leaf.Goals as goal

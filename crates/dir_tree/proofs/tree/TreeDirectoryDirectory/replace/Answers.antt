@@ -1,12 +1,7 @@
-use Rattle.std.proofs.Common.{◌≡◌, true, Some, is_some, sym, ap, ◌∙◌}
+use Rattle.std.proofs.Common.{◌≡◌, true, is_some, sym, ap, ◌∙◌}
 use Rattle.std.specs.Option.{option_map}
-use Rattle.std.specs.FinMap as fin
-use Rattle.dir_names.specs.Keys.{DnKeys}
-use Rattle.dir_tree.specs.Content.{Content}
-use Rattle.dir_tree.specs.Dir.{HasChild, entry_at, has_parent, put_entry, remove_entry}
-use Rattle.dir_tree.specs.Moves.{rest_below}
-use Rattle.dir_tree.specs.Inside.TreePlaces.{Places, entry_in, entry_on}
-use Rattle.dir_tree.specs.Inside.Trees.{IsFilled, IsTree, tree_dir}
+use Rattle.dir_tree.specs.Dir.{entry_at, put_entry}
+use Rattle.dir_tree.specs.Inside.Trees.{tree_dir}
 use Rattle.dir_tree.proofs.TreeWrites.{Spot, mapped_some, path_there, root_there, spot_entry, spot_replaced, spot_there, tree_replaced}
 use Rattle.dir_tree.proofs.tree.TreeDirectoryDirectory.replace.Goals as goal
 use Rattle.dir_tree.proofs.tree.TreeDirectoryDirectory.replace.Goals.{After-path_below, After-node_in}

@@ -1,12 +1,7 @@
-use Rattle.std.proofs.Common.{◌≡◌, ◌≤◌, true, ◌++◌, Some, length, is_some, sym, ap, ◌∙◌, arith}
+use Rattle.std.proofs.Common.{◌≡◌, true, ◌++◌, length, is_some, sym, ap, ◌∙◌, arith}
 use Rattle.std.specs.Option.{option_copied, option_map}
-use Rattle.std.specs.FinMap as fin
-use Rattle.dir_names.specs.Keys.{DnKeys, RdnKeys, parent_of}
-use Rattle.dir_tree.specs.Content.{Content}
-use Rattle.dir_tree.specs.Dir.{Dir, HasChild, entry_at, has_parent, is_there, put_entry, remove_entry}
-use Rattle.dir_tree.specs.Moves.{rest_below}
-use Rattle.dir_tree.specs.Inside.TreePlaces.{IsGraft, Places, entry_in, entry_on, place_map}
-use Rattle.dir_tree.specs.Inside.Trees.{IsFilled, IsTree, tree_dir}
+use Rattle.dir_tree.specs.Dir.{entry_at}
+use Rattle.dir_tree.specs.Inside.Trees.{tree_dir}
 use Rattle.dir_tree.specs.SpelledNames.{spelled_name}
 use Rattle.dir_tree.specs.Inside.TreeNames.{name_in}
 use Rattle.dir_tree.proofs.SpelledLemmas.{spelled_short}

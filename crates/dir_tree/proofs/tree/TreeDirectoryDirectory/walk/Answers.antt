@@ -1,4 +1,4 @@
-use Rattle.std.proofs.Common.{◌≡◌, ◌+◌, ◌≤◌, true, [], ◌++◌, None, Some, length, map, is_some, sym, ap, subst, ◌∙◌, arith, length-append}
+use Rattle.std.proofs.Common.{◌≤◌, [], ◌++◌, length, map, is_some, sym, ap, subst, ◌∙◌, arith, length-append}
 use Rattle.dir_names.specs.Keys.{DnKeys}
 use Rattle.dir_tree.specs.Dir.{IsClosed, entry_at}
 use Rattle.dir_tree.specs.SpelledNames.{named_entries}

@@ -1,9 +1,7 @@
-use Rattle.std.proofs.Common.{◌≡◌, [], ◌∷◌, ◌++◌, None, Option, Some, is_some, length, true, ap, subst, sym, ◌∙◌}
-use Rattle.std.specs.FinMap as fin
+use Rattle.std.proofs.Common.{◌≡◌, [], ◌∷◌, None, Some, is_some, true, ap, subst, sym, ◌∙◌}
 use Rattle.std.specs.Map.{lookup}
 use Rattle.std.specs.BTreeMap.{is_at}
 use Rattle.std.specs.Option.{option_flatten}
-use Rattle.dir_names.specs.Keys.{DnKeys}
 use Rattle.dir_names.specs.Orders.{rdn_key_cmp}
 use Rattle.dir_tree.specs.Inside.TreePlaces.{IsAt, IsGraft, entry_on, node_map, with_child}
 use Rattle.dir_tree.proofs.TreeNodes.{child_at, filled_place, graft_child, has_place, looked_up, no_length, node_there, only_flat, place_changed}

@@ -1,7 +1,6 @@
-use Rattle.std.proofs.Common.{◌≡◌, [], ◌∷◌, OnErr, OnOk, Ok, Err, Result, Option, Some, is_some, length, take, true, ap, subst, sym, ◌∙◌}
+use Rattle.std.proofs.Common.{◌≡◌, [], ◌∷◌, OnErr, OnOk, Ok, Err, Result, Some, is_some, length, take, true, ap, subst, sym, ◌∙◌}
 use Rattle.std.specs.FinMap as fin
-use Rattle.dir_names.specs.Keys.{DnKeys}
-use Rattle.dir_tree.specs.Inside.TreePlaces.{IsAt, IsGraft, Places, entry_on, node_map, place_map, with_child}
+use Rattle.dir_tree.specs.Inside.TreePlaces.{IsAt, IsGraft, entry_on, node_map, place_map, with_child}
 use Rattle.dir_tree.proofs.Climb.{given}
 use Rattle.dir_tree.proofs.TreeNodes.{child_at, filled_place, graft_child, has_place, no_length, place_changed, same_child}
 use Rattle.dir_tree.proofs.tree.node.Node.+grow_at.Goals as goal

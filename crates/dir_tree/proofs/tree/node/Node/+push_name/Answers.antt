@@ -1,8 +1,6 @@
-use Rattle.std.proofs.Common.{◌≡◌, [], ◌∷◌, ◌++◌, Bor, Err, IfSome, MatchOption, None, OnOk, Ok, Option, Result, Some, length, take, sym, ap, subst, ◌∙◌, append_assoc}
+use Rattle.std.proofs.Common.{◌≡◌, [], ◌∷◌, ◌++◌, Err, IfSome, MatchOption, OnOk, Ok, Result, Some, length, take, sym, ap, subst, ◌∙◌, append_assoc}
 use Rattle.std.specs.FinMap as fin
 use Rattle.std.specs.List.{IsFirstAndRest}
-use Rattle.dir_names.specs.Names.{SpelledName}
-use Rattle.dir_names.specs.Keys.{DnKeys}
 use Rattle.dir_tree.specs.Inside.TreeNames.{name_in, own_in}
 use Rattle.dir_tree.specs.Inside.TreePlaces.{IsAt, Places}
 use Rattle.dir_tree.proofs.TreeNames.{name_child, name_root, own_root}

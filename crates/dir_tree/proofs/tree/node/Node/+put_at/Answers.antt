@@ -1,6 +1,5 @@
-use Rattle.std.proofs.Common.{◌≡◌, [], ◌∷◌, None, Option, Some, is_some, length, true, ap, subst, sym, ◌∙◌}
+use Rattle.std.proofs.Common.{[], ◌∷◌, Some, is_some, ap, subst, sym, ◌∙◌}
 use Rattle.std.specs.FinMap as fin
-use Rattle.dir_names.specs.Keys.{DnKeys}
 use Rattle.dir_tree.specs.Inside.TreePlaces.{IsAt, IsGraft, with_child}
 use Rattle.dir_tree.proofs.TreeNodes.{child_at, get_with_child, graft_child, no_length, parent_place}
 use Rattle.dir_tree.proofs.tree.node.Node.+put_at.Goals as goal

@@ -1,6 +1,5 @@
 use Rattle.std.proofs.Common.{◌≡◌, true, [], ◌∷◌, Some, is_some, ap, subst, sym, ◌∙◌}
 use Rattle.std.specs.FinMap as fin
-use Rattle.dir_names.specs.Keys.{DnKeys}
 use Rattle.dir_tree.specs.Inside.TreePlaces.{IsAt, entry_on, with_child}
 use Rattle.dir_tree.proofs.TreeNodes.{child_at, filled_place, has_place, insert_child}
 use Rattle.dir_tree.proofs.tree.node.Node.+replace_at.Goals as goal

@@ -1,12 +1,10 @@
-use Rattle.std.proofs.Common.{◌≡◌, ◌+◌, ◌≤◌, true, List, [], ◌∷◌, ◌++◌, Some, is_some, length, map, take, refl, sym, ap, subst, ◌∙◌, append_assoc, arith, length-append}
+use Rattle.std.proofs.Common.{◌≡◌, true, List, [], ◌∷◌, ◌++◌, is_some, length, map, take, refl, sym, ap, subst, ◌∙◌, append_assoc, arith, length-append}
 use Rattle.std.proofs.lemmas.List.{append-nil, map-append}
-use Rattle.std.specs.FinMap as fin
 use Rattle.dir_names.specs.Names.{SpelledName}
-use Rattle.dir_tree.specs.Content.{Content}
 use Rattle.dir_tree.specs.WellFormed.{Each}
 use Rattle.dir_tree.specs.Inside.TreeNames.{named_places}
 use Rattle.dir_tree.specs.Inside.TreeOrder.{Children}
-use Rattle.dir_tree.specs.Inside.TreePlaces.{Places, entry_in, entry_on}
+use Rattle.dir_tree.specs.Inside.TreePlaces.{entry_in, entry_on}
 use Rattle.dir_tree.proofs.SpelledLemmas.{taken_short}
 use Rattle.dir_tree.proofs.TreeChildren.{IsChildOf, children_of}
 use Rattle.dir_tree.proofs.TreeNames.{named_children, node_named}

@@ -1,7 +1,7 @@
 use Rattle.std.proofs.Common.{◌≡◌, [], ◌∷◌, Bor, IfNone, IfSome, None, Option, Some, ap, subst, sym, ◌∙◌}
 use Rattle.std.specs.FinMap as fin
 use Rattle.std.specs.Option.{option_copied, option_flatten}
-use Rattle.dir_names.specs.Keys.{DnKeys, RdnKeys}
+use Rattle.dir_names.specs.Keys.{RdnKeys}
 use Rattle.dir_tree.specs.Inside.TreePlaces.{IsAt, Places, entry_on, place_map}
 use Rattle.dir_tree.proofs.TreeNodes.{looked_up, nothing_below}
 use Rattle.dir_tree.proofs.tree.node.Node.child.Goals as goal

@@ -1,11 +1,10 @@
-use Rattle.std.proofs.Common.{◌≡◌, true, [], ◌∷◌, None, Option, Some, is_some, refl, sym, ap, subst, ◌∙◌}
+use Rattle.std.proofs.Common.{◌≡◌, [], ◌∷◌, Some, is_some, refl, sym, ap, subst, ◌∙◌}
 use Rattle.std.specs.FinMap as fin
 use Rattle.std.specs.FinMap.{find}
-use Rattle.dir_names.specs.Keys.{DnKeys, RdnKeys}
+use Rattle.dir_names.specs.Keys.{RdnKeys}
 use Rattle.dir_names.specs.Orders.{rdn_key_cmp}
 use Rattle.dir_tree.specs.WellFormed.{Each}
-use Rattle.dir_tree.specs.Inside.TreeOrder.{Children}
-use Rattle.dir_tree.specs.Inside.TreePlaces.{IsAt, Places, entry_in, entry_on, place_map}
+use Rattle.dir_tree.specs.Inside.TreePlaces.{IsAt, entry_in, entry_on}
 use Rattle.dir_tree.proofs.TreeChildren.{IsChildOf, all_listed, children_of, first_listed, none_in_place, other_children, this_child}
 use Rattle.dir_tree.proofs.TreeNodes.{child_at, get_root}
 use Rattle.dir_tree.proofs.tree.node.Node.has_child.Goals as goal

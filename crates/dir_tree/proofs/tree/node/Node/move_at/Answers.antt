@@ -1,10 +1,10 @@
-use Rattle.std.proofs.Common.{◌≡◌, true, false, Bool, cond, [], ◌∷◌, ◌++◌, None, Option, Some, refl, sym, ap, ◌∙◌}
+use Rattle.std.proofs.Common.{◌≡◌, cond, [], ◌∷◌, ◌++◌, None, Option, Some, refl, sym, ap, ◌∙◌}
 use Rattle.std.proofs.lemmas.List.{append-nil}
 use Rattle.std.specs.Ordering.{eq_by_cmp}
 use Rattle.std.specs.FinMap as fin
 use Rattle.std.specs.FinMap.{get-insert}
 use Rattle.dir_names.specs.Keys.{DnKeys}
-use Rattle.dir_names.specs.Orders.{dn_key_cmp, dn_key_cmp_total, rdn_key_eq, rdn_key_eq_decides}
+use Rattle.dir_names.specs.Orders.{dn_key_cmp, dn_key_cmp_total}
 use Rattle.dir_tree.specs.Content.{Content}
 use Rattle.dir_tree.specs.Moves.{rest_below}
 use Rattle.dir_tree.specs.Inside.TreePlaces.{IsAt, IsGraft, IsMove, Places, grafted, moved_place, place_map}
