@@ -28,7 +28,7 @@ module _ {K X : Type 0} {R : K → K → Ordering} (o : IsTotalOrder R) (exact :
       ap (λ b. cond b (Some e.1) (find R k es)) (less_differs (R k e.0) (left (is_lt (R k e.0)) (list_all (λ x. is_lt (R k x)) (keys_of R es)) t))
       ∙ apart k es (right (is_lt (R k e.0)) (list_all (λ x. is_lt (R k x)) (keys_of R es)) t)
 
-  each_found : (es : List (K × X)) → rises R (keys_of R es) ≡ true → ((k : K) (x : X) → find R k es ≡ Some x → P (k, x)) → Each P es
+  pub each_found : (es : List (K × X)) → rises R (keys_of R es) ≡ true → ((k : K) (x : X) → find R k es ≡ Some x → P (k, x)) → Each P es
   each_found [] t h = tt
   each_found (e ∷ es) t h =
       (h e.0 e.1 (ap (λ b. cond b (Some e.1) (find R e.0 es)) (ap is_eq (tied_itself o e.0))), each_found es (right (list_all (λ x. is_lt (R e.0 x)) (keys_of R es)) (rises R (keys_of R es)) t) rest)

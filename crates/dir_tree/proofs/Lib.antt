@@ -21,4 +21,10 @@ pub mod SoundMade
 pub mod SpelledLemmas
 pub mod SpelledMoves
 pub mod StableSorts
+pub mod TreeChildren
+pub mod TreeDirs
+pub mod TreeMoves
+pub mod TreeNames
+pub mod TreeNodes
+pub mod TreeWrites
 pub mod Walk

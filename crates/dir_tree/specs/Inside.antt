@@ -3,4 +3,10 @@
 pub mod Arranged
 pub mod Codes
 pub mod Stored
+pub mod TreeFalls
+pub mod TreeLends
+pub mod TreeNames
+pub mod TreeOrder
+pub mod TreePlaces
+pub mod Trees
 pub mod ValueLists

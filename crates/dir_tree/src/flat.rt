@@ -240,7 +240,7 @@ fn push_joined(rdns: &mut Vec<Rdn>, path: &[&[Rdn]], alloc: Global) -> Result<()
 }
 
 /// Clones RDNs onto the end of a list.
-fn push_clones(rdns: &mut Vec<Rdn>, more: &[Rdn], alloc: Global) -> Result<(), Memory>
+pub(crate) fn push_clones(rdns: &mut Vec<Rdn>, more: &[Rdn], alloc: Global) -> Result<(), Memory>
     ensures { OnOk result (rdns.new.items ≡ rdns.old.items ++ more.now) }
 {
     for rdn in more {

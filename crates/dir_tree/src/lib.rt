@@ -11,6 +11,7 @@ mod lines;
 mod list;
 mod parts;
 mod stored;
+mod tree;
 mod values;
 
 pub use attributes::{Attribute, AttributeMap, Attributes};
@@ -20,6 +21,7 @@ pub use fault::EntryFault;
 pub use flat::FlatDirectory;
 pub use laws::entries_hold_their_lines;
 pub use parts::Parts;
+pub use tree::TreeDirectory;
 pub use values::{ValueMap, Values};
 
 #[cfg(test)]

@@ -1,7 +1,8 @@
-//! Worked examples of entries and of a flat directory.
+//! Worked examples of entries and of both directories.
 
 mod directory;
 mod entries;
 mod in_place;
 mod maps;
 mod parts;
+mod tree;
