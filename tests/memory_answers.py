@@ -23,7 +23,7 @@ from checks import Wrong
 ROOT = pathlib.Path(__file__).resolve().parent.parent
 
 # Calls that hand back what could not be put where it was to go, for want of memory alone.
-HANDS_BACK = {"insert", "push", "into_vec"}
+HANDS_BACK = {"insert", "move_subtree", "push", "into_vec"}
 
 ANSWER = re.compile(r"\b(?:\w+::)*(?:Memory|AllocError|OutOfMemory)\b")
 

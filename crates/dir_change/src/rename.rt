@@ -203,9 +203,9 @@ fn renamed_attributes(
     ensures memory { IfErr result (λ e. e ≡ refusal.Memory) }
 {
     let mut renamed = attributes;
-    if renamed.add_missing(alloc, schema, rdn).is_err() {
+    let Ok(()) = renamed.add_missing(alloc, schema, rdn) else {
         return Err(Refusal::Memory);
-    }
+    };
     if delete_old {
         remove_missing(alloc, &mut renamed, old.pairs(), new.pairs())?;
     }

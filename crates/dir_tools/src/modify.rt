@@ -19,7 +19,7 @@ use crate::write::write_text;
 use crate::{Item, Output, ToolFault};
 use dir_ldif::{Sink, Source};
 use dir_names::{Dn, DnKey, NameFault, Schema};
-use dir_tree::FlatDirectory;
+use dir_tree::TreeDirectory;
 use std::alloc::Global;
 
 /// Applies a text of changes to a copy of a directory. The undo text, the new copy and the report are
@@ -117,7 +117,7 @@ fn make_texts<R: Source, R2: Source>(
         Ok(key) => key,
         Err(fault) => return Err(fault),
     };
-    let directory = match read_copy(alloc, schema, FlatDirectory::new(alloc, key), copy) {
+    let directory = match read_copy(alloc, schema, TreeDirectory::new(alloc, key), copy) {
         Ok(directory) => directory,
         Err(fault) => return Err(fault),
     };

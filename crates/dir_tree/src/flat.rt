@@ -13,7 +13,7 @@ ghost use Rattle.dir_tree.specs.Moves.{IsShallow, greatest, length_or_zero, move
 ghost use Rattle.dir_tree.specs.SpelledNames.{named_entries};
 
 use crate::{Directory, Entry, spelled_own};
-use dir_names::{Dn, DnKey, Memory, Rdn};
+use dir_names::{Dn, DnKey, Memory, NameFault, Rdn};
 use std::alloc::Global;
 use std::collections::BTreeMap;
 use std::marker::Model;
@@ -172,7 +172,7 @@ fn moved_entries(
     entries: &BTreeMap<DnKey, Entry>,
     old: &DnKey,
     new: &DnKey,
-) -> Result<BTreeMap<DnKey, Entry>, Memory>
+) -> Result<BTreeMap<DnKey, Entry>, NameFault>
     ensures ordered { IsOrdered dn_key_cmp entries.now }
     ensures ok { IfOk result (λ moved. fin.from_entries {R = dn_key_cmp} moved.entries ≡ fin.from_entries (map (λ p. (moved_key old.now new.now p.0, p.1)) entries.now.entries)) }
 {
@@ -180,39 +180,27 @@ fn moved_entries(
     for (key, entry) in entries.iter().rev() {
         let key = moved_key(alloc, key, old, new)?;
         let Ok(entry) = entry.try_clone(alloc) else {
-            return Err(Memory);
+            return Err(NameFault::Memory);
         };
         let Ok(_) = moved.insert(key, entry) else {
-            return Err(Memory);
+            return Err(NameFault::Memory);
         };
     }
     Ok(moved)
 }
 
 /// The key, with the old key at its beginning exchanged for the new one.
-fn moved_key(alloc: Global, key: &DnKey, old: &DnKey, new: &DnKey) -> Result<DnKey, Memory>
+fn moved_key(alloc: Global, key: &DnKey, old: &DnKey, new: &DnKey) -> Result<DnKey, NameFault>
     ensures { IfOk result (λ moved. moved ≡ moved_key old.now new.now key.now) }
 {
     if !key.at_or_below(old) {
-        return cloned(alloc, key);
+        return key.try_clone(alloc);
     }
-    let mut moved = cloned(alloc, new)?;
+    let mut moved = new.try_clone(alloc)?;
     for part in &key.parts()[old.depth()..] {
-        let Ok(child) = moved.child(alloc, part) else {
-            return Err(Memory);
-        };
-        moved = child;
+        moved = moved.child(alloc, part)?;
     }
     Ok(moved)
-}
-
-fn cloned(alloc: Global, key: &DnKey) -> Result<DnKey, Memory>
-    ensures { IfOk result (λ clone. clone ≡ key.now) }
-{
-    match key.try_clone(alloc) {
-        Ok(clone) => Ok(clone),
-        Err(_) => Err(Memory),
-    }
 }
 
 /// The first key of the map that is greater than this one.

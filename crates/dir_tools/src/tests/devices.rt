@@ -87,7 +87,7 @@ fn a_reader_that_fails_is_named(rt: HostRuntime) {
 }
 
 /// The directory below `dc=com` of a copy.
-fn directory_of(rt: &impl Abort, alloc: Global, mut copy: Script<'_>) -> FlatDirectory {
+pub(super) fn directory_of(rt: &impl Abort, alloc: Global, mut copy: Script<'_>) -> FlatDirectory {
     let schema = Schema::builtin(alloc).expect(rt, "a schema");
     let name = Dn::read(alloc, b"dc=com").expect(rt, "a name");
     let empty = FlatDirectory::new(alloc, name.key(alloc, &schema).expect(rt, "a key"));

@@ -1,6 +1,12 @@
 //! Renames, and the renames and modifies that take them back.
 
+use super::devices::directory_of;
 use super::{GO_ON, Ran, STOP, Want, assert_text, assert_wrote, run_back, run_over};
+use crate::write_copy;
+use dir_change::apply;
+use dir_ldif::{Record, Script, Tape, read_all};
+use dir_names::Schema;
+use dir_tree::FlatDirectory;
 use std::alloc::Global;
 use std::process::Abort;
 
@@ -31,6 +37,27 @@ fn assert_renamed(rt: &impl Abort, alloc: Global, ran: &Ran, row: &Renames<'_>) 
     assert_wrote(rt, ran, &want);
 }
 
+/// Applies changes to a flat directory.
+fn apply_all(rt: &impl Abort, alloc: Global, directory: &mut FlatDirectory, changes: &str) {
+    let schema = Schema::builtin(alloc).expect(rt, "a schema");
+    for (_, record) in read_all(alloc, &schema, changes.as_bytes()).expect(rt, "records") {
+        let Ok(Record::Change(change)) = record else {
+            panic!(rt; "no change");
+        };
+        let _ = apply(alloc, &schema, directory, &change).expect(rt, "an undo");
+    }
+}
+
+/// Asserts that the changes give the same over a flat directory.
+fn assert_flat(rt: &impl Abort, alloc: Global, copy: &str, changes: &str, want: &str) {
+    let mut directory = directory_of(rt, alloc, Script::new(copy.as_bytes()));
+    apply_all(rt, alloc, &mut directory, changes);
+    let mut bytes = [0u8; 512];
+    let mut out = Tape::new(&mut bytes);
+    assert!(rt; write_copy(alloc, &directory, &mut out) == Ok(()));
+    assert_text(rt, out.as_slice(), want);
+}
+
 fn assert_taken_back(rt: &impl Abort, alloc: Global, row: &Renames<'_>) {
     let copy = copy_of(rt, alloc, row.before);
     let one = run_over(
@@ -42,6 +69,8 @@ fn assert_taken_back(rt: &impl Abort, alloc: Global, row: &Renames<'_>) {
         row.changes.as_bytes(),
     );
     assert_renamed(rt, alloc, &one, row);
+    let out = copy_of(rt, alloc, row.after);
+    assert_flat(rt, alloc, copy.as_str(), row.changes, out.as_str());
     let back = run_back(rt, alloc, "dc=com", &one);
     assert_text(rt, back.out.as_slice(), copy.as_str());
 }
@@ -126,7 +155,8 @@ const REFUSED: [(&str, &str); 4] = [
     ),
 ];
 
-const REFUSING: &str = "dn: cn=p,dc=com\ncn: p\n\ndn: cn=q,cn=p,dc=com\ncn: q\n\ndn: cn=r,dc=com\ncn: r\n\ndn: dc=a,dc=com\ndc: a\n\n";
+const REFUSING: &str =
+    "dn: cn=p,dc=com\ncn: p\n\ndn: cn=q,cn=p,dc=com\ncn: q\n\ndn: cn=r,dc=com\ncn: r\n\ndn: dc=a,dc=com\ndc: a\n\n";
 
 #[test]
 fn refusals_of_renames_come_in_order(rt: HostRuntime) {

@@ -64,7 +64,7 @@ const REFUSALS: [(&[u8], &str); 9] = [
         "19 constraintViolation",
     ),
     (
-        b"dn: cn=e,dc=com\nchangetype: modrdn\nnewrdn: cn=f\ndeleteoldrdn: 1\n",
+        b"dn: dc=com\nchangetype: modrdn\nnewrdn: dc=org\ndeleteoldrdn: 1\n",
         "53 unwillingToPerform",
     ),
 ];

@@ -2,10 +2,17 @@ use Rattle.std.proofs.Common.{◌≡◌, ℕ, ◌+◌, ◌-◌, ◌≤◌, List,
 use Rattle.std.proofs.lemmas.List.{append-nil, length-take-le}
 use Rattle.std.proofs.Math.Seq.{drop-append_seam}
 use Rattle.std.proofs.Math.ListN.{drop_of_length-le}
+use Rattle.dir_names.specs.declared.fault.NameFault.{NameFault}
 use Rattle.dir_names.specs.Keys.{DnKeys, IsAtOrBelow}
+use Rattle.dir_names.specs.Outcome.{Gives}
 use Rattle.dir_tree.specs.Moves.{joined_or, moved_key, rest_below}
 use Rattle.dir_tree.proofs.RestBelow.{rest_is, rest_of}
 use Rattle.dir_tree.proofs.flat.moved_key.Goals as goal
+
+-- what a call gives is the value that it must give
+given : (r : Result DnKeys NameFault) (x : DnKeys) → Gives (λ z. z) r (Ok x) → IfOk r (λ m. m ≡ x)
+given (Ok z) x g = let same : x ≡ z = cc in sym same
+given (Err e) x g = tt
 
 -- what holds of each value holds of the value of an answer
 same_result : {A E : Type 0} (r : Result A E) (P Q : A → Type 0) → ((x : A) → P x → Q x) → IfOk r P → IfOk r Q
@@ -16,7 +23,7 @@ same_result (Err e) P Q h p = p
 pub returns-then-not-at_or_below : goal.returns-then-not-at_or_below
 returns-then-not-at_or_below c =
     let none : rest_below c.args.old.now c.args.key.now ≡ None = by c.args.old.now c.args.key.now (λ below. true≢false (sym (c.at_or_below.ensures.1 below) ∙ c.if-not-at_or_below.true)) in
-    same_result c.cloned.result (λ m. m ≡ c.args.key.now) (λ m. m ≡ moved_key c.args.old.now c.args.new.now c.args.key.now) (λ m e. e ∙ sym (ap (joined_or c.args.new.now c.args.key.now) none)) c.cloned.ensures
+    same_result c.try_clone.result (λ m. m ≡ c.args.key.now) (λ m. m ≡ moved_key c.args.old.now c.args.new.now c.args.key.now) (λ m e. e ∙ sym (ap (joined_or c.args.new.now c.args.key.now) none)) (given c.try_clone.result c.args.key.now c.try_clone.ensures)
   where
     by : (above k : DnKeys) → (IsAtOrBelow k above → ⊥) → rest_below above k ≡ None
     by above k h = or (rest_below above k) refl
