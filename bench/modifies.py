@@ -116,15 +116,21 @@ def modify_of_person(k):
     return dn + f"changetype: modify\nreplace: title\ntitle: Head of office {k}\n-\nadd: mail\nmail: other{k}@example.com\n-\n\n".encode()
 
 
-def measure_mixed(how, program, folder, people, changes):
+def write_people(path, people):
+    """Writes a copy of people and of groups, and returns the number of groups."""
     groups = max(1, people // PEOPLE_FOR_EACH_GROUP)
-    copy = os.path.join(folder, "people.ldif")
-    write_copy(copy, 0)
-    with open(copy, "ab") as f:
+    write_copy(path, 0)
+    with open(path, "ab") as f:
         for i in range(people):
             f.write(record_of_person(i))
         for g in range(groups):
             f.write(group(f"group{g}", (member((g * 31 + k * 7) % people) for k in range(MEMBERS_OF_EACH))))
+    return groups
+
+
+def measure_mixed(how, program, folder, people, changes):
+    copy = os.path.join(folder, "people.ldif")
+    groups = write_people(copy, people)
     step = max(1, people // max(1, changes))
     records = range(min(people, changes))
     kinds = {
@@ -137,6 +143,13 @@ def measure_mixed(how, program, folder, people, changes):
         print(f"{people} people and {groups} groups, {len(records)} {what}: {each:.3f} {how.unit} each", flush=True)
 
 
+def how_of(args):
+    """How runs are measured: by CPU time in rounds, or by instructions."""
+    if args.instructions:
+        return argparse.Namespace(measure=instructions_of, unit="thousand instructions", rounds=1)
+    return argparse.Namespace(measure=milliseconds_of, unit="ms CPU", rounds=args.rounds)
+
+
 def main():
     parser = argparse.ArgumentParser(description=__doc__, formatter_class=argparse.RawDescriptionHelpFormatter)
     parser.add_argument("--program", default=os.path.join(ROOT, "crates/slapkit/out/slapkit"))
@@ -146,9 +159,7 @@ def main():
     parser.add_argument("--rounds", type=int, default=3)
     parser.add_argument("--instructions", action="store_true")
     args = parser.parse_args()
-    how = argparse.Namespace(measure=milliseconds_of, unit="ms CPU", rounds=args.rounds)
-    if args.instructions:
-        how = argparse.Namespace(measure=instructions_of, unit="thousand instructions", rounds=1)
+    how = how_of(args)
     with tempfile.TemporaryDirectory() as folder:
         for members in args.members or [10000, 100000]:
             measure_group(how, args.program, folder, members, args.changes)

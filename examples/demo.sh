@@ -12,6 +12,10 @@ echo "slapkit slapmodify -b dc=example,dc=com --data company.ldif -l changes.ldi
     --out "$work/new.ldif" --undo "$work/undo.ldif" -v
 
 echo
+echo "The entries of the new copy, the interns and Juergen under their new names:"
+grep '^dn:' "$work/new.ldif"
+
+echo
 echo "The undo file:"
 cat "$work/undo.ldif"
 

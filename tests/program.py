@@ -11,6 +11,7 @@ import tempfile
 
 import checks
 from checks import expect
+from texts import NOTHING, block, renamed
 
 COPY = "dn: dc=com\ndc: com\n\n"
 ADD = "dn: ou=people,DC=COM\nchangetype: add\ndescription: staff\n"
@@ -18,8 +19,6 @@ NEW = COPY + "dn: ou=people,dc=com\ndescription: staff\nou: people\n\n"
 UNDO = "version: 1\n\ndn: ou=people,dc=com\nchangetype: delete\n\n"
 REDO = "version: 1\n\ndn: ou=people,dc=com\nchangetype: add\ndescription: staff\nou: people\n\n"
 MISSING = "dn: ou=none,dc=com\nchangetype: delete\n"
-# the undo file of a run that changed nothing
-NOTHING = "version: 1\n\n"
 REFUSED = "line 1: refused, 32 noSuchObject\n"
 ONTO = ["--out", "new", "--undo", "undo"]
 
@@ -67,6 +66,43 @@ def an_add_is_taken_back(trial):
     words = ["slapmodify", "-b", "DC=Com", "--data", "new", "-l", "undo", "--out", "back", "--undo", "redo", "-v"]
     expect(trial.run(words), (0, "line 3: accepted\naccepted 1, refused 0\n", ""))
     expect((trial.text("back"), trial.text("redo")), (COPY, REDO))
+
+
+def a_rename_moves_what_is_below_and_is_taken_back(trial):
+    def entries(above):
+        unit, person = ("dn", f"ou=A,{above}"), ("dn", f"cn=Kim,ou=A,{above}")
+        return block(unit, ("ou", "A")) + block(person, ("cn", "Kim"), ("sn", "Lee"))
+
+    west, east = (block(("dn", f"ou={side},dc=com"), ("ou", side)) for side in ("west", "east"))
+    copy = COPY + east + west + entries("ou=west,dc=com")
+    # the unit moves with the person, who then is named by another value that is there
+    changes = renamed("ou=a,ou=West,dc=com", "ou=A", "ou=EAST,dc=com") + renamed("cn=kim,ou=a,ou=east,dc=com", "sn=lee", delete_old=False)
+    new = COPY + east + entries("ou=east,dc=com").replace("dn: cn=Kim", "dn: sn=lee") + west
+    undo = NOTHING + renamed("sn=lee,ou=A,ou=east,dc=com", "cn=Kim")
+    undo += "dn: cn=Kim,ou=A,ou=east,dc=com\nchangetype: modify\nadd: sn\nsn: Lee\n-\n\n"
+    undo += renamed("ou=A,ou=east,dc=com", "ou=A", "ou=west,dc=com")
+    trial.write("copy", copy)
+    report = "line 1: accepted\nline 7: accepted\naccepted 2, refused 0\n"
+    expect(trial.modify("-v", *ONTO, typed=changes), (0, report, ""))
+    trial.expect_files(new, undo)
+    words = ["slapmodify", "-b", "dc=com", "--data", "new", "-l", "undo", "--out", "back", "--undo", "redo"]
+    expect(trial.run(words), (0, "accepted 3, refused 0\n", ""))
+    expect(trial.text("back"), copy, "the copy again")
+
+
+def a_rename_is_refused(trial):
+    missing, below = "cn=none,dc=com", "ou=people,ou=people,dc=com"
+    for changes, told in (
+        (renamed(missing, "cn=other"), "32 noSuchObject"),
+        (renamed("dc=com", "dc=org"), "53 unwillingToPerform"),
+        (renamed("ou=people,dc=com", "ou=staff", below), "53 unwillingToPerform"),
+        (renamed("ou=people,dc=com", "ou=staff", missing), "32 noSuchObject"),
+        (renamed("ou=people,dc=com", "ou=Groups"), "68 entryAlreadyExists"),
+        (renamed("dc=a,dc=com", "dc=b", delete_old=False), "19 constraintViolation"),
+    ):
+        copy = f"{NEW}dn: ou=groups,dc=com\nou: groups\n\ndn: dc=a,dc=com\ndc: a\n\n"
+        trial.write("copy", copy)
+        expect(trial.modify("-u", typed=changes), (1, f"line 1: refused, {told}\naccepted 0, refused 1\n", ""))
 
 
 def changes_come_from_standard_input(trial):
@@ -291,6 +327,8 @@ def help_ends_with_status_0(trial):
 
 TRIALS = [
     an_add_is_taken_back,
+    a_rename_moves_what_is_below_and_is_taken_back,
+    a_rename_is_refused,
     changes_come_from_standard_input,
     changes_come_from_their_file_alone,
     the_copy_and_the_changes_are_not_exchanged,

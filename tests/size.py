@@ -6,7 +6,6 @@ usage: size.py PROGRAM
 Each run is followed by its undo file on the new copy, which must give the first copy's canonical text again. The
 expected texts are made here, by the rules of LDIF (RFC 2849) and of the canonical text (docs/DEFINITIONS.md).
 """
-import base64
 import dataclasses
 import os
 import pathlib
@@ -16,34 +15,10 @@ import sys
 import tempfile
 
 import checks
-from checks import Wrong, expect
+from checks import expect
+from texts import NOTHING, added, block, deleted, renamed, same
 
 ROOT = "dn: dc=com\ndc: com\n\n"
-NOTHING = "version: 1\n\n"
-
-
-# ---- the texts that are expected
-
-
-def line(name, value):
-    """A line of LDIF: in base64 where the value is not plain, folded after 76 bytes, and then after each 75."""
-    is_plain = value.isascii() and value.isprintable() and value[0] not in " :<" and value[-1] != " "
-    text = f"{name}: {value}" if is_plain else f"{name}:: {base64.b64encode(value.encode()).decode()}"
-    rest = [text[at : at + 75] for at in range(76, len(text), 75)]
-    return "\n ".join([text[:76], *rest]) + "\n"
-
-
-def block(*pairs):
-    """A record: its lines, and an empty line."""
-    return "".join(line(name, value) for name, value in pairs) + "\n"
-
-
-def added(name, *pairs):
-    return block(("dn", name), ("changetype", "add"), *pairs)
-
-
-def deleted(name):
-    return block(("dn", name), ("changetype", "delete"))
 
 
 # ---- the runs
@@ -58,15 +33,6 @@ class Wanted:
     new: str
     undo: str
     canonical: str
-
-
-def same(found, wanted, what):
-    """Passes where two texts are equal; else tells where they differ first."""
-    if found == wanted:
-        return
-    at = next((i for i, (a, b) in enumerate(zip(found, wanted)) if a != b), min(len(found), len(wanted)))
-    near = slice(max(at - 40, 0), at + 40)
-    raise Wrong(f"{what}, of {len(found)} bytes for {len(wanted)}, differs first at byte {at}: {found[near]!r}, wanted: {wanted[near]!r}")
 
 
 def run(program, folder, copy, changes, new, undo, *options):
@@ -189,6 +155,52 @@ def a_copy_of_20_mb(program):
     try_run(program, "".join(mixed) + above, changes, Wanted(0, report, left, undo, canonical))
 
 
+def a_subtree_at_64_rdns(program):
+    def name(top, depth):
+        return ",".join([*(f"ou=Unit number {i}" for i in range(depth, 1, -1)), f"{top},dc=com"])
+
+    def entries(top, depths):
+        kind, value = top.split("=")
+        above = block(("dn", f"{top},dc=com"), (kind, value))
+        return above + "".join(block(("dn", name(top, depth)), ("ou", f"Unit number {depth}")) for depth in depths)
+
+    # 64 RDNs, of which 61 may move to another place of this depth, but not one down
+    copy = ROOT + entries("ou=a", range(2, 64)) + entries("ou=b", range(2, 4))
+    first = renamed(name("ou=a", 3), "ou=Unit number 4", name("ou=b", 3))
+    second = renamed(name("ou=a", 3), "ou=Unit number 3", name("ou=b", 3))
+    third = renamed(name("ou=a", 4), "ou=Unit number 4", name("ou=b", 3))
+    report = "line {}: refused, 11 adminLimitExceeded\nline {}: refused, 11 adminLimitExceeded\naccepted 1, refused 2\n"
+    undo = NOTHING + renamed(name("ou=b", 4), "ou=Unit number 4", name("ou=a", 3))
+    new = ROOT + entries("ou=a", range(2, 4)) + entries("ou=b", range(2, 64))
+    wanted = Wanted(1, report.format(1, first.count("\n") + 1), new, undo, copy)
+    try_run(program, copy, first + second + third, wanted, "-c")
+
+
+def a_move_of_10000_entries(program):
+    def unit(number, above):
+        name = f"ou={number:02},{above}"
+        return block(("dn", name), ("ou", f"{number:02}")), name
+
+    def team(above):
+        """A team of 100 units of 99 people."""
+        text = block(("dn", f"ou=team,{above}"), ("ou", "team"))
+        for number in range(100):
+            head, name = unit(number, f"ou=team,{above}")
+            people = (block(("dn", f"cn=p{i:02},{name}"), ("cn", f"p{i:02}"), ("sn", f"S {number}")) for i in range(99))
+            text += head + "".join(people)
+        return text
+
+    west, east = (block(("dn", f"ou={side},dc=com"), ("ou", side)) for side in ("west", "east"))
+    away, back = "ou=team,ou=west,dc=com", "ou=team,ou=east,dc=com"
+    copy = ROOT + east + west + team("ou=west,dc=com")
+    moved = ROOT + east + team("ou=east,dc=com") + west
+    there, home = renamed(away, "ou=team", "ou=east,dc=com"), renamed(back, "ou=team", "ou=west,dc=com")
+    try_run(program, copy, there, Wanted(0, "accepted 1, refused 0\n", moved, NOTHING + home, copy))
+    # away and back a hundred times, and once more away
+    wanted = Wanted(0, "accepted 201, refused 0\n", moved, NOTHING + (home + there) * 100 + home, copy)
+    try_run(program, copy, (there + home) * 100 + there, wanted)
+
+
 def a_value_of_1048576_bytes(program):
     name = "cn=a,dc=com"
     for length in (1_048_575, 1_048_576):
@@ -200,7 +212,15 @@ def a_value_of_1048576_bytes(program):
     try_run(program, ROOT, added(name, ("description", "x" * 1_048_577)), Wanted(1, report, ROOT, NOTHING, ROOT))
 
 
-TRIALS = [an_entry_of_2000_lines, a_name_of_64_rdns, refused_records_10000, a_value_of_1048576_bytes, a_copy_of_20_mb]
+TRIALS = [
+    an_entry_of_2000_lines,
+    a_name_of_64_rdns,
+    a_subtree_at_64_rdns,
+    a_move_of_10000_entries,
+    refused_records_10000,
+    a_value_of_1048576_bytes,
+    a_copy_of_20_mb,
+]
 
 
 def main():

@@ -1,0 +1,342 @@
+"""A model of a directory and of the update operations of LDAP (RFC 4511, sections 4.6 to 4.9), each with the changes that
+take it back: what slapkit must do, in another language and another form.
+
+A name is a list of RDNs, leaf first; an RDN is a list of pairs of a type, as spelled, and a value. A key is what names are
+compared by: of an RDN the sorted pairs of a type and a value's key, of a name the keys of its RDNs, root first.
+"""
+import dataclasses
+import re
+import unicodedata
+
+from texts import block, line
+
+CODES = {
+    2: "2 protocolError",
+    11: "11 adminLimitExceeded",
+    16: "16 noSuchAttribute",
+    19: "19 constraintViolation",
+    20: "20 attributeOrValueExists",
+    21: "21 invalidAttributeSyntax",
+    32: "32 noSuchObject",
+    53: "53 unwillingToPerform",
+    66: "66 notAllowedOnNonLeaf",
+    67: "67 notAllowedOnRDN",
+    68: "68 entryAlreadyExists",
+}
+MOST_RDNS = 64
+
+
+class Refused(Exception):
+    """A change is refused with this code."""
+
+    @property
+    def code(self):
+        return self.args[0]
+
+
+# ---- types and values
+
+# each type: its spellings
+TYPES = {
+    "cn": ["cn", "CN", "commonName"],
+    "cn;lang-en": ["cn;lang-en", "CommonName;LANG-EN"],
+    "dc": ["dc", "DC", "domainComponent"],
+    "description": ["description", "Description", "2.5.4.13"],
+    "note": ["note", "NOTE"],
+    "sn": ["sn", "surname"],
+    "uidnumber": ["uidNumber", "UIDNUMBER"],
+}
+SINGLE = ("dc", "uidnumber")
+TYPE_OF = {spelling.lower(): kind for kind, spellings in TYPES.items() for spelling in spellings}
+
+
+def type_of(spelling):
+    return TYPE_OF[spelling.lower()]
+
+
+def value_key(kind, value):
+    """What two equal values of a type have in common."""
+    if kind == "uidnumber":
+        if not re.fullmatch("0|-?[1-9][0-9]*", value):
+            raise Refused(21)
+        return value
+    if kind == "note":
+        return value
+    if kind == "dc" and not value.isascii():
+        raise Refused(21)
+    return " ".join(filter(None, unicodedata.normalize("NFKC", value.casefold()).split(" ")))
+
+
+def rdn_key(rdn):
+    return tuple(sorted((type_of(kind), value_key(type_of(kind), value)) for kind, value in rdn))
+
+
+def name_key(name):
+    return tuple(rdn_key(rdn) for rdn in reversed(name))
+
+
+# ---- the texts
+
+
+def printed_value(value):
+    data = value.encode()
+    last = len(data) - 1
+    text = ""
+    for at, byte in enumerate(data):
+        is_escaped = not 32 <= byte <= 126 or byte in b'"+,;<>\\' or byte == 32 and at in (0, last) or byte == 35 and at == 0
+        text += f"\\{byte:02X}" if is_escaped else chr(byte)
+    return text
+
+
+def printed_rdn(rdn):
+    return "+".join(f"{kind}={printed_value(value)}" for kind, value in rdn)
+
+
+def printed_name(name):
+    return ",".join(map(printed_rdn, name))
+
+
+# ---- changes
+
+
+@dataclasses.dataclass
+class Add:
+    dn: list
+    lines: list
+
+    def text(self, printed):
+        return block(("dn", printed(self.dn)), ("changetype", "add"), *self.lines)
+
+
+@dataclasses.dataclass
+class Delete:
+    dn: list
+
+    def text(self, printed):
+        return block(("dn", printed(self.dn)), ("changetype", "delete"))
+
+
+@dataclasses.dataclass
+class Modify:
+    dn: list
+    # each an operation, a type as spelled, and values
+    mods: list
+
+    def text(self, printed):
+        head = line("dn", printed(self.dn)) + line("changetype", "modify")
+        mods = (line(op, kind) + "".join(line(kind, value) for value in values) + "-\n" for op, kind, values in self.mods)
+        return head + "".join(mods) + "\n"
+
+
+@dataclasses.dataclass
+class Rename:
+    dn: list
+    newrdn: list
+    delete_old: bool
+    superior: list | None
+
+    def text(self, printed):
+        lines = [("dn", printed(self.dn)), ("changetype", "modrdn"), ("newrdn", printed([self.newrdn]))]
+        lines.append(("deleteoldrdn", "1" if self.delete_old else "0"))
+        return block(*lines, *([("newsuperior", printed(self.superior))] if self.superior else []))
+
+
+# ---- attributes: a map from types to a spelling and a map from keys of values to values
+
+
+def with_missing(attributes, rdn):
+    """The attributes with those values of an RDN that are not there."""
+    attributes = dict(attributes)
+    for spelling, value in rdn:
+        kind = type_of(spelling)
+        spelled, values = attributes.get(kind, (spelling, {}))
+        attributes[kind] = (spelled, {value_key(kind, value): value} | values)
+    return attributes
+
+
+def without(attributes, pairs):
+    attributes = dict(attributes)
+    for kind, key in pairs:
+        if kind in attributes:
+            spelled, values = attributes.pop(kind)
+            left = {other: value for other, value in values.items() if other != key}
+            if left:
+                attributes[kind] = (spelled, left)
+    return attributes
+
+
+def renamed_attributes(attributes, old, rdn, delete_old):
+    gained = with_missing(attributes, rdn)
+    return without(gained, set(old) - set(rdn_key(rdn))) if delete_old else gained
+
+
+def check_single(attributes):
+    if any(len(attributes[kind][1]) > 1 for kind in SINGLE if kind in attributes):
+        raise Refused(19)
+
+
+def has_value(attributes, pair):
+    return pair[0] in attributes and pair[1] in attributes[pair[0]][1]
+
+
+def in_order(values):
+    return [values[key] for key in sorted(values, key=str.encode)]
+
+
+def lines_of(attributes):
+    """All values as lines, in the order of their keys."""
+    return [(attributes[kind][0], value) for kind in sorted(attributes) for value in in_order(attributes[kind][1])]
+
+
+def slot_after(slot, op, spelling, values):
+    """What an entry has under a type after one modification; nothing where no value is left."""
+    if not values:
+        if op == "add":
+            raise Refused(2)
+        if op == "delete" and slot is None:
+            raise Refused(16)
+        return None
+    keyed = [(value_key(type_of(spelling), value), value) for value in values]
+    keys = [key for key, _ in keyed]
+    twice = len(set(keys)) < len(keys)
+    had = slot[1] if slot else {}
+    if op == "delete":
+        if twice or not all(key in had for key in keys):
+            raise Refused(16)
+        left = {key: value for key, value in had.items() if key not in keys}
+        return (slot[0], left) if left else None
+    if twice or op == "add" and any(key in had for key in keys):
+        raise Refused(20)
+    if op == "replace":
+        return spelling, dict(keyed)
+    return slot[0] if slot else spelling, {**had, **dict(keyed)}
+
+
+def difference(old, new):
+    """The modifications that lead from attributes to others, type by type, in the order of their keys."""
+    mods = []
+    for kind in sorted({*old, *new}):
+        a, b = old.get(kind), new.get(kind)
+        if not b:
+            mods.append(("delete", a[0], []))
+        elif not a:
+            mods.append(("add", b[0], in_order(b[1])))
+        elif a[0] != b[0]:
+            mods.append(("replace", b[0], in_order(b[1])))
+        else:
+            gone = in_order({key: value for key, value in a[1].items() if b[1].get(key) != value})
+            come = in_order({key: value for key, value in b[1].items() if a[1].get(key) != value})
+            mods += [("delete", b[0], gone)] if gone else []
+            mods += [("add", b[0], come)] if come else []
+    return mods
+
+
+# ---- the directory
+
+
+@dataclasses.dataclass(frozen=True)
+class Entry:
+    """An entry: its own RDN, as spelled, and its attributes."""
+
+    own: list
+    attributes: dict
+
+
+class Directory:
+    """A directory: a map from keys to entries, of which the first is the suffix's."""
+
+    def __init__(self, suffix):
+        self.suffix, self.entries = suffix, {}
+
+    def copy(self):
+        other = Directory(self.suffix)
+        other.entries = dict(self.entries)
+        return other
+
+    def name(self, key):
+        """The name of an entry as spelled: its own RDN, its parent's, and so on up to the suffix's."""
+        return [self.entries[key[:depth]].own for depth in range(len(key), 0, -1)]
+
+    def text(self):
+        """The canonical text: the entries in the order of their keys."""
+        keys = sorted(self.entries, key=lambda key: [[(kind, value.encode()) for kind, value in rdn] for rdn in key])
+        return "".join(block(("dn", printed_name(self.name(key))), *lines_of(self.entries[key].attributes)) for key in keys)
+
+    def entry(self, key):
+        if key not in self.entries:
+            raise Refused(32)
+        return self.entries[key]
+
+    def apply(self, change):
+        """Makes a change, or refuses it, and returns the changes that take it back."""
+        key = name_key(change.dn)
+        match change:
+            case Add():
+                return self.add(key, change)
+            case Delete():
+                return self.delete(key)
+            case Modify():
+                return self.modify(key, change.mods)
+            case Rename():
+                return self.rename(key, change)
+
+    def add(self, key, change):
+        if key[:1] != self.suffix:
+            raise Refused(32)
+        if key in self.entries:
+            raise Refused(68)
+        if key != self.suffix:
+            self.entry(key[:-1])
+        keyed = [(type_of(kind), value_key(type_of(kind), value)) for kind, value in change.lines]
+        if len(set(keyed)) < len(keyed):
+            raise Refused(20)
+        attributes = with_missing(with_missing({}, change.lines), change.dn[0])
+        check_single(attributes)
+        self.entries[key] = Entry(change.dn[0], attributes)
+        return [Delete(self.name(key))]
+
+    def delete(self, key):
+        entry = self.entry(key)
+        if any(other[:-1] == key for other in self.entries):
+            raise Refused(66)
+        undo = [Add(self.name(key), lines_of(entry.attributes))]
+        del self.entries[key]
+        return undo
+
+    def modify(self, key, mods):
+        entry = self.entry(key)
+        attributes = dict(entry.attributes)
+        for op, spelling, values in mods:
+            slot = slot_after(attributes.pop(type_of(spelling), None), op, spelling, values)
+            if slot:
+                attributes[type_of(spelling)] = slot
+        if not all(has_value(attributes, pair) for pair in key[-1]):
+            raise Refused(67)
+        check_single(attributes)
+        self.entries[key] = Entry(entry.own, attributes)
+        back = difference(attributes, entry.attributes)
+        return [Modify(self.name(key), back)] if back else []
+
+    def rename(self, key, change):
+        entry = self.entry(key)
+        if key == self.suffix:
+            raise Refused(53)
+        superior = name_key(change.superior) if change.superior else key[:-1]
+        if superior[: len(key)] == key:
+            raise Refused(53)
+        self.entry(superior)
+        place = (*superior, rdn_key(change.newrdn))
+        subtree = [other for other in self.entries if other[: len(key)] == key]
+        if place in self.entries and place != key:
+            raise Refused(68)
+        if len(place) + max(map(len, subtree)) - len(key) > MOST_RDNS:
+            raise Refused(11)
+        attributes = renamed_attributes(entry.attributes, key[-1], change.newrdn, change.delete_old)
+        check_single(attributes)
+        old_name = self.name(key)
+        moved = {place + other[len(key) :]: self.entries.pop(other) for other in subtree}
+        self.entries |= moved | {place: Entry(change.newrdn, attributes)}
+        old_superior = self.name(key[:-1]) if superior != key[:-1] else None
+        undo = [Rename(self.name(place), entry.own, True, old_superior)]
+        back = difference(renamed_attributes(attributes, place[-1], entry.own, True), entry.attributes)
+        return undo + ([Modify(old_name, back)] if back else [])

@@ -1,0 +1,268 @@
+#!/usr/bin/env python3
+"""Runs slapkit on random adds, deletes, modifies and renames, and compares each run with a model of them (model.py).
+
+usage: operations.py PROGRAM [SEED]
+
+The model gives the report, the new copy and the undo file, which must come out byte for byte. The undo file, run on the
+new copy, must give the copy again and the model's undo file of that run, and this one the new copy again.
+"""
+import pathlib
+import random
+import subprocess
+import sys
+import tempfile
+
+import checks
+import model
+from checks import expect
+from model import CODES, MOST_RDNS, TYPES, Add, Delete, Directory, Entry, Modify, Refused, Rename
+from texts import NOTHING, same
+
+RUNS = 12
+ENTRIES = 14
+CHANGES = 200
+
+SUFFIX = [("dc", "com")]
+# values with signs that a name escapes, spaces at their ends, letters of other scripts, and the same ones spelled otherwise
+TEXTS = ["a", "A", "b", "B", "c", "d", "D", " e", "F  f", "f F ", "g,h", "G,H", "i+j", "#k", 'l"l', "m\\m", "<n;n>", "o=o", "\u00fc", "\u00dc", "stra\u00dfe"]
+NUMBERS = ["1", "2", "3"]
+# types that a name may have: without options
+NAMING = ["cn", "cn", "cn", "description", "note", "sn", "uidnumber"]
+
+
+# ---- random spellings
+
+
+def other_value(rng, kind, value):
+    """A value with the same key."""
+    if kind in ("note", "uidnumber"):
+        return value
+    return rng.choice([value, value, value.upper(), value.lower(), f" {value}", value.replace(" ", "  ")])
+
+
+def other_pair(rng, pair):
+    kind = model.type_of(pair[0])
+    return rng.choice(TYPES[kind]), other_value(rng, kind, pair[1])
+
+
+def other_rdn(rng, rdn):
+    """An RDN with the same key."""
+    pairs = [other_pair(rng, pair) for pair in rdn]
+    rng.shuffle(pairs)
+    return pairs
+
+
+def other_name(rng, name):
+    return [other_rdn(rng, rdn) for rdn in name]
+
+
+def escaped(rng, value):
+    """A value as a name may have it: each sign by itself, by a backslash, or by two digits, where it may be so."""
+    text = ""
+    for at, char in enumerate(value):
+        hexed = "".join(rng.choice([f"\\{byte:02x}", f"\\{byte:02X}"]) for byte in char.encode())
+        if char in '"+,;<>\\' or at == 0 and char in " #" or at == len(value) - 1 and char == " ":
+            text += rng.choice([f"\\{char}", hexed])
+        else:
+            text += hexed if rng.random() < 0.1 else char
+    return text
+
+
+def freely_printed(rng):
+    """Prints names in the many ways that RFC 4514 knows."""
+
+    def printed(name):
+        return rng.choice([",", ", "]).join("+".join(f"{kind}={escaped(rng, value)}" for kind, value in rdn) for rdn in name)
+
+    return printed
+
+
+# ---- random entries and changes
+
+
+def random_value(rng, kind):
+    return rng.choice(NUMBERS if kind == "uidnumber" else TEXTS)
+
+
+def random_rdn(rng):
+    kinds = rng.sample(sorted(set(NAMING)), 2) if rng.random() < 0.3 else [rng.choice(NAMING)]
+    return [(rng.choice(TYPES[kind]), random_value(rng, kind)) for kind in kinds]
+
+
+def random_lines(rng, rdn):
+    """The lines of an entry; with some of them an add is refused."""
+    lines = []
+    for kind in sorted(TYPES):
+        if kind != "dc" and rng.random() < 0.4:
+            count = 1 if kind == "uidnumber" else rng.choice([1, 1, 2, 3])
+            lines += [(rng.choice(TYPES[kind]), random_value(rng, kind)) for _ in range(count)]
+    if rng.random() < 0.05:
+        lines.append(("uidNumber", "007"))
+    own = [other_pair(rng, pair) for pair in rdn if rng.random() < 0.4]
+    return [pair for pair in lines + own if rng.random() < 0.95]
+
+
+def random_mods(rng, entry):
+    mods = []
+    for _ in range(rng.choice([0, 1, 1, 1, 2, 2, 3])):
+        kind = rng.choice([*TYPES, *(entry.attributes if entry else [])])
+        there = list(entry.attributes[kind][1].values()) if entry and kind in entry.attributes else []
+        values = [other_value(rng, kind, value) for value in there] * 2 + [random_value(rng, kind) for _ in range(3)]
+        if kind == "uidnumber":
+            values.append("007")
+        given = [rng.choice(values) for _ in range(rng.choice([0, 1, 1, 1, 2, 3]))]
+        mods.append((rng.choice(["add", "add", "delete", "delete", "replace"]), rng.choice(TYPES[kind]), given))
+    return mods
+
+
+def new_rdn(rng, entry):
+    """An RDN for a rename: a new one; the own one, spelled otherwise or with one pair more; or one of values that are there."""
+    there = [(kind, value) for kind, value in model.lines_of(entry.attributes) if ";" not in kind] if entry else []
+    form = rng.choice(["new", "new", "own", "more", "there"]) if there else "new"
+    if form == "own":
+        return other_rdn(rng, entry.own)
+    if form == "there":
+        return [other_pair(rng, rng.choice(there))]
+    rdn = random_rdn(rng)
+    if form == "more":
+        own = {model.type_of(kind): (kind, value) for kind, value in rdn + other_rdn(rng, entry.own)}
+        return list(own.values())
+    return rdn
+
+
+def name_below(rdn, name):
+    """The name with this RDN below another, if it is not too long; else the other."""
+    return [rdn, *name] if len(name) < MOST_RDNS else name
+
+
+def name_in(rng, directory, keys):
+    """The name of one of these entries; now and then one that no entry has."""
+    name = other_name(rng, directory.name(rng.choice(keys)))
+    return name_below(random_rdn(rng), name) if rng.random() < 0.05 else name
+
+
+def random_change(rng, directory):
+    keys = list(directory.entries)
+    name = name_in(rng, directory, keys)
+    entry = directory.entries.get(model.name_key(name))
+    op = rng.choice(["add", "add", "delete", "modify", "modify", "rename", "rename", "rename"])
+    if op == "add":
+        rdn = random_rdn(rng)
+        below = name_below(rdn, name)
+        place = rng.choice([below, below, below, name, [rdn]])
+        return Add(place, random_lines(rng, place[0]))
+    if op == "delete":
+        return Delete(name)
+    if op == "modify":
+        return Modify(name, random_mods(rng, entry))
+    superior = None
+    if rng.random() < 0.6:
+        superior = name[1:] if len(name) > 1 and rng.random() < 0.1 else name_in(rng, directory, keys)
+    return Rename(name, new_rdn(rng, entry), rng.random() < 0.6, superior)
+
+
+def put(rng, directory, parent):
+    """Puts an entry below this one, and returns its key."""
+    while True:
+        rdn = random_rdn(rng)
+        key = (*parent, model.rdn_key(rdn))
+        try:
+            directory.add(key, Add([rdn, *directory.name(parent)], random_lines(rng, rdn)))
+            return key
+        except Refused:
+            continue
+
+
+def random_directory(rng, depth):
+    """A directory of entries below each other, some of them in two chains of this depth."""
+    suffix = model.name_key([SUFFIX])
+    directory = Directory(suffix)
+    directory.entries[suffix] = Entry(SUFFIX, {"dc": ("dc", {"com": "com"})})
+    for _ in range(2):
+        parent = suffix
+        for _ in range(depth):
+            parent = put(rng, directory, parent)
+    for _ in range(ENTRIES):
+        put(rng, directory, rng.choice([key for key in directory.entries if len(key) < MOST_RDNS]))
+    return directory
+
+
+# ---- a run
+
+
+def run(program, folder, copy, changes, new, undo):
+    words = [program, "slapmodify", "-b", "dc=com", "--data", copy, "-l", changes, "--out", new, "--undo", undo, "-c"]
+    ended = subprocess.run(words, cwd=folder, stdin=subprocess.DEVNULL, capture_output=True, timeout=60)
+    expect(ended.stderr.decode(), "", "standard error")
+    return ended.returncode, ended.stdout.decode()
+
+
+def undo_text(groups):
+    return NOTHING + "".join(change.text(model.printed_name) for group in reversed(groups) for change in group)
+
+
+class Planned:
+    """The changes of a run, as the model makes them: their text, the report on them, and the groups that take them back."""
+
+    def __init__(self):
+        self.text, self.report, self.groups, self.refused = "", "", [], []
+
+    def make(self, directory, change, printed):
+        number = self.text.count("\n") + 1
+        self.text += change.text(printed)
+        try:
+            self.groups.append(directory.apply(change))
+        except Refused as refused:
+            self.refused.append(refused.code)
+            self.report += f"line {number}: refused, {CODES[refused.code]}\n"
+
+    def answer(self):
+        status = 1 if self.refused else 0
+        return status, f"{self.report}accepted {len(self.groups)}, refused {len(self.refused)}\n"
+
+
+def back_and_forth(program, place, directory, planned, copy):
+    """The undo run, and the run that takes it back again."""
+    new = directory.text()
+    back = Planned()
+    for group in reversed(planned.groups):
+        for change in group:
+            back.make(directory, change, model.printed_name)
+    same(directory.text(), copy, "the model's copy again")
+    expect(back.refused, [], "refused by the model on the way back")
+    expect(run(program, place, "new", "undo", "back", "redo"), back.answer(), "the undo run")
+    same(place.joinpath("back").read_text(), copy, "the copy again")
+    same(place.joinpath("redo").read_text(), undo_text(back.groups), "the undo file of the undo run")
+    count = sum(map(len, back.groups))
+    expect(run(program, place, "back", "redo", "forth", "undo2"), (0, f"accepted {count}, refused 0\n"), "the run forth")
+    same(place.joinpath("forth").read_text(), new, "the new copy again")
+
+
+def a_run(program, seed):
+    rng = random.Random(seed)
+    # in each third run names are so long that a rename can make them too long
+    directory = random_directory(rng, 55 if seed % 3 == 0 else 0)
+    copy = directory.text()
+    planned = Planned()
+    printed = freely_printed(rng)
+    for _ in range(CHANGES):
+        planned.make(directory, random_change(rng, directory), printed)
+    with tempfile.TemporaryDirectory() as folder:
+        place = pathlib.Path(folder)
+        place.joinpath("copy").write_text(copy)
+        place.joinpath("changes").write_text(planned.text)
+        expect(run(program, folder, "copy", "changes", "new", "undo"), planned.answer(), "the run")
+        same(place.joinpath("new").read_text(), directory.text(), "the new copy")
+        same(place.joinpath("undo").read_text(), undo_text(planned.groups), "the undo file")
+        back_and_forth(program, place, directory, planned, copy)
+    return f"{len(planned.groups)} accepted, refused with {' '.join(map(str, sorted(set(planned.refused))))}"
+
+
+def main():
+    program = str(pathlib.Path(sys.argv[1]).resolve())
+    first = int(sys.argv[2]) if len(sys.argv) > 2 else 1
+    runs = [(f"random operations {seed}", lambda seed=seed: a_run(program, seed)) for seed in range(first, first + RUNS)]
+    sys.exit(checks.run("operations", runs))
+
+
+main()

@@ -1,0 +1,42 @@
+"""Texts of LDIF (RFC 2849) as slapkit writes them, and how two texts are compared."""
+import base64
+
+from checks import Wrong
+
+# the undo file of a run that changed nothing, and the beginning of every other one
+NOTHING = "version: 1\n\n"
+
+
+def line(name, value):
+    """A line of LDIF: in base64 where the value is not plain, folded after 76 bytes, and then after each 75."""
+    is_plain = value.isascii() and value.isprintable() and value[0] not in " :<" and value[-1] != " "
+    text = f"{name}: {value}" if is_plain else f"{name}:: {base64.b64encode(value.encode()).decode()}"
+    rest = [text[at : at + 75] for at in range(76, len(text), 75)]
+    return "\n ".join([text[:76], *rest]) + "\n"
+
+
+def block(*pairs):
+    """A record: its lines, and an empty line."""
+    return "".join(line(name, value) for name, value in pairs) + "\n"
+
+
+def added(name, *pairs):
+    return block(("dn", name), ("changetype", "add"), *pairs)
+
+
+def deleted(name):
+    return block(("dn", name), ("changetype", "delete"))
+
+
+def renamed(name, rdn, superior=None, delete_old=True):
+    lines = [("dn", name), ("changetype", "modrdn"), ("newrdn", rdn), ("deleteoldrdn", "1" if delete_old else "0")]
+    return block(*lines, *([("newsuperior", superior)] if superior else []))
+
+
+def same(found, wanted, what):
+    """Passes where two texts are equal; else tells where they differ first."""
+    if found == wanted:
+        return
+    at = next((i for i, (a, b) in enumerate(zip(found, wanted)) if a != b), min(len(found), len(wanted)))
+    near = slice(max(at - 40, 0), at + 40)
+    raise Wrong(f"{what}, of {len(found)} bytes for {len(wanted)}, differs first at byte {at}: {found[near]!r}, wanted: {wanted[near]!r}")
