@@ -204,6 +204,15 @@ fn a_modify_is_taken_back_by_what_came_and_went(rt: HostRuntime) {
     assert_undo_text(&rt, rt.alloc(), &[TOP, group], text, want);
 }
 
+#[test]
+fn a_rename_to_the_own_key_is_taken_back(rt: HostRuntime) {
+    let entry = "dn: cn=x,dc=com\nchangetype: add\nsn: Z\n";
+    let text = "dn: cn=x,dc=com\nchangetype: moddn\nnewrdn: CN=X\ndeleteoldrdn: 0\n";
+    let want =
+        "version: 1\n\ndn: CN=X,dc=com\nchangetype: modrdn\nnewrdn: cn=x\ndeleteoldrdn: 1\n\n";
+    assert_undo_text(&rt, rt.alloc(), &[TOP, entry], text, want);
+}
+
 /// Changes, some of which are refused.
 const TRIED: &str = "dn: dc=org\nchangetype: add\n\n\
     dn: cn=a,dc=com\nchangetype: add\n\n\
@@ -222,7 +231,7 @@ const TRIED: &str = "dn: dc=org\nchangetype: add\n\n\
     dn: cn=a,dc=com\nchangetype: modify\nadd: sn\nsn: x\n-\ndelete: sn\nsn: y\n-\n\n\
     dn: cn=a,dc=com\nchangetype: modify\nreplace: cn\ncn: b\n-\n\n\
     dn: cn=a,dc=com\nchangetype: modify\nadd: uidNumber\nuidNumber: 1\nuidNumber: 2\n-\n\n\
-    dn: cn=a,dc=com\nchangetype: modrdn\nnewrdn: cn=b\ndeleteoldrdn: 1\n\n";
+    dn: dc=com\nchangetype: modrdn\nnewrdn: dc=org\ndeleteoldrdn: 1\n\n";
 
 /// What each of them is refused with; none for those that are accepted.
 const REFUSED: [Option<ResultCode>; 18] = [
