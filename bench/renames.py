@@ -2,7 +2,8 @@
 """Measures the renames of `slapkit slapmodify`.
 
 First M moves of a subtree of N entries, to another superior and back, beside M moves of one entry in the same copy: what
-one move takes, by `each_of` of modifies.py, and what the whole runs take. Then a run of adds, deletes, modifies and
+one move takes, by `each_of` of modifies.py, and what the whole runs take. A move of one entry takes so little that its CPU
+time is lost in that of the run: --instructions tells it. Then a run of adds, deletes, modifies and
 renames on a copy of people and groups as slapcat writes it, there and back, in CPU time and peak memory, also as ratios
 to `sha256sum` of the copy and to its size.
 
@@ -63,7 +64,7 @@ def measure_moves(how, program, folder, below, moves):
     rounds = [[how.measure(program, folder, copy, text) for text in texts] for _ in range(how.rounds)]
     whole = [min(costs) for costs in zip(*rounds)]
     print(
-        f"{moves} moves of a subtree of {below} entries: {subtree:.4f} {how.unit} each, of one entry: {alone:.4f}, ratio {subtree / alone:.2f}; "
+        f"{moves} moves of a subtree of {below} entries: {subtree:.4f} {how.unit} each, of one entry: {alone:.4f}; "
         f"the whole runs: {whole[0]:.0f} and {whole[1]:.0f} {how.unit}, ratio {whole[0] / whole[1]:.2f}",
         flush=True,
     )
