@@ -1,7 +1,7 @@
 //! The modify DN operation (RFC 4511, section 4.9), which moves an entry with all that is below it, and the
 //! changes that take it back: a rename, and a modify of what is left.
 
-ghost use Rattle.std.specs.Prelude.{◌≡◌, [], ◌∷◌, ◌++◌, IfErr, IfOk, IfSome, IsSome, None, Ok, OnErr, OnOk, Some, cond};
+ghost use Rattle.std.specs.Prelude.{◌≡◌, [], ◌∷◌, ◌++◌, ◌+◌, IfErr, IfOk, IfSome, IsSome, None, Ok, OnErr, OnOk, Some, cond, length, nat_lt};
 ghost use Rattle.std.specs.List.{list_any};
 ghost use Rattle.std.specs.Option.{option_map};
 ghost use Rattle.dir_ldif.specs.declared.records.ChangeKind.TheVariants as kind;
@@ -9,7 +9,7 @@ ghost use Rattle.dir_names.specs.NameKeys.{rdn_key};
 ghost use Rattle.dir_names.specs.Keys.{DnKeys, parent_of};
 ghost use Rattle.dir_names.specs.Orders.{pair_eq};
 ghost use Rattle.dir_tree.specs.Dir.{entry_at};
-ghost use Rattle.dir_tree.specs.Moves.{IsShallow};
+ghost use Rattle.dir_tree.specs.Moves.{IsShallow, height_below};
 ghost use Rattle.dir_tree.specs.NewEntry.{leaf_key, leaf_of};
 ghost use Rattle.dir_change.specs.Operation.{IsRefused};
 ghost use Rattle.dir_change.specs.Rename.{directory_after_rename, pairs_missing_in, place_at, renamed_attributes, renamed_entry, slot_without_value, superior_at, superior_key, without_pair, without_pairs};
@@ -140,10 +140,20 @@ fn place<D: Directory>(
     if directory.get(&place).is_some() && &place != key {
         return Err(Refusal::Code(ResultCode::EntryAlreadyExists));
     }
-    if directory.height_below(key) > 64 - place.depth() {
+    if is_too_deep(directory, key, &place) {
         return Err(Refusal::Code(ResultCode::AdminLimitExceeded));
     }
     Ok(place)
+}
+
+/// Whether a name would have more than 64 RDNs. Only a longer name of the entry makes others longer, so
+/// no other move looks at what is below.
+fn is_too_deep<D: Directory>(directory: &D, key: &DnKey, place: &DnKey) -> bool
+    requires there { IsSome (entry_at (D.state directory.now) key.now) }
+    requires shallow { IsShallow (D.state directory.now) }
+    ensures { result ≡ nat_lt 64 (length place.now + height_below (D.state directory.now) key.now) }
+{
+    place.depth() > key.depth() && directory.height_below(key) > 64 - place.depth()
 }
 
 /// The entry with the new RDN. 19 where a single type would have more than one value.
