@@ -3,13 +3,13 @@
 
 For each size it prints CPU time and peak memory, also as ratios: to the CPU time of `sha256sum` over the same copy, to the
 copy's size, and, where Debian's slapd is installed, to the CPU time of slapd's own pipeline on the same files (`slapadd -q`,
-`slapmodify`, `slapcat`), for which both leave out the renames. The runs take turns, since the speed of a virtual machine changes
-from minute to minute: times and memory are the least of all rounds, a ratio is the median, with the least and the greatest
-after it.
+`slapmodify`, `slapcat`, its database without a sync of each write), for which both leave out the renames. The runs take
+turns, since the speed of a virtual machine changes from minute to minute: times and memory are the least of all rounds, a
+ratio is the median, with the least and the greatest after it.
 
-With --instructions it prints instead what `valgrind --tool=callgrind` counts, for each byte of the copy, which doesn't depend on
-the machine: for the whole run, and for one of no changes. Use some thousand entries then. --groups measures a copy of six large
-groups in place of people.
+With --instructions it prints instead what `valgrind --tool=callgrind` counts, for each byte of the copy, which doesn't depend
+on the machine: for the whole run, and for one of no changes. Use some thousand entries then. --groups measures a copy of six
+large groups in place of people.
 
     bench/bench.py [--program PATH] [--size N]... [--changes M] [--rounds R] [--groups] [--instructions]
 """
@@ -39,6 +39,8 @@ suffix "{suffix}"
 rootdn "cn=root,{suffix}"
 directory {folder}/database
 maxsize 17179869184
+dbnosync
+envflags nosync nometasync writemap
 """
 
 
