@@ -2,7 +2,9 @@
 
 mod devices;
 mod faults;
+mod flat;
 mod modifies;
+mod random;
 mod renames;
 mod runs;
 mod taken_back;
@@ -46,7 +48,8 @@ struct Ran {
     report: Vec<u8>,
 }
 
-/// A run over devices in memory, with room for any of the texts.
+/// A run over devices in memory, with room for any of the texts. Asserts that the same records over a flat
+/// directory give the same texts, or that the copy has the same fault there.
 fn run_over(
     rt: &impl Abort,
     alloc: Global,
@@ -55,9 +58,19 @@ fn run_over(
     copy: &[u8],
     changes: &[u8],
 ) -> Ran {
-    let copy = Script::new(copy);
-    let changes = Script::new(changes);
-    run_reading(rt, alloc, suffix, options, copy, changes)
+    let reading = Script::new(copy);
+    let ran = run_reading(rt, alloc, suffix, options, reading, Script::new(changes));
+    match ran.answer {
+        Ok(_) if !options.dry => {
+            flat::assert_same(rt, alloc, suffix, options, copy, changes, &ran);
+        }
+        Err(ToolFault::BadCopy(line, cause)) => {
+            let fault = ToolFault::BadCopy(line, cause);
+            flat::assert_copy_fault(rt, alloc, suffix, copy, fault);
+        }
+        _ => {}
+    }
+    ran
 }
 
 /// A run over these readers, with room for any of the texts.
@@ -185,11 +198,11 @@ fn assert_gave_up(rt: &impl Abort, ran: &Ran, fault: ToolFault, want: &Want<'_>)
 }
 
 fn assert_fault(rt: &impl Abort, ran: &Ran, want: ToolFault) {
-    assert_eq!(rt; ran.answer, Err(want));
+    assert!(rt; ran.answer == Err(want));
 }
 
 fn assert_summary(rt: &impl Abort, ran: &Ran, want: Summary) {
-    assert_eq!(rt; ran.answer, Ok(want));
+    assert!(rt; ran.answer == Ok(want));
 }
 
 fn assert_wrote(rt: &impl Abort, ran: &Ran, want: &Want<'_>) {
@@ -202,5 +215,5 @@ fn assert_text(rt: &impl Abort, bytes: &[u8], want: &str) {
     let Ok(text) = std::str::from_utf8(bytes) else {
         panic!(rt; "no UTF-8");
     };
-    assert_eq!(rt; text, want);
+    assert!(rt; text == want);
 }

@@ -4,5 +4,5 @@ mod directory;
 mod entries;
 mod in_place;
 mod maps;
+mod moves;
 mod parts;
-mod tree;

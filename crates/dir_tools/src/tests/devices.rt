@@ -1,10 +1,9 @@
 //! Readers and writers that fail, in turn.
 
+use super::flat::directory_of;
 use super::{NOTHING, STOP, Want, assert_gave_up, assert_text, run_on};
-use crate::{Input, Output, ToolFault, read_copy, write_copy};
+use crate::{Input, Output, ToolFault, write_copy};
 use dir_ldif::{Script, Tape};
-use dir_names::{Dn, Schema};
-use dir_tree::FlatDirectory;
 use std::alloc::Global;
 use std::process::Abort;
 
@@ -86,22 +85,13 @@ fn a_reader_that_fails_is_named(rt: HostRuntime) {
     assert_reader_fault(&rt, rt.alloc(), 9, 1, Input::Changes);
 }
 
-/// The directory below `dc=com` of a copy.
-pub(super) fn directory_of(rt: &impl Abort, alloc: Global, mut copy: Script<'_>) -> FlatDirectory {
-    let schema = Schema::builtin(alloc).expect(rt, "a schema");
-    let name = Dn::read(alloc, b"dc=com").expect(rt, "a name");
-    let empty = FlatDirectory::new(alloc, name.key(alloc, &schema).expect(rt, "a key"));
-    let Ok(directory) = read_copy(alloc, &schema, empty, &mut copy) else {
-        panic!(rt; "the copy is refused");
-    };
-    directory
-}
-
 #[test]
 fn a_copy_is_read_and_written_in_the_canonical_order(rt: HostRuntime) {
     let alloc = rt.alloc();
     let copy = Script::new(b"dn: cn=a,dc=com\nsn: z\nsn: B\ncn: a\n\ndn: dc=com\n").pieces(1);
-    let directory = directory_of(&rt, alloc, copy);
+    let Ok(directory) = directory_of(&rt, alloc, "dc=com", copy) else {
+        panic!(rt; "the copy is refused");
+    };
     let mut bytes = [0u8; 128];
     let mut out = Tape::new(&mut bytes).pieces(1);
     assert!(rt; write_copy(alloc, &directory, &mut out) == Ok(()));

@@ -1,12 +1,6 @@
 //! Renames, and the renames and modifies that take them back.
 
-use super::devices::directory_of;
-use super::{GO_ON, Ran, STOP, Want, assert_text, assert_wrote, run_back, run_over};
-use crate::write_copy;
-use dir_change::apply;
-use dir_ldif::{Record, Script, Tape, read_all};
-use dir_names::Schema;
-use dir_tree::FlatDirectory;
+use super::{GO_ON, Ran, STOP, Want, assert_report, assert_text, assert_wrote, run_back, run_over};
 use std::alloc::Global;
 use std::process::Abort;
 
@@ -37,27 +31,6 @@ fn assert_renamed(rt: &impl Abort, alloc: Global, ran: &Ran, row: &Renames<'_>) 
     assert_wrote(rt, ran, &want);
 }
 
-/// Applies changes to a flat directory.
-fn apply_all(rt: &impl Abort, alloc: Global, directory: &mut FlatDirectory, changes: &str) {
-    let schema = Schema::builtin(alloc).expect(rt, "a schema");
-    for (_, record) in read_all(alloc, &schema, changes.as_bytes()).expect(rt, "records") {
-        let Ok(Record::Change(change)) = record else {
-            panic!(rt; "no change");
-        };
-        let _ = apply(alloc, &schema, directory, &change).expect(rt, "an undo");
-    }
-}
-
-/// Asserts that the changes give the same over a flat directory.
-fn assert_flat(rt: &impl Abort, alloc: Global, copy: &str, changes: &str, want: &str) {
-    let mut directory = directory_of(rt, alloc, Script::new(copy.as_bytes()));
-    apply_all(rt, alloc, &mut directory, changes);
-    let mut bytes = [0u8; 512];
-    let mut out = Tape::new(&mut bytes);
-    assert!(rt; write_copy(alloc, &directory, &mut out) == Ok(()));
-    assert_text(rt, out.as_slice(), want);
-}
-
 fn assert_taken_back(rt: &impl Abort, alloc: Global, row: &Renames<'_>) {
     let copy = copy_of(rt, alloc, row.before);
     let one = run_over(
@@ -69,8 +42,6 @@ fn assert_taken_back(rt: &impl Abort, alloc: Global, row: &Renames<'_>) {
         row.changes.as_bytes(),
     );
     assert_renamed(rt, alloc, &one, row);
-    let out = copy_of(rt, alloc, row.after);
-    assert_flat(rt, alloc, copy.as_str(), row.changes, out.as_str());
     let back = run_back(rt, alloc, "dc=com", &one);
     assert_text(rt, back.out.as_slice(), copy.as_str());
 }
@@ -174,4 +145,44 @@ fn refusals_of_renames_come_in_order(rt: HostRuntime) {
         assert_text(&rt, ran.out.as_slice(), copy.as_str());
         assert_text(&rt, ran.report.as_slice(), report);
     }
+}
+
+/// Appends the name at this depth of a chain of entries below `dc=com`.
+fn push_name(rt: &impl Abort, text: &mut String, depth: usize) {
+    for _ in 1..depth {
+        text.push_str("cn=a,").expect(rt, "memory");
+    }
+    text.push_str("dc=com\n").expect(rt, "memory");
+}
+
+/// A copy with a chain of entries down to a depth of 63 RDNs, and beside it `ou=m` with one child.
+fn deep_copy(rt: &impl Abort, alloc: Global) -> String {
+    let mut copy = copy_of(rt, alloc, "dn: ou=m,dc=com\n\ndn: cn=b,ou=m,dc=com\n\n");
+    for depth in 2..64usize {
+        copy.push_str("dn: ").expect(rt, "memory");
+        push_name(rt, &mut copy, depth);
+        copy.push('\n').expect(rt, "memory");
+    }
+    copy
+}
+
+/// The rename of `ou=m` below the entry at this depth.
+fn move_below(rt: &impl Abort, alloc: Global, depth: usize) -> String {
+    let record =
+        "dn: ou=m,dc=com\nchangetype: modrdn\nnewrdn: ou=m\ndeleteoldrdn: 1\nnewsuperior: ";
+    let mut record = format!(in alloc; "{record}").expect(rt, "memory");
+    push_name(rt, &mut record, depth);
+    record
+}
+
+#[test]
+fn a_move_leaves_no_name_of_more_than_64_rdns(rt: HostRuntime) {
+    let alloc = rt.alloc();
+    let copy = deep_copy(&rt, alloc);
+    let deep = move_below(&rt, alloc, 63);
+    let want = "line 1: refused, 11 adminLimitExceeded\naccepted 0, refused 1\n";
+    assert_report(&rt, alloc, STOP, copy.as_bytes(), deep.as_bytes(), want);
+    let deep = move_below(&rt, alloc, 62);
+    let want = "accepted 1, refused 0\n";
+    assert_report(&rt, alloc, STOP, copy.as_bytes(), deep.as_bytes(), want);
 }

@@ -58,7 +58,7 @@ fn a_value_gets_other_bytes(rt: HostRuntime) {
     let mut values = only(&rt, alloc, &schema, b"a");
     values.set(&key(&rt, alloc, &schema, b"a"), bytes(&rt, alloc, b"A"));
     values.set(&key(&rt, alloc, &schema, b"b"), bytes(&rt, alloc, b"b"));
-    assert_eq!(rt; values.len(), 1);
+    assert!(rt; values.len() == 1);
     assert_value(&rt, alloc, &schema, &values, b"a", b"A");
     assert!(rt;
         values
@@ -112,5 +112,5 @@ fn an_entry_is_made_again_of_its_fields(rt: HostRuntime) {
     let entry = Entry::of(made.expect(&rt, "an entry").into_parts());
     let cn = description(&rt, alloc, &schema, b"cn");
     assert!(rt; entry.has_text(cn.key(), b"kim"));
-    assert_eq!(rt; entry.key().pairs().len(), 1);
+    assert!(rt; entry.key().pairs().len() == 1);
 }

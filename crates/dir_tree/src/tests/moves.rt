@@ -1,0 +1,107 @@
+//! Moves of subtrees, over both directories.
+
+use super::directory::{
+    assert_own, assert_spelled, assert_walked, bare, builtin, fill, flat, key_of, name_of, put,
+    tree,
+};
+use crate::{Directory, Entry};
+use dir_names::{DnKey, Schema};
+use std::alloc::Global;
+use std::process::Abort;
+
+/// Adds `dc=com`, `cn=A` below it, and `cn=b` below that, the last one a clone.
+fn fill_with_a_clone<D: Directory>(
+    rt: &impl Abort,
+    alloc: Global,
+    schema: &Schema,
+    directory: &mut D,
+) {
+    fill(rt, alloc, schema, directory, &["dc=com", "cn=A,dc=com"]);
+    let name = name_of(rt, alloc, "cn=b,cn=A,dc=com");
+    let key = name.key(alloc, schema).expect(rt, "a key");
+    let entry = bare(rt, alloc, schema, name, false);
+    let clone = entry.try_clone(alloc).expect(rt, "memory");
+    put(rt, alloc, directory, &key, clone);
+}
+
+/// Moves an entry and what is below it to a key that is free. Where memory runs out, it must be where it was.
+fn shift<D: Directory>(
+    rt: &impl Abort,
+    alloc: Global,
+    directory: &mut D,
+    old: &DnKey,
+    new: &DnKey,
+    entry: Entry,
+) -> Entry {
+    let Some(_) = directory.get(old) else {
+        panic!(rt; "not there");
+    };
+    if directory.get(new).is_some() {
+        panic!(rt; "there already");
+    }
+    if new.at_or_below(old) {
+        panic!(rt; "below itself");
+    }
+    if old == directory.suffix() {
+        panic!(rt; "the suffix");
+    }
+    let Some(parent) = new.parent(alloc).expect(rt, "memory") else {
+        panic!(rt; "no parent");
+    };
+    let Some(_) = directory.get(&parent) else {
+        panic!(rt; "no parent");
+    };
+    if directory.height_below(old) > 64 - new.depth() {
+        panic!(rt; "too deep");
+    }
+    match directory.move_subtree(old, new, entry) {
+        Ok(former) => former,
+        Err(_) => {
+            assert!(rt; directory.get(old).is_some());
+            assert!(rt; directory.get(new).is_none());
+            panic!(rt; "memory");
+        }
+    }
+}
+
+fn assert_height<D: Directory>(rt: &impl Abort, directory: &D, key: &DnKey, height: usize) {
+    let Some(_) = directory.get(key) else {
+        panic!(rt; "not there");
+    };
+    assert!(rt; directory.height_below(key) == height);
+}
+
+/// Moves `cn=A` to `cn=c`, and asserts that it comes back.
+fn move_to_c<D: Directory>(rt: &impl Abort, alloc: Global, schema: &Schema, directory: &mut D) {
+    let old = key_of(rt, alloc, schema, "cn=a,dc=com");
+    let new = key_of(rt, alloc, schema, "cn=c,dc=com");
+    let name = name_of(rt, alloc, "cn=C,dc=com");
+    let entry = bare(rt, alloc, schema, name, false);
+    let former = shift(rt, alloc, directory, &old, &new, entry);
+    assert_own(rt, alloc, &former, "cn=A");
+}
+
+/// Asserts that `cn=A` moves to `cn=c` with what is below it.
+fn assert_moves<D: Directory + Drop>(
+    rt: &impl Abort,
+    alloc: Global,
+    schema: &Schema,
+    mut directory: D,
+) {
+    fill_with_a_clone(rt, alloc, schema, &mut directory);
+    let suffix = key_of(rt, alloc, schema, "dc=com");
+    assert_height(rt, &directory, &suffix, 2);
+    move_to_c(rt, alloc, schema, &mut directory);
+    let below = key_of(rt, alloc, schema, "cn=b,cn=c,dc=com");
+    assert_spelled(rt, alloc, &directory, &below, "cn=b,cn=C,dc=com");
+    let names = ["dc=com", "cn=C,dc=com", "cn=b,cn=C,dc=com"];
+    assert_walked(rt, alloc, &directory, &names);
+}
+
+#[test]
+fn a_subtree_moves_with_what_is_below_it(rt: HostRuntime) {
+    let alloc = rt.alloc();
+    let schema = builtin(&rt, alloc);
+    assert_moves(&rt, alloc, &schema, flat(&rt, alloc, &schema, "dc=com"));
+    assert_moves(&rt, alloc, &schema, tree(&rt, alloc, &schema, "dc=com"));
+}
