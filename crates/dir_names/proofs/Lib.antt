@@ -13,6 +13,7 @@ pub mod OptionLemmas
 pub mod Pairs
 pub mod PieceLemmas
 pub mod Placed
+pub mod PlainNames
 pub mod PrintLemmas
 pub mod PrintedLengths
 pub mod ReadNames
@@ -20,6 +21,7 @@ pub mod ReadValues
 pub mod ReadsSpells
 pub mod Rfc4514
 pub mod SortOrder
+pub mod SortedNames
 pub mod SoundLemmas
 pub mod SpellsReads
 pub mod Tidy

@@ -91,7 +91,7 @@ impl Rdn {
     {
         let mut key = PairSet::empty();
         for pair in self.pairs.as_slice() {
-            let (attr, value) = pair_key(alloc, schema, pair)?;
+            let (attr, value) = pair_key(alloc, schema, pair.0.as_slice(), pair.1.as_slice())?;
             key = key.with(alloc, attr, value)?;
         }
         RdnKey::of(alloc, key)
@@ -159,15 +159,16 @@ impl Eq for Rdn {
 }
 
 /// The attribute of a type, and the key of its value.
-fn pair_key(
+pub(crate) fn pair_key(
     alloc: Global,
     schema: &Schema,
-    pair: &(Bytes, Bytes),
+    attr_type: &[u8],
+    value: &[u8],
 ) -> Result<(AttrKey, Bytes), NameFault>
-    ensures { Gives (λ key. key) result (ok_or_bad_dn (pair_key schema.now pair.now)) }
+    ensures { Gives (λ key. key) result (ok_or_bad_dn (pair_key schema.now (attr_type.now, value.now))) }
 {
-    let attr = schema.attr_of(alloc, pair.0.as_slice())?;
-    match text_key(alloc, schema.rule(&attr), pair.1.as_slice()) {
+    let attr = schema.attr_of(alloc, attr_type)?;
+    match text_key(alloc, schema.rule(&attr), value) {
         Ok(value) => Ok((attr, value)),
         Err(fault) => Err(as_bad_dn(fault)),
     }

@@ -10,17 +10,15 @@ use Rattle.dir_names.proofs.name.pair_key.Goals as goal
 pub returns-in-Ok : goal.returns-in-Ok
 returns-in-Ok c =
     let rows = c.args.schema.now in
-    let attr : c.in_ok-attr.attr ≡ attr_of rows c.args.pair.now.0 = search rules in
+    let attr : c.in_ok-attr.attr ≡ attr_of rows c.args.attr_type.now = search rules in
     let rule = c.rule.ensures ∙ ap (rule_of rows) attr in
-    let value : c.as_slice-2.result.now ≡ c.args.pair.now.1 = c.as_slice-2.ensures in
-    let key = (λ i. text_key_of (sym rule i) (sym value i)) ∙ c.in-Ok.ensures in
-    pair_is rows c.args.pair.now c.in-Ok.value key ∙ ap (λ a. Ok (a, c.in-Ok.value)) (sym attr)
+    let key = (λ i. text_key_of (sym rule i) c.args.value.now) ∙ c.in-Ok.ensures in
+    pair_is rows (c.args.attr_type.now, c.args.value.now) c.in-Ok.value key ∙ ap (λ a. Ok (a, c.in-Ok.value)) (sym attr)
 
 pub returns-in-Err : goal.returns-in-Err
 returns-in-Err c =
     let rows = c.args.schema.now in
-    let attr : c.in_ok-attr.attr ≡ attr_of rows c.args.pair.now.0 = search rules in
+    let attr : c.in_ok-attr.attr ≡ attr_of rows c.args.attr_type.now = search rules in
     let rule = c.rule.ensures ∙ ap (rule_of rows) attr in
-    let value : c.as_slice-2.result.now ≡ c.args.pair.now.1 = c.as_slice-2.ensures in
-    let key : text_key_of c.rule.result c.as_slice-2.result.now ≡ text_key_of (rule_of rows (attr_of rows c.args.pair.now.0)) c.args.pair.now.1 = λ i. text_key_of (rule i) (value i) in
-    rw c.as_bad_dn.ensures (pair_fails rows c.args.pair.now c.in-Err.fault (subst (λ (w : Result (List ℕ) NameFault). IsNameFaultOf c.in-Err.fault w) key c.in-Err.ensures))
+    let key : text_key_of c.rule.result c.args.value.now ≡ text_key_of (rule_of rows (attr_of rows c.args.attr_type.now)) c.args.value.now = λ i. text_key_of (rule i) c.args.value.now in
+    rw c.as_bad_dn.ensures (pair_fails rows (c.args.attr_type.now, c.args.value.now) c.in-Err.fault (subst (λ (w : Result (List ℕ) NameFault). IsNameFaultOf c.in-Err.fault w) key c.in-Err.ensures))
