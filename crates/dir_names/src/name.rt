@@ -91,7 +91,7 @@ impl Rdn {
     {
         let mut key = PairSet::empty();
         for pair in self.pairs.as_slice() {
-            let (attr, value) = pair_key(alloc, schema, pair.0.as_slice(), pair.1.as_slice())?;
+            let (attr, value) = pair_key(alloc, schema, pair)?;
             key = key.with(alloc, attr, value)?;
         }
         RdnKey::of(alloc, key)
@@ -158,8 +158,19 @@ impl Eq for Rdn {
     ghost laws = { rdn_eq_laws };
 }
 
-/// The attribute of a type, and the key of its value.
+/// The attribute of a pair, and the key of its value.
 pub(crate) fn pair_key(
+    alloc: Global,
+    schema: &Schema,
+    pair: &(Bytes, Bytes),
+) -> Result<(AttrKey, Bytes), NameFault>
+    ensures { Gives (λ key. key) result (ok_or_bad_dn (pair_key schema.now pair.now)) }
+{
+    type_and_value_key(alloc, schema, pair.0.as_slice(), pair.1.as_slice())
+}
+
+/// The attribute of a type, and the key of its value.
+pub(crate) fn type_and_value_key(
     alloc: Global,
     schema: &Schema,
     attr_type: &[u8],

@@ -12,7 +12,7 @@ ghost use Rattle.dir_names.specs.Names.Printing.{is_special, printed_rest, print
 use crate::attribute::{is_reserved, is_type};
 use crate::key::sorting::put_set;
 use crate::limits::{MAX_RDN_TEXT, MAX_RDNS};
-use crate::name::pair_key;
+use crate::name::type_and_value_key;
 use crate::name::printing::is_special;
 use crate::{NameFault, Schema};
 use std::alloc::Global;
@@ -60,7 +60,7 @@ fn put_plain_rdn(alloc: Global, schema: &Schema, piece: &[u8], out: &mut Vec<u8>
     {
         return false;
     }
-    match pair_key(alloc, schema, attr_type, value) {
+    match type_and_value_key(alloc, schema, attr_type, value) {
         Ok(key) => put_set(slice::from_ref(&key), out).is_ok(),
         Err(_) => false,
     }

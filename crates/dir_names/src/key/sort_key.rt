@@ -245,7 +245,7 @@ fn put_only_pair(
 ) -> Result<(), NameFault>
     ensures { Gives (λ _. out.new.items) result (ok_or_bad_dn (option_map (λ key. out.old.items ++ 1 ∷ rdn_sort key) (rdn_key schema.now (pair.now ∷ [])))) }
 {
-    match pair_key(alloc, schema, pair.0.as_slice(), pair.1.as_slice()) {
+    match pair_key(alloc, schema, pair) {
         Ok(key) => put_set(slice::from_ref(&key), out),
         Err(fault) => Err(fault),
     }

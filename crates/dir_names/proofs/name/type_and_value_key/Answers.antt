@@ -5,7 +5,7 @@ use Rattle.dir_names.specs.Outcome.{IsNameFaultOf}
 use Rattle.dir_names.specs.Table.{rule_of}
 use Rattle.dir_names.specs.ValueKeys.{text_key_of}
 use Rattle.dir_names.proofs.KeyLemmas.{pair_is, pair_fails}
-use Rattle.dir_names.proofs.name.pair_key.Goals as goal
+use Rattle.dir_names.proofs.name.type_and_value_key.Goals as goal
 
 pub returns-in-Ok : goal.returns-in-Ok
 returns-in-Ok c =
