@@ -2,9 +2,9 @@
 //! each RDN. Of any other name it tells nothing.
 
 ghost use Rattle.std.specs.List.{list_all};
-ghost use Rattle.std.specs.Prelude.{◌≡◌, ◌++◌, ◌∷◌, IfNone, IfSome, Some, not, option_map, true};
-ghost use Rattle.dir_names.specs.Ascii.{comma};
-ghost use Rattle.dir_names.specs.Inside.SortKeys.{IsPlainRdn};
+ghost use Rattle.std.specs.Prelude.{◌≡◌, ◌++◌, ◌∷◌, IfSome, Some, not, option_copied, option_map, true};
+ghost use Rattle.dir_names.specs.Ascii.{equals_sign};
+ghost use Rattle.dir_names.specs.Inside.SortKeys.{IsPlainRdn, with_piece};
 ghost use Rattle.dir_names.specs.Inside.SortTexts.{name_sort};
 ghost use Rattle.dir_names.specs.NameKeys.{name_value_key};
 ghost use Rattle.dir_names.specs.Names.Printing.{is_special, printed_rest, printed_value};
@@ -33,14 +33,13 @@ pub(crate) fn put_plain_name(
     let mut room = MAX_RDNS;
     while room > 0 {
         room -= 1;
-        match cut_at_last_comma(rest) {
-            None => return put_plain_rdn(alloc, schema, rest, out),
-            Some((before, piece)) => {
-                if !put_plain_rdn(alloc, schema, piece, out) {
-                    return false;
-                }
-                rest = before;
-            }
+        let (before, piece) = cut_at_last_comma(rest);
+        if !put_plain_rdn(alloc, schema, piece, out) {
+            return false;
+        }
+        match before {
+            Some(before) => rest = before,
+            None => return true,
         }
     }
     false
@@ -66,23 +65,23 @@ fn put_plain_rdn(alloc: Global, schema: &Schema, piece: &[u8], out: &mut Vec<u8>
     }
 }
 
-/// The texts before and after the last comma.
-fn cut_at_last_comma(text: &[u8]) -> Option<(&[u8], &[u8])>
-    ensures { IfSome result (λ cut. text.now ≡ cut.0.now ++ 44 ∷ cut.1.now) }
+/// The text before the last comma, if there is one, and the text after it.
+fn cut_at_last_comma(text: &[u8]) -> (Option<&[u8]>, &[u8])
+    ensures { text.now ≡ with_piece (option_copied result.0) result.1.now }
 {
     let mut at = text.len();
     while at > 0 {
         at -= 1;
         if text[at] == b',' {
-            return Some((&text[..at], &text[at + 1..]));
+            return (Some(&text[..at]), &text[at + 1..]);
         }
     }
-    None
+    (None, text)
 }
 
 /// The texts before and after the first equals sign.
 fn cut_at_equals(text: &[u8]) -> Option<(&[u8], &[u8])>
-    ensures { IfSome result (λ cut. text.now ≡ cut.0.now ++ 61 ∷ cut.1.now) }
+    ensures { IfSome result (λ cut. text.now ≡ cut.0.now ++ equals_sign ∷ cut.1.now) }
 {
     for (at, b) in text.iter().enumerate() {
         if *b == b'=' {
