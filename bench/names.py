@@ -82,7 +82,7 @@ def measure(program, kind, record, records, rounds, folder):
 
 def main():
     parser = argparse.ArgumentParser(description=__doc__, formatter_class=argparse.RawDescriptionHelpFormatter)
-    parser.add_argument("--program", default=os.path.join(bench.ROOT, "crates/slapkit/out/slapkit"))
+    parser.add_argument("--program", default=bench.PROGRAM)
     parser.add_argument("--records", type=int, default=40, help="records of 1,048,576 bytes")
     parser.add_argument("--rounds", type=int, default=5)
     args = parser.parse_args()

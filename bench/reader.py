@@ -18,7 +18,8 @@ import sys
 import tempfile
 import time
 
-from bench import ROOT, line, person, write_copy
+from bench import ROOT
+from directory import Directory, line
 
 CRATES = ["dir_names", "dir_ldif"]
 
@@ -72,23 +73,13 @@ def build(folder):
     return os.path.join(crate, "out", "reader")
 
 
-def fold(text):
-    """The lines of a text, folded at 76 bytes as slapcat does."""
-    out = []
-    for l in text.split(b"\n"):
-        out.append(l[:76])
-        out += [b" " + l[i : i + 75] for i in range(76, len(l), 75)]
-    return b"\n".join(out)
-
-
-def write_photos(path, size):
+def write_pictures(path, size):
     """Entries with a picture of 3,000 bytes each, in folded base64."""
+    directory, i = Directory(1000), 0
     with open(path, "wb") as f:
-        i = 0
         while f.tell() < size:
-            dn, lines = person(i)
             picture = bytes((i + k * k) % 256 for k in range(3000))
-            f.write(fold(dn + b"".join(line(k, v) for k, v in lines) + b"jpegPhoto:: " + base64.b64encode(picture) + b"\n\n"))
+            f.write(line("dn", directory.dn(i)) + b"".join(line(k, v) for k, v in directory.person(i)) + line("jpegPhoto", picture) + b"\n")
             i += 1
 
 
@@ -132,9 +123,9 @@ def main():
         program = build(folder)
         path = os.path.join(folder, "text.ldif")
         for size in args.size or [10, 100]:
-            write_copy(path, size * 1000000 // 876)
+            Directory(size * 1000000 // 960).write(path)
             measure(program, "entries", path)
-            write_photos(path, size * 1000000)
+            write_pictures(path, size * 1000000)
             measure(program, "entries with pictures", path)
 
 

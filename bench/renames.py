@@ -1,28 +1,23 @@
 #!/usr/bin/env python3
-"""Measures the renames of `slapkit slapmodify`.
+"""Measures moves of a subtree.
 
-First M moves of a subtree of N entries, to another superior and back, beside M moves of one entry in the same copy: what
-one move takes, by `each_of` of modifies.py, and what the whole runs take. A move of one entry takes so little that its CPU
-time is lost in that of the run: --instructions tells it. Then a run of adds, deletes, modifies and
-renames on a copy of people and groups as slapcat writes it, there and back, in CPU time and peak memory, also as ratios
-to `sha256sum` of the copy and to its size.
+M moves of a subtree of N entries, to another superior and back, beside M moves of one entry in the same copy: what one move
+takes, by `each_of` of modifies.py, and what the whole runs take. A move of one entry takes so little that its CPU time is lost in
+that of the run: --instructions tells it.
 
-    bench/renames.py [--program PATH] [--below N] [--moves M] [--people N] [--changes M] [--rounds R] [--instructions]
+    bench/renames.py [--program PATH] [--below N] [--moves M] [--rounds R] [--instructions]
 """
 
 import argparse
 import os
-import random
 import tempfile
 
-from bench import ROOT, UNITS, line, modify, run
-from modifies import change_of_member, delete_of_person, each_of, how_of, member, modify_of_person, record_of_person, write, write_people
+from bench import PROGRAM
+from directory import SUFFIX as TOP
+from directory import line, rename
+from modifies import each_of, how_of, write
 
-TOP = "dc=example,dc=com"
 SIDES = ("west", "east")
-
-
-# ---- a subtree, and one entry
 
 
 def entry(rdn, above, lines):
@@ -43,10 +38,6 @@ def write_sides(path, below):
             f.write(entry(f"ou=unit{unit}", f"ou=team,{above}", []))
         for i in range(below - units):
             f.write(entry(f"uid=user{i:07d}", f"ou=unit{i % units},ou=team,{above}", [("cn", f"User {i}"), ("sn", "User"), ("employeeNumber", str(i))]))
-
-
-def rename(dn, rdn, superior=None):
-    return f"dn: {dn}\nchangetype: modrdn\nnewrdn: {rdn}\ndeleteoldrdn: 1\n{f'newsuperior: {superior}' + chr(10) if superior else ''}\n".encode()
 
 
 def moves_of(rdn, count):
@@ -70,70 +61,16 @@ def measure_moves(how, program, folder, below, moves):
     )
 
 
-# ---- all four operations
-
-
-def rename_of_person(k, has_superior):
-    """A rename of a person, to another unit in each second one."""
-    return rename(member(k), f"uid=other{k:07d}", f"ou={UNITS[(k + 3) % 10]},{TOP}" if has_superior else None)
-
-
-def mixed_changes(people, groups, changes):
-    """A fifth adds, a fifth deletes, a tenth renames, half of them to another unit, and else modifies, in random order."""
-    shares = {"add": changes // 5, "delete": changes // 5, "rename": changes // 10, "group": changes // 50}
-    shares["modify"] = changes - sum(shares.values())
-    chance = random.Random(1)
-    chosen = chance.sample(range(people), changes)
-    records, at = [], 0
-    for what, count in shares.items():
-        for number, k in enumerate(chosen[at : at + count]):
-            records.append({
-                "add": lambda: record_of_person(k, "new", "add"),
-                "delete": lambda: delete_of_person(k),
-                "rename": lambda: rename_of_person(k, number % 2 == 0),
-                "group": lambda: change_of_member(f"group{number % groups}", "add", people + number),
-                "modify": lambda: modify_of_person(k),
-            }[what]())
-        at += count
-    chance.shuffle(records)
-    return records
-
-
-def measure_mixed(program, folder, people, changes, rounds):
-    copy = os.path.join(folder, "people.ldif")
-    groups = write_people(copy, people)
-    text = write(folder, "mixed.ldif", b"version: 1\n\n" + b"".join(mixed_changes(people, groups, changes)))
-    new, undo, back, redo = (os.path.join(folder, name) for name in ("new.ldif", "undo.ldif", "back.ldif", "redo.ldif"))
-    size = os.path.getsize(copy)
-    hashed, there, home = [], [], []
-    for _ in range(rounds):
-        hashed.append(run(["sha256sum", copy])[0])
-        there.append(modify(program, copy, new, undo, text))
-        home.append(modify(program, new, back, redo, undo))
-    cpu, memory, report = min(there)
-    print(
-        f"{people} people and {groups} groups, {size / 1e6:.1f} MB, {changes} changes of all four operations: {cpu:.2f} s CPU, "
-        f"{cpu / min(hashed):.1f} x sha256sum, {memory / 1e6:.0f} MB peak = {memory / size:.1f} x the copy; {report.strip()}",
-        flush=True,
-    )
-    cpu, memory, report = min(home)
-    print(f"the way back: {cpu:.2f} s CPU, {cpu / min(hashed):.1f} x sha256sum, {memory / 1e6:.0f} MB peak; {report.strip()}", flush=True)
-
-
 def main():
     parser = argparse.ArgumentParser(description=__doc__, formatter_class=argparse.RawDescriptionHelpFormatter)
-    parser.add_argument("--program", default=os.path.join(ROOT, "crates/slapkit/out/slapkit"))
+    parser.add_argument("--program", default=PROGRAM)
     parser.add_argument("--below", type=int, default=50000)
     parser.add_argument("--moves", type=int, default=1000)
-    parser.add_argument("--people", type=int, default=100000)
-    parser.add_argument("--changes", type=int, default=10000)
     parser.add_argument("--rounds", type=int, default=3)
     parser.add_argument("--instructions", action="store_true")
     args = parser.parse_args()
     with tempfile.TemporaryDirectory() as folder:
         measure_moves(how_of(args), args.program, folder, args.below, args.moves)
-        if not args.instructions:
-            measure_mixed(args.program, folder, args.people, args.changes, args.rounds)
 
 
 if __name__ == "__main__":
