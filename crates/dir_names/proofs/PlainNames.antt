@@ -104,7 +104,7 @@ module _ (rows : List TypeRow) (value : List ℕ) (room : ℕ) (out new : List �
     sound = sound_more r.done r.sound;
     within = within_more r.done r.within;
     keyed = key_more rows rdn r.done r.keys plain.1 r.keyed plain.5;
-    sorted = plain.6 ∙ ap (λ t. t ++ 1 ∷ rdn_sort plain.1) r.sorted ∙ sym (sort_more r.keys plain.1)
+    sorted = plain.6 ∙ ap (λ t. t ++ 1 ∷ rdn_sort plain.1) r.sorted ∙ sym (sort_more r.keys plain.1);
   }
 
   pub last_read : (rest : List ℕ) → rest ≡ piece → IsReadFrom rows value rest (room + 1) out → option_map name_sort (name_value_key rows value) ≡ Some new

@@ -12,8 +12,8 @@ ghost use Rattle.dir_names.specs.Names.Printing.{is_special, printed_rest, print
 use crate::attribute::{is_reserved, is_type};
 use crate::key::sorting::put_set;
 use crate::limits::{MAX_RDN_TEXT, MAX_RDNS};
-use crate::name::type_and_value_key;
 use crate::name::printing::is_special;
+use crate::name::type_and_value_key;
 use crate::{NameFault, Schema};
 use std::alloc::Global;
 use std::slice;

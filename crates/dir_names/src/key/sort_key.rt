@@ -14,11 +14,10 @@ use crate::name::pair_key;
 use crate::{Bytes, Dn, DnKey, NameFault, Rdn, Schema};
 use std::alloc::Global;
 use std::cmp::Ordering;
-use std::fmt;
 use std::marker::Model;
 use std::rc::Rc;
-use std::slice;
 use std::snapshot::Snapshot;
+use std::{fmt, slice};
 
 /// The text that the key of a name is ordered by. Of the value that spells the name nothing is kept: the
 /// snapshots are for contracts, and take no memory.
@@ -171,7 +170,10 @@ impl Ord for DnSortKey {
 /// How long the text of a plain name is, if its types are spelled as in their keys.
 fn sort_len(value: &[u8]) -> usize {
     let commas = value.iter().filter(|b| **b == b',').count();
-    value.len().saturating_add(commas.saturating_mul(4)).saturating_add(5)
+    value
+        .len()
+        .saturating_add(commas.saturating_mul(4))
+        .saturating_add(5)
 }
 
 /// Writes the text of the key of the name that a value spells.
@@ -219,12 +221,7 @@ fn put_rdns(
 }
 
 /// Appends the text of an RDN's key.
-fn put_rdn(
-    alloc: Global,
-    schema: &Schema,
-    rdn: &Rdn,
-    out: &mut Vec<u8>,
-) -> Result<(), NameFault>
+fn put_rdn(alloc: Global, schema: &Schema, rdn: &Rdn, out: &mut Vec<u8>) -> Result<(), NameFault>
     ensures { Gives (λ _. out.new.items) result (ok_or_bad_dn (option_map (λ key. out.old.items ++ 1 ∷ rdn_sort key) (rdn_key schema.now rdn.now))) }
 {
     match rdn.pairs().split_first() {

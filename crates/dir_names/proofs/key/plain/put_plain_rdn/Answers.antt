@@ -2,6 +2,7 @@ use Rattle.std.proofs.Common.{◌≡◌, true, nat_le, length, [], ◌∷◌, �
 use Rattle.std.proofs.lemmas.Bool.Decides.{nat_tests}
 use Rattle.dir_names.specs.Inside.SortTexts.{rdn_sort}
 use Rattle.dir_names.specs.NameKeys.{rdn_key}
+use Rattle.dir_names.specs.Names.{SpelledPair}
 use Rattle.dir_names.specs.Names.Printing.{printed_pair, printed_value}
 use Rattle.dir_names.specs.Names.Sound.{is_sound_pair}
 use Rattle.dir_names.proofs.SortedNames.{only_some}
@@ -10,7 +11,7 @@ use Rattle.dir_names.proofs.key.plain.put_plain_rdn.Goals as goal
 -- a draft: the names of the steps are still to be compared with those that the check lists
 pub returns-in-Ok : goal.returns-in-Ok
 returns-in-Ok c e =
-    let pair = (c.in-Some.attr_type.now, c.in-Some.value.now) in
+    let pair : SpelledPair = (c.in-Some.attr_type.now, c.in-Some.value.now) in
     let plain : printed_value pair.1 ≡ pair.1 = search rules in
     let cut : c.args.piece.now ≡ pair.0 ++ 61 ∷ pair.1 = search rules in
     let piece : c.args.piece.now ≡ printed_pair pair = cut ∙ ap (λ v. pair.0 ++ 61 ∷ v) (sym plain) in
