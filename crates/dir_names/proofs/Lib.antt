@@ -19,6 +19,7 @@ pub mod ReadNames
 pub mod ReadValues
 pub mod ReadsSpells
 pub mod Rfc4514
+pub mod SingleSpaces
 pub mod SortOrder
 pub mod SoundLemmas
 pub mod SpellsReads

@@ -21,6 +21,7 @@ pub use list::{Bytes, Texts};
 pub use name::{Dn, Rdn};
 pub use schema::{Rule, Schema};
 pub use value::ValueKey;
+pub use value::pieces::PiecePlace;
 
 #[cfg(test)]
 mod tests;

@@ -686,3 +686,74 @@ fn names_and_values_are_compared_by_their_keys(rt: HostRuntime) -> Result<(), Fa
     assert_eq!(rt; key.text(), Some(b"a b".as_slice()));
     Ok(())
 }
+
+/// The piece of this text in this place, under the rule of a type.
+fn piece(
+    alloc: Global,
+    schema: &Schema,
+    attr_type: &str,
+    place: PiecePlace,
+    text: &[u8],
+) -> Result<Option<Vec<u8>>, NameFault> {
+    let description = described(alloc, schema, attr_type)?;
+    schema.piece_key(alloc, description.key(), place, text)
+}
+
+fn assert_piece(
+    rt: &impl Abort,
+    alloc: Global,
+    attr_type: &str,
+    place: PiecePlace,
+    text: &[u8],
+    want: Option<&[u8]>,
+) -> Result<(), Fail> {
+    let schema = Schema::builtin(alloc)?;
+    let found = piece(alloc, &schema, attr_type, place, text)?;
+    match &found {
+        Some(found) => assert_eq!(rt; Some(found.as_slice()), want),
+        None => assert_eq!(rt; None, want),
+    }
+    Ok(())
+}
+
+#[test]
+fn pieces_keep_the_spaces_that_count_in_their_place(rt: HostRuntime) -> Result<(), Fail> {
+    let alloc = rt.alloc();
+    let text = b"  Foo  b ".as_slice();
+    assert_piece(&rt, alloc, "cn", PiecePlace::First, text, Some(b"foo b "))?;
+    assert_piece(&rt, alloc, "cn", PiecePlace::Last, text, Some(b" foo b"))?;
+    assert_piece(&rt, alloc, "cn", PiecePlace::Middle, text, Some(b" foo b "))?;
+    assert_piece(&rt, alloc, "uidNumber", PiecePlace::First, text, None)
+}
+
+#[test]
+fn pieces_are_folded_as_values_are(rt: HostRuntime) -> Result<(), Fail> {
+    let alloc = rt.alloc();
+    let digits = b"+1 555-".as_slice();
+    assert_piece(
+        &rt,
+        alloc,
+        "telephoneNumber",
+        PiecePlace::First,
+        digits,
+        Some(b"+1555"),
+    )?;
+    assert_piece(
+        &rt,
+        alloc,
+        "homeDirectory",
+        PiecePlace::Last,
+        b"/A",
+        Some(b"/A"),
+    )?;
+    assert_piece(
+        &rt,
+        alloc,
+        "mail",
+        PiecePlace::Last,
+        b"@A.Org",
+        Some(b"@a.org"),
+    )?;
+    assert_piece(&rt, alloc, "mail", PiecePlace::Last, b"\xC3", None)?;
+    assert_piece(&rt, alloc, "cn", PiecePlace::Middle, b"\xC3", None)
+}

@@ -13,6 +13,7 @@ ghost use Rattle.dir_names.specs.ValueKeys.{folded_text, is_ascii, is_positive, 
 ghost use Rattle.dir_names.specs.Values.{value_key_cmp, value_key_eq, value_key_cmp_total, value_key_cmp_ties, text_of, name_of_key};
 
 pub(crate) mod folding;
+pub(crate) mod pieces;
 pub(crate) mod spaces;
 
 use crate::attribute::{are_digits, lowercase_bytes};
