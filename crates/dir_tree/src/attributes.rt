@@ -3,7 +3,7 @@
 ghost use Rattle.std.specs.Prelude.{◌≡◌, ◌&&◌, ◌==◌, IfErr, IfOk, IfSome, IsSome, IsTrue, OnErr, OnOk, Some, [], false, length, map, nat_lt, option_copied};
 ghost use Rattle.std.specs.List.{list_any};
 ghost use Rattle.dir_names.specs.Names.Sound.{is_sound_pair};
-ghost use Rattle.dir_names.specs.declared.value.ValueKey.TheVariants.{Text};
+ghost use Rattle.dir_names.specs.declared.value.ValueKey.TheVariants.{Name, Text};
 ghost use Rattle.dir_names.specs.Table.{single_of};
 ghost use Rattle.std.specs.Option.{option_map};
 ghost use Rattle.std.specs.FinMap as fin;
@@ -18,7 +18,7 @@ ghost use Rattle.dir_tree.specs.declared.fault.EntryFault.TheVariants as EntryFa
 
 use crate::EntryFault;
 use crate::values::{ValueMap, Values};
-use dir_names::{AttrKey, Bytes, Description, Memory, Rdn, Schema, ValueKey};
+use dir_names::{AttrKey, Bytes, Description, DnKey, Memory, Rdn, Schema, ValueKey};
 use std::alloc::Global;
 use std::marker::Model;
 use std::{mem, slice};
@@ -106,6 +106,13 @@ impl Attribute {
         ensures { result ≡ fin.contains_key self.now.stored.values key.now }
     {
         self.values.contains_key(key)
+    }
+
+    /// Whether there is a value with this name as its key. The search is by the key, and makes none.
+    pub fn has_name(&self, name: &DnKey) -> bool
+        ensures { result ≡ fin.contains_key self.now.stored.values (Name name.now) }
+    {
+        self.values.has_name(name)
     }
 
     fn has_text(&self, text: &[u8]) -> bool

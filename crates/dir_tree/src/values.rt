@@ -5,14 +5,14 @@ ghost use Rattle.std.specs.FinMap as fin;
 ghost use Rattle.std.specs.List.Sorted.{IsSearchInRange};
 ghost use Rattle.dir_names.specs.Sorted.{place};
 ghost use Rattle.dir_names.specs.Values.{value_key_cmp};
-ghost use Rattle.dir_names.specs.declared.value.ValueKey.TheVariants.{Text};
+ghost use Rattle.dir_names.specs.declared.value.ValueKey.TheVariants.{Name, Text};
 ghost use Rattle.dir_tree.specs.Inside.Stored.{value_pair, are_rising};
 ghost use Rattle.dir_tree.specs.NewEntry.{IsTwiceFaultOf};
 
 use crate::EntryFault;
 use crate::list::ValueList;
 use crate::stored::StoredValue;
-use dir_names::{Bytes, Memory, ValueKey};
+use dir_names::{Bytes, DnKey, Memory, ValueKey};
 use std::alloc::Global;
 use std::cmp::Ordering;
 use std::marker::Model;
@@ -91,6 +91,13 @@ impl ValueMap {
         ensures { result ≡ fin.contains_key self.now (Text text.now) }
     {
         place_of_text(self.items.as_slice(), text).is_ok()
+    }
+
+    /// Whether there is a value with this name as its key.
+    pub(crate) fn has_name(&self, name: &DnKey) -> bool
+        ensures { result ≡ fin.contains_key self.now (Name name.now) }
+    {
+        place_of_name(self.items.as_slice(), name).is_ok()
     }
 
     /// Adds a value.
@@ -180,6 +187,25 @@ fn cmp_text(key: &ValueKey, text: &[u8]) -> Ordering
     match key.text() {
         Some(own) => own.cmp(text),
         None => Ordering::Greater,
+    }
+}
+
+/// The index of the value with this name as its key, or the index at which it would be inserted.
+fn place_of_name(items: &[StoredValue], name: &DnKey) -> Result<usize, usize>
+    requires { IsTrue (are_rising items.now) }
+    ensures range { IsSearchInRange result (length items.now) }
+    ensures place { result ≡ place value_key_cmp (Name name.now) (map (λ value. (value_pair value).0) items.now) }
+{
+    items.binary_search_by(|value| cmp_name(value.key(), name))
+}
+
+/// How a key compares to the key that is this name.
+fn cmp_name(key: &ValueKey, name: &DnKey) -> Ordering
+    ensures { result ≡ value_key_cmp key.now (Name name.now) }
+{
+    match key.name() {
+        Some(own) => own.cmp(name),
+        None => Ordering::Less,
     }
 }
 

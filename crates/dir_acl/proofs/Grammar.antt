@@ -1,0 +1,4 @@
+-- The reader of filters gives exactly the filters of the grammar.
+pub mod Sound
+pub mod Complete
+pub mod Exact

@@ -1,0 +1,7 @@
+pub mod Digits
+pub mod Escapes
+pub mod Fakes
+pub mod FirstPiece
+pub mod Requests
+pub mod RunningSet
+pub mod Stack

@@ -1,0 +1,11 @@
+pub mod Decision
+pub mod FaultText
+pub mod Filters
+pub mod Inside
+pub mod Integers
+pub mod Outcome
+pub mod Privileges
+pub mod Signs
+pub mod Substrings
+pub mod Tests
+pub mod Truth

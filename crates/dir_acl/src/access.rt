@@ -1,0 +1,112 @@
+//! Access rules and what they grant (slapd.access(5)). `decision` has the call that decides.
+
+pub(crate) mod decision;
+pub(crate) mod requester;
+pub(crate) mod target;
+
+use crate::{Filter, Privileges};
+use dir_names::{AttrKey, DnKey, ValueKey};
+use dir_tree::Entry;
+
+/// Which names a name is for.
+#[derive(Clone, Copy, PartialEq, Eq, Debug)]
+pub enum Style {
+    /// The name itself.
+    Base,
+    /// Its children.
+    One,
+    /// The name, and all below it.
+    Subtree,
+    /// All below it.
+    Children,
+}
+
+/// What of an entry access is asked for.
+#[derive(Debug, Drop)]
+pub enum Asked {
+    /// The entry itself: the pseudo attribute `entry`.
+    Entry,
+    /// Its children: the pseudo attribute `children`.
+    Children,
+    /// One of its attributes.
+    Attribute(AttrKey),
+}
+
+/// A part of the `<what>` of a rule. The word `*` is none: it restricts nothing.
+#[derive(Debug, Drop)]
+pub enum What {
+    /// `dn[.STYLE]=NAME`
+    Dn(Style, DnKey),
+    /// `filter=FILTER`
+    Filter(Filter),
+    /// `attrs=LIST`
+    Attrs(Vec<Asked>),
+}
+
+/// A part of the `<who>` of a clause.
+#[derive(Debug, Drop)]
+pub enum Who {
+    /// `*`
+    Anyone,
+    /// `anonymous`: a requester without a name.
+    Anonymous,
+    /// `users`: a requester with a name.
+    Users,
+    /// `self`: the requester is the target.
+    Myself,
+    /// `dn[.STYLE]=NAME`
+    Dn(Style, DnKey),
+    /// `dnattr=DESCRIPTION`: the target has the requester as a value.
+    DnAttr(AttrKey),
+    /// `group[/CLASS[/ATTR]]=NAME`: the entry of this name has this value of this attribute as its class, and the
+    /// requester as a value of the last attribute.
+    Group(DnKey, AttrKey, ValueKey, AttrKey),
+}
+
+/// What a clause does to the privileges that were given before it.
+#[derive(Clone, Copy, PartialEq, Eq, Debug)]
+pub enum Edit {
+    /// `=`, or a level
+    Set(Privileges),
+    /// `+`
+    Add(Privileges),
+    /// `-`
+    Remove(Privileges),
+}
+
+/// What comes after a clause that applies.
+#[derive(Clone, Copy, PartialEq, Eq, Debug)]
+pub enum Control {
+    /// Nothing more.
+    Stop,
+    /// The later clauses of the rule.
+    Continue,
+    /// The later rules.
+    Break,
+}
+
+/// A clause `by <who> [<access>] [<control>]`.
+#[derive(Debug, Drop)]
+pub struct Clause {
+    pub who: Vec<Who>,
+    pub edit: Edit,
+    pub control: Control,
+}
+
+/// A rule `access to <what> [by <who> [<access>] [<control>]]+`.
+#[derive(Debug, Drop)]
+pub struct Rule {
+    pub what: Vec<What>,
+    pub clauses: Vec<Clause>,
+}
+
+/// Who asks, and for what.
+#[derive(Debug, Drop)]
+pub struct Request<'e> {
+    /// The requester's name. `None`, or a name without RDNs, is nobody's.
+    pub requester: Option<DnKey>,
+    pub target: DnKey,
+    /// The target's entry, or `None` for one that is made up, without attributes.
+    pub entry: Option<&'e Entry>,
+    pub asked: Asked,
+}

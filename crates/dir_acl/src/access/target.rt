@@ -1,0 +1,80 @@
+//! Which targets a rule is for: its `<what>`.
+
+ghost use Rattle.std.specs.List.{list_any, starts_with};
+ghost use Rattle.std.specs.Prelude.{◌≡◌};
+ghost use Rattle.dir_names.specs.Orders.{rdn_key_eq};
+ghost use Rattle.dir_acl.specs.Decision.{fits, is_asked, is_of_style, rule_fits};
+ghost use Rattle.dir_acl.specs.Inside.Requests.{question_of};
+
+use crate::access::{Asked, Request, Rule, Style, What};
+use crate::filter::truth::Truth;
+use dir_names::DnKey;
+
+impl Rule {
+    /// Whether the rule is for the target and what is asked of it.
+    pub(crate) fn fits(&self, request: &Request<'_>) -> bool
+        ensures { result ≡ rule_fits (question_of request.now) self.now }
+    {
+        for what in &self.what {
+            if !what.fits(request) {
+                return false;
+            }
+        }
+        true
+    }
+}
+
+impl What {
+    fn fits(&self, request: &Request<'_>) -> bool
+        ensures { result ≡ fits (question_of request.now) self.now }
+    {
+        match self {
+            What::Dn(style, name) => style.has(name, &request.target),
+            What::Filter(filter) => filter.truth_on(request.entry) == Truth::True,
+            What::Attrs(items) => is_any_asked(items, &request.asked),
+        }
+    }
+}
+
+fn is_any_asked(items: &[Asked], asked: &Asked) -> bool
+    ensures { result ≡ list_any (λ item. is_asked item asked.now) items.now }
+{
+    for item in items {
+        if is_asked(item, asked) {
+            return true;
+        }
+    }
+    false
+}
+
+/// Whether an item of `attrs=` is for what is asked.
+fn is_asked(item: &Asked, asked: &Asked) -> bool
+    ensures { result ≡ is_asked item.now asked.now }
+{
+    match (item, asked) {
+        (Asked::Entry, Asked::Entry) | (Asked::Children, Asked::Children) => true,
+        (Asked::Attribute(item), Asked::Attribute(attr)) => item.covers(attr),
+        _ => false,
+    }
+}
+
+impl Style {
+    /// Whether a name of this style is for a key.
+    pub(crate) fn has(self, name: &DnKey, key: &DnKey) -> bool
+        ensures { result ≡ is_of_style self name.now key.now }
+    {
+        match self {
+            Style::Base => key == name,
+            Style::One => begins_with(key, name) && key.depth() == name.depth() + 1,
+            Style::Subtree => begins_with(key, name),
+            Style::Children => begins_with(key, name) && key != name,
+        }
+    }
+}
+
+/// Whether a key is that of a name at or below another.
+fn begins_with(key: &DnKey, name: &DnKey) -> bool
+    ensures { result ≡ starts_with rdn_key_eq key.now name.now }
+{
+    key.parts().starts_with(name.parts())
+}

@@ -1,0 +1,163 @@
+//! The truth of a filter on an entry (RFC 4511, section 4.5.1.7).
+
+ghost use Rattle.std.specs.List.{list_any};
+ghost use Rattle.std.specs.FinMap as fin;
+ghost use Rattle.std.specs.Prelude.{◌≡◌, option_copied};
+ghost use Rattle.dir_names.specs.Values.{text_of};
+ghost use Rattle.dir_acl.specs.Inside.Fakes.{attributes_of};
+ghost use Rattle.dir_acl.specs.Truth.{both, either, has_matching, is_any_covered, matching_truth, opposite, text_has, truth_if, truth_of};
+
+use crate::filter::integers::{is_at_least, is_at_most};
+use crate::filter::substrings::has_pieces;
+use crate::{Filter, Matching, Test};
+use dir_names::{AttrKey, ValueKey};
+use dir_tree::{Attribute, Entry};
+
+/// What a filter is on an entry.
+#[derive(Clone, Copy, PartialEq, Eq, Debug)]
+pub enum Truth {
+    True,
+    False,
+    /// A test has no answer: its attribute's type has no such matching rule, or its assertion no key.
+    Undefined,
+}
+
+impl Filter {
+    /// The truth of the filter on an entry. The call doesn't allocate.
+    pub fn truth(&self, entry: &Entry) -> Truth
+        ensures { result ≡ truth_of entry.now.attributes self.now }
+    {
+        self.truth_on(Some(entry))
+    }
+
+    /// The truth of the filter on an entry, or on one without attributes.
+    #[tactic(auto, using(crate::proofs::Truths::truth_steps))]
+    pub(crate) fn truth_on(&self, entry: Option<&Entry>) -> Truth
+        ensures { result ≡ truth_of (attributes_of (option_copied entry.entry)) self.now }
+    {
+        match self {
+            Filter::And(filters) => {
+                let mut all = Truth::True;
+                for filter in filters {
+                    all = both(all, filter.truth_on(entry));
+                }
+                all
+            }
+            Filter::Or(filters) => {
+                let mut any = Truth::False;
+                for filter in filters {
+                    any = either(any, filter.truth_on(entry));
+                }
+                any
+            }
+            Filter::Not(filter) => opposite(filter.truth_on(entry)),
+            Filter::Test(test) => test_truth(test, entry),
+        }
+    }
+}
+
+/// The truth of `&` with two filters.
+fn both(one: Truth, another: Truth) -> Truth
+    ensures { result ≡ both one another }
+{
+    match (one, another) {
+        (Truth::False, _) | (_, Truth::False) => Truth::False,
+        (Truth::True, Truth::True) => Truth::True,
+        _ => Truth::Undefined,
+    }
+}
+
+/// The truth of `|` with two filters.
+fn either(one: Truth, another: Truth) -> Truth
+    ensures { result ≡ either one another }
+{
+    match (one, another) {
+        (Truth::True, _) | (_, Truth::True) => Truth::True,
+        (Truth::False, Truth::False) => Truth::False,
+        _ => Truth::Undefined,
+    }
+}
+
+fn opposite(truth: Truth) -> Truth
+    ensures { result ≡ opposite truth }
+{
+    match truth {
+        Truth::True => Truth::False,
+        Truth::False => Truth::True,
+        Truth::Undefined => Truth::Undefined,
+    }
+}
+
+fn truth_if(holds: bool) -> Truth
+    ensures { result ≡ truth_if holds }
+{
+    if holds { Truth::True } else { Truth::False }
+}
+
+fn test_truth(test: &Test, entry: Option<&Entry>) -> Truth
+    ensures { result ≡ matching_truth (attributes_of (option_copied entry.entry)) test.now.attr test.now.matching }
+{
+    match &test.matching {
+        Matching::Equal(None)
+        | Matching::AtLeast(None)
+        | Matching::AtMost(None)
+        | Matching::Substrings(None) => Truth::Undefined,
+        matching => truth_if(is_any_covered(&test.attr, matching, entry)),
+    }
+}
+
+/// Whether an attribute that the description covers is as the test asks.
+fn is_any_covered(attr: &AttrKey, matching: &Matching, entry: Option<&Entry>) -> bool
+    ensures { result ≡ is_any_covered attr.now (has_matching matching.now) (attributes_of (option_copied entry.entry)) }
+{
+    match entry {
+        Some(entry) => is_any_covered_in(attr, matching, entry),
+        None => false,
+    }
+}
+
+fn is_any_covered_in(attr: &AttrKey, matching: &Matching, entry: &Entry) -> bool
+    ensures { result ≡ is_any_covered attr.now (has_matching matching.now) entry.now.attributes }
+{
+    for (key, attribute) in entry.attributes() {
+        if attr.covers(key) && has_matching(matching, attribute) {
+            return true;
+        }
+    }
+    false
+}
+
+fn has_matching(matching: &Matching, attribute: &Attribute) -> bool
+    ensures { result ≡ has_matching matching.now attribute.now.stored }
+{
+    match matching {
+        Matching::Present => true,
+        Matching::Equal(Some(key)) => attribute.has(key),
+        matching => has_matching_text(matching, attribute),
+    }
+}
+
+fn has_matching_text(matching: &Matching, attribute: &Attribute) -> bool
+    ensures { result ≡ list_any (λ v. text_has matching.now (text_of v.0)) (fin.entries attribute.now.stored.values) }
+{
+    for (key, _) in attribute.values() {
+        if key_has(matching, key) {
+            return true;
+        }
+    }
+    false
+}
+
+fn key_has(matching: &Matching, key: &ValueKey) -> bool
+    ensures { result ≡ text_has matching.now (text_of key.now) }
+{
+    let Some(text) = key.text() else {
+        return false;
+    };
+    match matching {
+        Matching::AtLeast(Some(bound)) => is_at_least(bound.as_slice(), text),
+        Matching::AtMost(Some(bound)) => is_at_most(bound.as_slice(), text),
+        Matching::Substrings(Some(pieces)) => has_pieces(pieces, text),
+        _ => false,
+    }
+}

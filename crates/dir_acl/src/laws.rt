@@ -1,0 +1,25 @@
+//! Laws of the definitions, as contracts of calls that do nothing.
+
+ghost use Rattle.std.specs.Prelude.{◌≡◌, ℕ, List, Err, Ok, true};
+ghost use Rattle.dir_names.specs.declared.schema.TypeRow.{TypeRow};
+ghost use Rattle.dir_acl.specs.Filters.{IsTooDeep, Spells, Tree, in_parentheses};
+ghost use Rattle.dir_acl.specs.Filters.Reading.{filter_of};
+ghost use Rattle.dir_acl.specs.Substrings.{HasPieces, has_pieces};
+ghost use Rattle.dir_acl.specs.declared.fault.FilterFault.TheVariants as FilterFault;
+ghost use Rattle.dir_acl.specs.declared.filter.Pieces.{Pieces};
+
+/// What is read is what the grammar spells (RFC 4515, section 3), in both directions, with at most 64 levels; `TooDeep` is told
+/// exactly if a prefix that could begin a filter ends in the `(` of a 65th level.
+pub fn reading_is_the_grammar()
+    ensures spelled { (rows : List TypeRow) (text : List ℕ) (t : Tree) → filter_of rows text ≡ Ok t → Spells rows (in_parentheses text) t }
+    ensures shallow { (rows : List TypeRow) (text : List ℕ) (t : Tree) → filter_of rows text ≡ Ok t → ¬ (IsTooDeep rows 64 (in_parentheses text)) }
+    ensures read { (rows : List TypeRow) (text : List ℕ) (t : Tree) → Spells rows (in_parentheses text) t → ¬ (IsTooDeep rows 64 (in_parentheses text)) → filter_of rows text ≡ Ok t }
+    ensures deep { (rows : List TypeRow) (text : List ℕ) → filter_of rows text ≡ Err FilterFault.TooDeep → IsTooDeep rows 64 (in_parentheses text) }
+    ensures told { (rows : List TypeRow) (text : List ℕ) → IsTooDeep rows 64 (in_parentheses text) → filter_of rows text ≡ Err FilterFault.TooDeep }
+{}
+
+/// The test of a substring assertion tells whether some cut of the text has the pieces.
+pub fn cuts_are_found()
+    ensures found { (text : List ℕ) (pieces : Pieces) → HasPieces text pieces → has_pieces pieces text ≡ true }
+    ensures there { (text : List ℕ) (pieces : Pieces) → has_pieces pieces text ≡ true → HasPieces text pieces }
+{}
