@@ -5,6 +5,7 @@ ghost use Rattle.std.specs.Prelude.{◌≡◌};
 ghost use Rattle.dir_names.specs.Orders.{rdn_key_eq};
 ghost use Rattle.dir_acl.specs.Decision.{fits, is_asked, is_of_style, rule_fits};
 ghost use Rattle.dir_acl.specs.Inside.Requests.{question_of};
+ghost use Rattle.dir_acl.specs.Truth.{is_true};
 
 use crate::access::{Asked, Request, Rule, Style, What};
 use crate::filter::truth::Truth;
@@ -30,10 +31,16 @@ impl What {
     {
         match self {
             What::Dn(style, name) => style.has(name, &request.target),
-            What::Filter(filter) => filter.truth_on(request.entry) == Truth::True,
+            What::Filter(filter) => is_true(filter.truth_on(request.entry)),
             What::Attrs(items) => is_any_asked(items, &request.asked),
         }
     }
+}
+
+fn is_true(truth: Truth) -> bool
+    ensures { result ≡ is_true truth }
+{
+    matches!(truth, Truth::True)
 }
 
 fn is_any_asked(items: &[Asked], asked: &Asked) -> bool

@@ -101,12 +101,25 @@ fn read_matching(
 ) -> Result<Matching, FilterFault>
     ensures { Reads (λ matching. matching) result (ok_or_bad_filter (matching_by schema.now attr.now operator value.now)) }
 {
-    if operator == Operator::Equal {
-        let parts = read_parts(alloc, value)?;
-        return matching_of_parts(alloc, schema, attr, parts.as_slice());
+    match operator {
+        Operator::Equal => read_equal(alloc, schema, attr, value),
+        Operator::Approximate | Operator::AtLeast | Operator::AtMost => {
+            let bytes = read_value(alloc, value)?;
+            compared_with(alloc, schema, attr, operator, bytes.as_slice())
+        }
     }
-    let bytes = read_value(alloc, value)?;
-    compared_with(alloc, schema, attr, operator, bytes.as_slice())
+}
+
+fn read_equal(
+    alloc: Global,
+    schema: &Schema,
+    attr: &AttrKey,
+    value: &[u8],
+) -> Result<Matching, FilterFault>
+    ensures { Reads (λ matching. matching) result (ok_or_bad_filter (option_map (matching_of_parts schema.now attr.now) (option_collect unescaped (parts_at 42 value.now)))) }
+{
+    let parts = read_parts(alloc, value)?;
+    matching_of_parts(alloc, schema, attr, parts.as_slice())
 }
 
 /// What an operator other than `=` asks with this value.
