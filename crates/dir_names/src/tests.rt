@@ -690,13 +690,13 @@ fn names_and_values_are_compared_by_their_keys(rt: HostRuntime) -> Result<(), Fa
 /// The piece of this text in this place, under the rule of a type.
 fn piece(
     alloc: Global,
-    schema: &Schema,
     attr_type: &str,
     place: PiecePlace,
     text: &[u8],
-) -> Result<Option<Vec<u8>>, NameFault> {
-    let description = described(alloc, schema, attr_type)?;
-    schema.piece_key(alloc, description.key(), place, text)
+) -> Result<Option<Vec<u8>>, Fail> {
+    let schema = Schema::builtin(alloc)?;
+    let description = described(alloc, &schema, attr_type)?;
+    Ok(schema.piece_key(alloc, description.key(), place, text)?)
 }
 
 fn assert_piece(
@@ -705,13 +705,11 @@ fn assert_piece(
     attr_type: &str,
     place: PiecePlace,
     text: &[u8],
-    want: Option<&[u8]>,
+    want: &str,
 ) -> Result<(), Fail> {
-    let schema = Schema::builtin(alloc)?;
-    let found = piece(alloc, &schema, attr_type, place, text)?;
-    match &found {
-        Some(found) => assert_eq!(rt; Some(found.as_slice()), want),
-        None => assert_eq!(rt; None, want),
+    match piece(alloc, attr_type, place, text)? {
+        Some(found) => assert_eq!(rt; found.as_slice(), want.as_bytes(), "{attr_type}"),
+        None => panic!(rt; "no piece: {attr_type}"),
     }
     Ok(())
 }
@@ -720,10 +718,12 @@ fn assert_piece(
 fn pieces_keep_the_spaces_that_count_in_their_place(rt: HostRuntime) -> Result<(), Fail> {
     let alloc = rt.alloc();
     let text = b"  Foo  b ".as_slice();
-    assert_piece(&rt, alloc, "cn", PiecePlace::First, text, Some(b"foo b "))?;
-    assert_piece(&rt, alloc, "cn", PiecePlace::Last, text, Some(b" foo b"))?;
-    assert_piece(&rt, alloc, "cn", PiecePlace::Middle, text, Some(b" foo b "))?;
-    assert_piece(&rt, alloc, "uidNumber", PiecePlace::First, text, None)
+    assert_piece(&rt, alloc, "cn", PiecePlace::First, text, "foo b ")?;
+    assert_piece(&rt, alloc, "cn", PiecePlace::Last, text, " foo b")?;
+    assert_piece(&rt, alloc, "cn", PiecePlace::Middle, text, " foo b ")?;
+    let none = piece(alloc, "uidNumber", PiecePlace::First, text)?;
+    assert!(rt; none.is_none());
+    Ok(())
 }
 
 #[test]
@@ -736,24 +736,11 @@ fn pieces_are_folded_as_values_are(rt: HostRuntime) -> Result<(), Fail> {
         "telephoneNumber",
         PiecePlace::First,
         digits,
-        Some(b"+1555"),
+        "+1555",
     )?;
-    assert_piece(
-        &rt,
-        alloc,
-        "homeDirectory",
-        PiecePlace::Last,
-        b"/A",
-        Some(b"/A"),
-    )?;
-    assert_piece(
-        &rt,
-        alloc,
-        "mail",
-        PiecePlace::Last,
-        b"@A.Org",
-        Some(b"@a.org"),
-    )?;
-    assert_piece(&rt, alloc, "mail", PiecePlace::Last, b"\xC3", None)?;
-    assert_piece(&rt, alloc, "cn", PiecePlace::Middle, b"\xC3", None)
+    assert_piece(&rt, alloc, "homeDirectory", PiecePlace::Last, b"/A", "/A")?;
+    assert_piece(&rt, alloc, "mail", PiecePlace::Last, b"@A.Org", "@a.org")?;
+    let none = piece(alloc, "mail", PiecePlace::Last, b"\xC3")?;
+    assert!(rt; none.is_none());
+    Ok(())
 }
