@@ -1,11 +1,11 @@
 -- Pieces of a text: the search from the left finds them if any cut has them, and the test of a cut is the fact.
-use Rattle.std.proofs.Common.{◌≡◌, ℕ, zero, suc, ◌+◌, ◌-◌, ◌≤◌, ◌<◌, Bool, true, false, cond, List, [], ◌∷◌, ◌++◌, length, take, drop, Option, Some, None, refl, sym, ap, ◌∙◌, subst, arith}
+use Rattle.std.proofs.Common.{◌≡◌, ℕ, zero, suc, ◌+◌, ◌-◌, ◌≤◌, ◌<◌, Bool, true, false, cond, List, [], ◌∷◌, ◌++◌, length, take, drop, get_or, Option, Some, None, refl, sym, ap, ◌∙◌, subst, arith}
 use Rattle.std.specs.Prelude.{◌&&◌, ◌||◌, ◌==◌, nat_eq}
 use Rattle.std.specs.List.{list_any, starts_with, ends_with}
 use Rattle.std.specs.Cmp.Lexicographic.{pointwise}
 use Rattle.std.proofs.Common.{Decides}
 use Rattle.std.proofs.lemmas.Bool.Decides.{Decides-eqb}
-use Rattle.std.proofs.lemmas.List.{drop_at}
+use Rattle.std.proofs.lemmas.List.{drop_all, drop_at, drop_more}
 use Rattle.std.proofs.lemmas.Slice.Eq.{starts_is, ends_is}
 use Rattle.dir_names.specs.Orders.{bytes_eq, bytes_eq_decides}
 use Rattle.dir_acl.specs.declared.filter.Pieces.{Pieces}
@@ -70,7 +70,7 @@ here_first m ms last text s = same_bool (has_middles (m ∷ ms) last text) (has_
     by (b ∷ bs) s e = λ i. (s i && e i) || has_middles (m ∷ ms) last bs
 
 -- what is found after the piece where it comes first
-abbrev found_after : Option (List ℕ) → List (List ℕ) → List ℕ → Bool
+abbrev pub found_after : Option (List ℕ) → List (List ℕ) → List ℕ → Bool
 found_after None ms last = false
 found_after (Some rest) ms last = has_middles ms last rest
 
@@ -86,6 +86,11 @@ search_step m ms last (b ∷ bs) = by (search_step m ms last bs) (starts_with na
         → has_middles (m ∷ ms) last (b ∷ bs) ≡ found_after (cond s (Some (drop (length m) (b ∷ bs))) (after_piece m bs)) ms last
     by rest true w = here_first m ms last (b ∷ bs) w
     by rest false w = ap (λ s. (s && has_middles ms last (drop (length m) (b ∷ bs))) || has_middles (m ∷ ms) last bs) w ∙ rest
+
+-- one piece of the middle, and the later ones
+pub middles_at : (ms : List (List ℕ)) (last rest : List ℕ) (i : ℕ) (piece : List ℕ) → i < length ms → piece ≡ get_or ms i piece → has_middles (drop i ms) last rest ≡ found_after (after_piece piece rest) (drop (i + 1) ms) last
+middles_at ms last rest i piece inside item =
+    ap (λ l. has_middles l last rest) (drop_more ms i piece inside ∙ ap (λ m. m ∷ drop (i + 1) ms) (sym item)) ∙ search_step piece (drop (i + 1) ms) last rest
 
 -- ---- the test of a cut is the fact
 
@@ -155,7 +160,9 @@ last_step last text =
     (λ e. let fact = middles_fact [] last text e in ends.1 fact.0 fact.1)
     (λ e. middles_test [] last text (take (length text - length last) text, ends.0 e))
 
-pub ruleset middle_steps = (search_step, last_step)
+-- after the last piece of the middle
+pub middles_end : (ms : List (List ℕ)) (last rest : List ℕ) (i : ℕ) → length ms ≤ i → has_middles (drop i ms) last rest ≡ ends_with nat_eq rest last
+middles_end ms last rest i past = ap (λ l. has_middles l last rest) (drop_all i ms past) ∙ last_step last rest
 
 -- ---- the place of a piece
 

@@ -113,17 +113,20 @@ shorter ds (e ∷ es) dn en less =
     let some = number_some ds dn in
     longer es ds (0 * 10 + (e - 48)) (number_first e es en (omega arith)) (omega arith) (number_digits ds dn)
 
-pub smaller : (ds es : List ℕ) → is_number ds ≡ true → is_number es ≡ true
-    → (nat_lt (length ds) (length es) || (length ds == length es && is_lt (bytes_cmp ds es))) ≡ nat_lt (number_of ds) (number_of es)
-smaller ds es dn en = by (nat_lt (length ds) (length es)) refl (length ds == length es) refl
-  where
-    by : (t : Bool) → nat_lt (length ds) (length es) ≡ t → (u : Bool) → (length ds == length es) ≡ u → (t || (u && is_lt (bytes_cmp ds es))) ≡ nat_lt (number_of ds) (number_of es)
-    by true w u v = sym (less_is_true _ _ (shorter ds es dn en (ltb-true (length ds) (length es) w)))
-    by false w true v = in_order ds es 0 (eqb-true (length ds) (length es) v) (number_digits ds dn) (number_digits es en)
-    by false w false v =
-        let more : length es < length ds = grind (arith, nat_tests) in
-        let less = shorter es ds en dn more in
-        sym (more_is_false _ _ (omega arith))
+module _ (ds es : List ℕ) (dn : is_number ds ≡ true) (en : is_number es ≡ true) where
+  pub shorter_is_smaller : nat_lt (length ds) (length es) ≡ true → nat_lt (number_of ds) (number_of es) ≡ true
+  shorter_is_smaller w = less_is_true _ _ (shorter ds es dn en (ltb-true (length ds) (length es) w))
+
+  pub same_length_in_order : (length ds == length es) ≡ true → nat_lt (number_of ds) (number_of es) ≡ is_lt (bytes_cmp ds es)
+  same_length_in_order v = sym (in_order ds es 0 (eqb-true (length ds) (length es) v) (number_digits ds dn) (number_digits es en))
+
+  pub longer_is_not_smaller : nat_lt (length ds) (length es) ≡ false → (length ds == length es) ≡ false → nat_lt (number_of ds) (number_of es) ≡ false
+  longer_is_not_smaller w v =
+      let more : length es < length ds = grind (arith, nat_tests) in
+      let less = shorter es ds en dn more in
+      more_is_false _ _ (omega arith)
+
+pub ruleset smaller_steps = (shorter_is_smaller, same_length_in_order, longer_is_not_smaller)
 
 -- ---- integers
 

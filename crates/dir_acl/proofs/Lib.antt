@@ -2,6 +2,9 @@ pub mod Cuts
 pub mod Digits
 pub mod EscapeSteps
 pub mod Grammar
+pub mod NoAttributes
 pub mod RunningSets
 pub mod SlapdAccess
+pub mod Stacks
+pub mod Tested
 pub mod Truths

@@ -69,6 +69,9 @@ module _ (rows : List TypeRow) where
   each_last [] list a t e h = (a, [], ap (λ y. y ++ a) e ∙ sym (append-nil a), h, refl)
   each_last (u ∷ us) list a t e h = (e.0, e.1 ++ a, ap (λ y. y ++ a) e.2 ∙ append_assoc e.0 e.1 a, e.3, each_last us e.1 a t e.4 h)
 
+  abbrev reached : State → Result State FilterFault
+  reached state = Ok state
+
   -- a complete filter after what is open
   fits_with : (t : Tree) (s : List Open) (q a p : List ℕ) → p ≡ q ++ a → SpellsOpen s q → Spells rows a t → Fits (with_filter t s) p
   fits_with t [] q a p e o h = subst (λ x. Spells rows x t) (sym (e ∙ ap (λ y. y ++ a) o)) h
@@ -76,7 +79,7 @@ module _ (rows : List TypeRow) where
   fits_with t (open_or ts ∷ s) q a p e o h = (o.0, o.1 ++ a, e ∙ ap (λ y. y ++ a) o.2 ∙ append_assoc o.0 (40 ∷ 124 ∷ o.1) a, o.3, each_last ts o.1 a t o.4 h)
   fits_with t (open_not ∷ s) q a p e o h = (o.0, a, e ∙ ap (λ y. y ++ a) o.1 ∙ append_assoc o.0 (40 ∷ 33 ∷ []) a, o.2, h)
 
-  same_fits : (x next : State) (p : List ℕ) → Ok {E = FilterFault} x ≡ Ok next → Fits x p → Fits next p
+  same_fits : (x next : State) (p : List ℕ) → reached x ≡ reached next → Fits x p → Fits next p
   same_fits x next p e h = let same : x ≡ next = cc in subst (λ y. Fits y p) same h
 
   fits_list : (s : List Open) (p : List ℕ) (next : State) → SpellsOpen s p → after_list s ≡ Ok next → Fits next (p ++ 41 ∷ [])
@@ -205,10 +208,13 @@ module _ (rows : List TypeRow) where
       let up = climb s o.0 ((40 ∷ 33 ∷ []) ++ rest) text (suc n) (e ∙ ap (λ y. y ++ rest) o.1 ∙ append_assoc o.0 (40 ∷ 33 ∷ []) rest) o.2 (in_negation n _ rest refl h) in
       (up.0, omega (arith, up.1), up.2)
 
+  abbrev at_parenthesis : List Open → State
+  at_parenthesis s = record { stack = s; place = after_parenthesis }
+
   deeper_fails : (s : List Open) → one_deeper s ≡ Err TooDeep → 64 ≤ length s
   deeper_fails s q = by (nat_lt (length s) 64) refl q
     where
-      by : (t : Bool) → nat_lt (length s) 64 ≡ t → cond t (Ok (record { stack = s; place = after_parenthesis })) (Err TooDeep) ≡ Err TooDeep → 64 ≤ length s
+      by : (t : Bool) → nat_lt (length s) 64 ≡ t → cond t (reached (at_parenthesis s)) (Err TooDeep) ≡ Err TooDeep → 64 ≤ length s
       by true w q = absurd (cc)
       by false w q = ltb-false (length s) 64 w
 

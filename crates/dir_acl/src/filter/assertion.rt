@@ -9,7 +9,7 @@ ghost use Rattle.dir_names.specs.Results.{option_collect};
 ghost use Rattle.dir_names.specs.ValueKeys.Pieces.{piece_of};
 ghost use Rattle.dir_acl.specs.Inside.Escapes.{at_end, has_digit, is_outside, is_refused, keeps_digit, step_of};
 ghost use Rattle.dir_acl.specs.Outcome.{Reads, ok_or_bad_filter};
-ghost use Rattle.dir_acl.specs.Tests.{assertion_key, bound_of, described_by, last_piece, matching_by, matching_of_more, matching_of_parts, matching_with, operator_at, operator_of, operator_of_sign, pieces_of, test_of, unescaped};
+ghost use Rattle.dir_acl.specs.Tests.{assertion_key, bound_of, described_by, last_piece, matching_by, matching_of_more, matching_of_parts, matching_with, operator_at, operator_of, operator_of_sign, pieces_of, test_from, test_of, unescaped};
 
 use crate::filter::integers::is_integer;
 use crate::{FilterFault, Matching, Pieces, Test};
@@ -32,15 +32,42 @@ pub(crate) fn read_test(alloc: Global, schema: &Schema, text: &[u8]) -> Result<T
     ensures { Reads (λ test. test) result (ok_or_bad_filter (test_of schema.now text.now)) }
 {
     let (before, after) = split_once(text, b'=');
-    let Some(value) = after else {
-        return Err(FilterFault::BadFilter);
-    };
+    match after {
+        Some(value) => read_operation(alloc, schema, before, value),
+        None => Err(FilterFault::BadFilter),
+    }
+}
+
+/// The test of what is before the `=` and the value after it.
+fn read_operation(
+    alloc: Global,
+    schema: &Schema,
+    before: &[u8],
+    value: &[u8],
+) -> Result<Test, FilterFault>
+    ensures { Reads (λ test. test) result (ok_or_bad_filter (test_from schema.now before.now (Some value.now))) }
+{
     let operator = operator_of(before);
-    let attr = match Description::read(alloc, schema, described_by(operator, before)) {
-        Ok(description) => attr_of(alloc, &description)?,
-        Err(NameFault::Memory) => return Err(FilterFault::Memory),
-        Err(_) => return Err(FilterFault::BadFilter),
-    };
+    match Description::read(alloc, schema, described_by(operator, before)) {
+        Ok(description) => {
+            let attr = attr_of(alloc, &description)?;
+            test_of_attr(alloc, schema, attr, operator, value)
+        }
+        Err(NameFault::Memory) => Err(FilterFault::Memory),
+        Err(_) => Err(FilterFault::BadFilter),
+    }
+}
+
+#[tactic(auto, using(crate::proofs::Tested::test_steps))]
+fn test_of_attr(
+    alloc: Global,
+    schema: &Schema,
+    attr: AttrKey,
+    operator: Operator,
+    value: &[u8],
+) -> Result<Test, FilterFault>
+    ensures { Reads (λ test. test) result (ok_or_bad_filter (option_map (λ matching. record { attr = attr; matching = matching }) (matching_by schema.now attr operator value.now))) }
+{
     let matching = read_matching(alloc, schema, &attr, operator, value)?;
     Ok(Test { attr, matching })
 }

@@ -86,7 +86,7 @@ fn digits_of(text: &[u8]) -> &[u8]
 
 /// Whether the first number is smaller than the second: numbers of one length are in the order of their
 /// bytes.
-#[tactic(auto, using(crate::proofs::Digits::smaller))]
+#[tactic(auto, using(crate::proofs::Digits::smaller_steps))]
 fn is_smaller(one: &[u8], another: &[u8]) -> bool
     requires one { IsTrue (is_number one.now) }
     requires another { IsTrue (is_number another.now) }

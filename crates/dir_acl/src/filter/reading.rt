@@ -126,6 +126,7 @@ fn step(alloc: Global, schema: &Schema, state: State, b: u8) -> Result<State, Fi
 }
 
 /// After a `(`.
+#[tactic(auto, using(crate::proofs::Stacks::stack_steps))]
 fn one_deeper(stack: Vec<Open>) -> Result<State, FilterFault>
     ensures { Reads state_of result (one_deeper (stack_of stack.items)) }
 {

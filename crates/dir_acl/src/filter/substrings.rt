@@ -20,7 +20,6 @@ pub(crate) fn has_pieces(pieces: &Pieces, text: &[u8]) -> bool
     has_middles(pieces.middle.as_slice(), pieces.last.as_slice(), after)
 }
 
-#[tactic(auto, using(crate::proofs::Cuts::middle_steps))]
 fn has_middles(middle: &[Bytes], last: &[u8], text: &[u8]) -> bool
     ensures { result ≡ has_middles middle.now last.now text.now }
 {

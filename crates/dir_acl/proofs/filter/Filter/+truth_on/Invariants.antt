@@ -2,7 +2,7 @@ use Rattle.std.proofs.Common.{◌≡◌, drop, map}
 use Rattle.std.specs.Option.{option_copied}
 use Rattle.dir_acl.specs.Inside.Fakes.{attributes_of}
 use Rattle.dir_acl.specs.Truth.{all_of, any_of, both, either, truth_of}
-use Rattle.dir_acl.proofs.filter.truth.Filter.+truth_on.Given as goal
+use Rattle.dir_acl.proofs.filter.Filter.+truth_on.Given as goal
 
 abbrev pub invariant-loop-filter : goal.invariant-loop-filter
 invariant-loop-filter l =

@@ -2,7 +2,7 @@ use Rattle.std.proofs.Common.{◌≡◌, drop}
 use Rattle.std.specs.List.{list_all}
 use Rattle.dir_acl.specs.Decision.{holds_for, named}
 use Rattle.dir_acl.specs.Inside.Requests.{question_of}
-use Rattle.dir_acl.proofs.access.requester.Clause.applies.Given as goal
+use Rattle.dir_acl.proofs.access.Clause.applies.Given as goal
 
 abbrev pub invariant-loop-who : goal.invariant-loop-who
 invariant-loop-who g l =

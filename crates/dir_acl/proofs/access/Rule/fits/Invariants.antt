@@ -2,7 +2,7 @@ use Rattle.std.proofs.Common.{◌≡◌, drop}
 use Rattle.std.specs.List.{list_all}
 use Rattle.dir_acl.specs.Decision.{fits}
 use Rattle.dir_acl.specs.Inside.Requests.{question_of}
-use Rattle.dir_acl.proofs.access.target.Rule.fits.Given as goal
+use Rattle.dir_acl.proofs.access.Rule.fits.Given as goal
 
 abbrev pub invariant-loop-what : goal.invariant-loop-what
 invariant-loop-what l = list_all (fits (question_of l.request)) l.self.what.items ≡ list_all (fits (question_of l.request)) (drop l.what-index l.self.what.items)
