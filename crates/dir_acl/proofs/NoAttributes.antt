@@ -1,5 +1,5 @@
 -- An entry that is made up has no attributes to look at.
-use Rattle.std.proofs.Common.{◌≡◌, Bool, false, ◌×◌, Option, None, sym, ap, ◌∙◌}
+use Rattle.std.proofs.Common.{◌≡◌, Bool, false, Option, None, sym, ap, ◌∙◌}
 use Rattle.std.specs.List.{list_any}
 use Rattle.std.specs.FinMap as fin
 use Rattle.dir_names.specs.Attr.{Attr}

@@ -6,10 +6,10 @@ use Rattle.dir_acl.proofs.filter.Filter.+truth_on.Given as goal
 
 abbrev pub invariant-loop-filter : goal.invariant-loop-filter
 invariant-loop-filter l =
-    both l.all (all_of (map (truth_of (attributes_of (option_copied l.entry))) (drop l.filter-index l.filters.items)))
-    ≡ all_of (map (truth_of (attributes_of (option_copied l.entry))) l.filters.items)
+    both l.all (all_of (map (truth_of (attributes_of (option_copied l.entry))) (drop l.filter-index l.filter-items)))
+    ≡ all_of (map (truth_of (attributes_of (option_copied l.entry))) l.filter-items)
 
 abbrev pub invariant-loop-filter-2 : goal.invariant-loop-filter-2
 invariant-loop-filter-2 l =
-    either l.any (any_of (map (truth_of (attributes_of (option_copied l.entry))) (drop l.filter-index l.filters.items)))
-    ≡ any_of (map (truth_of (attributes_of (option_copied l.entry))) l.filters.items)
+    either l.any (any_of (map (truth_of (attributes_of (option_copied l.entry))) (drop l.filter-index l.filter-items)))
+    ≡ any_of (map (truth_of (attributes_of (option_copied l.entry))) l.filter-items)
