@@ -8,7 +8,7 @@ use Rattle.dir_acl.proofs.access.decision.after_clauses.Given as goal
 abbrev pub invariant-loop-clause : goal.invariant-loop-clause
 invariant-loop-clause g l = record {
   held :
-      after_edits l.before (edits_of (filter (applies (g.D.Directory.state l.directory) (question_of l.request)) l.clauses))
+      after_edits l.fn.before (edits_of (filter (applies (g.D.Directory.state l.directory) (question_of l.request)) l.clauses))
       ≡ after_edits l.held (edits_of (filter (applies (g.D.Directory.state l.directory) (question_of l.request)) (drop l.clause-index l.clauses)));
   end :
       ends_in_break (filter (applies (g.D.Directory.state l.directory) (question_of l.request)) l.clauses)
