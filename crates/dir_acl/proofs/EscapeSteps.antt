@@ -1,12 +1,11 @@
 -- A value read byte by byte: what was written, and the rest.
-use Rattle.std.proofs.Common.{◌≡◌, ℕ, ◌<◌, ◌+◌, Bool, true, false, List, [], ◌∷◌, ◌++◌, drop, length, get_or, Option, Some, None, refl, sym, ap, subst, ◌∙◌, append_assoc}
+use Rattle.std.proofs.Common.{◌≡◌, ℕ, ◌<◌, ◌+◌, true, false, List, [], ◌∷◌, ◌++◌, drop, length, get_or, Option, Some, None, refl, sym, ap, subst, ◌∙◌, append_assoc}
 use Rattle.std.specs.Option.{option_map}
 use Rattle.std.proofs.lemmas.List.{drop_more, append-nil}
 use Rattle.dir_acl.specs.declared.filter.assertion.Escape.{Escape}
 use Rattle.dir_acl.specs.declared.filter.assertion.Escape.TheVariants.{Outside, AfterBackslash, AfterDigit}
-use Rattle.dir_acl.specs.declared.filter.assertion.Step.{Step}
 use Rattle.dir_acl.specs.declared.filter.assertion.Step.TheVariants.{Byte, Inside, Refused}
-use Rattle.dir_acl.specs.Inside.Escapes.{step_of, after_step, unescaped_from, has_digit, is_outside, at_end}
+use Rattle.dir_acl.specs.Inside.Escapes.{step_of, after_step, unescaped_from, has_digit, is_outside}
 
 -- the value after what was written
 abbrev pub after : List ℕ → Option (List ℕ) → Option (List ℕ)

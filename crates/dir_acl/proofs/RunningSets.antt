@@ -1,13 +1,11 @@
 -- The running set holds what the last word gives.
-use Rattle.std.proofs.Common.{◌≡◌, arith, length, Bool, true, false, not, cond, List, [], ◌∷◌, ◌++◌, Option, Some, None, refl, sym, ap, ◌∙◌}
+use Rattle.std.proofs.Common.{◌≡◌, arith, length, Bool, true, false, not, cond, List, [], ◌∷◌, Option, Some, None, refl, sym, ap, ◌∙◌}
 use Rattle.std.specs.Prelude.{◌==◌, ◌&&◌, ◌||◌, filter, unwrap_or}
 use Rattle.std.proofs.lemmas.Bool.{eqb-true}
-use Rattle.std.specs.List.{fold}
 use Rattle.std.proofs.lemmas.List.Sums.{fold-append}
 use Rattle.dir_names.specs.Keys.{DnKeys}
 use Rattle.dir_tree.specs.Dir.{Dir}
 use Rattle.dir_acl.specs.declared.access.Clause.{Clause}
-use Rattle.dir_acl.specs.declared.access.Control.{Control}
 use Rattle.dir_acl.specs.declared.access.Control.TheVariants.{Stop, Continue, Break}
 use Rattle.dir_acl.specs.declared.access.Edit.{Edit}
 use Rattle.dir_acl.specs.declared.access.Edit.TheVariants as edit
@@ -15,8 +13,8 @@ use Rattle.dir_acl.specs.declared.access.Rule.{Rule}
 use Rattle.dir_acl.specs.declared.privileges.Privilege.{Privilege}
 use Rattle.dir_acl.specs.declared.privileges.Privilege.TheVariants.{Manage, Add, Delete, Read, Search, Compare, Auth, Disclose}
 use Rattle.dir_acl.specs.declared.privileges.Privileges.{Privileges}
-use Rattle.dir_acl.specs.Decision.{Question, all_edits, applies, clauses_for, is_granted, is_root_for, named, edits_of, edits_of_rules, ends_in_break, goes_on, is_break, last_word, or_before, rule_fits, says}
-use Rattle.dir_acl.specs.Inside.RunningSet.{after_edits, edited, joined, without}
+use Rattle.dir_acl.specs.Decision.{Question, all_edits, clauses_for, is_granted, is_root_for, named, edits_of, edits_of_rules, ends_in_break, goes_on, is_break, last_word, or_before, rule_fits, says}
+use Rattle.dir_acl.specs.Inside.RunningSet.{after_edits, edited}
 use Rattle.dir_acl.specs.Privileges.{all_privileges, has, level_set, no_privileges}
 use Rattle.dir_acl.specs.declared.privileges.Level.TheVariants as level
 

@@ -1,5 +1,5 @@
 -- The examples of slapd.access(5), "THE <CONTROL> FIELD", as the definition of decisions has them. In each the clauses have the edits `=cs` and `+r`.
-use Rattle.std.proofs.Common.{◌≡◌, ℕ, Bool, true, false, cond, List, [], ◌∷◌, ◌++◌, Option, Some, None, refl, ap, ◌∙◌}
+use Rattle.std.proofs.Common.{◌≡◌, ℕ, true, false, cond, List, [], ◌∷◌, ◌++◌, Option, Some, None, refl, ◌∙◌}
 use Rattle.std.specs.Prelude.{codes, unwrap_or}
 use Rattle.dir_names.specs.Attr.{Attr}
 use Rattle.dir_names.specs.Keys.{DnKeys}
@@ -16,13 +16,13 @@ use Rattle.dir_acl.specs.declared.privileges.Privileges.{Privileges}
 use Rattle.dir_acl.specs.Decision.{Question, clauses_for, edits_of, edits_of_rules, ends_in_break, goes_on, holds_for, is_break, is_of_style, last_word}
 use Rattle.dir_acl.specs.Privileges.{has, no_privileges}
 
-cs : Privileges
+abbrev cs : Privileges
 cs = record no_privileges { search = true; compare = true }
 
-r : Privileges
+abbrev r : Privileges
 r = record no_privileges { read = true }
 
-rsc : Privileges
+abbrev rsc : Privileges
 rsc = record no_privileges { read = true; search = true; compare = true }
 
 -- ---- `by * =cs continue by users +r`
@@ -30,7 +30,6 @@ rsc = record no_privileges { read = true; search = true; compare = true }
 -- a requester with a name, for whom both clauses are, has search, compare and read
 pub continue_for_users : (first second : Clause) → first.edit ≡ edit.Set cs → first.control ≡ Continue → second.edit ≡ edit.Add r → second.control ≡ Stop
     → (p : Privilege) → unwrap_or (last_word p (edits_of (first ∷ second ∷ []))) false ≡ has rsc p
-unfolding cs r rsc
 continue_for_users first second e c f s p =
     (λ i. unwrap_or (last_word p (e i ∷ cond (goes_on (c i)) (f i ∷ cond (goes_on (s i)) (edits_of []) []) [])) false) ∙ by p
   where
@@ -46,7 +45,6 @@ continue_for_users first second e c f s p =
 
 -- for nobody the clauses run out after `continue`, and nothing is granted
 pub continue_for_nobody : (first : Clause) → first.edit ≡ edit.Set cs → first.control ≡ Continue → (p : Privilege) → unwrap_or (last_word p (edits_of (first ∷ []))) false ≡ false
-unfolding cs r rsc
 continue_for_nobody first e c p = (λ i. unwrap_or (last_word p (e i ∷ cond (goes_on (c i)) (edits_of []) [])) false) ∙ by p
   where
     by : (p : Privilege) → unwrap_or (last_word p (edit.Set cs ∷ edits_of [])) false ≡ false
@@ -76,7 +74,6 @@ nobody_is_no_user d q = refl
 pub break_for_both : (d : Dir) (q : Question) (one two : Rule) (first second : Clause) → clauses_for d q one ≡ first ∷ [] → clauses_for d q two ≡ second ∷ []
     → first.edit ≡ edit.Set cs → first.control ≡ Break → second.edit ≡ edit.Add r → second.control ≡ Stop
     → (p : Privilege) → unwrap_or (last_word p (edits_of_rules d q (one ∷ two ∷ []))) false ≡ has rsc p
-unfolding cs r rsc
 break_for_both d q one two first second u v e c f s p =
     (λ i. unwrap_or (last_word p (edits_of (u i) ++ cond (ends_in_break (u i)) (edits_of (v i) ++ cond (ends_in_break (v i)) (edits_of_rules d q []) []) [])) false)
     ∙ (λ i. unwrap_or (last_word p ((e i ∷ cond (goes_on (c i)) (edits_of []) []) ++ cond (cond (goes_on (c i)) false (is_break (c i)))
@@ -94,41 +91,35 @@ break_for_both d q one two first second u v e c f s p =
     by Disclose = refl
 
 -- the names of the example
-dc_com : List (Attr × List ℕ)
+abbrev dc_com : List (Attr × List ℕ)
 dc_com = (record { attr_type = codes "dc"; options = [] }, codes "com") ∷ []
 
-dc_example : List (Attr × List ℕ)
+abbrev dc_example : List (Attr × List ℕ)
 dc_example = (record { attr_type = codes "dc"; options = [] }, codes "example") ∷ []
 
-ou_people : List (Attr × List ℕ)
+abbrev ou_people : List (Attr × List ℕ)
 ou_people = (record { attr_type = codes "ou"; options = [] }, codes "people") ∷ []
 
-cn_kim : List (Attr × List ℕ)
+abbrev cn_kim : List (Attr × List ℕ)
 cn_kim = (record { attr_type = codes "cn"; options = [] }, codes "kim") ∷ []
 
 -- both rules fit an entry below `ou=People`
 pub below_both : is_of_style style.Subtree (dc_com ∷ dc_example ∷ ou_people ∷ []) (dc_com ∷ dc_example ∷ ou_people ∷ cn_kim ∷ []) ≡ true
-unfolding dc_com dc_example ou_people cn_kim
 below_both = refl
 
 -- the second doesn't fit one beside it
 pub beside_the_second : is_of_style style.Subtree (dc_com ∷ dc_example ∷ ou_people ∷ []) (dc_com ∷ dc_example ∷ cn_kim ∷ []) ≡ false
-unfolding dc_com dc_example ou_people cn_kim
 beside_the_second = refl
 
 -- the styles: `base` is the name alone, `one` its children, `children` all below it
 pub base_is_the_name : is_of_style style.Base (dc_com ∷ dc_example ∷ []) (dc_com ∷ dc_example ∷ []) ≡ true
-unfolding dc_com dc_example ou_people cn_kim
 base_is_the_name = refl
 
 pub one_is_a_child : is_of_style style.One (dc_com ∷ dc_example ∷ []) (dc_com ∷ dc_example ∷ ou_people ∷ []) ≡ true
-unfolding dc_com dc_example ou_people cn_kim
 one_is_a_child = refl
 
 pub one_is_no_grandchild : is_of_style style.One (dc_com ∷ dc_example ∷ []) (dc_com ∷ dc_example ∷ ou_people ∷ cn_kim ∷ []) ≡ false
-unfolding dc_com dc_example ou_people cn_kim
 one_is_no_grandchild = refl
 
 pub children_leave_out_the_name : is_of_style style.Children (dc_com ∷ dc_example ∷ []) (dc_com ∷ dc_example ∷ []) ≡ false
-unfolding dc_com dc_example ou_people cn_kim
 children_leave_out_the_name = refl

@@ -1,5 +1,5 @@
 -- A test is read if what it asks is.
-use Rattle.std.proofs.Common.{◌≡◌, ℕ, List, Option, Some, None, Result, Ok, Err, refl, sym, ap, subst}
+use Rattle.std.proofs.Common.{◌≡◌, ℕ, List, Option, Some, None, Result, Ok, refl, sym, ap, subst}
 use Rattle.std.specs.Option.{option_map}
 use Rattle.dir_names.specs.Attr.{Attr}
 use Rattle.dir_names.specs.Described.{Described}

@@ -29,7 +29,6 @@ use Rattle.dir_acl.specs.declared.access.Who.{Who}
 use Rattle.dir_acl.specs.declared.access.Who.TheVariants as who
 use Rattle.dir_acl.specs.declared.privileges.Level.TheVariants as level
 use Rattle.dir_acl.specs.declared.privileges.Privilege.{Privilege}
-use Rattle.dir_acl.specs.declared.privileges.Privileges.{Privileges}
 use Rattle.dir_acl.specs.Privileges.{has, level_set, no_privileges}
 use Rattle.dir_acl.specs.Truth.{is_true, truth_of}
 

@@ -1,6 +1,6 @@
 -- The test that a text between parentheses spells: a description, an operator and a value (RFC 4515, section 3: `simple`, `present` and `substring`).
-use Rattle.std.specs.Prelude.{ℕ, ◌+◌, ◌-◌, ◌*◌, Bool, true, false, cond, not, ◌&&◌, ◌||◌, ◌==◌, nat_eq, nat_le, List, [], ◌∷◌, length, take, Option, Some, None, option_map, option_and_then, Result, Ok, Err}
-use Rattle.std.specs.List.{before_first, list_all, list_any, slice_get}
+use Rattle.std.specs.Prelude.{ℕ, ◌-◌, cond, ◌==◌, List, [], ◌∷◌, length, take, Option, Some, None, option_map, option_and_then, Result, Ok, Err}
+use Rattle.std.specs.List.{before_first, list_all, slice_get}
 use Rattle.std.specs.Result.{result_ok}
 use Rattle.dir_names.specs.declared.fault.NameFault.{NameFault}
 use Rattle.dir_names.specs.declared.schema.Rule.{Rule}
@@ -8,13 +8,12 @@ use Rattle.dir_names.specs.declared.schema.Rule.TheVariants.{Octet, CaseIgnore, 
 use Rattle.dir_names.specs.declared.schema.TypeRow.{TypeRow}
 use Rattle.dir_names.specs.declared.value.ValueKey.{ValueKey}
 use Rattle.dir_names.specs.declared.value.pieces.PiecePlace.TheVariants as place
-use Rattle.dir_names.specs.Ascii.{nul, equals_sign, greater_than, less_than, backslash}
+use Rattle.dir_names.specs.Ascii.{equals_sign, greater_than, less_than}
 use Rattle.dir_names.specs.Attr.{Attr}
 use Rattle.dir_names.specs.Cut.{parts_at, after_first_separator}
 use Rattle.dir_names.specs.Described.{Described}
 use Rattle.dir_names.specs.Descriptions.{description_of}
 use Rattle.dir_names.specs.NameKeys.{value_key_of}
-use Rattle.dir_names.specs.Names.Escapes.{is_hex, hex_of}
 use Rattle.dir_names.specs.Results.{option_collect}
 use Rattle.dir_names.specs.Table.{rule_of}
 use Rattle.dir_names.specs.ValueKeys.{is_integer}

@@ -5,7 +5,6 @@ use Rattle.std.specs.FinMap as fin
 use Rattle.dir_names.specs.Attr.{Attr}
 use Rattle.dir_names.specs.Covers.{covers}
 use Rattle.dir_names.specs.Values.{text_of}
-use Rattle.dir_names.specs.declared.value.ValueKey.{ValueKey}
 use Rattle.dir_tree.specs.Content.{Stored, StoredAttributes}
 use Rattle.dir_acl.specs.declared.filter.Filter.{Filter}
 use Rattle.dir_acl.specs.declared.filter.Filter.TheOpen.{Filter-F}
@@ -13,7 +12,6 @@ use Rattle.dir_acl.specs.declared.filter.Filter.TheOpen as layer
 use Rattle.dir_acl.specs.declared.filter.Filter.TheFolds.{fold-Filter}
 use Rattle.dir_acl.specs.declared.filter.Matching.{Matching}
 use Rattle.dir_acl.specs.declared.filter.Matching.TheVariants.{Present, Equal, AtLeast, AtMost, Substrings}
-use Rattle.dir_acl.specs.declared.filter.Test.{Test}
 use Rattle.dir_acl.specs.declared.filter.truth.Truth.{Truth}
 use Rattle.dir_acl.specs.declared.filter.truth.Truth.TheVariants.{True, False, Undefined}
 use Rattle.dir_acl.specs.Integers.{is_at_least, is_at_most}

@@ -1,17 +1,15 @@
 -- The reader comes through each text that spells a filter, unless it meets a 65th level; and where there is one, it tells.
-use Rattle.std.proofs.Common.{◌≡◌, ℕ, zero, suc, ◌+◌, ◌≤◌, ◌<◌, Bool, true, false, cond, not, List, [], ◌∷◌, ◌++◌, length, Option, Some, None, Result, Ok, Err, refl, sym, ap, ◌∙◌, subst, ◌⊎◌, inl, inr, arith}
-use Rattle.std.specs.Prelude.{◌==◌, ◌&&◌, ◌||◌, nat_lt}
+use Rattle.std.proofs.Common.{◌≡◌, ℕ, ◌+◌, ◌≤◌, Bool, true, false, cond, List, [], ◌∷◌, ◌++◌, length, Result, Ok, Err, refl, sym, ap, ◌∙◌, subst, ◌⊎◌, inl, inr, arith}
+use Rattle.std.specs.Prelude.{◌==◌, ◌||◌, nat_lt}
 use Rattle.std.specs.List.{list_any}
-use Rattle.std.proofs.lemmas.Bool.{ltb-true, ltb-false, lt-ltb}
+use Rattle.std.proofs.lemmas.Bool.{ltb-true}
 use Rattle.std.proofs.lemmas.List.{append-nil, append_assoc}
 use Rattle.dir_names.specs.declared.schema.TypeRow.{TypeRow}
 use Rattle.dir_names.specs.Results.{and_then}
 use Rattle.dir_acl.specs.declared.fault.FilterFault.{FilterFault}
-use Rattle.dir_acl.specs.declared.fault.FilterFault.TheVariants.{BadFilter, TooDeep, Memory}
-use Rattle.dir_acl.specs.declared.filter.Test.{Test}
+use Rattle.dir_acl.specs.declared.fault.FilterFault.TheVariants.{TooDeep}
 use Rattle.dir_acl.specs.Filters.{Tree, Trees, conjunction, disjunction, negation, test, none, first, trees_of, Spells, SpellsEach, IsTooDeep, here, in_conjunction, in_disjunction, in_negation, begins_filters, begins_test, is_test_text}
-use Rattle.dir_acl.specs.Filters.Reading.{Open, open_and, open_or, open_not, Place, before_filter, after_parenthesis, in_test, in_list, at_end, State, with_filter, after_list, one_deeper, after_test, is_complete, step_in_test, step_after_parenthesis, step_at, filter_from}
-use Rattle.dir_acl.specs.Filters.Reading as read
+use Rattle.dir_acl.specs.Filters.Reading.{Open, open_and, open_or, open_not, Place, before_filter, after_parenthesis, in_test, in_list, with_filter, after_test, filter_from}
 use Rattle.dir_acl.specs.Tests.{test_of}
 use Rattle.dir_acl.proofs.Grammar.Sound.{first_true, second_true, not_true}
 

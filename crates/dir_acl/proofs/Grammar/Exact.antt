@@ -1,10 +1,9 @@
 -- The reader and the grammar agree, in both directions.
-use Rattle.std.proofs.Common.{◌≡◌, ℕ, Bool, true, false, List, [], ◌∷◌, Result, Ok, Err, refl, sym, ap, ◌∙◌, ◌⊎◌, inl, inr, arith}
+use Rattle.std.proofs.Common.{◌≡◌, ℕ, true, List, [], Ok, Err, refl, sym, ◌⊎◌, inl, inr, arith}
 use Rattle.dir_names.specs.declared.schema.TypeRow.{TypeRow}
-use Rattle.dir_acl.specs.declared.fault.FilterFault.{FilterFault}
-use Rattle.dir_acl.specs.declared.fault.FilterFault.TheVariants.{BadFilter, TooDeep, Memory}
+use Rattle.dir_acl.specs.declared.fault.FilterFault.TheVariants.{TooDeep}
 use Rattle.dir_acl.specs.Filters.{Tree, Spells, IsTooDeep, in_parentheses}
-use Rattle.dir_acl.specs.Filters.Reading.{State, at_start, filter_from, filter_of, at_end}
+use Rattle.dir_acl.specs.Filters.Reading.{at_start, filter_of}
 use Rattle.dir_acl.proofs.Grammar.Sound.{spelled, too_deep}
 use Rattle.dir_acl.proofs.Grammar.Complete.{comes, tells}
 use Rattle.std.proofs.lemmas.List.{append-nil}

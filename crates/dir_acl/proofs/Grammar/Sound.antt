@@ -9,9 +9,9 @@ use Rattle.std.proofs.lemmas.List.{append-nil, append_assoc}
 use Rattle.dir_names.specs.declared.schema.TypeRow.{TypeRow}
 use Rattle.dir_names.specs.Results.{and_then}
 use Rattle.dir_acl.specs.declared.fault.FilterFault.{FilterFault}
-use Rattle.dir_acl.specs.declared.fault.FilterFault.TheVariants.{BadFilter, TooDeep, Memory}
+use Rattle.dir_acl.specs.declared.fault.FilterFault.TheVariants.{BadFilter, TooDeep}
 use Rattle.dir_acl.specs.declared.filter.Test.{Test}
-use Rattle.dir_acl.specs.Filters.{Tree, Trees, conjunction, disjunction, negation, test, none, first, trees_of, Spells, SpellsEach, IsTooDeep, here, in_conjunction, in_disjunction, in_negation, begins_filters, begins_test, is_test_text}
+use Rattle.dir_acl.specs.Filters.{Tree, conjunction, disjunction, negation, test, trees_of, Spells, SpellsEach, IsTooDeep, here, in_conjunction, in_disjunction, in_negation, begins_filters, begins_test, is_test_text}
 use Rattle.dir_acl.specs.Filters.Reading.{Open, open_and, open_or, open_not, Place, before_filter, after_parenthesis, in_test, in_list, at_end, State, with_filter, after_list, one_deeper, after_test, is_complete, step_in_test, step_after_parenthesis, step_at, filter_from}
 use Rattle.dir_acl.specs.Filters.Reading as read
 use Rattle.dir_acl.specs.Tests.{test_of}

@@ -1,11 +1,11 @@
 -- The filter that a text spells, computed from left to right with a stack of the filters that are still open.
-use Rattle.std.specs.Prelude.{ℕ, Bool, cond, ◌==◌, nat_lt, List, [], ◌∷◌, ◌++◌, length, Option, Some, None, Result, Ok, Err}
+use Rattle.std.specs.Prelude.{ℕ, cond, ◌==◌, nat_lt, List, [], ◌∷◌, ◌++◌, length, Option, Some, None, Result, Ok, Err}
 use Rattle.dir_names.specs.Results.{and_then}
 use Rattle.dir_names.specs.declared.schema.TypeRow.{TypeRow}
 use Rattle.dir_acl.specs.declared.fault.FilterFault.{FilterFault}
 use Rattle.dir_acl.specs.declared.fault.FilterFault.TheVariants.{BadFilter, TooDeep}
 use Rattle.dir_acl.specs.declared.filter.Test.{Test}
-use Rattle.dir_acl.specs.Filters.{Tree, Trees, conjunction, disjunction, negation, test, trees_of, in_parentheses}
+use Rattle.dir_acl.specs.Filters.{Tree, conjunction, disjunction, negation, test, trees_of, in_parentheses}
 use Rattle.dir_acl.specs.Signs.{open_parenthesis, close_parenthesis, ampersand, vertical_bar, exclamation_mark}
 use Rattle.dir_acl.specs.Tests.{test_of}
 

@@ -1,5 +1,5 @@
 -- What follows a piece where it comes first in a text.
-use Rattle.std.specs.Prelude.{ℕ, Bool, cond, List, [], ◌∷◌, length, drop, nat_eq, Option, Some, None}
+use Rattle.std.specs.Prelude.{ℕ, cond, List, [], ◌∷◌, length, drop, nat_eq, Option, Some, None}
 use Rattle.std.specs.List.{starts_with}
 
 abbrev pub after_piece : List ℕ → List ℕ → Option (List ℕ)

@@ -1,10 +1,6 @@
 -- A decision as one set of privileges that each edit changes.
-use Rattle.std.specs.Prelude.{Bool, false, not, ◌&&◌, ◌||◌, List, [], ◌∷◌, Option, Some, None}
+use Rattle.std.specs.Prelude.{not, ◌&&◌, ◌||◌, List}
 use Rattle.std.specs.List.{fold}
-use Rattle.dir_names.specs.Keys.{DnKeys}
-use Rattle.dir_acl.specs.declared.access.Clause.{Clause}
-use Rattle.dir_acl.specs.declared.access.Control.{Control}
-use Rattle.dir_acl.specs.declared.access.Control.TheVariants.{Stop, Continue, Break}
 use Rattle.dir_acl.specs.declared.access.Edit.{Edit}
 use Rattle.dir_acl.specs.declared.access.Edit.TheVariants as edit
 use Rattle.dir_acl.specs.declared.privileges.Privileges.{Privileges}

@@ -1,4 +1,4 @@
-use Rattle.std.proofs.Common.{◌≡◌, ◌+◌, sym, ap, ◌∙◌, drop, arith}
+use Rattle.std.proofs.Common.{◌+◌, sym, ap, ◌∙◌, drop, arith}
 use Rattle.std.specs.Option.{option_copied}
 use Rattle.dir_acl.specs.Inside.FirstPiece.{after_piece}
 use Rattle.dir_acl.proofs.Cuts.{found_after, middles_at, middles_end}
