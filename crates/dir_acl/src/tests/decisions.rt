@@ -3,8 +3,8 @@
 use crate::{
     Asked, Clause, Control, Edit, Level, Privileges, Request, Rule, What, Who, privileges_under,
 };
-use dir_names::{AttrKey, Bytes, Description, Dn, DnKey, Lines, Schema};
-use dir_tree::{Directory, Entry, FlatDirectory};
+use dir_names::{AttrKey, Bytes, Description, Dn, DnKey, Lines, Memory, Schema};
+use dir_tree::{Directory, Entry, FlatDirectory, may_stand};
 use std::alloc::Global;
 use std::process::Abort;
 use std::test::Fail;
@@ -38,13 +38,21 @@ fn put(
     own.truncate(1);
     let entry = Entry::make(alloc, schema, own, Lines::new(items))?;
     let key = key(alloc, schema, name)?;
-    let _put = directory.insert(&key, entry);
-    Ok(())
+    if directory.get(&key).is_some() {
+        return Err("there already".into());
+    }
+    if !may_stand(alloc, directory, &key)? {
+        return Err("no parent".into());
+    }
+    match directory.insert(&key, entry) {
+        Ok(()) => Ok(()),
+        Err(_) => Err(Memory.into()),
+    }
 }
 
 /// `dc=com`, below it `cn=t`, whose manager is `cn=m`, and the group `cn=g` with the member `cn=k`.
 fn directory(alloc: Global, schema: &Schema) -> Result<FlatDirectory, Fail> {
-    let mut directory = FlatDirectory::new(key(alloc, schema, b"dc=com")?);
+    let mut directory = FlatDirectory::new(alloc, key(alloc, schema, b"dc=com")?);
     put(alloc, schema, &mut directory, b"dc=com", &[])?;
     put(
         alloc,
