@@ -22,6 +22,3 @@ pub use name::{Dn, Rdn};
 pub use schema::{Rule, Schema};
 pub use value::ValueKey;
 pub use value::pieces::PiecePlace;
-
-#[cfg(test)]
-mod tests;

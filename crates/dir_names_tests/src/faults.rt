@@ -1,0 +1,31 @@
+//! The texts of faults.
+
+use dir_names::{Memory, NameFault};
+use std::alloc::Global;
+use std::fmt::Display;
+use std::process::Abort;
+
+const TEXTS: [(NameFault, &str); 6] = [
+    (NameFault::BadDescription, "N1 BadDescription"),
+    (NameFault::ReservedName, "N2 ReservedName"),
+    (NameFault::BadValue, "N3 BadValue"),
+    (NameFault::BadDn, "N4 BadDn"),
+    (NameFault::NameLimit, "N5 NameLimit"),
+    (NameFault::Memory, "N6 Memory"),
+];
+
+#[test]
+fn each_fault_shows_its_text(rt: HostRuntime) {
+    for (fault, want) in TEXTS {
+        assert_shows(&rt, rt.alloc(), &fault, want);
+    }
+    assert_shows(&rt, rt.alloc(), &Memory, "out of memory");
+}
+
+/// Asserts that a fault shows this text, and no other under `#`.
+fn assert_shows<F: Display>(rt: &impl Abort, alloc: Global, fault: &F, want: &str) {
+    let plain = format!(in alloc; "{fault}").expect(rt, "memory");
+    assert!(rt; plain.as_str() == want);
+    let alternate = format!(in alloc; "{fault:#}").expect(rt, "memory");
+    assert!(rt; alternate.as_str() == want);
+}

@@ -1,0 +1,72 @@
+//! What the tests are made of, each read from its text.
+
+use dir_names::{AttrKey, Bytes, Description, Dn, DnKey, Lines, Rdn, RdnKey, Schema, ValueKey};
+use std::alloc::Global;
+use std::process::Abort;
+
+pub(crate) fn schema(rt: &impl Abort, alloc: Global) -> Schema {
+    Schema::builtin(alloc).expect(rt, "memory")
+}
+
+pub(crate) fn description(rt: &impl Abort, alloc: Global, text: &str) -> Description {
+    Description::read(alloc, &schema(rt, alloc), text.as_bytes()).expect(rt, "a description")
+}
+
+pub(crate) fn attr_key(rt: &impl Abort, alloc: Global, text: &str) -> AttrKey {
+    let description = description(rt, alloc, text);
+    description.key().try_clone(alloc).expect(rt, "memory")
+}
+
+pub(crate) fn value_key(rt: &impl Abort, alloc: Global, attr: &str, value: &[u8]) -> ValueKey {
+    let attr = attr_key(rt, alloc, attr);
+    let key = schema(rt, alloc).value_key(alloc, &attr, value);
+    key.expect(rt, "a value of the type")
+}
+
+pub(crate) fn name(rt: &impl Abort, alloc: Global, text: &str) -> Dn {
+    Dn::read(alloc, text.as_bytes()).expect(rt, "a name")
+}
+
+pub(crate) fn name_key(rt: &impl Abort, alloc: Global, text: &str) -> DnKey {
+    let name = name(rt, alloc, text);
+    name.key(alloc, &schema(rt, alloc)).expect(rt, "a key")
+}
+
+pub(crate) fn rdn(rt: &impl Abort, alloc: Global, text: &str) -> Rdn {
+    Rdn::read(alloc, text.as_bytes()).expect(rt, "an RDN")
+}
+
+pub(crate) fn rdn_key(rt: &impl Abort, alloc: Global, text: &str) -> RdnKey {
+    let rdn = rdn(rt, alloc, text);
+    rdn.key(alloc, &schema(rt, alloc)).expect(rt, "a key")
+}
+
+pub(crate) fn bytes(rt: &impl Abort, alloc: Global, text: &str) -> Bytes {
+    Bytes::copy_of(alloc, text.as_bytes()).expect(rt, "memory")
+}
+
+/// The lines of one value.
+pub(crate) fn line(rt: &impl Abort, alloc: Global, spelling: &str, value: &str) -> Lines {
+    let mut items = Vec::new(alloc);
+    let item = (description(rt, alloc, spelling), bytes(rt, alloc, value));
+    items.push(item).expect(rt, "memory");
+    Lines::new(items)
+}
+
+/// A text, and so many times another one, and then a third.
+pub(crate) fn repeated(
+    rt: &impl Abort,
+    alloc: Global,
+    first: &str,
+    piece: &str,
+    count: usize,
+    last: &str,
+) -> Vec<u8> {
+    let mut text = first.as_bytes().to_vec(alloc).expect(rt, "memory");
+    for _ in 0..count {
+        text.extend_from_slice(piece.as_bytes())
+            .expect(rt, "memory");
+    }
+    text.extend_from_slice(last.as_bytes()).expect(rt, "memory");
+    text
+}

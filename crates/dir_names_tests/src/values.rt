@@ -1,0 +1,147 @@
+//! Keys of values by the rules of their types, and the pieces of substring assertions.
+
+use crate::make::{attr_key, name_key, schema, value_key};
+use dir_names::{NameFault, PiecePlace, ValueKey};
+use std::alloc::Global;
+use std::process::Abort;
+
+/// Values with the texts of their keys.
+const KEYS: [(&str, &[u8], &[u8]); 8] = [
+    ("cn", b"  A  b ", b"a b"),
+    ("cn", b"Stra\xc3\x9fe", b"strasse"),
+    ("cn", b" ", b""),
+    ("telephoneNumber", b"+1 555-01", b"+155501"),
+    ("uidNumber", b"-7", b"-7"),
+    ("cn", b"\xef\xbc\xa1\xef\xac\x81", b"afi"),
+    ("homeDirectory", b"/home/A", b"/home/A"),
+    ("objectClass", b"inetOrgPerson", b"inetorgperson"),
+];
+
+/// Texts that are no values of their types.
+const NO_VALUES: [(&str, &[u8]); 4] = [
+    ("cn", b""),
+    ("uidNumber", b"007"),
+    ("uidNumber", b"-0"),
+    ("dc", b"\xc3"),
+];
+
+/// Vectors of Unicode's CaseFolding and of UAX 15.
+const FOLDED: [(&str, &str); 14] = [
+    ("\u{1e9e}", "ss"),
+    ("\u{130}", "i\u{307}"),
+    ("\u{fb03}", "ffi"),
+    ("\u{fb05}", "st"),
+    ("\u{ff35}\u{ff34}\u{ff26}", "utf"),
+    ("\u{3a3}\u{391}\u{3c2}", "\u{3c3}\u{3b1}\u{3c3}"),
+    ("\u{390}", "\u{390}"),
+    ("E\u{301}", "\u{e9}"),
+    ("\u{212b}", "\u{e5}"),
+    ("\u{212a}", "k"),
+    ("\u{2102}", "C"),
+    ("\u{1d2c}", "A"),
+    ("\u{a0}x\u{a0}", "x"),
+    ("\u{2461}", "2"),
+];
+
+#[test]
+fn values_have_keys_by_the_rule_of_their_type(rt: HostRuntime) {
+    for (attr_type, value, want) in KEYS {
+        assert_key(&rt, rt.alloc(), attr_type, value, want);
+    }
+}
+
+#[test]
+fn values_are_folded_and_normalised(rt: HostRuntime) {
+    for (value, want) in FOLDED {
+        assert_key(&rt, rt.alloc(), "cn", value.as_bytes(), want.as_bytes());
+    }
+}
+
+fn assert_key(rt: &impl Abort, alloc: Global, attr_type: &str, value: &[u8], want: &[u8]) {
+    let key = value_key(rt, alloc, attr_type, value);
+    assert!(rt; key.text() == Some(want), "{attr_type}");
+}
+
+#[test]
+fn what_is_no_value_of_its_type_has_no_key(rt: HostRuntime) {
+    for (attr_type, value) in NO_VALUES {
+        let fault = key_of(&rt, rt.alloc(), attr_type, value).err();
+        assert!(rt; fault == Some(NameFault::BadValue), "{attr_type}");
+    }
+}
+
+fn key_of(
+    rt: &impl Abort,
+    alloc: Global,
+    attr_type: &str,
+    value: &[u8],
+) -> Result<ValueKey, NameFault> {
+    let attr = attr_key(rt, alloc, attr_type);
+    schema(rt, alloc).value_key(alloc, &attr, value)
+}
+
+#[test]
+fn a_name_as_a_value_has_the_key_of_the_name(rt: HostRuntime) {
+    assert_member(&rt, rt.alloc(), "CN=K, DC=Com", "cn=k,dc=com");
+    assert_member(&rt, rt.alloc(), "", "");
+}
+
+fn assert_member(rt: &impl Abort, alloc: Global, value: &str, want: &str) {
+    let member = value_key(rt, alloc, "member", value.as_bytes());
+    assert!(rt;
+        member.name() == Some(&name_key(rt, alloc, want)),
+        "{value}"
+    );
+}
+
+/// Pieces of substring assertions, with their keys: a piece keeps one space where a value has some within.
+const PIECES: [(&str, PiecePlace, &[u8], &[u8]); 6] = [
+    ("cn", PiecePlace::First, b"  Foo  b ", b"foo b "),
+    ("cn", PiecePlace::Last, b"  Foo  b ", b" foo b"),
+    ("cn", PiecePlace::Middle, b"  Foo  b ", b" foo b "),
+    ("telephoneNumber", PiecePlace::First, b"+1 555-", b"+1555"),
+    ("homeDirectory", PiecePlace::Last, b"/A", b"/A"),
+    ("mail", PiecePlace::Last, b"@A.Org", b"@a.org"),
+];
+
+#[test]
+fn pieces_are_folded_and_keep_the_spaces_that_count_in_their_place(rt: HostRuntime) {
+    for (attr_type, place, text, want) in PIECES {
+        let key = piece(&rt, rt.alloc(), attr_type, place, text);
+        assert!(rt; is_text(&key, want), "{attr_type}");
+    }
+}
+
+#[test]
+fn numbers_and_texts_in_another_encoding_have_no_pieces(rt: HostRuntime) {
+    let number = piece(
+        &rt,
+        rt.alloc(),
+        "uidNumber",
+        PiecePlace::First,
+        b"  Foo  b ",
+    );
+    assert!(rt; number.is_none());
+    let other = piece(&rt, rt.alloc(), "mail", PiecePlace::Last, b"\xC3");
+    assert!(rt; other.is_none());
+}
+
+/// The key of a piece in this place, under the rule of a type.
+fn piece(
+    rt: &impl Abort,
+    alloc: Global,
+    attr_type: &str,
+    place: PiecePlace,
+    text: &[u8],
+) -> Option<Vec<u8>> {
+    let attr = attr_key(rt, alloc, attr_type);
+    let key = schema(rt, alloc).piece_key(alloc, &attr, place, text);
+    key.expect(rt, "memory")
+}
+
+fn is_text(found: &Option<Vec<u8>>, want: &[u8]) -> bool {
+    match found {
+        Some(text) => text.as_slice() == want,
+        None => false,
+    }
+}
