@@ -22,6 +22,3 @@ pub use laws::{
 pub use modify::run_modify;
 pub use round_trip::{RoundTrip, run_there_and_back};
 pub use run::{ModifyOptions, Summary};
-
-#[cfg(test)]
-mod tests;

@@ -1,6 +1,6 @@
 //! Runs of changes drawn at random, there and back, over a tree and over a flat directory.
 
-use super::{GO_ON, assert_text, run_back, run_over};
+use crate::running::{COM, GO_ON, assert_text, run, run_back};
 use std::alloc::Global;
 use std::process::Abort;
 
@@ -93,20 +93,16 @@ fn changes_of(rt: &impl Abort, alloc: Global, draws: &mut Draws, count: usize) -
 
 #[test]
 fn random_changes_are_taken_back_over_both_directories(rt: HostRuntime) {
-    let alloc = rt.alloc();
-    let copy = "dn: dc=com\ndc: com\n\n";
     for seed in 0..20u64 {
-        let mut draws = Draws { state: seed };
-        let changes = changes_of(&rt, alloc, &mut draws, 100);
-        let one = run_over(
-            &rt,
-            alloc,
-            "dc=com",
-            GO_ON,
-            copy.as_bytes(),
-            changes.as_bytes(),
-        );
-        let back = run_back(&rt, alloc, "dc=com", &one);
-        assert_text(&rt, back.out.as_slice(), copy);
+        assert_taken_back(&rt, rt.alloc(), seed);
     }
+}
+
+/// Asserts that a hundred changes drawn from this seed are taken back.
+fn assert_taken_back(rt: &impl Abort, alloc: Global, seed: u64) {
+    let mut draws = Draws { state: seed };
+    let changes = changes_of(rt, alloc, &mut draws, 100);
+    let one = run(rt, alloc, GO_ON, COM, changes.as_str());
+    let back = run_back(rt, alloc, "dc=com", &one);
+    assert_text(rt, back.out.as_slice(), COM);
 }

@@ -1,56 +1,68 @@
-//! Tests of the tools over devices in memory.
+//! Runs over devices in memory, and what they are to write.
 
-mod devices;
-mod faults;
-mod flat;
-mod modifies;
-mod random;
-mod renames;
-mod runs;
-mod taken_back;
-
-use crate::{ModifyOptions, Summary, ToolFault, run_modify};
+use crate::flat;
 use dir_ldif::{Script, Tape};
 use dir_names::Schema;
+use dir_tools::{ModifyOptions, Summary, ToolFault, run_modify};
 use std::alloc::Global;
 use std::process::Abort;
 
-const STOP: ModifyOptions = ModifyOptions {
+pub(crate) const STOP: ModifyOptions = ModifyOptions {
     go_on: false,
     dry: false,
     verbose: false,
 };
 
-const GO_ON: ModifyOptions = ModifyOptions {
+pub(crate) const GO_ON: ModifyOptions = ModifyOptions {
     go_on: true,
     dry: false,
     verbose: false,
 };
 
-const DRY: ModifyOptions = ModifyOptions {
-    go_on: false,
-    dry: true,
-    verbose: false,
-};
-
-const VERBOSE: ModifyOptions = ModifyOptions {
+pub(crate) const VERBOSE: ModifyOptions = ModifyOptions {
     go_on: false,
     dry: false,
     verbose: true,
 };
 
+pub(crate) const DRY: ModifyOptions = ModifyOptions {
+    go_on: false,
+    dry: true,
+    verbose: false,
+};
+
+/// The text of a copy that has the suffix's entry alone.
+pub(crate) const COM: &str = "dn: dc=com\ndc: com\n\n";
+
+/// The undo text of a run that accepted nothing.
+pub(crate) const NO_UNDO: &str = "version: 1\n\n";
+
 /// What one run answered and wrote.
 #[derive(Drop)]
-struct Ran {
-    answer: Result<Summary, ToolFault>,
-    undo: Vec<u8>,
-    out: Vec<u8>,
-    report: Vec<u8>,
+pub(crate) struct Ran {
+    pub(crate) answer: Result<Summary, ToolFault>,
+    pub(crate) undo: Vec<u8>,
+    pub(crate) out: Vec<u8>,
+    pub(crate) report: Vec<u8>,
 }
+
+/// The texts that a run is to write.
+#[derive(Clone, Copy)]
+pub(crate) struct Want<'a> {
+    pub(crate) undo: &'a str,
+    pub(crate) out: &'a str,
+    pub(crate) report: &'a str,
+}
+
+pub(crate) const NOTHING: Want<'static> = Want {
+    undo: "",
+    out: "",
+    report: "",
+};
 
 /// A run over devices in memory, with room for any of the texts. Asserts that the same records over a flat
 /// directory give the same texts, or that the copy has the same fault there.
-fn run_over(
+pub(crate) fn run_over(
     rt: &impl Abort,
     alloc: Global,
     suffix: &str,
@@ -73,8 +85,38 @@ fn run_over(
     ran
 }
 
+/// The same below `dc=com`.
+pub(crate) fn run(
+    rt: &impl Abort,
+    alloc: Global,
+    options: ModifyOptions,
+    copy: &str,
+    changes: &str,
+) -> Ran {
+    run_over(
+        rt,
+        alloc,
+        "dc=com",
+        options,
+        copy.as_bytes(),
+        changes.as_bytes(),
+    )
+}
+
+/// The run of the undo text on the copy that was written.
+pub(crate) fn run_back(rt: &impl Abort, alloc: Global, suffix: &str, one: &Ran) -> Ran {
+    run_over(
+        rt,
+        alloc,
+        suffix,
+        STOP,
+        one.out.as_slice(),
+        one.undo.as_slice(),
+    )
+}
+
 /// A run over these readers, with room for any of the texts.
-fn run_reading(
+pub(crate) fn run_reading(
     rt: &impl Abort,
     alloc: Global,
     suffix: &str,
@@ -99,7 +141,7 @@ fn run_reading(
 }
 
 /// A run over these readers and writers.
-fn run_on(
+pub(crate) fn run_on(
     rt: &impl Abort,
     alloc: Global,
     suffix: &str,
@@ -130,19 +172,7 @@ fn run_on(
     }
 }
 
-/// The run of the undo text on the copy that was written.
-fn run_back(rt: &impl Abort, alloc: Global, suffix: &str, one: &Ran) -> Ran {
-    run_over(
-        rt,
-        alloc,
-        suffix,
-        STOP,
-        one.out.as_slice(),
-        one.undo.as_slice(),
-    )
-}
-
-fn zeros(rt: &impl Abort, alloc: Global, count: usize) -> Vec<u8> {
+pub(crate) fn zeros(rt: &impl Abort, alloc: Global, count: usize) -> Vec<u8> {
     vec![in alloc; 0u8; count].expect(rt, "memory")
 }
 
@@ -151,69 +181,30 @@ fn taken(rt: &impl Abort, alloc: Global, tape: &Tape<'_>) -> Vec<u8> {
     tape.as_slice().to_vec(alloc).expect(rt, "memory")
 }
 
-/// The texts that a run is to write.
-#[derive(Clone, Copy)]
-struct Want<'a> {
-    undo: &'a str,
-    out: &'a str,
-    report: &'a str,
-}
-
-const NOTHING: Want<'static> = Want {
-    undo: "",
-    out: "",
-    report: "",
-};
-
-/// Asserts what a run over these texts below `dc=com` writes.
-fn assert_run(
-    rt: &impl Abort,
-    alloc: Global,
-    options: ModifyOptions,
-    copy: &[u8],
-    changes: &[u8],
-    want: &Want<'_>,
-) {
-    let ran = run_over(rt, alloc, "dc=com", options, copy, changes);
-    assert_wrote(rt, &ran, want);
-}
-
-/// Asserts what a run over these texts below `dc=com` reports.
-fn assert_report(
-    rt: &impl Abort,
-    alloc: Global,
-    options: ModifyOptions,
-    copy: &[u8],
-    changes: &[u8],
-    want: &str,
-) {
-    let ran = run_over(rt, alloc, "dc=com", options, copy, changes);
-    assert_text(rt, ran.report.as_slice(), want);
-}
-
-/// Asserts that a run gave up with this fault, and what it had written.
-fn assert_gave_up(rt: &impl Abort, ran: &Ran, fault: ToolFault, want: &Want<'_>) {
-    assert_fault(rt, ran, fault);
-    assert_wrote(rt, ran, want);
-}
-
-fn assert_fault(rt: &impl Abort, ran: &Ran, want: ToolFault) {
-    assert!(rt; ran.answer == Err(want));
-}
-
-fn assert_summary(rt: &impl Abort, ran: &Ran, want: Summary) {
-    assert!(rt; ran.answer == Ok(want));
-}
-
-fn assert_wrote(rt: &impl Abort, ran: &Ran, want: &Want<'_>) {
+pub(crate) fn assert_wrote(rt: &impl Abort, ran: &Ran, want: &Want<'_>) {
     assert_text(rt, ran.undo.as_slice(), want.undo);
     assert_text(rt, ran.out.as_slice(), want.out);
     assert_text(rt, ran.report.as_slice(), want.report);
 }
 
-fn assert_text(rt: &impl Abort, bytes: &[u8], want: &str) {
+/// Asserts that a run gave up with this fault, and what it had written.
+pub(crate) fn assert_gave_up(rt: &impl Abort, ran: &Ran, fault: ToolFault, want: &Want<'_>) {
+    assert_fault(rt, ran, fault);
+    assert_wrote(rt, ran, want);
+}
+
+pub(crate) fn assert_fault(rt: &impl Abort, ran: &Ran, want: ToolFault) {
+    assert!(rt; ran.answer == Err(want));
+}
+
+pub(crate) fn assert_summary(rt: &impl Abort, ran: &Ran, accepted: u64, refused: u64) {
+    let want = Summary { accepted, refused };
+    assert!(rt; ran.answer == Ok(want));
+}
+
+pub(crate) fn assert_text(rt: &impl Abort, bytes: &[u8], want: &str) {
     let Ok(text) = std::str::from_utf8(bytes) else {
         panic!(rt; "no UTF-8");
     };
-    assert!(rt; text == want);
+    assert!(rt; text == want, "{text}");
 }

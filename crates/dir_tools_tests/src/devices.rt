@@ -1,9 +1,9 @@
 //! Readers and writers that fail, in turn.
 
-use super::flat::directory_of;
-use super::{NOTHING, STOP, Want, assert_gave_up, assert_text, run_on};
-use crate::{Input, Output, ToolFault, write_copy};
+use crate::flat::directory_of;
+use crate::running::{NOTHING, STOP, Want, assert_gave_up, assert_text, run_on};
 use dir_ldif::{Script, Tape};
+use dir_tools::{Input, Output, ToolFault, write_copy};
 use std::alloc::Global;
 use std::process::Abort;
 

@@ -1,16 +1,13 @@
-//! Faults of copies, changes and suffixes, and the order in which they come.
+//! Devices that fail in each of their calls, and the order in which faults come.
 
-use super::{
-    GO_ON, NOTHING, Ran, STOP, Want, assert_fault, assert_gave_up, assert_report, assert_summary,
-    assert_text, assert_wrote, run_on, run_over, run_reading, zeros,
+use crate::running::{
+    COM, GO_ON, NOTHING, Ran, STOP, Want, assert_fault, assert_gave_up, assert_summary,
+    assert_text, assert_wrote, run, run_on, run_over, run_reading, zeros,
 };
-use crate::{Cause, Input, Item, ModifyOptions, Output, Summary, ToolFault};
-use dir_change::ResultCode;
 use dir_ldif::{RecordFault, Script, StreamFault, Tape};
+use dir_tools::{Cause, Input, Item, ModifyOptions, Output, ToolFault};
 use std::alloc::Global;
 use std::process::Abort;
-
-const COPY: &str = "dn: dc=com\ndc: com\n\n";
 
 const CHANGES: &str =
     "dn: cn=a,dc=com\nchangetype: add\nsn: b\n\ndn: cn=c,dc=com\nchangetype: delete\n";
@@ -43,7 +40,7 @@ fn run_failing(rt: &impl Abort, alloc: Global, failing: Failing) -> Ran {
         alloc,
         "dc=com",
         STOP,
-        script_failing(COPY, failing.copy),
+        script_failing(COM, failing.copy),
         script_failing(CHANGES, failing.changes),
         &mut tape_failing(undo.as_mut_slice(), failing.undo),
         &mut tape_failing(out.as_mut_slice(), failing.out),
@@ -82,11 +79,7 @@ const REPORT: &str = "line 5: refused, 32 noSuchObject\naccepted 1, refused 1\n"
 #[test]
 fn no_device_fails(rt: HostRuntime) {
     let ran = run_failing(&rt, rt.alloc(), NEVER);
-    let summary = Summary {
-        accepted: 1,
-        refused: 1,
-    };
-    assert_summary(&rt, &ran, summary);
+    assert_summary(&rt, &ran, 1, 1);
     let want = Want {
         undo: UNDO,
         out: OUT,
@@ -159,7 +152,7 @@ fn front(text: &str, call: u64) -> &str {
 #[test]
 fn each_read_of_the_copy_and_of_the_changes_fails_in_turn(rt: HostRuntime) {
     let fault = ToolFault::Read(Input::Copy);
-    for call in 1..=COPY.len().div_ceil(8) as u64 + 1 {
+    for call in 1..=COM.len().div_ceil(8) as u64 + 1 {
         let failing = Failing {
             copy: call,
             ..NEVER
@@ -180,9 +173,9 @@ fn each_read_of_the_copy_and_of_the_changes_fails_in_turn(rt: HostRuntime) {
 #[test]
 fn a_fault_after_the_first_refusal_is_not_looked_at(rt: HostRuntime) {
     let changes =
-        b"dn: cn=c,dc=com\nchangetype: delete\n\ndn: cn=d,dc=com\nchangetype: delete\nx\n\n";
-    let want = "line 1: refused, 32 noSuchObject\naccepted 0, refused 1\n";
-    assert_report(&rt, rt.alloc(), STOP, COPY.as_bytes(), changes, want);
+        "dn: cn=c,dc=com\nchangetype: delete\n\ndn: cn=d,dc=com\nchangetype: delete\nx\n\n";
+    let ran = run(&rt, rt.alloc(), STOP, COM, changes);
+    assert_text(&rt, ran.report.as_slice(), TOLD);
 }
 
 /// One refused record, and what a run tells of it that stops there.
@@ -192,7 +185,7 @@ const TOLD: &str = "line 1: refused, 32 noSuchObject\naccepted 0, refused 1\n";
 
 /// A run over the copy, and over the refused record in a reader that fails from its second call on.
 fn run_refused(rt: &impl Abort, alloc: Global, options: ModifyOptions) -> Ran {
-    let copy = Script::new(COPY.as_bytes());
+    let copy = Script::new(COM.as_bytes());
     let changes = Script::new(REFUSED.as_bytes()).failing_from(2);
     run_reading(rt, alloc, "dc=com", options, copy, changes)
 }
@@ -219,12 +212,15 @@ fn refused_and_long_line(rt: &impl Abort, alloc: Global) -> Vec<u8> {
 /// In stop mode a line that is too long after the first refused record is not reached.
 #[test]
 fn a_long_line_after_the_first_refusal_is_not_reached(rt: HostRuntime) {
-    let alloc = rt.alloc();
-    let copy = COPY.as_bytes();
-    let changes = refused_and_long_line(&rt, alloc);
-    assert_report(&rt, alloc, STOP, copy, changes.as_slice(), TOLD);
-    let ran = run_over(&rt, alloc, "dc=com", GO_ON, copy, changes.as_slice());
+    let changes = refused_and_long_line(&rt, rt.alloc());
+    let ran = run_long(&rt, rt.alloc(), STOP, changes.as_slice());
+    assert_text(&rt, ran.report.as_slice(), TOLD);
+    let ran = run_long(&rt, rt.alloc(), GO_ON, changes.as_slice());
     assert_fault(&rt, &ran, ToolFault::BadChanges(StreamFault::LineTooLong));
+}
+
+fn run_long(rt: &impl Abort, alloc: Global, options: ModifyOptions, changes: &[u8]) -> Ran {
+    run_over(rt, alloc, "dc=com", options, COM.as_bytes(), changes)
 }
 
 /// Asserts the fault of a run over this copy, and over changes whose reader fails at once.
@@ -244,72 +240,11 @@ fn assert_fault_first(
 #[test]
 fn what_comes_first_is_answered(rt: HostRuntime) {
     let alloc = rt.alloc();
-    let copy = Script::new(COPY.as_bytes()).failing_from(1);
+    let copy = Script::new(COM.as_bytes()).failing_from(1);
     let bad_suffix = ToolFault::BadQuestion(Item::Suffix);
     assert_fault_first(&rt, alloc, "", copy, bad_suffix);
     let bad_copy = ToolFault::BadCopy(1, Cause::Fault(RecordFault::BadLine));
     assert_fault_first(&rt, alloc, "dc=com", Script::new(b"x\n\n"), bad_copy);
     let copy = Script::new(b"x\n\n").failing_from(2);
     assert_fault_first(&rt, alloc, "dc=com", copy, bad_copy);
-}
-
-/// Asserts the text of a fault, plain, with `#`, and with a width and a precision.
-fn assert_shown(rt: &impl Abort, alloc: Global, fault: ToolFault, want: &str) {
-    assert_text(rt, plain(rt, alloc, fault).as_bytes(), want);
-    assert_text(rt, styled(rt, alloc, fault).as_bytes(), want);
-    assert_text(rt, padded(rt, alloc, fault).as_bytes(), want);
-}
-
-fn plain(rt: &impl Abort, alloc: Global, fault: ToolFault) -> String {
-    format!(in alloc; "{fault}").expect(rt, "memory")
-}
-
-fn styled(rt: &impl Abort, alloc: Global, fault: ToolFault) -> String {
-    format!(in alloc; "{fault:#}").expect(rt, "memory")
-}
-
-fn padded(rt: &impl Abort, alloc: Global, fault: ToolFault) -> String {
-    format!(in alloc; "{fault:<80.3}").expect(rt, "memory")
-}
-
-/// Faults, and the text of each.
-const FAULTS: [(ToolFault, &str); 15] = [
-    (
-        ToolFault::BadCopy(7, Cause::Code(ResultCode::NoSuchObject)),
-        "copy, line 7: 32 noSuchObject",
-    ),
-    (
-        ToolFault::BadCopy(u64::MAX, Cause::Fault(RecordFault::BadLine)),
-        "copy, line 18446744073709551615: L1 BadLine",
-    ),
-    (
-        ToolFault::BadCopy(0, Cause::Ended(StreamFault::LineTooLong)),
-        "copy, line 0: L10 LineTooLong",
-    ),
-    (ToolFault::Read(Input::Copy), "cannot read copy"),
-    (ToolFault::Read(Input::Changes), "cannot read changes"),
-    (ToolFault::Read(Input::Config), "cannot read config"),
-    (ToolFault::Write(Output::Undo), "cannot write undo"),
-    (ToolFault::Write(Output::Out), "cannot write out"),
-    (ToolFault::Write(Output::Report), "cannot write report"),
-    (ToolFault::Memory, "out of memory"),
-    (ToolFault::BadQuestion(Item::Suffix), "bad question: suffix"),
-    (ToolFault::BadQuestion(Item::Base), "bad question: base"),
-    (ToolFault::BadQuestion(Item::Authc), "bad question: authcDN"),
-    (
-        ToolFault::BadQuestion(Item::Word(12)),
-        "bad question: word 12",
-    ),
-    (
-        ToolFault::BadChanges(StreamFault::BadVersion),
-        "changes: L15 BadVersion",
-    ),
-];
-
-#[test]
-fn each_fault_has_its_text_whatever_the_options(rt: HostRuntime) {
-    let alloc = rt.alloc();
-    for (fault, want) in FAULTS.iter() {
-        assert_shown(&rt, alloc, *fault, want);
-    }
 }

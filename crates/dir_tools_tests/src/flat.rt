@@ -1,16 +1,16 @@
 //! The same records over a flat directory, one map of whole names: what the tree of a run is compared with.
 
-use super::{Ran, zeros};
-use crate::{ModifyOptions, ToolFault, read_copy, write_copy};
+use crate::running::{Ran, zeros};
 use dir_change::{History, apply};
 use dir_ldif::{Record, RecordFault, RecordReader, Script, Tape};
 use dir_names::{Dn, Schema};
+use dir_tools::{ModifyOptions, ToolFault, read_copy, write_copy};
 use dir_tree::FlatDirectory;
 use std::alloc::Global;
 use std::process::Abort;
 
 /// The flat directory of a copy.
-pub(super) fn directory_of(
+pub(crate) fn directory_of(
     rt: &impl Abort,
     alloc: Global,
     suffix: &str,
@@ -76,7 +76,7 @@ fn assert_copy(rt: &impl Abort, alloc: Global, directory: &FlatDirectory, want: 
 }
 
 /// Asserts the fault of a copy that is read into a flat directory.
-pub(super) fn assert_copy_fault(
+pub(crate) fn assert_copy_fault(
     rt: &impl Abort,
     alloc: Global,
     suffix: &str,
@@ -90,7 +90,7 @@ pub(super) fn assert_copy_fault(
 }
 
 /// Asserts that the records give the same texts over a flat directory as those that a run wrote.
-pub(super) fn assert_same(
+pub(crate) fn assert_same(
     rt: &impl Abort,
     alloc: Global,
     suffix: &str,
