@@ -63,7 +63,7 @@ def functions_of(text, code):
 
 def may_only_lack_memory(signature):
     """Whether out of memory is a function's only fault, by its type or by its contract."""
-    gives = re.search(r"\bGives \(λ[^)]*\) result \(Ok ", signature)
+    gives = re.search(r"\bGives \((?:[^()]|\([^()]*\))*\) result \(Ok ", signature)
     only = re.search(r"IfErr result \(λ (\w+)\. \1 ≡ [\w.]*Memory\)", signature)
     return bool(re.search(r"-> Result<.*, (?:Memory|AllocError)>", signature, re.S) or gives or only)
 
@@ -146,8 +146,9 @@ def places_of(text, only_memory):
 
 def all_sources():
     for path in sorted(ROOT.glob("crates/*/src/**/*.rt")):
-        if path.name != "tests.rt" and "tests" not in path.parent.parts[len(ROOT.parts) :]:
-            yield path.relative_to(ROOT / "crates").as_posix(), path.read_text()
+        name = path.relative_to(ROOT / "crates")
+        if not name.parts[0].endswith("_tests") and path.name != "tests.rt" and "tests" not in name.parts:
+            yield name.as_posix(), path.read_text()
 
 
 def main():

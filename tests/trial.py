@@ -1,5 +1,5 @@
 #!/usr/bin/env python3
-"""Runs every script that tries the program from outside, and the one that reads the sources.
+"""Runs every script that tries the program from outside, and those that read the sources.
 
 usage: trial.py PROGRAM
 """
@@ -8,7 +8,7 @@ import subprocess
 import sys
 
 HERE = pathlib.Path(__file__).resolve().parent
-SCRIPTS = ("program.py", "refusals.py", "size.py", "operations.py", "memory_answers.py")
+SCRIPTS = ("program.py", "refusals.py", "size.py", "operations.py", "memory_answers.py", "frequent_types.py")
 
 
 def main():

@@ -22,6 +22,3 @@ pub use laws::{
 pub use operation::{Refusal, apply};
 pub use result_code::ResultCode;
 pub use undo::Undo;
-
-#[cfg(test)]
-mod tests;

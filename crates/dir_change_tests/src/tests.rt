@@ -1,6 +1,6 @@
 //! Tests of the operations on a flat directory.
 
-use crate::{
+use dir_change::{
     History, Refusal, ResultCode, Undo, apply, groups_undo_changes, runs_are_taken_back,
     runs_stay_in_order, undo_texts_read_back,
 };
@@ -20,14 +20,14 @@ fn empty(rt: &impl Abort, alloc: Global, schema: &Schema, suffix: &[u8]) -> Flat
 
 fn assert_entry_count(rt: &impl Abort, directory: &FlatDirectory, want: usize) {
     let entries = directory.walk().expect(rt, "memory");
-    assert_eq!(rt; entries.len(), want);
+    assert!(rt; entries.len() == want);
 }
 
 fn assert_text(rt: &impl Abort, bytes: &[u8], want: &str) {
     let Ok(text) = std::str::from_utf8(bytes) else {
         panic!(rt; "no UTF-8");
     };
-    assert_eq!(rt; text, want);
+    assert!(rt; text == want);
 }
 
 /// The change that a reader gave.
@@ -57,7 +57,7 @@ fn assert_outcome(
     want: Option<ResultCode>,
 ) {
     let outcome = apply(alloc, schema, directory, change).err();
-    assert_eq!(rt; outcome, want.map(Refusal::Code));
+    assert!(rt; outcome == want.map(Refusal::Code));
 }
 
 /// Applies the changes of a text, and asserts what each is refused with; none for those that are
@@ -71,7 +71,7 @@ fn assert_outcomes(
     want: &[Option<ResultCode>],
 ) {
     let changes = changes(rt, alloc, schema, text);
-    assert_eq!(rt; changes.len(), want.len());
+    assert!(rt; changes.len() == want.len());
     for (change, want) in changes.iter().zip(want.iter()) {
         assert_outcome(rt, alloc, schema, directory, change, *want);
     }
@@ -304,8 +304,7 @@ const SHOWN: [(ResultCode, &str); 11] = [
 
 #[test]
 fn each_result_code_shows_its_number_and_name(rt: HostRuntime) {
-    let alloc = rt.alloc();
-    for (code, want) in SHOWN.iter() {
-        assert_shown(&rt, alloc, *code, want);
+    for (code, want) in SHOWN {
+        assert_shown(&rt, rt.alloc(), code, want);
     }
 }
