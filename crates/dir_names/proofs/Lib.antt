@@ -13,6 +13,7 @@ pub mod OptionLemmas
 pub mod Pairs
 pub mod PieceLemmas
 pub mod Placed
+pub mod PlainNames
 pub mod PrintLemmas
 pub mod PrintedLengths
 pub mod ReadNames
@@ -21,6 +22,7 @@ pub mod ReadsSpells
 pub mod Rfc4514
 pub mod SingleSpaces
 pub mod SortOrder
+pub mod SortedNames
 pub mod SoundLemmas
 pub mod SpellsReads
 pub mod Tidy

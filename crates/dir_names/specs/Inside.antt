@@ -4,5 +4,6 @@ pub mod Few
 pub mod Frequent
 pub mod Left
 pub mod Rows
+pub mod SortKeys
 pub mod SortTexts
 pub mod Steps

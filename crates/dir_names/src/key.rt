@@ -1,13 +1,17 @@
-//! What names and RDNs are compared by. `sorting` has the texts that make a comparison one pass over bytes.
+//! What names and RDNs are compared by. `sorting` has the texts that make a comparison one pass over bytes, and
+//! `sort_key` the keys of names that are values.
 
 ghost use Rattle.std.specs.Cmp.{partial_order_from_agreeing_total};
 ghost use Rattle.std.specs.Ordering.{as_partial_cmp};
 ghost use Rattle.std.specs.Prelude.{◌≡◌, ◌<◌, ◌≤◌, ◌↔◌, [], ◌∷◌, ◌++◌, IsTrue, Ok, Err, cond, nat_lt, refl, length};
 ghost use Rattle.dir_names.specs.Keys.{is_rdn_key, with_pair, IsAtOrBelow, IsParent, parent_of};
 ghost use Rattle.dir_names.specs.Orders.{rdn_key_cmp, rdn_key_eq, rdn_key_cmp_total, rdn_key_cmp_ties, dn_key_cmp, dn_key_eq, dn_key_cmp_total, dn_key_cmp_ties, tied_equiv, tied_per};
+ghost use Rattle.dir_names.specs.Inside.SortTexts.{name_sort};
 ghost use Rattle.dir_names.specs.Outcome.{Gives};
 ghost use Rattle.dir_names.specs.declared.fault.NameFault.TheVariants.{NameLimit};
 
+mod plain;
+pub(crate) mod sort_key;
 pub(crate) mod sorting;
 
 use crate::key::sorting::{put_name, put_part};
@@ -204,6 +208,12 @@ impl NameKey {
         self.parts.as_slice()
     }
 
+    fn sort_text(&self) -> &[u8]
+        ensures { result.now ≡ name_sort self.now }
+    {
+        self.sort.as_slice()
+    }
+
     fn is_same(&self, other: &NameKey) -> bool
         ensures { result ≡ dn_key_eq self.now other.now }
     {
@@ -293,6 +303,13 @@ impl DnKey {
         ensures within_limit { length self.now ≤ 64 }
     {
         self.shared.as_slice()
+    }
+
+    /// The text that the key is ordered by.
+    fn sort_text(&self) -> &[u8]
+        ensures { result.now ≡ name_sort self.now }
+    {
+        self.shared.sort_text()
     }
 
     /// The same key, in the same memory.

@@ -158,16 +158,28 @@ impl Eq for Rdn {
     ghost laws = { rdn_eq_laws };
 }
 
-/// The attribute of a type, and the key of its value.
-fn pair_key(
+/// The attribute of a pair, and the key of its value.
+pub(crate) fn pair_key(
     alloc: Global,
     schema: &Schema,
     pair: &(Bytes, Bytes),
 ) -> Result<(AttrKey, Bytes), NameFault>
     ensures { Gives (λ key. key) result (ok_or_bad_dn (pair_key schema.now pair.now)) }
 {
-    let attr = schema.attr_of(alloc, pair.0.as_slice())?;
-    match text_key(alloc, schema.rule(&attr), pair.1.as_slice()) {
+    type_and_value_key(alloc, schema, pair.0.as_slice(), pair.1.as_slice())
+}
+
+/// The attribute of a type, and the key of its value.
+pub(crate) fn type_and_value_key(
+    alloc: Global,
+    schema: &Schema,
+    attr_type: &[u8],
+    value: &[u8],
+) -> Result<(AttrKey, Bytes), NameFault>
+    ensures { Gives (λ key. key) result (ok_or_bad_dn (pair_key schema.now (attr_type.now, value.now))) }
+{
+    let attr = schema.attr_of(alloc, attr_type)?;
+    match text_key(alloc, schema.rule(&attr), value) {
         Ok(value) => Ok((attr, value)),
         Err(fault) => Err(as_bad_dn(fault)),
     }

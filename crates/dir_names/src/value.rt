@@ -19,7 +19,7 @@ pub(crate) mod spaces;
 use crate::attribute::{are_digits, lowercase_bytes};
 use crate::value::folding::{folded_text, is_ascii, lowercase_copy};
 use crate::value::spaces::{without_extra_spaces, without_spaces_and_hyphens};
-use crate::{AttrKey, Bytes, Dn, DnKey, NameFault, Rule, Schema};
+use crate::{AttrKey, Bytes, DnSortKey, NameFault, Rule, Schema};
 use std::alloc::Global;
 use std::cmp::Ordering;
 use std::str;
@@ -30,7 +30,7 @@ pub enum ValueKey {
     /// The key under every rule but `Name`: bytes.
     Text(Bytes),
     /// The key under the rule `Name`: that of a name.
-    Name(DnKey),
+    Name(DnSortKey),
 }
 
 impl ValueKey {
@@ -43,7 +43,7 @@ impl ValueKey {
         }
     }
 
-    pub fn name(&self) -> Option<&DnKey>
+    pub fn name(&self) -> Option<&DnSortKey>
         ensures { option_copied result ≡ name_of_key self.now }
     {
         match self {
@@ -112,8 +112,7 @@ impl Ord for ValueKey {
 }
 
 impl Schema {
-    ghost use Rattle.dir_names.specs.NameKeys.{name_value_key, value_key_of};
-    ghost use Rattle.dir_names.specs.Outcome.{ok_or_bad_value};
+    ghost use Rattle.dir_names.specs.NameKeys.{value_key_of};
 
     /// The key of a value of this type.
     ///
@@ -129,22 +128,8 @@ impl Schema {
         ensures { Gives (λ key. key) result (value_key_of self.now attr.now bytes.now) }
     {
         match self.rule(attr) {
-            Rule::Name => Ok(ValueKey::Name(self.name_value_key(alloc, bytes)?)),
+            Rule::Name => Ok(ValueKey::Name(DnSortKey::read(alloc, self, bytes)?)),
             rule => Ok(ValueKey::Text(text_key(alloc, rule, bytes)?)),
-        }
-    }
-
-    fn name_value_key(&self, alloc: Global, bytes: &[u8]) -> Result<DnKey, NameFault>
-        ensures { Gives (λ key. key) result (ok_or_bad_value (name_value_key self.now bytes.now)) }
-    {
-        match Dn::read(alloc, bytes) {
-            Ok(name) => match name.key(alloc, self) {
-                Ok(key) => Ok(key),
-                Err(NameFault::Memory) => Err(NameFault::Memory),
-                Err(_) => Err(NameFault::BadValue),
-            },
-            Err(NameFault::Memory) => Err(NameFault::Memory),
-            Err(_) => Err(NameFault::BadValue),
         }
     }
 }

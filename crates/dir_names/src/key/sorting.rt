@@ -21,8 +21,15 @@ pub(crate) fn put_name(parts: &[RdnKey], out: &mut Vec<u8>) -> Result<(), NameFa
 pub(crate) fn put_part(part: &RdnKey, out: &mut Vec<u8>) -> Result<(), NameFault>
     ensures { Gives (λ _. out.new.items) result (Ok (out.old.items ++ 1 ∷ rdn_sort part.now)) }
 {
+    put_set(part.pairs(), out)
+}
+
+/// Appends the text of the RDN that has these pairs.
+pub(crate) fn put_set(pairs: &[(AttrKey, Bytes)], out: &mut Vec<u8>) -> Result<(), NameFault>
+    ensures { Gives (λ _. out.new.items) result (Ok (out.old.items ++ 1 ∷ rdn_sort pairs.now)) }
+{
     out.push(1)?;
-    put_pairs(part.pairs(), out)?;
+    put_pairs(pairs, out)?;
     out.push(0)?;
     Ok(())
 }

@@ -100,7 +100,7 @@ fn put_byte(b: u8, is_escaped: bool, out: &mut Vec<u8>) -> Result<(), NameFault>
 }
 
 /// Whether a byte is escaped anywhere in a value.
-fn is_special(b: u8) -> bool
+pub(crate) fn is_special(b: u8) -> bool
     ensures { result ≡ is_special b }
 {
     b < 32 || b > 126 || is_refused_sign(b)

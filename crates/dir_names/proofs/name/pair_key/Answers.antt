@@ -1,26 +1,10 @@
-use Rattle.std.proofs.Common.{◌≡◌, ℕ, List, Ok, Result, ap, sym, subst, ◌∙◌, rules}
-use Rattle.dir_names.specs.declared.fault.NameFault.{NameFault}
-use Rattle.dir_names.specs.NameKeys.{attr_of}
-use Rattle.dir_names.specs.Outcome.{IsNameFaultOf}
-use Rattle.dir_names.specs.Table.{rule_of}
-use Rattle.dir_names.specs.ValueKeys.{text_key_of}
-use Rattle.dir_names.proofs.KeyLemmas.{pair_is, pair_fails}
+use Rattle.std.proofs.Common.{◌≡◌, ℕ, List, subst}
+use Rattle.dir_names.specs.Names.{SpelledPair}
+use Rattle.dir_names.specs.NameKeys.{pair_key}
+use Rattle.dir_names.specs.Outcome.{Gives, ok_or_bad_dn}
 use Rattle.dir_names.proofs.name.pair_key.Goals as goal
 
-pub returns-in-Ok : goal.returns-in-Ok
-returns-in-Ok c =
-    let rows = c.args.schema.now in
-    let attr : c.in_ok-attr.attr ≡ attr_of rows c.args.pair.now.0 = search rules in
-    let rule = c.rule.ensures ∙ ap (rule_of rows) attr in
-    let value : c.as_slice-2.result.now ≡ c.args.pair.now.1 = c.as_slice-2.ensures in
-    let key = (λ i. text_key_of (sym rule i) (sym value i)) ∙ c.in-Ok.ensures in
-    pair_is rows c.args.pair.now c.in-Ok.value key ∙ ap (λ a. Ok (a, c.in-Ok.value)) (sym attr)
-
-pub returns-in-Err : goal.returns-in-Err
-returns-in-Err c =
-    let rows = c.args.schema.now in
-    let attr : c.in_ok-attr.attr ≡ attr_of rows c.args.pair.now.0 = search rules in
-    let rule = c.rule.ensures ∙ ap (rule_of rows) attr in
-    let value : c.as_slice-2.result.now ≡ c.args.pair.now.1 = c.as_slice-2.ensures in
-    let key : text_key_of c.rule.result c.as_slice-2.result.now ≡ text_key_of (rule_of rows (attr_of rows c.args.pair.now.0)) c.args.pair.now.1 = λ i. text_key_of (rule i) (value i) in
-    rw c.as_bad_dn.ensures (pair_fails rows c.args.pair.now c.in-Err.fault (subst (λ (w : Result (List ℕ) NameFault). IsNameFaultOf c.in-Err.fault w) key c.in-Err.ensures))
+pub returns : goal.returns
+returns c =
+    let same : ◌≡◌ {A = SpelledPair} (c.as_slice.result.now, c.as_slice-2.result.now) c.args.pair.now = λ i. (c.as_slice.ensures i, c.as_slice-2.ensures i) in
+    subst (λ (p : SpelledPair). Gives (λ key. key) c.type_and_value_key.result (ok_or_bad_dn (pair_key c.args.schema.now p))) same c.type_and_value_key.ensures

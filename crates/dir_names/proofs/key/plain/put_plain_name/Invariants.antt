@@ -1,0 +1,8 @@
+use Rattle.dir_names.proofs.PlainNames.{IsReadFrom}
+use Rattle.dir_names.proofs.key.plain.put_plain_name.Given as goal
+
+abbrev pub invariant-loop-room : goal.invariant-loop-room
+invariant-loop-room l = IsReadFrom l.schema l.value l.rest l.room l.out.items
+
+abbrev pub decreases-loop-room : goal.decreases-loop-room
+decreases-loop-room l = l.room

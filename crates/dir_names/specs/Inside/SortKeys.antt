@@ -1,0 +1,28 @@
+-- The key of a name that is kept as its text alone: that of the value from which it was made.
+use Rattle.std.specs.Prelude.{◌≡◌, ℕ, true, nat_le, List, [], ◌∷◌, ◌++◌, Option, Some, None, length}
+use Rattle.dir_names.specs.declared.schema.TypeRow.{TypeRow}
+use Rattle.dir_names.specs.Ascii.{comma}
+use Rattle.dir_names.specs.Inside.SortTexts.{rdn_sort}
+use Rattle.dir_names.specs.Keys.{DnKeys, RdnKeys}
+use Rattle.dir_names.specs.NameKeys.{name_value_key, rdn_key}
+use Rattle.dir_names.specs.Names.{SpelledPair}
+use Rattle.dir_names.specs.Names.Printing.{printed_pair}
+use Rattle.dir_names.specs.Names.Sound.{is_sound_pair}
+
+abbrev pub key_or_empty : Option DnKeys → DnKeys
+key_or_empty None = []
+key_or_empty (Some key) = key
+
+abbrev pub kept_key : List TypeRow → List ℕ → DnKeys
+kept_key rows value = key_or_empty (name_value_key rows value)
+
+-- a text put together again from what is before its last comma, if it has one, and what is after it
+abbrev pub with_piece : Option (List ℕ) → List ℕ → List ℕ
+with_piece None piece = piece
+with_piece (Some before) piece = before ++ comma ∷ piece
+
+-- a piece of a name is the printing of an RDN of one pair within the limit, and the text of the RDN's key was appended
+abbrev pub IsPlainRdn : List TypeRow → List ℕ → List ℕ → List ℕ → Type 0
+IsPlainRdn rows piece old new =
+    (pair : SpelledPair) × (key : RdnKeys) × (piece ≡ printed_pair pair) × (is_sound_pair pair ≡ true) × (nat_le (length piece) 4096 ≡ true)
+    × (rdn_key rows (pair ∷ []) ≡ Some key) × (new ≡ old ++ 1 ∷ rdn_sort key)

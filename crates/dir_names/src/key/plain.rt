@@ -1,0 +1,120 @@
+//! A short way to the text of the key of a plain name: one that is spelled as it is printed, with one pair in
+//! each RDN. Of any other name it tells nothing.
+
+ghost use Rattle.std.specs.List.{list_all};
+ghost use Rattle.std.specs.Prelude.{◌≡◌, ◌++◌, ◌∷◌, IfSome, Some, not, option_copied, option_map, true};
+ghost use Rattle.dir_names.specs.Ascii.{equals_sign};
+ghost use Rattle.dir_names.specs.Inside.SortKeys.{IsPlainRdn, with_piece};
+ghost use Rattle.dir_names.specs.Inside.SortTexts.{name_sort};
+ghost use Rattle.dir_names.specs.NameKeys.{name_value_key};
+ghost use Rattle.dir_names.specs.Names.Printing.{is_special, printed_rest, printed_value};
+
+use crate::attribute::{is_reserved, is_type};
+use crate::key::sorting::put_set;
+use crate::limits::{MAX_RDN_TEXT, MAX_RDNS};
+use crate::name::printing::is_special;
+use crate::name::type_and_value_key;
+use crate::{NameFault, Schema};
+use std::alloc::Global;
+use std::slice;
+
+/// Writes the text of the key of the name that a value spells, and tells whether it has. If not, the value may
+/// still be a name, and some text may have been written.
+pub(crate) fn put_plain_name(
+    alloc: Global,
+    schema: &Schema,
+    value: &[u8],
+    out: &mut Vec<u8>,
+) -> bool
+    ensures { result ≡ true → option_map name_sort (name_value_key schema.now value.now) ≡ Some out.new.items }
+{
+    out.clear();
+    let mut rest = value;
+    let mut room = MAX_RDNS;
+    while room > 0 {
+        room -= 1;
+        let (before, piece) = cut_at_last_comma(rest);
+        if !put_plain_rdn(alloc, schema, piece, out) {
+            return false;
+        }
+        match before {
+            Some(before) => rest = before,
+            None => return true,
+        }
+    }
+    false
+}
+
+/// Appends the text of the key of an RDN, and tells whether it has.
+fn put_plain_rdn(alloc: Global, schema: &Schema, piece: &[u8], out: &mut Vec<u8>) -> bool
+    ensures { result ≡ true → IsPlainRdn schema.now piece.now out.old.items out.new.items }
+{
+    let Some((attr_type, value)) = cut_at_equals(piece) else {
+        return false;
+    };
+    if piece.len() > MAX_RDN_TEXT
+        || !is_type(attr_type)
+        || is_reserved(attr_type)
+        || !is_plain_value(value)
+    {
+        return false;
+    }
+    match type_and_value_key(alloc, schema, attr_type, value) {
+        Ok(key) => put_set(slice::from_ref(&key), out).is_ok(),
+        Err(_) => false,
+    }
+}
+
+/// The text before the last comma, if there is one, and the text after it.
+fn cut_at_last_comma(text: &[u8]) -> (Option<&[u8]>, &[u8])
+    ensures { text.now ≡ with_piece (option_copied result.0) result.1.now }
+{
+    let mut at = text.len();
+    while at > 0 {
+        at -= 1;
+        if text[at] == b',' {
+            return (Some(&text[..at]), &text[at + 1..]);
+        }
+    }
+    (None, text)
+}
+
+/// The texts before and after the first equals sign.
+fn cut_at_equals(text: &[u8]) -> Option<(&[u8], &[u8])>
+    ensures { IfSome result (λ cut. text.now ≡ cut.0.now ++ equals_sign ∷ cut.1.now) }
+{
+    for (at, b) in text.iter().enumerate() {
+        if *b == b'=' {
+            return Some((&text[..at], &text[at + 1..]));
+        }
+    }
+    None
+}
+
+/// Whether a value is printed as it is.
+fn is_plain_value(value: &[u8]) -> bool
+    ensures { result ≡ true → printed_value value.now ≡ value.now }
+{
+    match value.split_first() {
+        None => true,
+        Some((first, rest)) => {
+            *first != b' ' && *first != b'#' && !is_special(*first) && is_plain_rest(rest)
+        }
+    }
+}
+
+/// Whether the bytes of a value after the first one are printed as they are.
+fn is_plain_rest(rest: &[u8]) -> bool
+    ensures { result ≡ true → printed_rest rest.now ≡ rest.now }
+{
+    match rest.split_last() {
+        None => true,
+        Some((last, middle)) => *last != b' ' && !is_special(*last) && are_plain(middle),
+    }
+}
+
+fn are_plain(bytes: &[u8]) -> bool
+    ensures { result ≡ list_all (λ b. not (is_special b)) bytes.now }
+{
+    bytes.iter().all(|b| !is_special(*b))
+}

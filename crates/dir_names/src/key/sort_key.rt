@@ -1,0 +1,249 @@
+//! The key of a name that is a value. Such a key is only compared, so it is kept as its text alone.
+
+ghost use Rattle.std.specs.Cmp.{partial_order_from_agreeing_total};
+ghost use Rattle.std.specs.Ordering.{as_partial_cmp};
+ghost use Rattle.std.specs.Prelude.{◌≡◌, ◌++◌, ◌∷◌, [], Ok, option_map, refl};
+ghost use Rattle.dir_names.specs.Orders.{dn_key_cmp, dn_key_eq, dn_key_cmp_total, dn_key_cmp_ties, tied_equiv, tied_per};
+ghost use Rattle.dir_names.specs.Outcome.{Gives, ok_or_bad_dn, ok_or_bad_value};
+ghost use Rattle.dir_names.specs.Inside.SortTexts.{name_sort, rdn_sort};
+ghost use Rattle.dir_names.specs.NameKeys.{name_key, name_value_key, rdn_key};
+
+use crate::key::plain::put_plain_name;
+use crate::key::sorting::{put_part, put_set};
+use crate::name::pair_key;
+use crate::{Bytes, Dn, DnKey, NameFault, Rdn, Schema};
+use std::alloc::Global;
+use std::cmp::Ordering;
+use std::marker::Model;
+use std::rc::Rc;
+use std::snapshot::Snapshot;
+use std::{fmt, slice};
+
+/// The text that the key of a name is ordered by. Of the value that spells the name nothing is kept: the
+/// snapshots are for contracts, and take no memory.
+#[derive(Drop)]
+struct SortText {
+    text: Vec<u8>,
+    schema: Snapshot<Schema>,
+    value: Snapshot<Vec<u8>>,
+}
+
+impl Model for SortText {
+    ghost use Rattle.std.specs.Prelude.{ℕ, List};
+    ghost use Rattle.dir_names.specs.Attr.{Attr};
+
+    ghost Value = { List (List (Attr × List ℕ)) };
+
+    ghost use Rattle.std.specs.Prelude.{◌≡◌};
+    ghost use Rattle.dir_names.specs.Inside.SortKeys.{kept_key};
+    ghost use Rattle.dir_names.specs.Inside.SortTexts.{name_sort};
+
+    ghost view = { λ s. kept_key s.schema.value s.value.value.items };
+
+    ghost invariant = { λ s. s.text.items ≡ name_sort (kept_key s.schema.value s.value.value.items) };
+}
+
+impl SortText {
+    fn as_slice(&self) -> &[u8]
+        ensures { result.now ≡ name_sort self.now }
+    {
+        self.text.as_slice()
+    }
+}
+
+/// The key of a name as one text, whose bytes are in the order of the keys. Copies share its memory.
+#[derive(Drop)]
+pub struct DnSortKey {
+    shared: Rc<SortText>,
+}
+
+impl Model for DnSortKey {
+    ghost use Rattle.std.specs.Prelude.{ℕ, List};
+    ghost use Rattle.dir_names.specs.Attr.{Attr};
+
+    ghost Value = { List (List (Attr × List ℕ)) };
+
+    ghost view = { λ key. key.shared.value };
+}
+
+impl DnSortKey {
+    /// The key of the name that a value spells.
+    ///
+    /// # Errors
+    ///
+    /// `BadValue` if the value is not a name within the limits, or one of its RDNs has no key.
+    pub fn read(alloc: Global, schema: &Schema, value: &[u8]) -> Result<DnSortKey, NameFault>
+        ensures { Gives (λ key. key) result (ok_or_bad_value (name_value_key schema.now value.now)) }
+    {
+        let mut text = Vec::with_capacity(alloc, sort_len(value))?;
+        text.extend_from_slice(value)?;
+        let spelled = Snapshot::of(&text);
+        match put_name(alloc, schema, value, &mut text) {
+            Ok(()) => DnSortKey::of(
+                alloc,
+                SortText {
+                    text,
+                    schema: Snapshot::of(schema),
+                    value: spelled,
+                },
+            ),
+            Err(fault) => Err(fault),
+        }
+    }
+
+    fn of(alloc: Global, kept: SortText) -> Result<DnSortKey, NameFault>
+        ensures { Gives (λ key. key) result (Ok kept) }
+    {
+        Ok(DnSortKey {
+            shared: Rc::new(alloc, kept)?,
+        })
+    }
+
+    /// Whether this is the key of the same name.
+    pub fn is_same(&self, key: &DnKey) -> bool
+        ensures { result ≡ dn_key_eq self.now key.now }
+    {
+        self.as_slice() == key.sort_text()
+    }
+
+    /// The same key, in the same memory.
+    pub fn try_clone(&self, _alloc: Global) -> Result<DnSortKey, NameFault>
+        ensures { Gives (λ key. key) result (Ok self.now) }
+    {
+        Ok(DnSortKey {
+            shared: self.shared.clone()?,
+        })
+    }
+
+    fn as_slice(&self) -> &[u8]
+        ensures { result.now ≡ name_sort self.now }
+    {
+        self.shared.as_slice()
+    }
+}
+
+impl fmt::Debug for DnSortKey {
+    fn fmt<W: fmt::Write>(&self, f: &mut fmt::Formatter<W>) -> fmt::Result {
+        let text = self.as_slice();
+        write!(f, "{text:?}")
+    }
+}
+
+impl PartialEq for DnSortKey {
+    ghost eq = { dn_key_eq };
+
+    ghost laws = { tied_per dn_key_cmp dn_key_cmp_total dn_key_cmp_ties };
+
+    fn eq(&self, other: &DnSortKey) -> bool {
+        self.as_slice() == other.as_slice()
+    }
+}
+
+impl Eq for DnSortKey {
+    ghost laws = { tied_equiv dn_key_cmp dn_key_cmp_total dn_key_cmp_ties };
+}
+
+impl PartialOrd for DnSortKey {
+    ghost partial_cmp = { as_partial_cmp dn_key_cmp };
+
+    ghost laws = { partial_order_from_agreeing_total dn_key_cmp dn_key_cmp_total (λ _ _. refl) dn_key_cmp_ties };
+
+    fn partial_cmp(&self, other: &DnSortKey) -> Option<Ordering> {
+        Some(self.cmp(other))
+    }
+}
+
+impl Ord for DnSortKey {
+    ghost cmp = { dn_key_cmp };
+
+    ghost total = { dn_key_cmp_total };
+
+    ghost matches_partial_cmp = { λ _ _. refl };
+
+    ghost matches_eq = { dn_key_cmp_ties };
+
+    fn cmp(&self, other: &DnSortKey) -> Ordering {
+        self.as_slice().cmp(other.as_slice())
+    }
+}
+
+/// How long the text of a plain name is, if its types are spelled as in their keys.
+fn sort_len(value: &[u8]) -> usize {
+    let commas = value.iter().filter(|b| **b == b',').count();
+    value
+        .len()
+        .saturating_add(commas.saturating_mul(4))
+        .saturating_add(5)
+}
+
+/// Writes the text of the key of the name that a value spells.
+fn put_name(
+    alloc: Global,
+    schema: &Schema,
+    value: &[u8],
+    out: &mut Vec<u8>,
+) -> Result<(), NameFault>
+    ensures { Gives (λ _. out.new.items) result (ok_or_bad_value (option_map name_sort (name_value_key schema.now value.now))) }
+{
+    if put_plain_name(alloc, schema, value, out) {
+        return Ok(());
+    }
+    match Dn::read(alloc, value) {
+        Ok(name) => match put_rdns(alloc, schema, name.rdns(), out) {
+            Ok(()) => Ok(()),
+            Err(NameFault::Memory) => Err(NameFault::Memory),
+            Err(_) => Err(NameFault::BadValue),
+        },
+        Err(NameFault::Memory) => Err(NameFault::Memory),
+        Err(_) => Err(NameFault::BadValue),
+    }
+}
+
+/// Writes the text of the key of a name that has these RDNs, leaf first.
+fn put_rdns(
+    alloc: Global,
+    schema: &Schema,
+    rdns: &[Rdn],
+    out: &mut Vec<u8>,
+) -> Result<(), NameFault>
+    ensures { Gives (λ _. out.new.items) result (ok_or_bad_dn (option_map name_sort (name_key schema.now rdns.now))) }
+{
+    out.clear();
+    let mut at = rdns.len();
+    while at > 0 {
+        at -= 1;
+        match put_rdn(alloc, schema, &rdns[at], out) {
+            Ok(()) => (),
+            Err(fault) => return Err(fault),
+        }
+    }
+    Ok(())
+}
+
+/// Appends the text of an RDN's key.
+fn put_rdn(alloc: Global, schema: &Schema, rdn: &Rdn, out: &mut Vec<u8>) -> Result<(), NameFault>
+    ensures { Gives (λ _. out.new.items) result (ok_or_bad_dn (option_map (λ key. out.old.items ++ 1 ∷ rdn_sort key) (rdn_key schema.now rdn.now))) }
+{
+    match rdn.pairs().split_first() {
+        Some((pair, rest)) if rest.is_empty() => put_only_pair(alloc, schema, pair, out),
+        _ => match rdn.key(alloc, schema) {
+            Ok(key) => put_part(&key, out),
+            Err(fault) => Err(fault),
+        },
+    }
+}
+
+/// Appends the text of the key of an RDN that has this pair alone.
+fn put_only_pair(
+    alloc: Global,
+    schema: &Schema,
+    pair: &(Bytes, Bytes),
+    out: &mut Vec<u8>,
+) -> Result<(), NameFault>
+    ensures { Gives (λ _. out.new.items) result (ok_or_bad_dn (option_map (λ key. out.old.items ++ 1 ∷ rdn_sort key) (rdn_key schema.now (pair.now ∷ [])))) }
+{
+    match pair_key(alloc, schema, pair) {
+        Ok(key) => put_set(slice::from_ref(&key), out),
+        Err(fault) => Err(fault),
+    }
+}
