@@ -1,7 +1,7 @@
 //! Keys of values by the rules of their types, and the pieces of substring assertions.
 
 use crate::make::{attr_key, name_key, schema, value_key};
-use dir_names::{NameFault, PiecePlace, ValueKey};
+use dir_names::{DnKey, NameFault, PiecePlace, ValueKey};
 use std::alloc::Global;
 use std::process::Abort;
 

@@ -204,7 +204,7 @@ fn cmp_name(key: &ValueKey, name: &DnKey) -> Ordering
     ensures { result ≡ value_key_cmp key.now (Name name.now) }
 {
     match key.name() {
-        Some(own) => own.cmp(name),
+        Some(own) => own.cmp_key(name),
         None => Ordering::Less,
     }
 }

@@ -106,6 +106,13 @@ impl DnSortKey {
         self.as_slice() == key.sort_text()
     }
 
+    /// How this key compares to the key of a name.
+    pub fn cmp_key(&self, key: &DnKey) -> Ordering
+        ensures { result ≡ dn_key_cmp self.now key.now }
+    {
+        self.as_slice().cmp(key.sort_text())
+    }
+
     /// The same key, in the same memory.
     pub fn try_clone(&self, _alloc: Global) -> Result<DnSortKey, NameFault>
         ensures { Gives (λ key. key) result (Ok self.now) }
