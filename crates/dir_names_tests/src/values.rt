@@ -88,10 +88,15 @@ fn a_name_as_a_value_has_the_key_of_the_name(rt: HostRuntime) {
 
 fn assert_member(rt: &impl Abort, alloc: Global, value: &str, want: &str) {
     let member = value_key(rt, alloc, "member", value.as_bytes());
-    assert!(rt;
-        member.name() == Some(&name_key(rt, alloc, want)),
-        "{value}"
-    );
+    let name = name_key(rt, alloc, want);
+    assert!(rt; is_key_of(&member, &name), "{value}");
+}
+
+fn is_key_of(value: &ValueKey, name: &DnKey) -> bool {
+    match value.name() {
+        Some(key) => key.is_same(name) && key.cmp_key(name).is_eq(),
+        None => false,
+    }
 }
 
 /// Pieces of substring assertions, with their keys: a piece keeps one space where a value has some within.
