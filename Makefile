@@ -21,8 +21,13 @@ trial: $(PROGRAM)
 bugs:
 	tests/bugs.py $(CRATE)
 
+# The program, its manual pages, and completions for bash, zsh and fish.
 install: $(PROGRAM)
 	install -D $(PROGRAM) $(DESTDIR)$(PREFIX)/bin/slapkit
+	install -D -m 644 -t $(DESTDIR)$(PREFIX)/share/man/man1 share/man/man1/*.1
+	install -D -m 644 share/completions/slapkit.bash $(DESTDIR)$(PREFIX)/share/bash-completion/completions/slapkit
+	install -D -m 644 share/completions/_slapkit $(DESTDIR)$(PREFIX)/share/zsh/site-functions/_slapkit
+	install -D -m 644 share/completions/slapkit.fish $(DESTDIR)$(PREFIX)/share/fish/vendor_completions.d/slapkit.fish
 
 $(PROGRAM): crates.txt $(wildcard crates/*/src/*.rt crates/*/src/*/*.rt crates/*/specs/*.antt crates/*/specs/*/*.antt crates/*/proofs/*.antt)
 	cd crates/slapkit && rt run -- --help > /dev/null
