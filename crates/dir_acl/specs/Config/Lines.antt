@@ -1,5 +1,6 @@
 -- The logical lines of a slapd.conf (slapd.conf(5), "GENERAL FORMAT"). White space is space and tab.
-use Rattle.std.specs.Prelude.{ℕ, ◌+◌, Bool, false, cond, ◌&&◌, ◌||◌, ◌==◌, List, [], ◌∷◌, ◌++◌, map, length}
+use Rattle.std.specs.Prelude.{ℕ, ◌+◌, ◌-◌, Bool, false, cond, ◌||◌, ◌==◌, List, [], ◌∷◌, ◌++◌, map, length, take, Option, Some, None}
+use Rattle.std.specs.List.{slice_get}
 use Rattle.dir_names.specs.Ascii.{space, line_feed, carriage_return, sharp}
 use Rattle.dir_names.specs.Cut.{parts_at}
 
@@ -10,9 +11,12 @@ abbrev pub is_white : ℕ → Bool
 is_white b = b == space || b == tab
 
 -- one carriage return at a line's end is dropped
+abbrev pub is_return : Option ℕ → Bool
+is_return None = false
+is_return (Some b) = b == carriage_return
+
 abbrev pub without_return : List ℕ → List ℕ
-without_return [] = []
-without_return (b ∷ bs) = cond (b == carriage_return && length bs == 0) [] (b ∷ without_return bs)
+without_return line = cond (is_return (slice_get line (length line - 1))) (take (length line - 1) line) line
 
 abbrev pub physical_lines : List ℕ → List (List ℕ)
 physical_lines text = map without_return (parts_at line_feed text)

@@ -71,8 +71,8 @@ fn after_numbered_line(
 fn without_return(line: &[u8]) -> &[u8]
     ensures { result.now ≡ without_return line.now }
 {
-    match line {
-        [rest @ .., b'\r'] => rest,
+    match line.last() {
+        Some(last) if *last == b'\r' => line.split_at(line.len() - 1).0,
         _ => line,
     }
 }

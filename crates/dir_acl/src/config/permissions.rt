@@ -60,7 +60,10 @@ fn joined_letters(letters: &[u8]) -> Option<Privileges>
 {
     let mut set = Privileges::none();
     for letter in letters {
-        set = set.joined(privileges_of_letter(*letter)?);
+        match privileges_of_letter(*letter) {
+            Some(more) => set = set.joined(more),
+            None => return None,
+        }
     }
     Some(set)
 }

@@ -98,6 +98,7 @@ fn without_exact(form: &[u8]) -> &[u8]
 }
 
 /// The group of the parts after `group`: the class is `groupOfNames` by default, and the attribute `member`.
+#[tactic(auto, using(crate::proofs::Groups::surplus_part))]
 fn group_with(
     alloc: Global,
     schema: &Schema,
@@ -114,10 +115,10 @@ fn group_with(
         return group_at(alloc, schema, class, b"member", text);
     };
     let (member, surplus) = split_once(more, b'/');
-    if surplus.is_some() {
-        return Ok(None);
+    match surplus {
+        None => group_at(alloc, schema, class, member, text),
+        Some(_) => Ok(None),
     }
-    group_at(alloc, schema, class, member, text)
 }
 
 /// The group of this name, class and attribute of members.
