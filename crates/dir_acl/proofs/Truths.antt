@@ -1,13 +1,10 @@
 -- Truth over a list of filters, one after the other.
-use Rattle.std.proofs.Common.{◌≡◌, Bool, true, false, cond, List, [], ◌∷◌, map, refl, ap}
+use Rattle.std.proofs.Common.{◌≡◌, Bool, true, false, cond, List, ◌∷◌, refl}
 use Rattle.std.specs.Prelude.{◌||◌}
 use Rattle.std.specs.List.{list_any}
-use Rattle.dir_tree.specs.Content.{StoredAttributes}
-use Rattle.dir_acl.specs.declared.filter.Filter.{Filter}
-use Rattle.dir_acl.specs.Filters.{tree_of, trees_of}
 use Rattle.dir_acl.specs.declared.filter.truth.Truth.{Truth}
 use Rattle.dir_acl.specs.declared.filter.truth.Truth.TheVariants.{True, False, Undefined}
-use Rattle.dir_acl.specs.Truth.{all_of, any_of, both, either, is_false, is_true, is_undefined, truth_of, truths}
+use Rattle.dir_acl.specs.Truth.{all_of, any_of, both, either, is_false, is_true, is_undefined}
 
 by_tests : (t : Truth) (f u : Bool) → cond (is_false t || f) False (cond (is_undefined t || u) Undefined True) ≡ both t (cond f False (cond u Undefined True))
 by_tests True f u = refl
@@ -59,9 +56,4 @@ either_false True = refl
 either_false False = refl
 either_false Undefined = refl
 
--- the truths of the filters of a list
-pub truths_of : (attributes : StoredAttributes) (filters : List Filter) → truths attributes (trees_of (map tree_of filters)) ≡ map (truth_of attributes) filters
-truths_of attributes [] = refl
-truths_of attributes (f ∷ fs) = ap (λ ts. truth_of attributes f ∷ ts) (truths_of attributes fs)
-
-pub ruleset truth_steps = (truths_of, all_of_more, any_of_more, both_joined, either_joined, both_true, either_false)
+pub ruleset truth_steps = (all_of_more, any_of_more, both_joined, either_joined, both_true, either_false)
