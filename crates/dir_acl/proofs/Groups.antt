@@ -1,5 +1,5 @@
 -- A form `group/CLASS/ATTR` has no further part.
-use Rattle.std.proofs.Common.{◌≡◌, ℕ, List, ◌∷◌, Option, None, Result, Ok, ap}
+use Rattle.std.proofs.Common.{◌≡◌, ℕ, List, ◌∷◌, None, Ok, ap}
 use Rattle.dir_names.proofs.CutLemmas.{parts-cut}
 use Rattle.dir_names.specs.Cut.{parts_at}
 use Rattle.dir_names.specs.declared.schema.TypeRow.{TypeRow}

@@ -16,22 +16,22 @@ use Rattle.dir_acl.specs.Config.Permissions.{no_edit}
 use Rattle.dir_acl.specs.Privileges.{level_set, no_privileges}
 
 -- a line that begins with white space continues the line before; carriage returns are dropped. The numbers are those of the first physical lines
-continued : logical_lines (codes "a" ++ carriage_return ∷ line_feed ∷ codes " b" ++ line_feed ∷ codes "c") ≡ (1, codes "a b") ∷ (3, codes "c") ∷ []
+pub continued : logical_lines (codes "a" ++ carriage_return ∷ line_feed ∷ codes " b" ++ line_feed ∷ codes "c") ≡ (1, codes "a b") ∷ (3, codes "c") ∷ []
 continued = refl
 
 -- the first line stands for itself
-first_line : logical_lines (codes " a" ++ line_feed ∷ codes " b") ≡ (1, codes " a b") ∷ []
+pub first_line : logical_lines (codes " a" ++ line_feed ∷ codes " b") ≡ (1, codes " a b") ∷ []
 first_line = refl
 
 -- an argument with white space stands in quotes, and a backslash takes a quote as it is
-quoted : arguments_of (codes "a " ++ double_quote ∷ codes "b c" ++ double_quote ∷ codes "d " ++ backslash ∷ double_quote ∷ []) ≡ Some (codes "a") ∷ Some (codes "b cd") ∷ Some (double_quote ∷ []) ∷ []
+pub quoted : arguments_of (codes "a " ++ double_quote ∷ codes "b c" ++ double_quote ∷ codes "d " ++ backslash ∷ double_quote ∷ []) ≡ Some (codes "a") ∷ Some (codes "b cd") ∷ Some (double_quote ∷ []) ∷ []
 quoted = refl
 
 -- an open quote, and a backslash at the line's end
-open_quote : arguments_of (codes "a " ++ double_quote ∷ codes "b c") ≡ Some (codes "a") ∷ None ∷ []
+pub open_quote : arguments_of (codes "a " ++ double_quote ∷ codes "b c") ≡ Some (codes "a") ∷ None ∷ []
 open_quote = refl
 
-final_backslash : arguments_of (codes "a b" ++ backslash ∷ []) ≡ Some (codes "a") ∷ None ∷ []
+pub final_backslash : arguments_of (codes "a b" ++ backslash ∷ []) ≡ Some (codes "a") ∷ None ∷ []
 final_backslash = refl
 
 abbrev words : List (List ℕ) → List (Option (List ℕ))
@@ -39,12 +39,12 @@ words texts = map Some texts
 
 module _ (rows : List TypeRow) where
   -- `access to * by * read`
-  all_may_read : access_rule_of rows (words (codes "to" ∷ codes "*" ∷ codes "by" ∷ codes "*" ∷ codes "read" ∷ []))
+  pub all_may_read : access_rule_of rows (words (codes "to" ∷ codes "*" ∷ codes "by" ∷ codes "*" ∷ codes "read" ∷ []))
       ≡ Ok (record { what = []; clauses = (record { who = who.Anyone ∷ []; edit = edit.Set (level_set level.Read); control = Stop }) ∷ [] })
   all_may_read = refl
 
   -- `access to * by self write by anonymous auth by * read`
-  self_may_write : access_rule_of rows
+  pub self_may_write : access_rule_of rows
       (words (codes "to" ∷ codes "*" ∷ codes "by" ∷ codes "self" ∷ codes "write" ∷ codes "by" ∷ codes "anonymous" ∷ codes "auth" ∷ codes "by" ∷ codes "*" ∷ codes "read" ∷ []))
       ≡ Ok (record {
         what = [];
@@ -56,7 +56,7 @@ module _ (rows : List TypeRow) where
   self_may_write = refl
 
   -- `access to * by * =cs continue by users +r`, in any case
-  continued_clauses : access_rule_of rows
+  pub continued_clauses : access_rule_of rows
       (words (codes "TO" ∷ codes "*" ∷ codes "BY" ∷ codes "*" ∷ codes "=CS" ∷ codes "Continue" ∷ codes "by" ∷ codes "users" ∷ codes "+r" ∷ []))
       ≡ Ok (record {
         what = [];
@@ -67,27 +67,27 @@ module _ (rows : List TypeRow) where
   continued_clauses = refl
 
   -- a clause without an <access> changes nothing
-  control_alone : access_rule_of rows (words (codes "to" ∷ codes "*" ∷ codes "by" ∷ codes "users" ∷ codes "break" ∷ []))
+  pub control_alone : access_rule_of rows (words (codes "to" ∷ codes "*" ∷ codes "by" ∷ codes "users" ∷ codes "break" ∷ []))
       ≡ Ok (record { what = []; clauses = (record { who = who.Users ∷ []; edit = no_edit; control = Break }) ∷ [] })
   control_alone = refl
 
   -- a form that is not supported is refused
-  peers : access_rule_of rows (words (codes "to" ∷ codes "*" ∷ codes "by" ∷ codes "peername.ip=127.0.0.1" ∷ codes "read" ∷ [])) ≡ Err cause.Unsupported
+  pub peers : access_rule_of rows (words (codes "to" ∷ codes "*" ∷ codes "by" ∷ codes "peername.ip=127.0.0.1" ∷ codes "read" ∷ [])) ≡ Err cause.Unsupported
   peers = refl
 
   -- a line may not end after `by`
-  ends_after_by : access_rule_of rows (words (codes "to" ∷ codes "*" ∷ codes "by" ∷ [])) ≡ Err cause.BadDirective
+  pub ends_after_by : access_rule_of rows (words (codes "to" ∷ codes "*" ∷ codes "by" ∷ [])) ≡ Err cause.BadDirective
   ends_after_by = refl
 
   -- a rule before the database is refused, with its line
-  global : config_of rows (codes "# one" ++ line_feed ∷ codes "access to * by * read" ++ line_feed ∷ []) ≡ Err (record { line = 2; cause = cause.GlobalAccess })
+  pub global : config_of rows (codes "# one" ++ line_feed ∷ codes "access to * by * read" ++ line_feed ∷ []) ≡ Err (record { line = 2; cause = cause.GlobalAccess })
   global = refl
 
   -- a second database, beside that of `monitor`
-  two_databases : config_of rows (codes "database monitor" ++ line_feed ∷ codes "suffix BAD" ++ line_feed ∷ codes "database mdb" ++ line_feed ∷ codes "database mdb")
+  pub two_databases : config_of rows (codes "database monitor" ++ line_feed ∷ codes "suffix BAD" ++ line_feed ∷ codes "database mdb" ++ line_feed ∷ codes "database mdb")
       ≡ Err (record { line = 4; cause = cause.SecondDatabase })
   two_databases = refl
 
   -- without a suffix
-  no_suffix : config_of rows (codes "database mdb" ++ line_feed ∷ []) ≡ Err (record { line = 0; cause = cause.NoSuffix })
+  pub no_suffix : config_of rows (codes "database mdb" ++ line_feed ∷ []) ≡ Err (record { line = 0; cause = cause.NoSuffix })
   no_suffix = refl

@@ -1,5 +1,5 @@
 -- The words of a <who> (slapd.access(5), "THE <WHO> FIELD").
-use Rattle.std.specs.Prelude.{ℕ, ◌-◌, cond, List, [], ◌∷◌, length, drop, take, codes, Option, Some, None, Result, Ok, Err}
+use Rattle.std.specs.Prelude.{ℕ, ◌-◌, cond, List, [], ◌∷◌, length, drop, take, codes, Option, Some, None, Result, Ok}
 use Rattle.dir_names.specs.Ascii.{equals_sign}
 use Rattle.dir_names.specs.Cut.{after_first_separator, parts_at}
 use Rattle.dir_names.specs.Results.{and_then}

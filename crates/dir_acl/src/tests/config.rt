@@ -181,11 +181,12 @@ fn continue_goes_on_with_the_later_clauses(rt: HostRuntime) {
     );
 }
 
+const BREAK: &[u8] = b"database mdb\nsuffix dc=com\naccess to * by * read break\n";
+
 #[test]
 fn rules_that_run_out_after_break_grant_nothing(rt: HostRuntime) {
     let alloc = rt.alloc();
-    let text = b"database mdb\nsuffix dc=com\naccess to * by * read break\n";
-    assert_granted(&rt, alloc, text, b"cn=u,dc=com", b"dc=com", b"", b"=0");
+    assert_granted(&rt, alloc, BREAK, b"cn=u,dc=com", b"dc=com", b"", b"=0");
 }
 
 #[test]
@@ -592,16 +593,22 @@ fn a_text_may_not_be_too_long(rt: HostRuntime) {
     assert_fault(&rt, alloc, text.as_slice(), 0, ConfigCause::ConfigTooLong);
 }
 
-#[test]
-fn a_configuration_may_be_cut_anywhere(rt: HostRuntime) {
-    let alloc = rt.alloc();
-    let schema = Schema::builtin(alloc).expect(&rt, "memory");
-    for end in 0..PHONES.len() {
-        let part = PHONES.split_at(end).0;
-        if let Err(fault) = Config::read(alloc, &schema, part) {
+/// Each prefix of the text is read, or refused with a fault.
+fn assert_cut(rt: &impl Abort, alloc: Global, text: &[u8]) {
+    let schema = Schema::builtin(alloc).expect(rt, "memory");
+    for end in 0..text.len() {
+        if let Err(fault) = Config::read(alloc, &schema, text.split_at(end).0) {
             assert!(rt; fault.cause != ConfigCause::Memory);
         }
     }
+}
+
+#[test]
+fn a_configuration_may_be_cut_anywhere(rt: HostRuntime) {
+    let alloc = rt.alloc();
+    assert_cut(&rt, alloc, CONTINUE);
+    assert_cut(&rt, alloc, BREAK);
+    assert_cut(&rt, alloc, PHONES);
 }
 
 #[test]
