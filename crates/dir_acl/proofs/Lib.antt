@@ -2,9 +2,11 @@ pub mod Cuts
 pub mod Digits
 pub mod EscapeSteps
 pub mod Grammar
+pub mod Groups
 pub mod NoAttributes
 pub mod RunningSets
 pub mod SlapdAccess
+pub mod SlapdConf
 pub mod Stacks
 pub mod Tested
 pub mod Truths

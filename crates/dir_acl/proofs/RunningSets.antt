@@ -5,7 +5,6 @@ use Rattle.std.proofs.lemmas.Bool.{eqb-true}
 use Rattle.std.proofs.lemmas.List.Sums.{fold-append}
 use Rattle.dir_names.specs.Keys.{DnKeys}
 use Rattle.dir_tree.specs.Dir.{Dir}
-use Rattle.dir_acl.specs.declared.access.Clause.{Clause}
 use Rattle.dir_acl.specs.declared.access.Control.TheVariants.{Stop, Continue, Break}
 use Rattle.dir_acl.specs.declared.access.Edit.{Edit}
 use Rattle.dir_acl.specs.declared.access.Edit.TheVariants as edit
@@ -14,6 +13,7 @@ use Rattle.dir_acl.specs.declared.privileges.Privilege.{Privilege}
 use Rattle.dir_acl.specs.declared.privileges.Privilege.TheVariants.{Manage, Add, Delete, Read, Search, Compare, Auth, Disclose}
 use Rattle.dir_acl.specs.declared.privileges.Privileges.{Privileges}
 use Rattle.dir_acl.specs.Decision.{Question, all_edits, clauses_for, is_granted, is_root_for, named, edits_of, edits_of_rules, ends_in_break, goes_on, is_break, last_word, or_before, rule_fits, says}
+use Rattle.dir_acl.specs.Rules.{AccessClause, AccessRule, rules_of}
 use Rattle.dir_acl.specs.Inside.RunningSet.{after_edits, edited}
 use Rattle.dir_acl.specs.Privileges.{all_privileges, has, level_set, no_privileges}
 use Rattle.dir_acl.specs.declared.privileges.Level.TheVariants as level
@@ -84,23 +84,23 @@ has_all Auth = refl
 has_all Disclose = refl
 
 module _ (d : Dir) (root : Option DnKeys) (q : Question) (p : Privilege) where
-  pub root_has_all : (rules : List Rule) → is_root_for root (named q.requester) ≡ true → has all_privileges p ≡ is_granted d root rules q p
-  root_has_all rules e = has_all p ∙ sym (ap (λ t. t || unwrap_or (last_word p (all_edits d q rules)) false) e)
+  pub root_has_all : (rules : List Rule) → is_root_for root (named q.requester) ≡ true → has all_privileges p ≡ is_granted d root (rules_of rules) q p
+  root_has_all rules e = has_all p ∙ sym (ap (λ t. t || unwrap_or (last_word p (all_edits d q (rules_of rules))) false) e)
 
-  pub reads_without_rules : (rules : List Rule) → (length rules == 0) ≡ true → is_root_for root (named q.requester) ≡ false → has (level_set level.Read) p ≡ is_granted d root rules q p
+  pub reads_without_rules : (rules : List Rule) → (length rules == 0) ≡ true → is_root_for root (named q.requester) ≡ false → has (level_set level.Read) p ≡ is_granted d root (rules_of rules) q p
   reads_without_rules [] n e = sym (ap (λ t. t || has (level_set level.Read) p) e)
   reads_without_rules (rule ∷ rules) n e = let none = eqb-true (length (rule ∷ rules)) 0 n in absurd (omega arith)
 
   pub held_under_rules : (rules : List Rule) → (length rules == 0) ≡ false → is_root_for root (named q.requester) ≡ false
-      → has (after_edits no_privileges (edits_of_rules d q (filter (rule_fits q) rules))) p ≡ is_granted d root rules q p
+      → has (after_edits no_privileges (edits_of_rules d q (filter (rule_fits q) (rules_of rules)))) p ≡ is_granted d root (rules_of rules) q p
   held_under_rules [] n e = absurd (cc)
   held_under_rules (rule ∷ rules) n e =
-      held_by_last_word (edits_of_rules d q (filter (rule_fits q) (rule ∷ rules))) p
-      ∙ sym (ap (λ t. t || unwrap_or (last_word p (edits_of_rules d q (filter (rule_fits q) (rule ∷ rules)))) false) e)
+      held_by_last_word (edits_of_rules d q (filter (rule_fits q) (rules_of (rule ∷ rules)))) p
+      ∙ sym (ap (λ t. t || unwrap_or (last_word p (edits_of_rules d q (filter (rule_fits q) (rules_of (rule ∷ rules))))) false) e)
 
 -- ---- clauses
 
-module _ (set : Privileges) (clause : Clause) (clauses : List Clause) where
+module _ (set : Privileges) (clause : AccessClause) (clauses : List AccessClause) where
   pub after_stop : clause.control ≡ Stop → after_edits set (edits_of (clause ∷ clauses)) ≡ edited set clause.edit
   after_stop e = ap (λ c. after_edits set (clause.edit ∷ cond (goes_on c) (edits_of clauses) [])) e
 
@@ -123,7 +123,7 @@ pub ruleset clause_rules = (after_stop, after_break, after_continue, end_at_stop
 
 -- ---- rules
 
-module _ (d : Dir) (q : Question) (set : Privileges) (rule : Rule) (rules : List Rule) where
+module _ (d : Dir) (q : Question) (set : Privileges) (rule : AccessRule) (rules : List AccessRule) where
   pub after_last_rule : ends_in_break (clauses_for d q rule) ≡ false → after_edits set (edits_of_rules d q (rule ∷ rules)) ≡ after_edits set (edits_of (clauses_for d q rule))
   after_last_rule e =
       fold-append edited set (edits_of (clauses_for d q rule)) _ ∙ ap (λ t. after_edits (after_edits set (edits_of (clauses_for d q rule))) (cond t (edits_of_rules d q rules) [])) e

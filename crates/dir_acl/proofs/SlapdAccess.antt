@@ -4,10 +4,8 @@ use Rattle.std.specs.Prelude.{codes, unwrap_or}
 use Rattle.dir_names.specs.Attr.{Attr}
 use Rattle.dir_names.specs.Keys.{DnKeys}
 use Rattle.dir_tree.specs.Dir.{Dir}
-use Rattle.dir_acl.specs.declared.access.Clause.{Clause}
 use Rattle.dir_acl.specs.declared.access.Control.TheVariants.{Stop, Continue, Break}
 use Rattle.dir_acl.specs.declared.access.Edit.TheVariants as edit
-use Rattle.dir_acl.specs.declared.access.Rule.{Rule}
 use Rattle.dir_acl.specs.declared.access.Style.TheVariants as style
 use Rattle.dir_acl.specs.declared.access.Who.TheVariants as who
 use Rattle.dir_acl.specs.declared.privileges.Privilege.{Privilege}
@@ -15,6 +13,7 @@ use Rattle.dir_acl.specs.declared.privileges.Privilege.TheVariants.{Manage, Add,
 use Rattle.dir_acl.specs.declared.privileges.Privileges.{Privileges}
 use Rattle.dir_acl.specs.Decision.{Question, clauses_for, edits_of, edits_of_rules, ends_in_break, goes_on, holds_for, is_break, is_of_style, last_word}
 use Rattle.dir_acl.specs.Privileges.{has, no_privileges}
+use Rattle.dir_acl.specs.Rules.{AccessClause, AccessRule}
 
 abbrev cs : Privileges
 cs = record no_privileges { search = true; compare = true }
@@ -28,7 +27,7 @@ rsc = record no_privileges { read = true; search = true; compare = true }
 -- ---- `by * =cs continue by users +r`
 
 -- a requester with a name, for whom both clauses are, has search, compare and read
-pub continue_for_users : (first second : Clause) → first.edit ≡ edit.Set cs → first.control ≡ Continue → second.edit ≡ edit.Add r → second.control ≡ Stop
+pub continue_for_users : (first second : AccessClause) → first.edit ≡ edit.Set cs → first.control ≡ Continue → second.edit ≡ edit.Add r → second.control ≡ Stop
     → (p : Privilege) → unwrap_or (last_word p (edits_of (first ∷ second ∷ []))) false ≡ has rsc p
 continue_for_users first second e c f s p =
     (λ i. unwrap_or (last_word p (e i ∷ cond (goes_on (c i)) (f i ∷ cond (goes_on (s i)) (edits_of []) []) [])) false) ∙ by p
@@ -44,7 +43,7 @@ continue_for_users first second e c f s p =
     by Disclose = refl
 
 -- for nobody the clauses run out after `continue`, and nothing is granted
-pub continue_for_nobody : (first : Clause) → first.edit ≡ edit.Set cs → first.control ≡ Continue → (p : Privilege) → unwrap_or (last_word p (edits_of (first ∷ []))) false ≡ false
+pub continue_for_nobody : (first : AccessClause) → first.edit ≡ edit.Set cs → first.control ≡ Continue → (p : Privilege) → unwrap_or (last_word p (edits_of (first ∷ []))) false ≡ false
 continue_for_nobody first e c p = (λ i. unwrap_or (last_word p (e i ∷ cond (goes_on (c i)) (edits_of []) [])) false) ∙ by p
   where
     by : (p : Privilege) → unwrap_or (last_word p (edit.Set cs ∷ edits_of [])) false ≡ false
@@ -71,7 +70,7 @@ nobody_is_no_user d q = refl
 -- ---- `access to dn.subtree="dc=example,dc=com" by * =cs break`, and then `access to dn.subtree="ou=People,dc=example,dc=com" by * +r`
 
 -- where both rules fit, search, compare and read are granted
-pub break_for_both : (d : Dir) (q : Question) (one two : Rule) (first second : Clause) → clauses_for d q one ≡ first ∷ [] → clauses_for d q two ≡ second ∷ []
+pub break_for_both : (d : Dir) (q : Question) (one two : AccessRule) (first second : AccessClause) → clauses_for d q one ≡ first ∷ [] → clauses_for d q two ≡ second ∷ []
     → first.edit ≡ edit.Set cs → first.control ≡ Break → second.edit ≡ edit.Add r → second.control ≡ Stop
     → (p : Privilege) → unwrap_or (last_word p (edits_of_rules d q (one ∷ two ∷ []))) false ≡ has rsc p
 break_for_both d q one two first second u v e c f s p =

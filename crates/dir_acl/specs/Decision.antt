@@ -15,22 +15,19 @@ use Rattle.dir_tree.specs.Content.{Content, StoredAttributes, has_value}
 use Rattle.dir_tree.specs.Dir.{Dir, entry_at}
 use Rattle.dir_acl.specs.declared.access.Asked.{Asked}
 use Rattle.dir_acl.specs.declared.access.Asked.TheVariants as asked
-use Rattle.dir_acl.specs.declared.access.Clause.{Clause}
 use Rattle.dir_acl.specs.declared.access.Control.{Control}
 use Rattle.dir_acl.specs.declared.access.Control.TheVariants.{Stop, Continue, Break}
 use Rattle.dir_acl.specs.declared.access.Edit.{Edit}
 use Rattle.dir_acl.specs.declared.access.Edit.TheVariants as edit
-use Rattle.dir_acl.specs.declared.access.Rule.{Rule}
 use Rattle.dir_acl.specs.declared.access.Style.{Style}
 use Rattle.dir_acl.specs.declared.access.Style.TheVariants as style
-use Rattle.dir_acl.specs.declared.access.What.{What}
-use Rattle.dir_acl.specs.declared.access.What.TheVariants as what
 use Rattle.dir_acl.specs.declared.access.Who.{Who}
 use Rattle.dir_acl.specs.declared.access.Who.TheVariants as who
 use Rattle.dir_acl.specs.declared.privileges.Level.TheVariants as level
 use Rattle.dir_acl.specs.declared.privileges.Privilege.{Privilege}
 use Rattle.dir_acl.specs.Privileges.{has, level_set, no_privileges}
-use Rattle.dir_acl.specs.Truth.{is_true, truth_of}
+use Rattle.dir_acl.specs.Rules.{AccessClause, AccessRule, Restriction, to_names, to_filter, to_attrs}
+use Rattle.dir_acl.specs.Truth.{is_true, tree_truth}
 
 -- who asks, for what: the requester's name, the target with its attributes (none for an entry that is made up), and what of it is asked for
 pub record Question : Type 0 where
@@ -66,14 +63,14 @@ is_asked (asked.Attribute item) asked.Children = false
 is_asked (asked.Attribute item) (asked.Attribute attr) = covers item attr
 
 -- a filter fits if it is True
-abbrev pub fits : Question → What → Bool
-fits q (what.Dn style name) = is_of_style style name q.target
-fits q (what.Filter filter) = is_true (truth_of q.attributes filter)
-fits q (what.Attrs items) = list_any (λ item. is_asked item q.asked) items.items
+abbrev pub fits : Question → Restriction → Bool
+fits q (to_names style name) = is_of_style style name q.target
+fits q (to_filter filter) = is_true (tree_truth q.attributes filter)
+fits q (to_attrs items) = list_any (λ item. is_asked item q.asked) items
 
 -- a rule fits if each part of its <what> does
-abbrev pub rule_fits : Question → Rule → Bool
-rule_fits q rule = list_all (fits q) rule.what.items
+abbrev pub rule_fits : Question → AccessRule → Bool
+rule_fits q rule = list_all (fits q) rule.what
 
 -- ---- <who>
 
@@ -117,8 +114,8 @@ holds_for d q None w = holds_of_nobody w
 holds_for d q (Some k) w = holds_of d q w k
 
 -- a clause applies if each part of its <who> holds
-abbrev pub applies : Dir → Question → Clause → Bool
-applies d q clause = list_all (holds_for d q (named q.requester)) clause.who.items
+abbrev pub applies : Dir → Question → AccessClause → Bool
+applies d q clause = list_all (holds_for d q (named q.requester)) clause.who
 
 -- ---- the edits that apply
 
@@ -128,7 +125,7 @@ goes_on Stop = false
 goes_on Continue = true
 goes_on Break = false
 
-abbrev pub edits_of : List Clause → List Edit
+abbrev pub edits_of : List AccessClause → List Edit
 edits_of [] = edit.Set no_privileges ∷ []
 edits_of (clause ∷ clauses) = clause.edit ∷ cond (goes_on clause.control) (edits_of clauses) []
 
@@ -138,20 +135,20 @@ is_break Stop = false
 is_break Continue = false
 is_break Break = true
 
-abbrev pub ends_in_break : List Clause → Bool
+abbrev pub ends_in_break : List AccessClause → Bool
 ends_in_break [] = false
 ends_in_break (clause ∷ clauses) = cond (goes_on clause.control) (ends_in_break clauses) (is_break clause.control)
 
-abbrev pub clauses_for : Dir → Question → Rule → List Clause
-clauses_for d q rule = filter (applies d q) rule.clauses.items
+abbrev pub clauses_for : Dir → Question → AccessRule → List AccessClause
+clauses_for d q rule = filter (applies d q) rule.clauses
 
 -- the edits of the rules that fit, one after the other; after them an implied `access to * by * none`
-abbrev pub edits_of_rules : Dir → Question → List Rule → List Edit
+abbrev pub edits_of_rules : Dir → Question → List AccessRule → List Edit
 edits_of_rules d q [] = edit.Set no_privileges ∷ []
 edits_of_rules d q (rule ∷ rules) = edits_of (clauses_for d q rule) ++ cond (ends_in_break (clauses_for d q rule)) (edits_of_rules d q rules) []
 
 -- without any rule the policy is `access to * by * read`
-abbrev pub all_edits : Dir → Question → List Rule → List Edit
+abbrev pub all_edits : Dir → Question → List AccessRule → List Edit
 all_edits d q [] = edit.Set (level_set level.Read) ∷ []
 all_edits d q (rule ∷ rules) = edits_of_rules d q (filter (rule_fits q) (rule ∷ rules))
 
@@ -180,5 +177,5 @@ is_root_for (Some root) None = false
 is_root_for (Some root) (Some k) = dn_key_eq k root
 
 -- the rootdn has each privilege; others have those that the last edit gives
-abbrev pub is_granted : Dir → Option DnKeys → List Rule → Question → Privilege → Bool
+abbrev pub is_granted : Dir → Option DnKeys → List AccessRule → Question → Privilege → Bool
 is_granted d root rules q p = is_root_for root (named q.requester) || unwrap_or (last_word p (all_edits d q rules)) false

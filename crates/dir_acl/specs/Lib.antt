@@ -1,3 +1,4 @@
+pub mod Config
 pub mod Decision
 pub mod FaultText
 pub mod Filters
@@ -5,6 +6,7 @@ pub mod Inside
 pub mod Integers
 pub mod Outcome
 pub mod Privileges
+pub mod Rules
 pub mod Signs
 pub mod Substrings
 pub mod Tests

@@ -1,5 +1,5 @@
 -- The truth of a filter on an entry, in three values (RFC 4511, section 4.5.1.7; RFC 4526, section 2).
-use Rattle.std.specs.Prelude.{ℕ, Bool, true, false, cond, ◌&&◌, List, Option, Some, None}
+use Rattle.std.specs.Prelude.{ℕ, Bool, true, false, cond, ◌&&◌, List, [], ◌∷◌, Option, Some, None}
 use Rattle.std.specs.List.{list_any}
 use Rattle.std.specs.FinMap as fin
 use Rattle.dir_names.specs.Attr.{Attr}
@@ -7,13 +7,11 @@ use Rattle.dir_names.specs.Covers.{covers}
 use Rattle.dir_names.specs.Values.{text_of}
 use Rattle.dir_tree.specs.Content.{Stored, StoredAttributes}
 use Rattle.dir_acl.specs.declared.filter.Filter.{Filter}
-use Rattle.dir_acl.specs.declared.filter.Filter.TheOpen.{Filter-F}
-use Rattle.dir_acl.specs.declared.filter.Filter.TheOpen as layer
-use Rattle.dir_acl.specs.declared.filter.Filter.TheFolds.{fold-Filter}
 use Rattle.dir_acl.specs.declared.filter.Matching.{Matching}
 use Rattle.dir_acl.specs.declared.filter.Matching.TheVariants.{Present, Equal, AtLeast, AtMost, Substrings}
 use Rattle.dir_acl.specs.declared.filter.truth.Truth.{Truth}
 use Rattle.dir_acl.specs.declared.filter.truth.Truth.TheVariants.{True, False, Undefined}
+use Rattle.dir_acl.specs.Filters.{Tree, Trees, conjunction, disjunction, negation, test, none, first, tree_of}
 use Rattle.dir_acl.specs.Integers.{is_at_least, is_at_most}
 use Rattle.dir_acl.specs.Substrings.{has_pieces}
 
@@ -108,12 +106,17 @@ opposite True = False
 opposite False = True
 opposite Undefined = Undefined
 
-abbrev pub truth_step : StoredAttributes → Filter-F Truth → Truth
-truth_step attributes (layer.And filters) = all_of filters.items
-truth_step attributes (layer.Or filters) = any_of filters.items
-truth_step attributes (layer.Not filter) = opposite filter.value
-truth_step attributes (layer.Test t) = matching_truth attributes t.attr t.matching
+abbrev mutual
+  -- the truth of a filter on an entry with these attributes
+  pub tree_truth : StoredAttributes → Tree → Truth
+  tree_truth attributes (conjunction ts) = all_of (truths attributes ts)
+  tree_truth attributes (disjunction ts) = any_of (truths attributes ts)
+  tree_truth attributes (negation t) = opposite (tree_truth attributes t)
+  tree_truth attributes (test t) = matching_truth attributes t.attr t.matching
 
--- the truth of a filter on an entry with these attributes
+  pub truths : StoredAttributes → Trees → List Truth
+  truths attributes none = []
+  truths attributes (first t ts) = tree_truth attributes t ∷ truths attributes ts
+
 abbrev pub truth_of : StoredAttributes → Filter → Truth
-truth_of attributes = fold-Filter Truth (truth_step attributes)
+truth_of attributes filter = tree_truth attributes (tree_of filter)

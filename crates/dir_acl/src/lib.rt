@@ -1,8 +1,10 @@
-//! What a slapd.conf grants: search filters, access rules, and the decisions that they come to
-//! (RFC 4515; slapd.access(5)).
+//! What a slapd.conf grants: search filters, access rules, the decisions that they come to, and the configuration that
+//! has them (RFC 4515; slapd.access(5), slapd.conf(5)).
 #![tactic(auto)]
 
 mod access;
+mod config;
+mod cut;
 mod fault;
 mod filter;
 mod laws;
@@ -10,7 +12,8 @@ mod privileges;
 
 pub use access::decision::privileges_under;
 pub use access::{Asked, Clause, Control, Edit, Request, Rule, Style, What, Who};
-pub use fault::FilterFault;
+pub use config::{Config, MAX_CONFIG};
+pub use fault::{ConfigCause, ConfigFault, FilterFault};
 pub use filter::truth::Truth;
 pub use filter::{Filter, Matching, Pieces, Test};
 pub use laws::{cuts_are_found, reading_is_the_grammar};

@@ -1,5 +1,6 @@
-//! Worked examples of filters, privileges and decisions.
+//! Worked examples of filters, privileges, decisions and configurations.
 
+mod config;
 mod decisions;
 mod filters;
 mod words;

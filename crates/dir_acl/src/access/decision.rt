@@ -1,10 +1,11 @@
 //! Which privileges a request has.
 
-ghost use Rattle.std.specs.Prelude.{◌≡◌, filter, option_copied};
+ghost use Rattle.std.specs.Prelude.{◌≡◌, filter, map, option_copied};
 ghost use Rattle.dir_acl.specs.Decision.{all_edits, applies, edits_of, edits_of_rules, ends_in_break, is_granted, is_root_for, named, rule_fits};
 ghost use Rattle.dir_acl.specs.Inside.Requests.{question_of};
 ghost use Rattle.dir_acl.specs.Inside.RunningSet.{after_edits, edited, joined, without};
 ghost use Rattle.dir_acl.specs.Privileges.{has, no_privileges};
+ghost use Rattle.dir_acl.specs.Rules.{clause_of, rules_of};
 ghost use Rattle.dir_acl.specs.declared.privileges.Privilege.{Privilege};
 
 use crate::access::{Clause, Control, Edit, Request, Rule};
@@ -20,7 +21,7 @@ pub fn privileges_under<D: Directory>(
     directory: &D,
     request: &Request<'_>,
 ) -> Privileges
-    ensures { (p : Privilege) → has result p ≡ is_granted (D.state directory.now) (option_copied root.entry) rules.now (question_of request.now) p }
+    ensures { (p : Privilege) → has result p ≡ is_granted (D.state directory.now) (option_copied root.entry) (rules_of rules.now) (question_of request.now) p }
 {
     if is_root(root, request) {
         return Privileges::all();
@@ -43,7 +44,7 @@ fn is_root(root: Option<&DnKey>, request: &Request<'_>) -> bool
 /// What the rules give, one after the other.
 #[tactic(auto, using(crate::proofs::RunningSets::rule_rules))]
 fn under_rules<D: Directory>(rules: &[Rule], directory: &D, request: &Request<'_>) -> Privileges
-    ensures { result ≡ after_edits no_privileges (edits_of_rules (D.state directory.now) (question_of request.now) (filter (rule_fits (question_of request.now)) rules.now)) }
+    ensures { result ≡ after_edits no_privileges (edits_of_rules (D.state directory.now) (question_of request.now) (filter (rule_fits (question_of request.now)) (rules_of rules.now))) }
 {
     let mut held = Privileges::none();
     for rule in rules {
@@ -66,8 +67,8 @@ fn after_clauses<D: Directory>(
     request: &Request<'_>,
     before: Privileges,
 ) -> (Privileges, bool)
-    ensures held { result.0 ≡ after_edits before (edits_of (filter (applies (D.state directory.now) (question_of request.now)) clauses.now)) }
-    ensures goes_on { result.1 ≡ ends_in_break (filter (applies (D.state directory.now) (question_of request.now)) clauses.now) }
+    ensures held { result.0 ≡ after_edits before (edits_of (filter (applies (D.state directory.now) (question_of request.now)) (map clause_of clauses.now))) }
+    ensures goes_on { result.1 ≡ ends_in_break (filter (applies (D.state directory.now) (question_of request.now)) (map clause_of clauses.now)) }
 {
     let mut held = before;
     for clause in clauses {
@@ -94,7 +95,7 @@ impl Privileges {
         }
     }
 
-    fn joined(self, more: Privileges) -> Privileges
+    pub(crate) fn joined(self, more: Privileges) -> Privileges
         ensures { result ≡ joined self more }
     {
         Privileges {

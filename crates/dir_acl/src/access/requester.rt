@@ -4,6 +4,7 @@ ghost use Rattle.std.specs.Prelude.{◌≡◌, ◌==◌, None, Some, cond, lengt
 ghost use Rattle.dir_acl.specs.Decision.{applies, has_name, holds_for, holds_of, named};
 ghost use Rattle.dir_acl.specs.Inside.Fakes.{attributes_of};
 ghost use Rattle.dir_acl.specs.Inside.Requests.{question_of};
+ghost use Rattle.dir_acl.specs.Rules.{clause_of};
 
 use crate::access::{Clause, Request, Who};
 use dir_names::{AttrKey, DnKey};
@@ -30,7 +31,7 @@ fn somebody(name: &DnKey) -> Option<&DnKey>
 impl Clause {
     /// Whether the clause is for the requester.
     pub(crate) fn applies<D: Directory>(&self, directory: &D, request: &Request<'_>) -> bool
-        ensures { result ≡ applies (D.state directory.now) (question_of request.now) self.now }
+        ensures { result ≡ applies (D.state directory.now) (question_of request.now) (clause_of self.now) }
     {
         for who in &self.who {
             if !who.holds(directory, request) {

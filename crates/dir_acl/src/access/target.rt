@@ -5,6 +5,7 @@ ghost use Rattle.std.specs.Prelude.{◌≡◌};
 ghost use Rattle.dir_names.specs.Orders.{rdn_key_eq};
 ghost use Rattle.dir_acl.specs.Decision.{fits, is_asked, is_of_style, rule_fits};
 ghost use Rattle.dir_acl.specs.Inside.Requests.{question_of};
+ghost use Rattle.dir_acl.specs.Rules.{restriction_of, rule_of};
 ghost use Rattle.dir_acl.specs.Truth.{is_true};
 
 use crate::access::{Asked, Request, Rule, Style, What};
@@ -14,7 +15,7 @@ use dir_names::DnKey;
 impl Rule {
     /// Whether the rule is for the target and what is asked of it.
     pub(crate) fn fits(&self, request: &Request<'_>) -> bool
-        ensures { result ≡ rule_fits (question_of request.now) self.now }
+        ensures { result ≡ rule_fits (question_of request.now) (rule_of self.now) }
     {
         for what in &self.what {
             if !what.fits(request) {
@@ -27,7 +28,7 @@ impl Rule {
 
 impl What {
     fn fits(&self, request: &Request<'_>) -> bool
-        ensures { result ≡ fits (question_of request.now) self.now }
+        ensures { result ≡ fits (question_of request.now) (restriction_of self.now) }
     {
         match self {
             What::Dn(style, name) => style.has(name, &request.target),

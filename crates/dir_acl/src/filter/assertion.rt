@@ -11,6 +11,7 @@ ghost use Rattle.dir_acl.specs.Inside.Escapes.{at_end, has_digit, is_outside, is
 ghost use Rattle.dir_acl.specs.Outcome.{Reads, ok_or_bad_filter};
 ghost use Rattle.dir_acl.specs.Tests.{assertion_key, bound_of, described_by, last_piece, matching_by, matching_of_more, matching_of_parts, matching_with, operator_at, operator_of, operator_of_sign, pieces_of, test_from, test_of, unescaped};
 
+use crate::cut::split_once;
 use crate::filter::integers::is_integer;
 use crate::{FilterFault, Matching, Pieces, Test};
 use dir_names::{
@@ -333,24 +334,6 @@ fn read_parts(alloc: Global, value: &[u8]) -> Result<Vec<Bytes>, FilterFault>
         rest = after;
     }
     Ok(parts)
-}
-
-/// The text before the first separator, and the text after it if there is one.
-fn split_once(text: &[u8], separator: u8) -> (&[u8], Option<&[u8]>)
-    ensures before { result.0.now ≡ before_first (λ b. b == separator) text.now }
-    ensures after { option_copied result.1 ≡ after_first_separator separator text.now }
-    ensures parts { parts_at separator text.now ≡ result.0.now ∷ parts_left separator (option_copied result.1) }
-{
-    match position_of(text, separator) {
-        Some(at) => (&text[..at], Some(&text[at + 1..])),
-        None => (text, None),
-    }
-}
-
-fn position_of(text: &[u8], separator: u8) -> Option<usize>
-    ensures { result ≡ position (λ b. b == separator) text.now }
-{
-    text.iter().position(|b| *b == separator)
 }
 
 /// Where in a value an escape is being read.
