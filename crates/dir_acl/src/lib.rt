@@ -18,6 +18,3 @@ pub use filter::truth::Truth;
 pub use filter::{Filter, Matching, Pieces, Test};
 pub use laws::{cuts_are_found, reading_is_the_grammar};
 pub use privileges::{Level, Privilege, Privileges};
-
-#[cfg(test)]
-mod tests;
