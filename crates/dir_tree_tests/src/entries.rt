@@ -24,8 +24,8 @@ fn attribute<'e>(
 }
 
 /// Asserts that there is an attribute of this type, so spelled, with these values in this order.
-fn assert_attribute(rt: &impl Abort, alloc: Global, entry: &Entry, spelling: &str, want: &[&str]) {
-    let attribute = attribute(rt, alloc, entry, spelling).expect(rt, "no such attribute");
+fn assert_attribute(rt: &impl Abort, attribute: Option<&Attribute>, spelling: &str, want: &[&str]) {
+    let attribute = attribute.expect(rt, "no such attribute");
     assert!(rt; attribute.description().spelling() == spelling.as_bytes());
     let mut values = attribute.values();
     for text in want {
@@ -58,8 +58,8 @@ fn an_entry_has_its_lines(rt: HostRuntime) {
 fn an_entry_has_its_own_rdn(rt: HostRuntime) {
     let entry = made(&rt, rt.alloc(), "cn=Kim", &[]);
     assert!(rt; entry.own().len() == 1);
-    assert_attribute(&rt, rt.alloc(), &entry, "cn", &["Kim"]);
-    assert!(rt; attribute(&rt, rt.alloc(), &entry, "commonName").is_some());
+    let named = attribute(&rt, rt.alloc(), &entry, "commonName");
+    assert_attribute(&rt, named, "cn", &["Kim"]);
     assert!(rt; attribute(&rt, rt.alloc(), &entry, "sn").is_none());
 }
 
@@ -69,7 +69,8 @@ fn values_come_in_order_of_their_keys(rt: HostRuntime) {
     let entry = made(&rt, rt.alloc(), "cn=Kim", &lines);
     let copy = entry.try_clone(rt.alloc()).expect(&rt, "memory");
     assert_spellings(&rt, &copy, &["cn", "Description", "sn"]);
-    assert_attribute(&rt, rt.alloc(), &copy, "Description", &["A", "b"])
+    let described = attribute(&rt, rt.alloc(), &copy, "description");
+    assert_attribute(&rt, described, "Description", &["A", "b"])
 }
 
 #[test]
