@@ -18,6 +18,3 @@ pub use laws::{
 pub use reader::{MAX_LINE, MAX_TURNS, MAX_VALUE, RecordReader, read_all};
 pub use records::{Change, ChangeKind, Mod, ModOp, Mods, Record};
 pub use writer::{push_change, push_end, push_line, push_name, push_record, record_text};
-
-#[cfg(test)]
-mod tests;

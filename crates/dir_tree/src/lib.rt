@@ -23,6 +23,3 @@ pub use laws::entries_hold_their_lines;
 pub use parts::Parts;
 pub use tree::TreeDirectory;
 pub use values::{ValueMap, Values};
-
-#[cfg(test)]
-mod tests;

@@ -4,7 +4,7 @@ use Rattle.dir_names.specs.Orders.{dn_key_eq_decides}
 use Rattle.dir_tree.specs.Moves.{rest_below}
 use Rattle.dir_tree.proofs.RestBelow.{rest_is}
 use Rattle.dir_tree.proofs.TreeWrites.{mapped_some, no_entry}
-use Rattle.dir_tree.proofs.tests.moves.shift.Goals as goal
+use Rattle.dir_tree_tests.proofs.moves.shift.Goals as goal
 
 outside : (above k : DnKeys) → (IsAtOrBelow k above → ⊥) → rest_below above k ≡ None
 outside above k h = by (rest_below above k) refl

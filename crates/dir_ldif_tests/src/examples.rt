@@ -1,7 +1,11 @@
 //! The examples of RFC 2849 (the second entry with language tags without its comments), each with its records: the
 //! line of each record, after a `#`, and its text or its fault.
 
-use super::*;
+use crate::make::{Answer, answers, lines_of, only_record};
+use crate::shown::text_of;
+use dir_ldif::{Record, RecordFault};
+use std::alloc::Global;
+use std::process::Abort;
 
 const SIMPLE: &str = "version: 1
 dn: cn=Barbara Jensen, ou=Product Development, dc=airius, dc=com
@@ -319,66 +323,54 @@ control: 1.2.840.113556.1.4.805 true
 changetype: delete
 ";
 
-/// Asserts the records of a text: the line of each, after a `#`, and its text or its fault.
-fn assert_records(rt: &impl Abort, alloc: Global, text: &str, want: &str) {
-    let mut found = String::new(alloc);
-    for (line, answer) in &answers_on(rt, alloc, text.as_bytes()) {
-        push_answer(rt, alloc, &mut found, *line, answer);
-    }
-    assert_eq!(rt; found.as_str(), want);
-}
-
-/// Appends the line of a record, after a `#`, and its text or its fault.
-fn push_answer(
-    rt: &impl Abort,
-    alloc: Global,
-    out: &mut String,
-    line: u64,
-    answer: &Result<Record, RecordFault>,
-) {
-    let text = match answer {
-        Ok(record) => {
-            let text = record_text(alloc, record).expect(rt, "memory");
-            let text = String::from_utf8(text).expect(rt, "ASCII");
-            format!(in alloc; "# {line}\n{text}").expect(rt, "memory")
-        }
-        Err(fault) => format!(in alloc; "# {line}\n{fault}\n").expect(rt, "memory"),
-    };
-    out.push_str(text.as_str()).expect(rt, "memory");
-}
+const EXAMPLES: [(&str, &str); 6] = [
+    (SIMPLE, SIMPLE_RECORDS),
+    (FOLDED_VALUE, FOLDED_VALUE_RECORDS),
+    (LANGUAGES, LANGUAGES_RECORDS),
+    (EXTERNAL, "# 2\nL3 UrlValue\n"),
+    (CHANGES, CHANGES_RECORDS),
+    (CONTROLLED, "# 6\nL4 Control\n"),
+];
 
 #[test]
 fn examples_of_the_standard_are_read(rt: HostRuntime) {
-    let alloc = rt.alloc();
-    for (text, want) in &[
-        (SIMPLE, SIMPLE_RECORDS),
-        (FOLDED_VALUE, FOLDED_VALUE_RECORDS),
-        (LANGUAGES, LANGUAGES_RECORDS),
-        (EXTERNAL, "# 2\nL3 UrlValue\n"),
-        (CHANGES, CHANGES_RECORDS),
-        (CONTROLLED, "# 6\nL4 Control\n"),
-    ] {
-        assert_records(&rt, alloc, text, want);
+    for (text, want) in &EXAMPLES {
+        assert_records(&rt, rt.alloc(), text, want);
     }
+}
+
+/// Asserts the records of a text: the line of each, after a `#`, and its text or its fault.
+fn assert_records(rt: &impl Abort, alloc: Global, text: &str, want: &str) {
+    let mut found = String::new(alloc);
+    for answer in &answers(rt, alloc, text.as_bytes()) {
+        push_answer(rt, alloc, &mut found, answer);
+    }
+    assert!(rt; found.as_str() == want, "{found}");
+}
+
+/// Appends the line of a record, after a `#`, and its text or its fault.
+fn push_answer(rt: &impl Abort, alloc: Global, out: &mut String, answer: &Answer) {
+    let (line, answer) = answer;
+    let text = text_of(rt, alloc, answer);
+    let end = if answer.is_ok() { "" } else { "\n" };
+    write!(out, "# {line}\n{text}{end}").expect(rt, "memory");
 }
 
 #[test]
 fn the_careful_reader_is_read(rt: HostRuntime) {
-    let alloc = rt.alloc();
-    let answers = answers_on(&rt, alloc, BASE64_VALUE.as_bytes());
-    let record = only_record(&rt, answers.as_slice(), 2);
-    let (_, last) = lines_of(&rt, record).last().expect(&rt, "a line");
-    assert_eq!(rt; last.as_slice(), CAREFUL_READER);
+    let answers = answers(&rt, rt.alloc(), BASE64_VALUE.as_bytes());
+    let lines = lines_of(&rt, only_record(&rt, answers.as_slice(), 2));
+    let (_, last) = lines.last().expect(&rt, "a line");
+    assert!(rt; last.as_slice() == CAREFUL_READER);
 }
 
 #[test]
 fn the_japanese_values_are_read(rt: HostRuntime) {
-    let alloc = rt.alloc();
-    let mut found = Vec::new(alloc);
-    for (_, answer) in &answers_on(&rt, alloc, LANGUAGES.as_bytes()) {
+    let mut found = Vec::new(rt.alloc());
+    for (_, answer) in &answers(&rt, rt.alloc(), LANGUAGES.as_bytes()) {
         push_japanese(&rt, answer, &mut found);
     }
-    assert_eq!(rt; found.as_slice(), JAPANESE.as_bytes());
+    assert!(rt; found.as_slice() == JAPANESE.as_bytes());
 }
 
 /// Appends each value of an entry that is not ASCII, and a `|` after it.
@@ -386,9 +378,8 @@ fn push_japanese(rt: &impl Abort, answer: &Result<Record, RecordFault>, found: &
     let record = answer.as_ref().expect(rt, "an entry");
     for (_, value) in lines_of(rt, record) {
         if !value.as_slice().is_ascii() {
-            found
-                .extend_from_slice(value.as_slice())
-                .expect(rt, "memory");
+            let value = value.as_slice();
+            found.extend_from_slice(value).expect(rt, "memory");
             found.push(b'|').expect(rt, "memory");
         }
     }

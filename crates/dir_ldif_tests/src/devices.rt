@@ -1,0 +1,204 @@
+//! What scripts give, and std's readers and writers as devices.
+
+use dir_ldif::{DeviceFault, Reader, Script, Sink, Source, Writer, write_whole};
+use std::alloc::Global;
+use std::io::{self, ErrorKind, Read, Write};
+use std::process::Abort;
+
+/// Asserts what a source gives in some calls, with room for four bytes in each: each piece after a `|`, and `!` for a
+/// fault.
+fn assert_gives<S: Source + Drop>(
+    rt: &impl Abort,
+    alloc: Global,
+    mut source: S,
+    calls: usize,
+    want: &str,
+) {
+    let mut out = Vec::new(alloc);
+    for _ in 0..calls {
+        push_piece(rt, &mut source, &mut out);
+    }
+    assert!(rt; out.as_slice() == want.as_bytes(), "{want}");
+}
+
+fn push_piece<S: Source>(rt: &impl Abort, source: &mut S, out: &mut Vec<u8>) {
+    let mut room = [0u8; 4];
+    match source.read(&mut room) {
+        Ok(n) => {
+            out.push(b'|').expect(rt, "memory");
+            out.extend_from_slice(&room[..n]).expect(rt, "memory");
+        }
+        Err(DeviceFault) => out.push(b'!').expect(rt, "memory"),
+    }
+}
+
+const TEXT: &[u8] = b"abcdef";
+
+#[test]
+fn scripts_give_pieces(rt: HostRuntime) {
+    let alloc = rt.alloc();
+    assert_gives(&rt, alloc, Script::new(TEXT), 4, "|abcd|ef||");
+    assert_gives(&rt, alloc, Script::new(TEXT).pieces(3), 4, "|abc|def||");
+    assert_gives(&rt, alloc, Script::new(TEXT).pieces(0), 4, "|a|b|c|d");
+    let first = Script::new(TEXT).first_piece(1);
+    assert_gives(&rt, alloc, first, 4, "|a|bcde|f|");
+    let pieces = Script::new(TEXT).pieces(2).first_piece(3);
+    assert_gives(&rt, alloc, pieces, 4, "|abc|de|f|");
+}
+
+#[test]
+fn scripts_end_or_fail_or_go_on(rt: HostRuntime) {
+    let alloc = rt.alloc();
+    let endless = Script::new(TEXT).endless();
+    assert_gives(&rt, alloc, endless, 4, "|abcd|ef|abcd|ef");
+    assert_gives(&rt, alloc, Script::new(TEXT).failing_from(1), 4, "!!!!");
+    let failing = Script::new(TEXT).failing_from(3);
+    assert_gives(&rt, alloc, failing, 4, "|abcd|ef!!");
+    assert_gives(&rt, alloc, Script::new(b""), 4, "||||");
+    assert_gives(&rt, alloc, Script::new(b"").endless(), 4, "||||");
+}
+
+#[test]
+fn endless_scripts_give_their_text_over_and_over(rt: HostRuntime) {
+    let alloc = rt.alloc();
+    let endless = Script::new(b"abc").endless();
+    assert_gives(&rt, alloc, endless, 7, "|abc|abc|abc|abc|abc|abc|abc");
+    let single = Script::new(b"abc").endless().pieces(1);
+    assert_gives(&rt, alloc, single, 7, "|a|b|c|a|b|c|a");
+    let pieces = Script::new(b"abc").pieces(2).endless();
+    assert_gives(&rt, alloc, pieces, 7, "|ab|c|ab|c|ab|c|ab");
+    let first = Script::new(b"abc").first_piece(1).endless();
+    assert_gives(&rt, alloc, first, 7, "|a|bc|abc|abc|abc|abc|abc");
+    let failing = Script::new(b"abc").endless().failing_from(3);
+    assert_gives(&rt, alloc, failing, 7, "|abc|abc!!!!!");
+}
+
+/// A device that fails in every call.
+#[derive(Drop)]
+struct Broken;
+
+impl Read for Broken {
+    fn read(&mut self, _buf: &mut [u8]) -> io::Result<usize> {
+        Err(io::Error::from(ErrorKind::Other))
+    }
+}
+
+impl Write for Broken {
+    fn write(&mut self, _buf: &[u8]) -> io::Result<usize> {
+        Err(io::Error::from(ErrorKind::Other))
+    }
+
+    fn flush(&mut self) -> io::Result<()> {
+        Err(io::Error::from(ErrorKind::Other))
+    }
+}
+
+/// A device that counts its calls, and fails in one of them. It gives or takes one byte in a call.
+#[derive(Drop)]
+struct Counting<'a> {
+    calls: &'a mut usize,
+    failing: usize,
+}
+
+impl Counting<'_> {
+    fn call(&mut self) -> io::Result<()> {
+        *self.calls = self.calls.saturating_add(1);
+        if *self.calls == self.failing {
+            return Err(io::Error::from(ErrorKind::Interrupted));
+        }
+        Ok(())
+    }
+}
+
+impl Read for Counting<'_> {
+    fn read(&mut self, buf: &mut [u8]) -> io::Result<usize> {
+        self.call()?;
+        match buf.first_mut() {
+            Some(first) => {
+                *first = b'x';
+                Ok(1)
+            }
+            None => Ok(0),
+        }
+    }
+}
+
+impl Write for Counting<'_> {
+    fn write(&mut self, buf: &[u8]) -> io::Result<usize> {
+        self.call()?;
+        Ok(buf.len().min(1))
+    }
+
+    fn flush(&mut self) -> io::Result<()> {
+        self.call()
+    }
+}
+
+/// The call of three that fails, and what they give.
+const READ_CALLS: [(usize, &str); 4] = [(1, "!|x|x"), (2, "|x!|x"), (3, "|x|x!"), (4, "|x|x|x")];
+
+#[test]
+fn each_read_is_passed_on_once(rt: HostRuntime) {
+    for (failing, want) in &READ_CALLS {
+        let mut calls = 0usize;
+        let reader = Reader::new(Counting {
+            calls: &mut calls,
+            failing: *failing,
+        });
+        assert_gives(&rt, rt.alloc(), reader, 3, want);
+        assert!(rt; calls == 3);
+    }
+}
+
+/// What a write and a flush answer, twice.
+type FourCalls = [(Result<usize, DeviceFault>, Result<(), DeviceFault>); 2];
+
+/// The call of four that fails, and what they answer.
+const WRITE_CALLS: [(usize, FourCalls); 4] = [
+    (1, [(Err(DeviceFault), Ok(())), (Ok(1), Ok(()))]),
+    (2, [(Ok(1), Err(DeviceFault)), (Ok(1), Ok(()))]),
+    (3, [(Ok(1), Ok(())), (Err(DeviceFault), Ok(()))]),
+    (4, [(Ok(1), Ok(())), (Ok(1), Err(DeviceFault))]),
+];
+
+#[test]
+fn each_write_and_flush_is_passed_on_once(rt: HostRuntime) {
+    for (failing, want) in &WRITE_CALLS {
+        let mut calls = 0usize;
+        let writer = Writer::new(Counting {
+            calls: &mut calls,
+            failing: *failing,
+        });
+        assert_four_calls(&rt, writer, want);
+        assert!(rt; calls == 4);
+    }
+}
+
+fn assert_four_calls<W: Sink + Drop>(rt: &impl Abort, mut sink: W, want: &FourCalls) {
+    for (taken, flushed) in want {
+        assert!(rt; sink.write(b"ab") == *taken);
+        assert!(rt; sink.flush() == *flushed);
+    }
+}
+
+/// A text, and a flush.
+pub(crate) fn written<W: Sink + Drop>(mut sink: W, text: &[u8]) -> Result<(), DeviceFault> {
+    write_whole(&mut sink, text)?;
+    sink.flush()
+}
+
+#[test]
+fn readers_and_writers_of_the_standard_library_are_devices(rt: HostRuntime) {
+    assert_gives(&rt, rt.alloc(), Reader::new(TEXT), 3, "|abcd|ef|");
+    let mut taken = Vec::new(rt.alloc());
+    assert!(rt; written(Writer::new(&mut taken), b"abc") == Ok(()));
+    assert!(rt; taken.as_slice() == b"abc".as_slice());
+}
+
+#[test]
+fn readers_and_writers_that_fail_are_devices_that_fail(rt: HostRuntime) {
+    assert_gives(&rt, rt.alloc(), Reader::new(Broken), 2, "!!");
+    let mut broken = Writer::new(Broken);
+    assert!(rt; write_whole(&mut broken, b"abc") == Err(DeviceFault));
+    assert!(rt; broken.flush() == Err(DeviceFault));
+}

@@ -1,0 +1,24 @@
+//! Tests of `dir_tree`: entries, their maps and fields, and both directories by the same functions. They are a crate of
+//! their own, so that the proof of `dir_tree` is made once, without them.
+#![tactic(auto)]
+
+#[cfg(test)]
+mod directories;
+#[cfg(test)]
+mod entries;
+#[cfg(test)]
+mod exchanges;
+#[cfg(test)]
+mod faults;
+#[cfg(test)]
+mod in_place;
+#[cfg(test)]
+mod levels;
+#[cfg(test)]
+mod make;
+#[cfg(test)]
+mod maps;
+#[cfg(test)]
+mod moves;
+#[cfg(test)]
+mod parts;

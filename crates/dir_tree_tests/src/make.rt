@@ -1,0 +1,172 @@
+//! What the tests are made of: names, keys, lines, entries and directories.
+
+use dir_names::{Bytes, Description, Dn, DnKey, Lines, Schema, ValueKey};
+use dir_tree::{Directory, Entry, EntryFault, FlatDirectory, TreeDirectory, may_stand, own_rdns};
+use std::alloc::Global;
+use std::process::Abort;
+
+pub(crate) fn schema(rt: &impl Abort, alloc: Global) -> Schema {
+    Schema::builtin(alloc).expect(rt, "a schema")
+}
+
+pub(crate) fn name(rt: &impl Abort, alloc: Global, text: &str) -> Dn {
+    Dn::read(alloc, text.as_bytes()).expect(rt, "a name")
+}
+
+pub(crate) fn key(rt: &impl Abort, alloc: Global, name: &Dn) -> DnKey {
+    name.key(alloc, &schema(rt, alloc)).expect(rt, "a key")
+}
+
+pub(crate) fn key_of(rt: &impl Abort, alloc: Global, text: &str) -> DnKey {
+    key(rt, alloc, &name(rt, alloc, text))
+}
+
+pub(crate) fn description(rt: &impl Abort, alloc: Global, text: &str) -> Description {
+    Description::read(alloc, &schema(rt, alloc), text.as_bytes()).expect(rt, "a description")
+}
+
+pub(crate) fn bytes(rt: &impl Abort, alloc: Global, text: &str) -> Bytes {
+    Bytes::copy_of(alloc, text.as_bytes()).expect(rt, "memory")
+}
+
+/// The key of a value of this type.
+pub(crate) fn value(rt: &impl Abort, alloc: Global, attr_type: &str, text: &str) -> ValueKey {
+    let description = description(rt, alloc, attr_type);
+    schema(rt, alloc)
+        .value_key(alloc, description.key(), text.as_bytes())
+        .expect(rt, "a key")
+}
+
+/// The types and texts of lines.
+pub(crate) type Texts<'a> = &'a [(&'a str, &'a str)];
+
+/// What an add of these lines at this name makes.
+pub(crate) fn make(
+    rt: &impl Abort,
+    alloc: Global,
+    text: &str,
+    lines: Texts,
+) -> Result<Entry, EntryFault> {
+    let own = name(rt, alloc, text).into_rdns();
+    Entry::make(alloc, &schema(rt, alloc), own, lines_of(rt, alloc, lines))
+}
+
+/// The entry of these lines at this name.
+pub(crate) fn made(rt: &impl Abort, alloc: Global, text: &str, lines: Texts) -> Entry {
+    make(rt, alloc, text, lines).expect(rt, "an entry")
+}
+
+fn lines_of(rt: &impl Abort, alloc: Global, lines: Texts) -> Lines {
+    let mut items = Vec::new(alloc);
+    for (attr_type, text) in lines {
+        items
+            .push(line(rt, alloc, attr_type, text))
+            .expect(rt, "memory");
+    }
+    Lines::new(items)
+}
+
+fn line(rt: &impl Abort, alloc: Global, attr_type: &str, text: &str) -> (Description, Bytes) {
+    (description(rt, alloc, attr_type), bytes(rt, alloc, text))
+}
+
+/// The entry with this own name and no values but those of its RDN.
+pub(crate) fn bare(rt: &impl Abort, alloc: Global, name: Dn, is_suffix: bool) -> Entry {
+    let own = own_rdns(name, is_suffix);
+    let none = Lines::new(Vec::new(alloc));
+    Entry::make(alloc, &schema(rt, alloc), own, none).expect(rt, "an entry")
+}
+
+pub(crate) fn flat(rt: &impl Abort, alloc: Global, suffix: &str) -> FlatDirectory {
+    FlatDirectory::new(alloc, key_of(rt, alloc, suffix))
+}
+
+pub(crate) fn tree(rt: &impl Abort, alloc: Global, suffix: &str) -> TreeDirectory {
+    TreeDirectory::new(alloc, key_of(rt, alloc, suffix))
+}
+
+/// Puts an entry at a key that may take it. Where memory runs out, the key must have no entry.
+pub(crate) fn put<D: Directory>(
+    rt: &impl Abort,
+    alloc: Global,
+    directory: &mut D,
+    key: &DnKey,
+    entry: Entry,
+) {
+    if directory.get(key).is_some() {
+        panic!(rt; "there already");
+    }
+    if !may_stand(alloc, directory, key).expect(rt, "memory") {
+        panic!(rt; "no parent");
+    }
+    if directory.insert(key, entry).is_err() {
+        assert!(rt; directory.get(key).is_none());
+        panic!(rt; "memory");
+    }
+}
+
+/// Adds an entry of this name, with no values but those of its RDN.
+pub(crate) fn add<D: Directory>(rt: &impl Abort, alloc: Global, directory: &mut D, text: &str) {
+    let name = name(rt, alloc, text);
+    let key = key(rt, alloc, &name);
+    let entry = bare(rt, alloc, name, &key == directory.suffix());
+    put(rt, alloc, directory, &key, entry);
+}
+
+/// Adds entries of these names, in this order.
+pub(crate) fn fill<D: Directory>(
+    rt: &impl Abort,
+    alloc: Global,
+    directory: &mut D,
+    names: &[&str],
+) {
+    for name in names {
+        add(rt, alloc, directory, name);
+    }
+}
+
+pub(crate) fn assert_printed(rt: &impl Abort, alloc: Global, name: &Dn, want: &str) {
+    let text = name.print(alloc).expect(rt, "memory");
+    assert!(rt; text.as_slice() == want.as_bytes(), "{want}");
+}
+
+/// Asserts that the entry at the key of this name is spelled so.
+pub(crate) fn assert_spelled<D: Directory>(
+    rt: &impl Abort,
+    alloc: Global,
+    directory: &D,
+    text: &str,
+    want: &str,
+) {
+    let name = spelled(rt, directory, &key_of(rt, alloc, text));
+    assert_printed(rt, alloc, &name, want);
+}
+
+/// The name of the entry at a key, as spelled.
+fn spelled<D: Directory>(rt: &impl Abort, directory: &D, key: &DnKey) -> Dn {
+    let Some(_) = directory.get(key) else {
+        panic!(rt; "not there");
+    };
+    directory.spelled(key).expect(rt, "memory")
+}
+
+/// Asserts that a walk meets entries of these names, in this order.
+pub(crate) fn assert_walked<D: Directory>(
+    rt: &impl Abort,
+    alloc: Global,
+    directory: &D,
+    names: &[&str],
+) {
+    let walk = directory.walk().expect(rt, "memory");
+    assert!(rt; walk.len() == names.len());
+    for (item, name) in walk.iter().zip(names.iter()) {
+        assert_printed(rt, alloc, &item.0, name);
+    }
+}
+
+/// Asserts that an entry's own name is spelled so.
+pub(crate) fn assert_own(rt: &impl Abort, alloc: Global, entry: &Entry, want: &str) {
+    let rdn = entry.own().first().expect(rt, "no own name");
+    let text = rdn.print(alloc).expect(rt, "memory");
+    assert!(rt; text.as_slice() == want.as_bytes());
+}
