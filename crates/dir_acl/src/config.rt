@@ -8,7 +8,6 @@ ghost use Rattle.dir_acl.specs.Inside.ReadingConfig.{configuration_of, settings_
 ghost use Rattle.dir_acl.specs.Inside.Requests.{question_of};
 ghost use Rattle.dir_acl.specs.Outcome.{GivesConfig};
 ghost use Rattle.dir_acl.specs.Privileges.{has};
-ghost use Rattle.dir_acl.specs.Rules.{rules_of};
 ghost use Rattle.dir_acl.specs.declared.privileges.Privilege.{Privilege};
 
 mod access_rules;

@@ -2,7 +2,7 @@
 
 ghost use Rattle.std.specs.List.{list_any};
 ghost use Rattle.std.specs.Prelude.{◌≡◌, ◌++◌, [], ◌∷◌, Ok, map};
-ghost use Rattle.dir_acl.specs.Config.Whats.{filter_at, filter_cause, is_of_form, item_at, items_at, with_attrs, with_filter, with_form, with_name, with_style, with_what};
+ghost use Rattle.dir_acl.specs.Config.Whats.{filter_at, is_of_form, item_at, items_at, with_attrs, with_filter, with_form, with_name, with_what};
 ghost use Rattle.dir_acl.specs.Filters.{tree_of};
 ghost use Rattle.dir_acl.specs.Outcome.{GivesPart};
 ghost use Rattle.dir_acl.specs.Rules.{restriction_of};
@@ -129,12 +129,10 @@ fn has_form(whats: &[What], form: Form) -> bool
 fn is_of_form(form: Form, what: &What) -> bool
     ensures { result ≡ is_of_form form (restriction_of what.now) }
 {
-    match (form, what) {
-        (Form::Dn, What::Dn(_, _))
-        | (Form::Filter, What::Filter(_))
-        | (Form::Attrs, What::Attrs(_)) => true,
-        _ => false,
-    }
+    matches!(
+        (form, what),
+        (Form::Dn, What::Dn(_, _)) | (Form::Filter, What::Filter(_)) | (Form::Attrs, What::Attrs(_))
+    )
 }
 
 fn read_filter(alloc: Global, schema: &Schema, text: &[u8]) -> Result<Filter, ConfigCause>

@@ -1,15 +1,14 @@
 //! The tests of a filter as texts: a description, an operator and a value (RFC 4515, section 3).
 
-ghost use Rattle.std.specs.List.{before_first, list_all, slice_get};
-ghost use Rattle.std.specs.Prelude.{◌≡◌, ◌+◌, ◌-◌, ◌<◌, ◌∷◌, ◌==◌, IfSome, IsTrue, Ok, Some, None, cond, length, option_copied, option_map, position, take};
-ghost use Rattle.dir_names.specs.Cut.{after_first_separator, parts_at};
-ghost use Rattle.dir_names.specs.Inside.Left.{parts_left};
+ghost use Rattle.std.specs.List.{list_all};
+ghost use Rattle.std.specs.Prelude.{◌≡◌, ◌+◌, ◌-◌, ◌<◌, ◌==◌, IfSome, IsTrue, Ok, Some, None, cond, length, option_copied, option_map, take};
+ghost use Rattle.dir_names.specs.Cut.{parts_at};
 ghost use Rattle.dir_names.specs.Names.Escapes.{hex_of, is_hex};
 ghost use Rattle.dir_names.specs.Results.{option_collect};
 ghost use Rattle.dir_names.specs.ValueKeys.Pieces.{piece_of};
-ghost use Rattle.dir_acl.specs.Inside.Escapes.{at_end, has_digit, is_outside, is_refused, keeps_digit, step_of};
+ghost use Rattle.dir_acl.specs.Inside.Escapes.{has_digit, is_outside, is_refused, keeps_digit, step_of};
 ghost use Rattle.dir_acl.specs.Outcome.{Reads, ok_or_bad_filter};
-ghost use Rattle.dir_acl.specs.Tests.{assertion_key, bound_of, described_by, last_piece, matching_by, matching_of_more, matching_of_parts, matching_with, operator_at, operator_of, operator_of_sign, pieces_of, test_from, test_of, unescaped};
+ghost use Rattle.dir_acl.specs.Tests.{assertion_key, bound_of, described_by, last_piece, matching_by, matching_of_more, matching_of_parts, matching_with, operator_of, operator_of_sign, pieces_of, test_from, test_of, unescaped};
 
 use crate::cut::split_once;
 use crate::filter::integers::is_integer;
