@@ -90,8 +90,8 @@ const THIRD_LINES: [(&str, ConfigCause); 29] = [
 
 #[test]
 fn the_first_fault_is_told_with_its_line(rt: HostRuntime) {
-    for (text, line, cause) in FAULTS {
-        assert_fault(&rt, rt.alloc(), text.as_bytes(), line, cause);
+    for (text, line, cause) in &FAULTS {
+        assert_fault(&rt, rt.alloc(), text.as_bytes(), *line, *cause);
     }
 }
 
@@ -104,8 +104,8 @@ fn assert_fault(rt: &impl Abort, alloc: Global, text: &[u8], line: u64, cause: C
 
 #[test]
 fn a_faulty_line_after_the_suffix_is_refused(rt: HostRuntime) {
-    for (line, cause) in THIRD_LINES {
-        assert_third_line(&rt, rt.alloc(), line, cause);
+    for (line, cause) in &THIRD_LINES {
+        assert_third_line(&rt, rt.alloc(), line, *cause);
     }
 }
 

@@ -37,8 +37,8 @@ const TRUTHS: [(&str, Truth); 22] = [
 
 #[test]
 fn filters_are_true_or_not(rt: HostRuntime) {
-    for (text, want) in TRUTHS {
-        assert_truth(&rt, rt.alloc(), text, want);
+    for (text, want) in &TRUTHS {
+        assert_truth(&rt, rt.alloc(), text, *want);
     }
 }
 
@@ -80,15 +80,16 @@ const REFUSED: [&str; 7] = [
 
 #[test]
 fn only_filters_are_read(rt: HostRuntime) {
-    for text in READ {
-        assert!(rt; fault_of(&rt, rt.alloc(), text).is_none(), "{text}");
+    for text in &READ {
+        assert_fault(&rt, rt.alloc(), text, None);
     }
-    for text in REFUSED {
-        assert!(rt;
-            fault_of(&rt, rt.alloc(), text) == Some(FilterFault::BadFilter),
-            "{text}"
-        );
+    for text in &REFUSED {
+        assert_fault(&rt, rt.alloc(), text, Some(FilterFault::BadFilter));
     }
+}
+
+fn assert_fault(rt: &impl Abort, alloc: Global, text: &str, want: Option<FilterFault>) {
+    assert!(rt; fault_of(rt, alloc, text) == want, "{text}");
 }
 
 fn fault_of(rt: &impl Abort, alloc: Global, text: &str) -> Option<FilterFault> {
@@ -111,7 +112,7 @@ pub(crate) fn negations(rt: &impl Abort, alloc: Global, depth: usize) -> String 
 #[test]
 fn a_filter_has_at_most_64_levels(rt: HostRuntime) {
     let deepest = negations(&rt, rt.alloc(), 63);
-    assert!(rt; fault_of(&rt, rt.alloc(), deepest.as_str()).is_none());
+    assert_fault(&rt, rt.alloc(), deepest.as_str(), None);
     let deeper = negations(&rt, rt.alloc(), 64);
-    assert!(rt; fault_of(&rt, rt.alloc(), deeper.as_str()) == Some(FilterFault::TooDeep));
+    assert_fault(&rt, rt.alloc(), deeper.as_str(), Some(FilterFault::TooDeep));
 }

@@ -92,7 +92,7 @@ const GRANTS: [Grant<'static>; 21] = [
 
 #[test]
 fn rules_grant_what_the_manual_says(rt: HostRuntime) {
-    for grant in GRANTS {
+    for grant in &GRANTS {
         assert_granted(&rt, rt.alloc(), grant);
     }
 }
@@ -109,7 +109,7 @@ fn asked(rt: &impl Abort, alloc: Global, text: &str) -> Asked {
     }
 }
 
-fn assert_granted(rt: &impl Abort, alloc: Global, grant: Grant<'_>) {
+fn assert_granted(rt: &impl Abort, alloc: Global, grant: &Grant<'_>) {
     let (text, requester, target, asked, want) = grant;
     let granted = granted(
         rt,
@@ -176,7 +176,7 @@ const RULES: [&str; 8] = [
 
 #[test]
 fn examples_of_the_manual_are_read(rt: HostRuntime) {
-    for rule in RULES {
+    for rule in &RULES {
         assert_rule(&rt, rt.alloc(), rule);
     }
 }

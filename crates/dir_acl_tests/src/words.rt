@@ -22,12 +22,16 @@ const LEVELS: [(&str, Level, &str); 10] = [
 
 #[test]
 fn levels_name_their_privileges(rt: HostRuntime) {
-    for (word, level, want) in LEVELS {
-        assert!(rt; Level::read(word.as_bytes()) == Some(level), "{word}");
-        assert_text(&rt, rt.alloc(), level.privileges(), want);
+    for (word, level, want) in &LEVELS {
+        assert_level(&rt, rt.alloc(), word, *level, want);
     }
     assert!(rt; Level::read(b"peek").is_none() && Level::read(b"").is_none());
     assert_text(&rt, rt.alloc(), Privileges::all(), "=mwrscxd");
+}
+
+fn assert_level(rt: &impl Abort, alloc: Global, word: &str, level: Level, want: &str) {
+    assert!(rt; Level::read(word.as_bytes()) == Some(level), "{word}");
+    assert_text(rt, alloc, level.privileges(), want);
 }
 
 #[test]
@@ -61,11 +65,11 @@ const CONFIG_CAUSES: [(ConfigCause, &str); 11] = [
 
 #[test]
 fn faults_show_their_number_and_name(rt: HostRuntime) {
-    for (fault, want) in FILTER_FAULTS {
-        assert_shows(&rt, rt.alloc(), &fault, want);
+    for (fault, want) in &FILTER_FAULTS {
+        assert_shows(&rt, rt.alloc(), fault, want);
     }
-    for (cause, want) in CONFIG_CAUSES {
-        assert_shows(&rt, rt.alloc(), &cause, want);
+    for (cause, want) in &CONFIG_CAUSES {
+        assert_shows(&rt, rt.alloc(), cause, want);
     }
 }
 

@@ -304,7 +304,7 @@ const SHOWN: [(ResultCode, &str); 11] = [
 
 #[test]
 fn each_result_code_shows_its_number_and_name(rt: HostRuntime) {
-    for (code, want) in SHOWN {
-        assert_shown(&rt, rt.alloc(), code, want);
+    for (code, want) in &SHOWN {
+        assert_shown(&rt, rt.alloc(), *code, want);
     }
 }

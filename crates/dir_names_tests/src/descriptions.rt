@@ -15,7 +15,7 @@ const EQUAL: [(&str, &str); 4] = [
 
 #[test]
 fn a_description_has_the_key_of_its_type_and_options(rt: HostRuntime) {
-    for (one, other) in EQUAL {
+    for (one, other) in &EQUAL {
         assert_equal(&rt, rt.alloc(), one, other);
     }
 }
@@ -62,18 +62,16 @@ const REFUSED: [(&str, NameFault); 13] = [
 
 #[test]
 fn only_descriptions_are_read(rt: HostRuntime) {
-    for text in READ {
-        assert!(rt;
-            fault_of(&rt, rt.alloc(), text.as_bytes()).is_none(),
-            "{text}"
-        );
+    for text in &READ {
+        assert_fault(&rt, rt.alloc(), text, None);
     }
-    for (text, want) in REFUSED {
-        assert!(rt;
-            fault_of(&rt, rt.alloc(), text.as_bytes()) == Some(want),
-            "{text}"
-        );
+    for (text, want) in &REFUSED {
+        assert_fault(&rt, rt.alloc(), text, Some(*want));
     }
+}
+
+fn assert_fault(rt: &impl Abort, alloc: Global, text: &str, want: Option<NameFault>) {
+    assert!(rt; fault_of(rt, alloc, text.as_bytes()) == want, "{text}");
 }
 
 /// The fault of a description's text, if it has one.
@@ -99,8 +97,8 @@ const TYPES: [(&str, Rule, bool); 12] = [
 
 #[test]
 fn types_have_the_rules_of_their_standards(rt: HostRuntime) {
-    for (attr_type, rule, is_single) in TYPES {
-        assert_type(&rt, rt.alloc(), attr_type, rule, is_single);
+    for (attr_type, rule, is_single) in &TYPES {
+        assert_type(&rt, rt.alloc(), attr_type, *rule, *is_single);
     }
 }
 

@@ -16,8 +16,8 @@ const TEXTS: [(NameFault, &str); 6] = [
 
 #[test]
 fn each_fault_shows_its_text(rt: HostRuntime) {
-    for (fault, want) in TEXTS {
-        assert_shows(&rt, rt.alloc(), &fault, want);
+    for (fault, want) in &TEXTS {
+        assert_shows(&rt, rt.alloc(), fault, want);
     }
     assert_shows(&rt, rt.alloc(), &Memory, "out of memory");
 }

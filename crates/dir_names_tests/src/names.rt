@@ -45,11 +45,15 @@ const NO_NAMES: [&str; 17] = [
 
 #[test]
 fn names_print_and_read_back(rt: HostRuntime) {
-    for (text, want) in PRINTED {
-        let name = name(&rt, rt.alloc(), text);
-        assert_printed(&rt, rt.alloc(), &name, want);
-        assert_reads(&rt, rt.alloc(), want, &name);
+    for (text, want) in &PRINTED {
+        assert_prints(&rt, rt.alloc(), text, want);
     }
+}
+
+fn assert_prints(rt: &impl Abort, alloc: Global, text: &str, want: &str) {
+    let name = name(rt, alloc, text);
+    assert_printed(rt, alloc, &name, want);
+    assert_reads(rt, alloc, want, &name);
 }
 
 pub(crate) fn assert_printed(rt: &impl Abort, alloc: Global, name: &Dn, want: &str) {
@@ -64,12 +68,16 @@ fn assert_reads(rt: &impl Abort, alloc: Global, text: &str, want: &Dn) {
 
 #[test]
 fn other_texts_are_no_names(rt: HostRuntime) {
-    for text in NO_NAMES {
-        assert!(rt;
-            fault_of(rt.alloc(), text.as_bytes()) == Some(NameFault::BadDn),
-            "{text}"
-        );
+    for text in &NO_NAMES {
+        assert_no_name(&rt, rt.alloc(), text);
     }
+}
+
+fn assert_no_name(rt: &impl Abort, alloc: Global, text: &str) {
+    assert!(rt;
+        fault_of(alloc, text.as_bytes()) == Some(NameFault::BadDn),
+        "{text}"
+    );
 }
 
 /// The fault of a name's text, if it has one.

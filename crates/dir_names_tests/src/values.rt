@@ -45,14 +45,14 @@ const FOLDED: [(&str, &str); 14] = [
 
 #[test]
 fn values_have_keys_by_the_rule_of_their_type(rt: HostRuntime) {
-    for (attr_type, value, want) in KEYS {
+    for (attr_type, value, want) in &KEYS {
         assert_key(&rt, rt.alloc(), attr_type, value, want);
     }
 }
 
 #[test]
 fn values_are_folded_and_normalised(rt: HostRuntime) {
-    for (value, want) in FOLDED {
+    for (value, want) in &FOLDED {
         assert_key(&rt, rt.alloc(), "cn", value.as_bytes(), want.as_bytes());
     }
 }
@@ -64,10 +64,14 @@ fn assert_key(rt: &impl Abort, alloc: Global, attr_type: &str, value: &[u8], wan
 
 #[test]
 fn what_is_no_value_of_its_type_has_no_key(rt: HostRuntime) {
-    for (attr_type, value) in NO_VALUES {
-        let fault = key_of(&rt, rt.alloc(), attr_type, value).err();
-        assert!(rt; fault == Some(NameFault::BadValue), "{attr_type}");
+    for (attr_type, value) in &NO_VALUES {
+        assert_no_value(&rt, rt.alloc(), attr_type, value);
     }
+}
+
+fn assert_no_value(rt: &impl Abort, alloc: Global, attr_type: &str, value: &[u8]) {
+    let fault = key_of(rt, alloc, attr_type, value).err();
+    assert!(rt; fault == Some(NameFault::BadValue), "{attr_type}");
 }
 
 fn key_of(
@@ -111,10 +115,21 @@ const PIECES: [(&str, PiecePlace, &[u8], &[u8]); 6] = [
 
 #[test]
 fn pieces_are_folded_and_keep_the_spaces_that_count_in_their_place(rt: HostRuntime) {
-    for (attr_type, place, text, want) in PIECES {
-        let key = piece(&rt, rt.alloc(), attr_type, place, text);
-        assert!(rt; is_text(&key, want), "{attr_type}");
+    for (attr_type, place, text, want) in &PIECES {
+        assert_piece(&rt, rt.alloc(), attr_type, *place, text, want);
     }
+}
+
+fn assert_piece(
+    rt: &impl Abort,
+    alloc: Global,
+    attr_type: &str,
+    place: PiecePlace,
+    text: &[u8],
+    want: &[u8],
+) {
+    let key = piece(rt, alloc, attr_type, place, text);
+    assert!(rt; is_text(&key, want), "{attr_type}");
 }
 
 #[test]

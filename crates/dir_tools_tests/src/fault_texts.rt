@@ -62,7 +62,7 @@ const FAULTS: [(ToolFault, &str); 15] = [
 
 #[test]
 fn each_fault_has_its_text_whatever_the_options(rt: HostRuntime) {
-    for (fault, want) in FAULTS {
-        assert_shown(&rt, rt.alloc(), fault, want);
+    for (fault, want) in &FAULTS {
+        assert_shown(&rt, rt.alloc(), *fault, want);
     }
 }

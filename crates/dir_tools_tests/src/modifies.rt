@@ -164,8 +164,8 @@ const MODIFIES: [Modify<'static>; 14] = [
 
 #[test]
 fn modifies_are_taken_back_by_the_smallest_modify(rt: HostRuntime) {
-    for row in MODIFIES {
-        assert_modify(&rt, rt.alloc(), &row);
+    for row in &MODIFIES {
+        assert_modify(&rt, rt.alloc(), row);
     }
 }
 

@@ -108,14 +108,14 @@ const MODIFIES: [(&str, &str); 15] = [
 
 #[test]
 fn what_is_refused_stays_as_it_was(rt: HostRuntime) {
-    for (changes, cause) in RECORDS {
+    for (changes, cause) in &RECORDS {
         assert_refused(&rt, rt.alloc(), changes, cause);
     }
 }
 
 #[test]
 fn a_refused_modify_leaves_the_entry_as_it_was(rt: HostRuntime) {
-    for (mods, cause) in MODIFIES {
+    for (mods, cause) in &MODIFIES {
         assert_modify_refused(&rt, rt.alloc(), mods, cause);
     }
 }
@@ -210,7 +210,7 @@ const ENDINGS: [(&str, &str, &str, &str); 11] = [
 
 #[test]
 fn a_fault_that_ends_the_run_is_named_and_nothing_is_written(rt: HostRuntime) {
-    for (suffix, copy, changes, want) in ENDINGS {
+    for (suffix, copy, changes, want) in &ENDINGS {
         assert_ends(&rt, rt.alloc(), suffix, copy, changes, want);
     }
 }

@@ -174,8 +174,8 @@ const ENTRIES: [Run<'static>; 9] = [
 
 #[test]
 fn adds_and_deletes_are_taken_back(rt: HostRuntime) {
-    for one in ENTRIES {
-        assert_run(&rt, rt.alloc(), &one);
+    for one in &ENTRIES {
+        assert_run(&rt, rt.alloc(), one);
     }
 }
 
@@ -257,8 +257,8 @@ const RENAMES: [Run<'static>; 5] = [
 
 #[test]
 fn renames_are_taken_back(rt: HostRuntime) {
-    for one in RENAMES {
-        assert_run(&rt, rt.alloc(), &one);
+    for one in &RENAMES {
+        assert_run(&rt, rt.alloc(), one);
     }
 }
 
@@ -349,8 +349,8 @@ const OPTIONS: [Run<'static>; 6] = [
 
 #[test]
 fn a_run_follows_its_options(rt: HostRuntime) {
-    for one in OPTIONS {
-        assert_run(&rt, rt.alloc(), &one);
+    for one in &OPTIONS {
+        assert_run(&rt, rt.alloc(), one);
     }
 }
 
