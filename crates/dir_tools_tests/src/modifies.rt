@@ -1,7 +1,7 @@
 //! Modifies, and the smallest modifies that take them back.
 
-use crate::running::{STOP, Want};
-use crate::runs::{Run, assert_run};
+use crate::running::{Ran, STOP, Want, assert_wrote, run};
+use crate::runs::{Run, assert_back, assert_run};
 use std::alloc::Global;
 use std::process::Abort;
 
@@ -36,25 +36,25 @@ fn undo_text_of(rt: &impl Abort, alloc: Global, rdn: &str, mods: &str) -> String
     format!(in alloc; "version: 1\n\n{undo}").expect(rt, "memory")
 }
 
+/// Asserts what the run of one modify wrote.
+fn assert_modified(rt: &impl Abort, alloc: Global, ran: &Ran, row: &Modify<'_>) {
+    let undo = undo_text_of(rt, alloc, row.rdn, row.undo);
+    let out = copy_of(rt, alloc, row.rdn, row.after);
+    let want = Want {
+        undo: undo.as_str(),
+        out: out.as_str(),
+        report: "accepted 1, refused 0\n",
+    };
+    assert_wrote(rt, ran, &want);
+}
+
 /// Asserts what the run of one modify writes, and that it is taken back.
 fn assert_modify(rt: &impl Abort, alloc: Global, row: &Modify<'_>) {
     let copy = copy_of(rt, alloc, row.rdn, row.before);
     let changes = record_of(rt, alloc, row.rdn, row.mods);
-    let undo = undo_text_of(rt, alloc, row.rdn, row.undo);
-    let out = copy_of(rt, alloc, row.rdn, row.after);
-    let one = Run {
-        suffix: "dc=com",
-        options: STOP,
-        copy: copy.as_str(),
-        changes: changes.as_str(),
-        want: Want {
-            undo: undo.as_str(),
-            out: out.as_str(),
-            report: "accepted 1, refused 0\n",
-        },
-        back: copy.as_str(),
-    };
-    assert_run(rt, alloc, &one);
+    let ran = run(rt, alloc, STOP, copy.as_str(), changes.as_str());
+    assert_modified(rt, alloc, &ran, row);
+    assert_back(rt, alloc, "dc=com", &ran, copy.as_str());
 }
 
 const MODIFIES: [Modify<'static>; 14] = [
