@@ -4,7 +4,9 @@
 usage: bugs.py [CRATE[/PATTERN] ...]
 
 They are must-fail edits that the gate leaves out (docs/CONTRIBUTING.md says which), at about half a minute each. Try
-those of a crate when it has changed; with a pattern, as in 'dir_change/*rename*', only those whose names it fits.
+those of a crate when it has changed; with a pattern, as in 'dir_change/*rename*', only those whose names it fits. They are
+planted over what `rt check` last kept of the crate on this machine, in whatever checkout; with nothing kept, the crate is
+proved once first.
 """
 import collections
 import pathlib
@@ -29,7 +31,7 @@ def are_refused(crate, bugs):
     """Whether the prover refuses each of these bugs of the crate, planted in a copy of the repository."""
     with tempfile.TemporaryDirectory() as folder:
         copy = pathlib.Path(folder)
-        shutil.copytree(ROOT / "crates", copy / "crates")
+        shutil.copytree(ROOT / "crates", copy / "crates", ignore=shutil.ignore_patterns("out"))
         for name in ("crates.txt", "HANDLES"):
             shutil.copy(ROOT / name, copy)
         edits = copy / "crates" / crate / "must-fail"

@@ -19,7 +19,7 @@ use Rattle.dir_tree.proofs.RestBelow.{rest_is}
 use Rattle.dir_tree.proofs.SpelledLemmas.{spelled_short}
 use Rattle.dir_tree.proofs.SpelledMoves.{spelled_moved, spelled_stays}
 use Rattle.dir_change.specs.Rename.{place_at, renamed_entry, superior_at, superior_key}
-use Rattle.dir_change.specs.Undo.{is_parent, joined_key, rename_back, spelled_name_or_empty, superior_back, undo_of, undo_of_rename}
+use Rattle.dir_change.specs.Undo.{is_parent, joined_key, rename_back, rename_back_in, spelled_name_or_empty, superior_back, undo_of, undo_of_rename}
 use Rattle.dir_change.proofs.RenameAccepted.{RenamedAt, new_key, place_is, renamed_by}
 use Rattle.dir_change.proofs.RenamedEntry.{renamed_is}
 
@@ -82,7 +82,7 @@ module _ (rows : List TypeRow) (d : Dir) (closed : IsClosed d) (k : DnKeys) (rdn
 
   -- the group, by the names and entries before the rename
   pub group_form : undo_of rows d after k (kind.Rename rdn delete_old superior) ≡
-      rename_back rows (known.new_entry.own ++ spelled_name d known.parent) (cond (is_parent (parent_of k) (Some known.parent)) None (Some (spelled_name_or_empty d (parent_of k)))) (spelled_name d k) known.new_entry known.old_entry (leaf_of known.old_entry.own) (leaf_key rows known.old_entry.own)
+      rename_back_in rows d k known.parent known.new_entry known.old_entry
   group_form =
       (λ i. undo_of_rename rows d after k (joined_key (known.parent_is i) (known.named i)) (superior_back rows after k superior) (option_and_then (entry_at after) (joined_key (known.parent_is i) (known.named i))) (known.there i))
       ∙ ap (λ o. undo_of_rename rows d after k (Some to) (superior_back rows after k superior) o (Some known.old_entry)) (moved_here d k to clear known.new_entry)
@@ -102,7 +102,7 @@ pub record Built (rows : List TypeRow) (d : Dir) (k : DnKeys) (rdn : SpelledRdn)
   pub has_parent_key : is_some (parent_of k) ≡ true
   pub parent_there : (q : DnKeys) → parent_of k ≡ Some q → is_some (entry_at d q) ≡ true
   pub group : undo_of rows d (move_subtree d k n y) k (kind.Rename rdn delete_old superior) ≡
-      rename_back rows (y.own ++ spelled_name d p) (cond (is_parent (parent_of k) (Some p)) None (Some (spelled_name_or_empty d (parent_of k)))) (spelled_name d k) y e (leaf_of e.own) (leaf_key rows e.own)
+      rename_back_in rows d k p y e
 
 pub built : (rows : List TypeRow) (d : Dir) → IsClosed d → (k : DnKeys) (rdn : SpelledRdn) (delete_old : Bool) (superior : Option SpelledName) (e : Content) → entry_at d k ≡ Some e → dn_key_eq k d.suffix ≡ false
     → (p : DnKeys) → superior_at d k (superior_key rows k superior) ≡ Ok p → (key : RdnKeys) → rdn_key rows rdn ≡ Some key → (n : DnKeys) → n ≡ p ++ key ∷ [] → place_at d k n ≡ Ok n

@@ -146,12 +146,24 @@ joined_key parent key = None
 abbrev pub superior_back : List TypeRow → Dir → DnKeys → Option SpelledName → Option SpelledName
 superior_back rows after k superior = cond (is_parent (parent_of k) (superior_key rows k superior)) None (Some (spelled_name_or_empty after (parent_of k)))
 
--- the rename to the RDN that the entry had, which takes the values of the new RDN away, and then the modifications that lead to what the entry was; nothing if it had no RDN with a key
+-- the rename to this RDN, which takes the values of the other one away
+abbrev pub rename_to : SpelledName → Option SpelledName → SpelledRdn → Change
+rename_to name superior leaf = record { dn = name; kind = kind.Rename leaf true superior }
+
+-- the rename to the RDN that the entry had, and then the modifications that lead to what the entry was; nothing if it had no RDN with a key
 abbrev pub rename_back : List TypeRow → SpelledName → Option SpelledName → SpelledName → Content → Content → Option SpelledRdn → Option RdnKeys → List Change
 rename_back rows new_name superior old_name after before (Some leaf) (Some key) =
-    record { dn = new_name; kind = kind.Rename leaf true superior }
+    rename_to new_name superior leaf
     ∷ modify_if_any old_name (difference (renamed_attributes rows after.attributes after.key leaf key true) before.attributes)
 rename_back rows new_name superior old_name after before leaf key = []
+
+-- the same for a rename to below this superior, by the names in the directory before it
+abbrev pub superior_back_in : Dir → DnKeys → DnKeys → Option SpelledName
+superior_back_in d k superior = cond (is_parent (parent_of k) (Some superior)) None (Some (spelled_name_or_empty d (parent_of k)))
+
+abbrev pub rename_back_in : List TypeRow → Dir → DnKeys → DnKeys → Content → Content → List Change
+rename_back_in rows d k superior after before =
+    rename_back rows (after.own ++ spelled_name d superior) (superior_back_in d k superior) (spelled_name d k) after before (leaf_of before.own) (leaf_key rows before.own)
 
 abbrev pub undo_of_rename : List TypeRow → Dir → Dir → DnKeys → Option DnKeys → Option SpelledName → Option Content → Option Content → List Change
 undo_of_rename rows before after k (Some new) superior (Some y) (Some e) =

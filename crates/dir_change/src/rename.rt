@@ -1,7 +1,7 @@
 //! The modify DN operation (RFC 4511, section 4.9), which moves an entry with all that is below it, and the
 //! changes that take it back: a rename, and a modify of what is left.
 
-ghost use Rattle.std.specs.Prelude.{◌≡◌, [], ◌∷◌, ◌++◌, ◌+◌, IfErr, IfOk, IfSome, IsSome, None, Ok, OnErr, OnOk, Some, cond, length, nat_lt};
+ghost use Rattle.std.specs.Prelude.{◌≡◌, [], ◌∷◌, ◌++◌, ◌+◌, ◌≤◌, IfErr, IfOk, IfSome, IsSome, None, Ok, OnErr, OnOk, Some, length, nat_lt, true};
 ghost use Rattle.std.specs.List.{list_any};
 ghost use Rattle.std.specs.Option.{option_map};
 ghost use Rattle.dir_ldif.specs.declared.records.ChangeKind.TheVariants as kind;
@@ -11,16 +11,18 @@ ghost use Rattle.dir_names.specs.Orders.{pair_eq};
 ghost use Rattle.dir_tree.specs.Dir.{entry_at};
 ghost use Rattle.dir_tree.specs.Moves.{IsShallow, height_below};
 ghost use Rattle.dir_tree.specs.NewEntry.{leaf_key, leaf_of};
+ghost use Rattle.dir_tree.specs.SpelledNames.{spelled_name};
+ghost use Rattle.dir_change.specs.Difference.{difference};
 ghost use Rattle.dir_change.specs.Operation.{IsRefused};
 ghost use Rattle.dir_change.specs.Rename.{directory_after_rename, pairs_missing_in, place_at, renamed_attributes, renamed_entry, slot_without_value, superior_at, superior_key, without_pair, without_pairs};
-ghost use Rattle.dir_change.specs.Undo.{is_parent, rename_back, spelled_name_or_empty, undo_of};
+ghost use Rattle.dir_change.specs.Undo.{rename_back_in, rename_to, superior_back_in, undo_of};
 ghost use Rattle.dir_change.specs.declared.operation.Refusal.TheVariants as refusal;
 
 use crate::add::joined_name;
 use crate::difference::{all_keys, difference};
 use crate::modify::if_any;
 use crate::{Refusal, ResultCode, Undo};
-use dir_ldif::{Change, ChangeKind};
+use dir_ldif::{Change, ChangeKind, Mod};
 use dir_names::{AttrKey, Bytes, Dn, DnKey, NameFault, Rdn, RdnKey, Schema, ValueKey};
 use dir_tree::{Attribute, AttributeMap, Directory, Entry, Parts};
 use std::alloc::Global;
@@ -57,22 +59,44 @@ pub(crate) fn rename<D: Directory>(
     };
     let place = place(alloc, directory, key, &superior, &rdn_key)?;
     let renamed = renamed_entry(alloc, schema, entry, newrdn, rdn_key, delete_old)?;
-    let new_name = joined_name(alloc, &place, renamed.own(), directory.spelled(&superior)?)?;
-    let superior_back = superior_back(alloc, directory, key, &superior)?;
-    let old_name = directory.spelled(key)?;
-    let undo = rename_back(
-        alloc,
-        schema,
-        new_name,
-        superior_back,
-        old_name,
-        &renamed,
-        entry,
+    let undo = undo_of_rename(
+        alloc, schema, directory, key, &superior, &place, &renamed, entry,
     )?;
     match directory.move_subtree(key, &place, renamed) {
         Ok(_) => Ok(undo),
         Err(_) => Err(Refusal::Memory),
     }
+}
+
+/// The changes that take a rename back: a rename back, and a modify of what that leaves. Nothing for an entry that
+/// had no RDN with a key.
+fn undo_of_rename<D: Directory>(
+    alloc: Global,
+    schema: &Schema,
+    directory: &D,
+    key: &DnKey,
+    superior: &DnKey,
+    place: &DnKey,
+    renamed: &Entry,
+    entry: &Entry,
+) -> Result<Undo, Refusal>
+    requires there { IsSome (entry_at (D.state directory.now) key.now) }
+    requires above { IsSome (entry_at (D.state directory.now) superior.now) }
+    requires has_parent { IsSome (parent_of key.now) }
+    requires parent { (p : DnKeys) → parent_of key.now ≡ Some p → IsSome (entry_at (D.state directory.now) p) }
+    requires fits { length renamed.now.own + length (spelled_name (D.state directory.now) superior.now) ≤ length place.now }
+    ensures ok { IfOk result (λ undo. undo ≡ rename_back_in schema.now (D.state directory.now) key.now superior.now renamed.now entry.now) }
+    ensures memory { IfErr result (λ e. e ≡ refusal.Memory) }
+{
+    let Some(leaf) = entry.own().first() else {
+        return Ok(Undo::new(Vec::new(alloc)));
+    };
+    let Some(mods) = left_by_rename_back(alloc, schema, leaf, renamed, entry)? else {
+        return Ok(Undo::new(Vec::new(alloc)));
+    };
+    let undo = Undo::modify(alloc, directory.spelled(key)?, mods)?;
+    let back = rename_back(alloc, directory, key, superior, place, renamed, leaf)?;
+    Ok(undo.with_first(back)?)
 }
 
 /// The key of the entry below which the renamed one is to be.
@@ -284,7 +308,7 @@ fn superior_back<D: Directory>(
     superior: &DnKey,
 ) -> Result<Option<Dn>, Refusal>
     requires { (p : DnKeys) → parent_of key.now ≡ Some p → IsSome (entry_at (D.state directory.now) p) }
-    ensures ok { IfOk result (λ back. IsSome (parent_of key.now) → back ≡ cond (is_parent (parent_of key.now) (Some superior.now)) None (Some (spelled_name_or_empty (D.state directory.now) (parent_of key.now)))) }
+    ensures ok { IfOk result (λ back. IsSome (parent_of key.now) → back ≡ superior_back_in (D.state directory.now) key.now superior.now) }
     ensures memory { IfErr result (λ e. e ≡ refusal.Memory) }
 {
     let Some(parent) = key.parent(alloc).map_err(|_| Refusal::Memory)? else {
@@ -296,24 +320,51 @@ fn superior_back<D: Directory>(
     Ok(Some(directory.spelled(&parent)?))
 }
 
-/// The rename back, and the modify of what it leaves.
-fn rename_back(
+/// The rename back to an RDN, under the name that the entry has once it is renamed.
+fn rename_back<D: Directory>(
     alloc: Global,
-    schema: &Schema,
-    new_name: Dn,
-    superior: Option<Dn>,
-    old_name: Dn,
-    after: &Entry,
-    before: &Entry,
-) -> Result<Undo, Refusal>
-    ensures ok { IfOk result (λ undo. undo ≡ rename_back schema.now new_name superior old_name after.now before.now (leaf_of before.now.own) (leaf_key schema.now before.now.own)) }
+    directory: &D,
+    key: &DnKey,
+    superior: &DnKey,
+    place: &DnKey,
+    renamed: &Entry,
+    leaf: &Rdn,
+) -> Result<Change, Refusal>
+    requires above { IsSome (entry_at (D.state directory.now) superior.now) }
+    requires has_parent { IsSome (parent_of key.now) }
+    requires parent { (p : DnKeys) → parent_of key.now ≡ Some p → IsSome (entry_at (D.state directory.now) p) }
+    requires fits { length renamed.now.own + length (spelled_name (D.state directory.now) superior.now) ≤ length place.now }
+    ensures ok { IfOk result (λ change. change ≡ rename_to (renamed.now.own ++ spelled_name (D.state directory.now) superior.now) (superior_back_in (D.state directory.now) key.now superior.now) leaf.now) }
     ensures memory { IfErr result (λ e. e ≡ refusal.Memory) }
 {
-    let Some(leaf) = before.own().first() else {
-        return Ok(Undo::new(Vec::new(alloc)));
+    let dn = joined_name(alloc, place, renamed.own(), directory.spelled(superior)?)?;
+    let newsuperior = superior_back(alloc, directory, key, superior)?;
+    let Ok(newrdn) = leaf.try_clone(alloc) else {
+        return Err(Refusal::Memory);
     };
+    Ok(Change {
+        dn,
+        kind: ChangeKind::Rename {
+            newrdn,
+            delete_old: true,
+            newsuperior,
+        },
+    })
+}
+
+/// The modifications that take back what the rename back to an RDN leaves, if that has a key.
+fn left_by_rename_back(
+    alloc: Global,
+    schema: &Schema,
+    leaf: &Rdn,
+    after: &Entry,
+    before: &Entry,
+) -> Result<Option<Vec<Mod>>, Refusal>
+    ensures ok { IfOk result (λ mods. option_map (λ items. items.items) mods ≡ option_map (λ key. difference (renamed_attributes schema.now after.now.attributes after.now.key leaf.now key true) before.now.attributes) (rdn_key schema.now leaf.now)) }
+    ensures memory { IfErr result (λ e. e ≡ refusal.Memory) }
+{
     let Some(key) = key_of(alloc, schema, leaf)? else {
-        return Ok(Undo::new(Vec::new(alloc)));
+        return Ok(None);
     };
     let left = renamed_attributes(
         alloc,
@@ -326,16 +377,7 @@ fn rename_back(
     )?;
     let keys = all_keys(alloc, &left, before.attribute_map())?;
     let mods = difference(alloc, keys.as_slice(), &left, before.attribute_map())?;
-    let Ok(newrdn) = leaf.try_clone(alloc) else {
-        return Err(Refusal::Memory);
-    };
-    let kind = ChangeKind::Rename {
-        newrdn,
-        delete_old: true,
-        newsuperior: superior,
-    };
-    let undo = Undo::modify(alloc, old_name, mods)?;
-    Ok(undo.with_first(Change { dn: new_name, kind })?)
+    Ok(Some(mods))
 }
 
 /// The key of an RDN, if it has one.

@@ -1,10 +1,9 @@
-use Rattle.std.proofs.Common.{◌≡◌, false, length, ◌++◌, Some, sym, ap, ◌∙◌, arith}
+use Rattle.std.proofs.Common.{◌≡◌, false, Some, sym, ap, ◌∙◌}
 use Rattle.dir_names.specs.NameKeys.{rdn_key}
 use Rattle.dir_names.specs.Orders.{dn_key_eq}
 use Rattle.dir_ldif.specs.declared.records.ChangeKind.TheVariants as kind
 use Rattle.dir_tree.specs.Dir.{Dir}
-use Rattle.dir_tree.specs.NewEntry.{leaf_key, leaf_of}
-use Rattle.dir_change.specs.Undo.{rename_back, undo_of}
+use Rattle.dir_change.specs.Undo.{undo_of}
 use Rattle.dir_change.proofs.RenameUndo.{Built, built}
 use Rattle.dir_change.proofs.rename.rename.Goals as goal
 use Rattle.dir_change.proofs.rename.rename.Goals.{In_ok-renamed}
@@ -19,12 +18,17 @@ known g c =
     built c.args.schema.now d c.suffix.ensures.closed c.args.key.now c.args.newrdn.now c.args.delete_old c.args.newsuperior.now c.in-Some.entry.now (sym c.in-Some.ensures) apart
     c.in_ok-superior.superior c.in_ok-superior.ensures.ok c.in-Some-2.rdn_key named c.in_ok-place.place c.in_ok-place.ensures.is c.in_ok-place.ensures.ok c.in_ok-renamed.renamed c.in_ok-renamed.ensures.ok
 
-pub joined_name-requires : goal.joined_name-requires
-joined_name-requires g c =
-    let low = (known g (goal.at.joined_name-requires g c).In_ok-renamed).name_fits in
-    let own = ap length c.own.ensures in
-    let name = ap length c.in_ok-spelled.ensures in
-    omega (arith, low, own, name)
+pub undo_of_rename-requires-clause-above : goal.undo_of_rename-requires-clause-above
+undo_of_rename-requires-clause-above g c = (known g (goal.at.undo_of_rename-requires-clause-above g c).In_ok-renamed).superior_there
+
+pub undo_of_rename-requires-clause-has_parent : goal.undo_of_rename-requires-clause-has_parent
+undo_of_rename-requires-clause-has_parent g c = (known g (goal.at.undo_of_rename-requires-clause-has_parent g c).In_ok-renamed).has_parent_key
+
+pub undo_of_rename-requires-clause-parent : goal.undo_of_rename-requires-clause-parent
+undo_of_rename-requires-clause-parent g c = (known g (goal.at.undo_of_rename-requires-clause-parent g c).In_ok-renamed).parent_there
+
+pub undo_of_rename-requires-clause-fits : goal.undo_of_rename-requires-clause-fits
+undo_of_rename-requires-clause-fits g c = (known g (goal.at.undo_of_rename-requires-clause-fits g c).In_ok-renamed).name_fits
 
 pub move_subtree-requires-clause-inner : goal.move_subtree-requires-clause-inner
 move_subtree-requires-clause-inner g c = (known g (goal.at.move_subtree-requires-clause-inner g c).In_ok-renamed).inner
@@ -43,10 +47,5 @@ returns-in-Ok-clause-undo g c =
     let rows = c.args.schema.now in
     let d : Dir = g.D.Directory.state c.args.directory.now in
     let at = known g (goal.at.returns-in-Ok-clause-undo g c).In_ok-renamed in
-    let own = c.own.ensures in
-    let above = c.in_ok-spelled.ensures in
-    let back = c.in_ok-superior_back.ensures.ok at.has_parent_key in
     let group = ap (λ z. undo_of rows d z c.args.key.now (kind.Rename c.args.newrdn.now c.args.delete_old c.args.newsuperior.now)) c.in-Ok.ensures.ok ∙ at.group in
-    c.in_ok-undo.ensures.ok
-    ∙ (λ i. rename_back rows ((c.in_ok-new_name.ensures.ok ∙ (λ j. own j ++ above j)) i) (back i) (c.in_ok-old_name.ensures i) c.in_ok-renamed.renamed c.in-Some.entry.now (leaf_of c.in-Some.entry.now.own) (leaf_key rows c.in-Some.entry.now.own))
-    ∙ sym group
+    c.in_ok-undo.ensures.ok ∙ sym group
