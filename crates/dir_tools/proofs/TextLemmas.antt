@@ -19,7 +19,7 @@ use Rattle.dir_tools.specs.declared.run.Files.{Files}
 use Rattle.dir_tools.specs.declared.run.ModifyOptions.{ModifyOptions}
 use Rattle.dir_tools.specs.declared.run.RunTexts.{RunTexts}
 use Rattle.dir_tools.specs.declared.run.Run.{Run}
-use Rattle.dir_tools.specs.Headline.{Question, RunOutput, output_at, output_of}
+use Rattle.dir_tools.specs.Headline.{RunTerms, RunOutput, output_at, output_of}
 use Rattle.dir_tools.specs.Laws.{GroupsAreUndos, WrittenRunsAreTakenBack}
 use Rattle.dir_tools.specs.RunAnswers.{AnswersRun, AreBadChanges, IsBadText, IsCausedBy, IsStatedRun, IsWholeRun, Sources, sources}
 use Rattle.dir_tools.specs.StoppedReading.{HeldBefore, KnownBytes}
@@ -50,7 +50,7 @@ read_so rows copy suffix d begun same is h =
     subst (λ (z : Dir). IfSome copy (λ text. copy_of rows z.suffix text ≡ Ok z)) (sym is) (subst (λ k. IfSome copy (λ text. copy_of rows k text ≡ Ok d)) (sym same) h)
 
 -- a copy's fault, as a fault of the copy's text
-pub copy_blamed_so : (q : Question) (copy left : Option (List ℕ)) (empty : Dir) (failures failures' : ℕ) (fault : ToolFault)
+pub copy_blamed_so : (q : RunTerms) (copy left : Option (List ℕ)) (empty : Dir) (failures failures' : ℕ) (fault : ToolFault)
     → suffix_of q.rows q.suffix ≡ Some empty.suffix → HasNoEntries empty → IsCopyFaultCause q.rows empty copy failures failures' fault → IsCausedBy q (sources copy left) fault
 copy_blamed_so q copy left empty failures failures' (tool.BadCopy line why) key bare h = (empty.suffix, key, h bare)
 copy_blamed_so q copy left empty failures failures' (tool.Read input.Copy) key bare h = tt
@@ -62,7 +62,7 @@ copy_blamed_so q copy left empty failures failures' (tool.BadQuestion item) key 
 copy_blamed_so q copy left empty failures failures' (tool.BadChanges fault) key bare h = absurd (h)
 
 -- the complete records before the fault of a copy's reader
-pub copy_first : (q : Question) (copy copy' : Option (List ℕ)) (changes : KnownBytes) (empty : Dir) (failures failures' : ℕ) (fault : ToolFault)
+pub copy_first : (q : RunTerms) (copy copy' : Option (List ℕ)) (changes : KnownBytes) (empty : Dir) (failures failures' : ℕ) (fault : ToolFault)
     → suffix_of q.rows q.suffix ≡ Some empty.suffix → IsCopyFaultCause q.rows empty copy failures failures' fault
     → (IsReaderFault fault → GaveBytes copy copy' (λ bytes. CompleteRecordsLoad q.rows (empty_copy empty.suffix) (answers_after q.rows bytes)))
     → HeldBefore q (copy, copy') changes fault
@@ -82,7 +82,7 @@ copy_first q copy copy' changes empty failures failures' (tool.Write output) key
 copy_first q copy copy' changes empty failures failures' (tool.BadQuestion item) key h settled = absurd (h)
 copy_first q copy copy' changes empty failures failures' (tool.BadChanges fault) key h settled = absurd (h)
 
-module _ {D : Type 0} (state : D → Dir) (q : Question) (copy left : Option (List ℕ)) (begun : Run D)
+module _ {D : Type 0} (state : D → Dir) (q : RunTerms) (copy left : Option (List ℕ)) (begun : Run D)
     (reads : IfSome copy (λ text. copy_of q.rows (state begun.directory).suffix text ≡ Ok (state begun.directory))) where
   bad : (fault : StreamFault) → ((text : List ℕ) → run_of q.rows q.options.go_on (state begun.directory) (records_of q.rows text) ≡ Err fault → IsBadText q (state begun.directory) text fault)
       → begun.options ≡ q.options → suffix_of q.rows q.suffix ≡ Some (state begun.directory).suffix → BreaksOff state q.rows (option_map (records_of q.rows) left) begun fault → AreBadChanges q (sources copy left) fault
@@ -224,7 +224,7 @@ dry_of dry s t h = by t.files refl h.0
 
 -- ---- the answer
 
-pub answers_write : (q : Question) (known : Sources) (output : RunOutput) (fault : ToolFault) → IsWriteFault fault → IsStatedRun q known output → AnswersRun q known (Err fault) output
+pub answers_write : (q : RunTerms) (known : Sources) (output : RunOutput) (fault : ToolFault) → IsWriteFault fault → IsStatedRun q known output → AnswersRun q known (Err fault) output
 answers_write q known output (tool.Write writer) h run = run
 answers_write q known output (tool.BadCopy line why) h run = absurd (h)
 answers_write q known output (tool.Read from) h run = absurd (h)
@@ -233,7 +233,7 @@ answers_write q known output (tool.BadQuestion item) h run = absurd (h)
 answers_write q known output (tool.BadChanges fault) h run = absurd (h)
 
 -- a fault before the writing
-pub unwritten : (A : Type 0) (q : Question) (known : Sources) (output : RunOutput) (fault : ToolFault) (u o w : TakenBytes)
+pub unwritten : (A : Type 0) (q : RunTerms) (known : Sources) (output : RunOutput) (fault : ToolFault) (u o w : TakenBytes)
     → IsCausedBy q known fault → u.1 ≡ u.0 → o.1 ≡ o.0 → w.1 ≡ w.0
     → WroteInOrder {A = A} q.options.dry (Err fault) output.texts u o w × AnswersRun q known (Err fault) output
 unwritten A q known output (tool.Write writer) u o w h a b c = absurd (h)
@@ -262,7 +262,7 @@ if_any None b R f = tt
 if_any (Some x) None R f = tt
 if_any (Some x) (Some y) R f = f x y
 
-module _ (q : Question) (known : Sources) where
+module _ (q : RunTerms) (known : Sources) where
   abbrev Gives : RunOutput → Type 0
   Gives output = IfSome known.copy (λ copy. IfSome known.changes (λ changes. output_of q copy changes ≡ Ok output))
 

@@ -1,7 +1,7 @@
 //! A run there and back in memory: it shows in one call what the headline says.
 
 ghost use Rattle.std.specs.Prelude.{◌≡◌, IfErr, IfOk, Ok, Some, [], false};
-ghost use Rattle.dir_tools.specs.Headline.{canonical_copy_of, question};
+ghost use Rattle.dir_tools.specs.Headline.{canonical_copy_of, terms};
 ghost use Rattle.dir_tools.specs.Inside.RunInMemory.{IsRunInMemory};
 ghost use Rattle.dir_tools.specs.RoundTrip.{IsFaultThere, IsRoundTrip, IsRoundTripFault};
 
@@ -38,9 +38,9 @@ pub fn run_there_and_back(
     copy: &[u8],
     changes: &[u8],
 ) -> Result<RoundTrip, ToolFault>
-    ensures taken_back { IfOk result (λ trip. (trip.back.refused ≡ 0) × (canonical_copy_of (question schema.now suffix.now options) copy.now ≡ Ok trip.copy.items)) }
-    ensures runs { IfOk result (IsRoundTrip (question schema.now suffix.now options) copy.now changes.now) }
-    ensures fault { IfErr result (IsRoundTripFault (question schema.now suffix.now options) copy.now changes.now) }
+    ensures taken_back { IfOk result (λ trip. (trip.back.refused ≡ 0) × (canonical_copy_of (terms schema.now suffix.now options) copy.now ≡ Ok trip.copy.items)) }
+    ensures runs { IfOk result (IsRoundTrip (terms schema.now suffix.now options) copy.now changes.now) }
+    ensures fault { IfErr result (IsRoundTripFault (terms schema.now suffix.now options) copy.now changes.now) }
 {
     let written = ModifyOptions {
         go_on: options.go_on,
@@ -81,8 +81,8 @@ fn run_in_memory(
     changes: &[u8],
 ) -> Result<RunInMemory, ToolFault>
     requires { options.dry ≡ false }
-    ensures ok { IfOk result (IsRunInMemory (question schema.now suffix.now options) copy.now changes.now) }
-    ensures fault { IfErr result (IsFaultThere (question schema.now suffix.now options) copy.now changes.now) }
+    ensures ok { IfOk result (IsRunInMemory (terms schema.now suffix.now options) copy.now changes.now) }
+    ensures fault { IfErr result (IsFaultThere (terms schema.now suffix.now options) copy.now changes.now) }
 {
     let mut copy = Text { rest: copy };
     let mut changes = Text { rest: changes };
