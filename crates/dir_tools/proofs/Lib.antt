@@ -1,4 +1,8 @@
 pub mod AcceptedRuns
+pub mod AccessBack
+pub mod AccessLemmas
+pub mod AccessParts
+pub mod AccessReports
 pub mod CompleteRecords
 pub mod CopyBack
 pub mod CopyFaults

@@ -38,6 +38,8 @@ module _ (q : RunTerms) (copy changes : List ℕ) (output : RunOutput) where
   fault_there (tool.BadChanges stream.Memory) a b h w = inl w
   fault_there (tool.BadChanges stream.Ended) a b h w = inl w
   fault_there (tool.BadChanges stream.BadVersion) a b h w = inl w
+  fault_there (tool.Config fault) a b h w = inl w
+  fault_there tool.NoEntry a b h w = inl w
   fault_there (tool.Read input.Copy) a b h w = absurd (a refl)
   fault_there (tool.Read input.Changes) a b h w = absurd (b refl)
   fault_there (tool.Read input.Config) a b h w = absurd (h)

@@ -60,6 +60,8 @@ copy_blamed_so q copy left empty failures failures' tool.Memory key bare h = tt
 copy_blamed_so q copy left empty failures failures' (tool.Write output) key bare h = absurd (h)
 copy_blamed_so q copy left empty failures failures' (tool.BadQuestion item) key bare h = absurd (h)
 copy_blamed_so q copy left empty failures failures' (tool.BadChanges fault) key bare h = absurd (h)
+copy_blamed_so q copy left empty failures failures' (tool.Config fault) key bare h = absurd (h)
+copy_blamed_so q copy left empty failures failures' tool.NoEntry key bare h = absurd (h)
 
 -- the complete records before the fault of a copy's reader
 pub copy_first : (q : RunTerms) (copy copy' : Option (List ℕ)) (changes : KnownBytes) (empty : Dir) (failures failures' : ℕ) (fault : ToolFault)
@@ -81,6 +83,8 @@ copy_first q copy copy' changes empty failures failures' tool.Memory key h settl
 copy_first q copy copy' changes empty failures failures' (tool.Write output) key h settled = absurd (h)
 copy_first q copy copy' changes empty failures failures' (tool.BadQuestion item) key h settled = absurd (h)
 copy_first q copy copy' changes empty failures failures' (tool.BadChanges fault) key h settled = absurd (h)
+copy_first q copy copy' changes empty failures failures' (tool.Config fault) key h settled = absurd (h)
+copy_first q copy copy' changes empty failures failures' tool.NoEntry key h settled = absurd (h)
 
 module _ {D : Type 0} (state : D → Dir) (q : RunTerms) (copy left : Option (List ℕ)) (begun : Run D)
     (reads : IfSome copy (λ text. copy_of q.rows (state begun.directory).suffix text ≡ Ok (state begun.directory))) where
@@ -105,6 +109,8 @@ module _ {D : Type 0} (state : D → Dir) (q : RunTerms) (copy left : Option (Li
   blamed_so failures failures' (tool.BadChanges stream.Read) same key long h = absurd (h)
   blamed_so failures failures' (tool.BadChanges stream.Memory) same key long h = absurd (h)
   blamed_so failures failures' (tool.BadChanges stream.Ended) same key long h = absurd (h)
+  blamed_so failures failures' (tool.Config fault) same key long h = absurd (h)
+  blamed_so failures failures' tool.NoEntry same key long h = absurd (h)
   blamed_so failures failures' (tool.Read input.Changes) same key long h = tt
   blamed_so failures failures' (tool.Read input.Copy) same key long h = absurd (h)
   blamed_so failures failures' (tool.Read input.Config) same key long h = absurd (h)
@@ -127,6 +133,8 @@ module _ {D : Type 0} (state : D → Dir) (q : RunTerms) (copy left : Option (Li
   changes_first copy' left' failures failures' (tool.BadChanges stream.Read) key h settled = absurd (h)
   changes_first copy' left' failures failures' (tool.BadChanges stream.Memory) key h settled = absurd (h)
   changes_first copy' left' failures failures' (tool.BadChanges stream.Ended) key h settled = absurd (h)
+  changes_first copy' left' failures failures' (tool.Config fault) key h settled = absurd (h)
+  changes_first copy' left' failures failures' tool.NoEntry key h settled = absurd (h)
   changes_first copy' left' failures failures' tool.Memory key h settled = tt
   changes_first copy' left' failures failures' (tool.BadCopy line why) key h settled = absurd (h)
   changes_first copy' left' failures failures' (tool.Write output) key h settled = absurd (h)
@@ -207,6 +215,8 @@ module _ {A : Type 0} (s : Texts) (t : RunTexts) (undo out report : TakenBytes) 
   dry_written (Err tool.Memory) h = h
   dry_written (Err (tool.BadQuestion item)) h = h
   dry_written (Err (tool.BadChanges fault)) h = h
+  dry_written (Err (tool.Config fault)) h = h
+  dry_written (Err tool.NoEntry) h = h
 
   -- what was written of the texts as they were made, was written of the stated ones
   pub written_so : (dry : Bool) (r : Result A ToolFault) → AreTexts dry s t → is_dry t ≡ dry → WroteInOrder (is_dry t) r (texts_of t) undo out report → WroteInOrder dry r s undo out report
@@ -231,6 +241,8 @@ answers_write q known output (tool.Read from) h run = absurd (h)
 answers_write q known output tool.Memory h run = absurd (h)
 answers_write q known output (tool.BadQuestion item) h run = absurd (h)
 answers_write q known output (tool.BadChanges fault) h run = absurd (h)
+answers_write q known output (tool.Config fault) h run = absurd (h)
+answers_write q known output tool.NoEntry h run = absurd (h)
 
 -- a fault before the writing
 pub unwritten : (A : Type 0) (q : RunTerms) (known : Sources) (output : RunOutput) (fault : ToolFault) (u o w : TakenBytes)
@@ -244,20 +256,22 @@ unwritten A q known output (tool.Read input.Config) u o w h a b c = absurd (h)
 unwritten A q known output tool.Memory u o w h a b c = ((a, b, c), h)
 unwritten A q known output (tool.BadQuestion item) u o w h a b c = ((a, b, c), h)
 unwritten A q known output (tool.BadChanges fault) u o w h a b c = ((a, b, c), h)
+unwritten A q known output (tool.Config fault) u o w h a b c = ((a, b, c), h)
+unwritten A q known output tool.NoEntry u o w h a b c = ((a, b, c), h)
 
 -- ---- over sources that tell their texts
 
-if_both : {A : Type 0} (a b : Option A) (P Q : A → Type 0) (R : A → A → Type 0) → IfSome a P → IfSome b Q → ((x y : A) → P x → Q y → R x y) → IfSome a (λ x. IfSome b (λ y. R x y))
+pub if_both : {A : Type 0} (a b : Option A) (P Q : A → Type 0) (R : A → A → Type 0) → IfSome a P → IfSome b Q → ((x y : A) → P x → Q y → R x y) → IfSome a (λ x. IfSome b (λ y. R x y))
 if_both None b P Q R p q f = tt
 if_both (Some x) None P Q R p q f = tt
 if_both (Some x) (Some y) P Q R p q f = f x y p q
 
-if_one : {A : Type 0} (a b : Option A) (P : A → Type 0) (R : A → A → Type 0) → IfSome a P → ((x y : A) → P x → R x y) → IfSome a (λ x. IfSome b (λ y. R x y))
+pub if_one : {A : Type 0} (a b : Option A) (P : A → Type 0) (R : A → A → Type 0) → IfSome a P → ((x y : A) → P x → R x y) → IfSome a (λ x. IfSome b (λ y. R x y))
 if_one None b P R p f = tt
 if_one (Some x) None P R p f = tt
 if_one (Some x) (Some y) P R p f = f x y p
 
-if_any : {A : Type 0} (a b : Option A) (R : A → A → Type 0) → ((x y : A) → R x y) → IfSome a (λ x. IfSome b (λ y. R x y))
+pub if_any : {A : Type 0} (a b : Option A) (R : A → A → Type 0) → ((x y : A) → R x y) → IfSome a (λ x. IfSome b (λ y. R x y))
 if_any None b R f = tt
 if_any (Some x) None R f = tt
 if_any (Some x) (Some y) R f = f x y
@@ -303,6 +317,8 @@ module _ (q : RunTerms) (known : Sources) where
   fault_whole output (tool.BadChanges stream.Memory) h = changes_fail stream.Memory h.first h.suffix h.copy h.changes
   fault_whole output (tool.BadChanges stream.Ended) h = changes_fail stream.Ended h.first h.suffix h.copy h.changes
   fault_whole output (tool.BadChanges stream.BadVersion) h = changes_fail stream.BadVersion h.first h.suffix h.copy h.changes
+  fault_whole output (tool.Config fault) h = absurd (h)
+  fault_whole output tool.NoEntry h = absurd (h)
   fault_whole output (tool.Read from) h = if_any known.copy known.changes _ (λ copy changes. tt)
   fault_whole output tool.Memory h = if_any known.copy known.changes _ (λ copy changes. tt)
   fault_whole output (tool.Write writer) h = absurd (h)
@@ -314,3 +330,5 @@ module _ (q : RunTerms) (known : Sources) where
   write_whole output tool.Memory h run = absurd (h)
   write_whole output (tool.BadQuestion item) h run = absurd (h)
   write_whole output (tool.BadChanges fault) h run = absurd (h)
+  write_whole output (tool.Config fault) h run = absurd (h)
+  write_whole output tool.NoEntry h run = absurd (h)

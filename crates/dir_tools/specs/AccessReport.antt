@@ -183,12 +183,13 @@ abbrev pub requester_line : Bool → Option NamedKey → List ℕ
 requester_line false requester = []
 requester_line true requester = codes "authcDN: " ++ requester_text requester ++ codes "\n"
 
--- the lines of the words, in their order
-abbrev pub word_lines : Configuration → Dir → QuestionParts → Option Content → List ℕ
-word_lines c d parts target = flat_map (λ word. word_line word (held_by c d (request_for parts target word.asked))) parts.words
+-- the line of a word, of what the requester holds on the target
+abbrev pub line_on : Configuration → Dir → QuestionParts → Option Content → Word → List ℕ
+line_on c d parts target word = word_line word (held_by c d (request_for parts target word.asked))
 
+-- the lines of the words, in their order
 abbrev pub report_on : Bool → Configuration → Dir → QuestionParts → Option Content → List ℕ
-report_on verbose c d parts target = requester_line verbose parts.requester ++ word_lines c d parts target
+report_on verbose c d parts target = requester_line verbose parts.requester ++ flat_map (line_on c d parts target) parts.words
 
 -- ---- the whole
 

@@ -61,7 +61,7 @@ pub fn run_acl<R: Source, R2: Source, W: Sink>(
 ) -> Result<(), ToolFault>
     ensures unfailed { OnOk result (W.failures report.new ≡ W.failures report.old) }
     ensures answer { (text : List ℕ)
-        × WroteReport result text (W.taken report.old, W.taken report.new)
+        × WroteReport result (W.taken report.old, W.taken report.new) text
         × AnswersQuestion (access_terms schema.now question.now) (access_sources (R.left config.old) (R2.left copy.old)) result text
         × IsWholeReport (access_terms schema.now question.now) (access_sources (R.left config.old) (R2.left copy.old)) result text }
     ensures first { IfErr result (AccessHeldBefore (access_terms schema.now question.now) (R.left config.old) (R2.left copy.old, R2.left copy.new)) }

@@ -63,9 +63,9 @@ fn read_text<R: Source>(alloc: Global, source: &mut R) -> Result<Vec<u8>, ToolFa
     ensures unfailed { OnOk result (R.failures source.new ≡ R.failures source.old) }
 {
     let mut text = Vec::new(alloc);
-    let mut buffer = vec![in alloc; 0; PIECE]?;
+    let mut buffer = [0u8; PIECE];
     while text.len() <= MAX_CONFIG {
-        match source.read(buffer.as_mut_slice()) {
+        match source.read(&mut buffer) {
             Ok(0) => return Ok(text),
             Ok(n) => text.extend_from_slice(&buffer[..n])?,
             Err(_) => return Err(ToolFault::Read(Input::Config)),
