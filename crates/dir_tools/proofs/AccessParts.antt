@@ -1,9 +1,7 @@
 -- The words of a question, taken one after the other; the privileges as a set; and the text of a configuration.
-use Rattle.std.proofs.Common.{◌≡◌, ℕ, suc, ◌+◌, ◌<◌, ◌≤◌, ◌⊎◌, inl, inr, Bool, true, false, cond, List, [], ◌∷◌, ◌++◌, length, take, drop, get_or, Option, None, Some, IfSome, Result, Ok, Err, refl, sym, ap, subst, ◌∙◌, append_assoc, append-nil, length-append, arith}
+use Rattle.std.proofs.Common.{◌≡◌, ℕ, suc, ◌+◌, ◌<◌, ◌≤◌, Bool, true, false, cond, List, [], ◌∷◌, ◌++◌, length, take, drop, get_or, Option, None, Some, Result, Ok, Err, refl, sym, ap, ◌∙◌, append_assoc, length-append, arith}
 use Rattle.std.specs.List.{before_first}
 use Rattle.std.specs.Prelude.{◌==◌, ok_or, option_and_then, option_map}
-use Rattle.std.specs.Io.KnownBytes.{Consumes, IsAtEnd}
-use Rattle.std.proofs.lemmas.Bool.{lt-ltb}
 use Rattle.std.proofs.lemmas.List.{length-take}
 use Rattle.std.proofs.Math.Seq.{drop-cons}
 use Rattle.dir_names.specs.declared.schema.TypeRow.{TypeRow}
@@ -15,22 +13,10 @@ use Rattle.dir_tree.specs.Content.{Content}
 use Rattle.dir_tree.specs.Dir.{Dir, entry_at}
 use Rattle.dir_acl.specs.declared.access.Asked.{Asked}
 use Rattle.dir_acl.specs.declared.privileges.Level.{Level}
-use Rattle.dir_acl.specs.declared.fault.ConfigCause.{ConfigCause}
-use Rattle.dir_acl.specs.declared.fault.ConfigCause.TheVariants as cause
-use Rattle.dir_acl.specs.declared.fault.ConfigFault.{ConfigFault}
-use Rattle.dir_acl.specs.declared.privileges.Privilege.{Privilege}
-use Rattle.dir_acl.specs.declared.privileges.Privilege.TheVariants.{Manage, Add, Delete, Read, Search, Compare, Auth, Disclose}
-use Rattle.dir_acl.specs.declared.privileges.Privileges.{Privileges}
-use Rattle.dir_acl.specs.Config.{after_lines, config_of, no_settings, of_suffix}
-use Rattle.dir_acl.specs.Config.Lines.{logical_lines}
-use Rattle.dir_acl.specs.Outcome.{IsCauseAt, IsConfigFaultOf}
-use Rattle.dir_acl.specs.Privileges.{has}
-use Rattle.dir_acl.specs.Rules.{Configuration}
 use Rattle.dir_tools.specs.declared.fault.Item.TheVariants as item
 use Rattle.dir_tools.specs.declared.fault.ToolFault.{ToolFault}
 use Rattle.dir_tools.specs.declared.fault.ToolFault.TheVariants as tool
-use Rattle.dir_tools.specs.AccessReport.{Word, access_of, asked_of, granted_set, ok_or_no_entry, slash, target_of, without_value, word_at, word_of, words_from}
-use Rattle.dir_tools.specs.Inside.Asking.{IsConfigFault, fault_at}
+use Rattle.dir_tools.specs.AccessReport.{Word, access_of, asked_of, ok_or_no_entry, slash, target_of, without_value, word_at, word_of, words_from}
 
 -- ---- words
 
@@ -111,59 +97,8 @@ module _ (fake : Bool) (d : Dir) (base : DnKeys) where
   pub looked_up : is_at_or_below base d.suffix ≡ true → fake ≡ false → (there : Option Content) → entry_at d base ≡ there → target_of fake d base ≡ ok_or_no_entry there
   looked_up inside is there found i = target_by (inside i) (is i) (found i)
 
--- ---- privileges
-
--- a set has the privileges that are granted
-pub granted_is : (set : Privileges) (granted : Privilege → Bool) → ((p : Privilege) → has set p ≡ granted p) → set ≡ granted_set granted
-granted_is set granted h i = record {
-  manage = h Manage i;
-  add = h Add i;
-  delete = h Delete i;
-  read = h Read i;
-  search = h Search i;
-  compare = h Compare i;
-  auth = h Auth i;
-  disclose = h Disclose i;
-}
-
 -- ---- the text of a configuration
 
 -- a piece of the buffer after a text that is not too long
 pub piece_fits : (text buffer : List ℕ) (n : ℕ) → length text ≤ 16777216 → n ≤ length buffer → length buffer ≡ 8192 → length (text ++ take n buffer) ≤ 16785408
 piece_fits text buffer n short within size = omega (arith, length-append text (take n buffer), length-take n buffer)
-
-abbrev too_long : ConfigFault
-too_long = record { line = 0; cause = cause.ConfigTooLong }
-
-long_config : (rows : List TypeRow) (text : List ℕ) → 16777216 < length text → config_of rows text ≡ Err too_long
-long_config rows text long =
-    ap (λ b. cond b (Err too_long) (and_then (after_lines rows no_settings (logical_lines text)) (λ settings. of_suffix settings settings.suffix))) (lt-ltb 16777216 (length text) long)
-
--- what was read is all that there is, or already too long
-pub read_so : (rows : List TypeRow) (left left' : Option (List ℕ)) (text : List ℕ) (r : Result Configuration ConfigFault) → Consumes left left' text → (16777216 < length text) ⊎ IsAtEnd left'
-    → config_of rows text ≡ r → IfSome left (λ t. config_of rows t ≡ r)
-read_so rows None left' text r h whole is = tt
-read_so rows (Some xs) None text r h whole is = absurd (h)
-read_so rows (Some xs) (Some ys) text r h (inr end) is = ap (config_of rows) (h ∙ ap (λ t. text ++ t) end ∙ append-nil text) ∙ is
-read_so rows (Some xs) (Some ys) text r h (inl long) is =
-    let sum : length xs ≡ length text + length ys = ap length h ∙ length-append text ys in
-    let longer : 16777216 < length xs = omega arith in
-    long_config rows xs longer ∙ sym (long_config rows text long) ∙ is
-
--- the fault of a configuration, as a fault of its text
-pub config_blamed : (rows : List TypeRow) (left left' : Option (List ℕ)) (text : List ℕ) (fault : ConfigFault) → Consumes left left' text → (16777216 < length text) ⊎ IsAtEnd left'
-    → IsConfigFaultOf fault (config_of rows text) → IsConfigFault rows left (fault_at fault.cause fault)
-config_blamed rows left left' text fault h whole blames = by fault.cause fault.line blames
-  where
-    by : (why : ConfigCause) (line : ℕ) → IsCauseAt why line (config_of rows text) → IsConfigFault rows left (fault_at why (record { line = line; cause = why }))
-    by cause.BadDirective line is = (λ e. cc, read_so rows left left' text (Err (record { line = line; cause = cause.BadDirective })) h whole is)
-    by cause.Unsupported line is = (λ e. cc, read_so rows left left' text (Err (record { line = line; cause = cause.Unsupported })) h whole is)
-    by cause.BadFilter line is = (λ e. cc, read_so rows left left' text (Err (record { line = line; cause = cause.BadFilter })) h whole is)
-    by cause.Name line is = (λ e. cc, read_so rows left left' text (Err (record { line = line; cause = cause.Name })) h whole is)
-    by cause.SecondDatabase line is = (λ e. cc, read_so rows left left' text (Err (record { line = line; cause = cause.SecondDatabase })) h whole is)
-    by cause.SecondSuffix line is = (λ e. cc, read_so rows left left' text (Err (record { line = line; cause = cause.SecondSuffix })) h whole is)
-    by cause.GlobalAccess line is = (λ e. cc, read_so rows left left' text (Err (record { line = line; cause = cause.GlobalAccess })) h whole is)
-    by cause.FilterTooDeep line is = (λ e. cc, read_so rows left left' text (Err (record { line = line; cause = cause.FilterTooDeep })) h whole is)
-    by cause.Memory line is = tt
-    by cause.NoSuffix line is = (λ e. cc, read_so rows left left' text (Err (record { line = line; cause = cause.NoSuffix })) h whole is)
-    by cause.ConfigTooLong line is = (λ e. cc, read_so rows left left' text (Err (record { line = line; cause = cause.ConfigTooLong })) h whole is)

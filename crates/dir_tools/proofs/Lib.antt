@@ -2,7 +2,6 @@ pub mod AcceptedRuns
 pub mod AccessBack
 pub mod AccessLemmas
 pub mod AccessParts
-pub mod AccessReports
 pub mod CompleteRecords
 pub mod CopyBack
 pub mod CopyFaults

@@ -261,17 +261,17 @@ unwritten A q known output tool.NoEntry u o w h a b c = ((a, b, c), h)
 
 -- ---- over sources that tell their texts
 
-pub if_both : {A : Type 0} (a b : Option A) (P Q : A → Type 0) (R : A → A → Type 0) → IfSome a P → IfSome b Q → ((x y : A) → P x → Q y → R x y) → IfSome a (λ x. IfSome b (λ y. R x y))
+if_both : {A : Type 0} (a b : Option A) (P Q : A → Type 0) (R : A → A → Type 0) → IfSome a P → IfSome b Q → ((x y : A) → P x → Q y → R x y) → IfSome a (λ x. IfSome b (λ y. R x y))
 if_both None b P Q R p q f = tt
 if_both (Some x) None P Q R p q f = tt
 if_both (Some x) (Some y) P Q R p q f = f x y p q
 
-pub if_one : {A : Type 0} (a b : Option A) (P : A → Type 0) (R : A → A → Type 0) → IfSome a P → ((x y : A) → P x → R x y) → IfSome a (λ x. IfSome b (λ y. R x y))
+if_one : {A : Type 0} (a b : Option A) (P : A → Type 0) (R : A → A → Type 0) → IfSome a P → ((x y : A) → P x → R x y) → IfSome a (λ x. IfSome b (λ y. R x y))
 if_one None b P R p f = tt
 if_one (Some x) None P R p f = tt
 if_one (Some x) (Some y) P R p f = f x y p
 
-pub if_any : {A : Type 0} (a b : Option A) (R : A → A → Type 0) → ((x y : A) → R x y) → IfSome a (λ x. IfSome b (λ y. R x y))
+if_any : {A : Type 0} (a b : Option A) (R : A → A → Type 0) → ((x y : A) → R x y) → IfSome a (λ x. IfSome b (λ y. R x y))
 if_any None b R f = tt
 if_any (Some x) None R f = tt
 if_any (Some x) (Some y) R f = f x y

@@ -1,7 +1,6 @@
 -- What a requester may do, as slapacl reports it (slapacl(8)). `acl_report_of`, at the end of this page, is the whole: from the types of attributes, a
 -- question, the text of a slapd.conf and the text of a copy to the report, or to the first fault.
 use Rattle.std.specs.Prelude.{ℕ, ◌+◌, Bool, true, false, cond, ◌==◌, List, [], ◌∷◌, ◌++◌, codes, Option, Some, None, ok_or, option_map, option_and_then, Result, Ok, Err}
-use Rattle.std.specs.FinMap as fin
 use Rattle.std.specs.List.{before_first, flat_map}
 use Rattle.std.specs.Result.{result_ok}
 use Rattle.std.specs.Str.{str_eq_ignore_ascii_case}

@@ -1,5 +1,5 @@
 -- The views of the parts of a question, and how they and the configuration are read. No public contract needs this file.
-use Rattle.std.specs.Prelude.{◌≡◌, ◌≢◌, ℕ, ⊤, List, map, Option, option_map, IfSome, Result, Ok, Err}
+use Rattle.std.specs.Prelude.{◌≡◌, ◌≢◌, ℕ, ⊤, List, map, Option, option_map, IfSome, Result, Err}
 use Rattle.std.specs.Borrow.{Bor}
 use Rattle.dir_names.specs.declared.schema.TypeRow.{TypeRow}
 use Rattle.dir_names.specs.Results.{Meets}

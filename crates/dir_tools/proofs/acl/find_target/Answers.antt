@@ -1,4 +1,4 @@
-use Rattle.std.proofs.Common.{◌≡◌, true, false, None, Some, refl, sym, subst, true≢false}
+use Rattle.std.proofs.Common.{◌≡◌, true, false, Some, refl, sym, subst, true≢false}
 use Rattle.dir_names.specs.Below.{is_at_or_below}
 use Rattle.dir_names.specs.Keys.{IsAtOrBelow}
 use Rattle.dir_change.proofs.Conditions.{below_false, below_true}

@@ -1,4 +1,4 @@
-use Rattle.std.proofs.Common.{◌≡◌, ◌++◌, ◌≤◌, length, take, arith, rules}
+use Rattle.std.proofs.Common.{◌≡◌, ◌++◌, ◌≤◌, length, take, rules}
 use Rattle.std.proofs.KnownBytes.{Consumes-trans}
 use Rattle.dir_tools.proofs.AccessParts.{piece_fits}
 use Rattle.dir_tools.proofs.acl.configuration.read_text.Goals as goal

@@ -1,4 +1,4 @@
-use Rattle.std.proofs.Common.{◌≡◌, ◌+◌, ◌∷◌, ◌++◌, [], List, None, Option, Some, ap, drop, map, option_map, sym, ◌∙◌}
+use Rattle.std.proofs.Common.{◌≡◌, ◌+◌, ◌∷◌, ◌++◌, [], None, Some, ap, drop, map, option_map, sym, ◌∙◌}
 use Rattle.std.proofs.lemmas.List.{map-append}
 use Rattle.dir_tools.specs.AccessReport.{Word, word_of, words_from}
 use Rattle.dir_tools.specs.Inside.Asking.{word_in}
