@@ -108,6 +108,8 @@ module _ {D : Type 0} (state : D → Dir) (rows : List TypeRow) (first : Option 
   stops_at failures failures' (tool.Write output) loading upto = absurd (upto.4.0)
   stops_at failures failures' (tool.BadQuestion item) loading upto = absurd (upto.4.0)
   stops_at failures failures' (tool.BadChanges fault) loading upto = absurd (upto.4.0)
+  stops_at failures failures' (tool.Config fault) loading upto = absurd (upto.4.0)
+  stops_at failures failures' tool.NoEntry loading upto = absurd (upto.4.0)
 
   ended_so : (founds : List Found) (loading : Loading D) (fault : StreamFault) → TakesAll rows (TakesRecord state rows) founds begun loading → IfSome first (λ known. known ≡ all_found founds ++ Err fault ∷ [])
       → (start : LoadedCopy) → IsLoaded state start begun → IfSome first (λ answers. with_records rows start answers ≡ Err (0, cause.Ended fault))
@@ -133,6 +135,8 @@ of_record tool.Memory of is = is
 of_record (tool.Write output) of is = of
 of_record (tool.BadQuestion item) of is = of
 of_record (tool.BadChanges fault) of is = of
+of_record (tool.Config fault) of is = of
+of_record tool.NoEntry of is = of
 
 -- the fault of a reader
 module _ {D : Type 0} {S : Type 0} (state : D → Dir) (rows : List TypeRow) (left : S → Option (List ℕ)) (failures : S → ℕ) (founds : List Found) (begun loading : Loading D) (first last : RecordReader S) where
@@ -185,6 +189,8 @@ module _ {D : Type 0} (state : D → Dir) (rows : List TypeRow) (empty : D) (giv
   blamed_read text old failures failures' (tool.Write output) known start long h = absurd (h)
   blamed_read text old failures failures' (tool.BadQuestion item) known start long h = absurd (h)
   blamed_read text old failures failures' (tool.BadChanges fault) known start long h = absurd (h)
+  blamed_read text old failures failures' (tool.Config fault) known start long h = absurd (h)
+  blamed_read text old failures failures' tool.NoEntry known start long h = absurd (h)
 
   bad_whole : (text : Option (List ℕ)) (old new : Loading D) (line : ℕ) (why : Cause) → given ≡ option_map (records_of rows) text → LoadsOver state rows given old new
       → IsLoaded state (empty_copy (state empty).suffix) old → ((m : LoadedCopy) → IsLoaded state m new → whole_directory m ≡ Err (line, why)) → IfSome text (λ t. copy_of rows (state empty).suffix t ≡ Err (line, why))
@@ -206,6 +212,8 @@ module _ {D : Type 0} (state : D → Dir) (rows : List TypeRow) (empty : D) (giv
   blamed_whole text old new failures failures' (tool.Write output) known leads start of why = absurd (of)
   blamed_whole text old new failures failures' (tool.BadQuestion item) known leads start of why = absurd (of)
   blamed_whole text old new failures failures' (tool.BadChanges fault) known leads start of why = absurd (of)
+  blamed_whole text old new failures failures' (tool.Config fault) known leads start of why = absurd (of)
+  blamed_whole text old new failures failures' tool.NoEntry known leads start of why = absurd (of)
 
   pub finish_blamed : {A : Type 0} (r : Result A ToolFault) (text : Option (List ℕ)) (old new : Loading D) (failures failures' : ℕ) → given ≡ option_map (records_of rows) text
       → LoadsOver state rows given old new → (HasNoEntries (state empty) → IsLoaded state (empty_copy (state empty).suffix) old)

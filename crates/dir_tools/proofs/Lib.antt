@@ -1,4 +1,7 @@
 pub mod AcceptedRuns
+pub mod AccessBack
+pub mod AccessLemmas
+pub mod AccessParts
 pub mod CompleteRecords
 pub mod CopyBack
 pub mod CopyFaults

@@ -9,13 +9,13 @@ use Rattle.dir_tools.specs.declared.fault.ToolFault.TheVariants as tool
 use Rattle.dir_tools.specs.declared.round_trip.RoundTrip.{RoundTrip}
 use Rattle.dir_tools.specs.declared.round_trip.RunInMemory.{RunInMemory}
 use Rattle.dir_tools.specs.declared.run.ModifyOptions.{ModifyOptions}
-use Rattle.dir_tools.specs.Headline.{Headline, IsTakenBack, Question, RunOutput, output_of, question}
+use Rattle.dir_tools.specs.Headline.{Headline, IsTakenBack, RunTerms, RunOutput, output_of, terms}
 use Rattle.dir_tools.specs.Inside.RunInMemory.{IsRunInMemory}
 use Rattle.dir_tools.specs.RoundTrip.{IsFaultBack, IsFaultThere, IsRoundTrip}
 use Rattle.dir_tools.specs.RunAnswers.{AnswersRun, IsWholeRun, sources}
 
 -- a run whose readers have not failed
-module _ (q : Question) (copy changes : List ℕ) (output : RunOutput) where
+module _ (q : RunTerms) (copy changes : List ℕ) (output : RunOutput) where
   abbrev Answers : ToolFault → Type 0
   Answers fault = AnswersRun q (sources (Some copy) (Some changes)) (Err fault) output
 
@@ -38,6 +38,8 @@ module _ (q : Question) (copy changes : List ℕ) (output : RunOutput) where
   fault_there (tool.BadChanges stream.Memory) a b h w = inl w
   fault_there (tool.BadChanges stream.Ended) a b h w = inl w
   fault_there (tool.BadChanges stream.BadVersion) a b h w = inl w
+  fault_there (tool.Config fault) a b h w = inl w
+  fault_there tool.NoEntry a b h w = inl w
   fault_there (tool.Read input.Copy) a b h w = absurd (a refl)
   fault_there (tool.Read input.Changes) a b h w = absurd (b refl)
   fault_there (tool.Read input.Config) a b h w = absurd (h)
@@ -45,7 +47,7 @@ module _ (q : Question) (copy changes : List ℕ) (output : RunOutput) where
   fault_there (tool.Write to) a b h w = inr tt
 
 -- both runs have their outputs
-pub round_trip : (q : Question) (copy changes : List ℕ) (there back : RunInMemory) (trip : RoundTrip) → IsRunInMemory q copy changes there
+pub round_trip : (q : RunTerms) (copy changes : List ℕ) (there back : RunInMemory) (trip : RoundTrip) → IsRunInMemory q copy changes there
     → IsRunInMemory q there.out.items there.undo.items back → trip.there ≡ there.summary → trip.back ≡ back.summary → trip.copy.items ≡ back.out.items
     → IsRoundTrip q copy changes trip
 round_trip q copy changes there back trip ran ran_back a b c = record {
@@ -62,17 +64,17 @@ differ : (r : Result RunOutput ToolFault) (output : RunOutput) (fault : ToolFaul
 differ r output fault a b = cc
 
 -- the run back has no fault of its own
-pub fault_back : Headline → (q : Question) (options : ModifyOptions) (copy changes : List ℕ) (output : RunOutput) (out undo : List ℕ) (fault : ToolFault) → IsBytes copy → IsBytes changes
-    → output_of q copy changes ≡ Ok output → out ≡ output.texts.out → undo ≡ output.texts.undo → IsFaultThere (question q.rows q.suffix options) out undo fault → IsFaultBack q copy changes fault
+pub fault_back : Headline → (q : RunTerms) (options : ModifyOptions) (copy changes : List ℕ) (output : RunOutput) (out undo : List ℕ) (fault : ToolFault) → IsBytes copy → IsBytes changes
+    → output_of q copy changes ≡ Ok output → out ≡ output.texts.out → undo ≡ output.texts.undo → IsFaultThere (terms q.rows q.suffix options) out undo fault → IsFaultBack q copy changes fault
 fault_back law q options copy changes output out undo fault copy_bytes changes_bytes runs out_is undo_is h =
     let taken = law q copy changes output copy_bytes changes_bytes runs in
     let leads : IsTakenBack q output options taken.0 = taken.2 options in
-    let moved : IsFaultThere (question q.rows q.suffix options) output.texts.out output.texts.undo fault =
-    subst (λ (o : List ℕ). IsFaultThere (question q.rows q.suffix options) o output.texts.undo fault) out_is
-    (subst (λ (u : List ℕ). IsFaultThere (question q.rows q.suffix options) out u fault) undo_is h) in
+    let moved : IsFaultThere (terms q.rows q.suffix options) output.texts.out output.texts.undo fault =
+    subst (λ (o : List ℕ). IsFaultThere (terms q.rows q.suffix options) o output.texts.undo fault) out_is
+    (subst (λ (u : List ℕ). IsFaultThere (terms q.rows q.suffix options) out u fault) undo_is h) in
     at leads.back leads.runs moved
   where
-    at : (back : RunOutput) → output_of (question q.rows q.suffix options) output.texts.out output.texts.undo ≡ Ok back
-        → IsFaultThere (question q.rows q.suffix options) output.texts.out output.texts.undo fault → IsFaultBack q copy changes fault
-    at back back_runs (inl is) = absurd (differ (output_of (question q.rows q.suffix options) output.texts.out output.texts.undo) back fault back_runs is)
+    at : (back : RunOutput) → output_of (terms q.rows q.suffix options) output.texts.out output.texts.undo ≡ Ok back
+        → IsFaultThere (terms q.rows q.suffix options) output.texts.out output.texts.undo fault → IsFaultBack q copy changes fault
+    at back back_runs (inl is) = absurd (differ (output_of (terms q.rows q.suffix options) output.texts.out output.texts.undo) back fault back_runs is)
     at back back_runs (inr stops) = record { there = output; runs_there = runs; stops = stops }

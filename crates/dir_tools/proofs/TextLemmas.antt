@@ -19,7 +19,7 @@ use Rattle.dir_tools.specs.declared.run.Files.{Files}
 use Rattle.dir_tools.specs.declared.run.ModifyOptions.{ModifyOptions}
 use Rattle.dir_tools.specs.declared.run.RunTexts.{RunTexts}
 use Rattle.dir_tools.specs.declared.run.Run.{Run}
-use Rattle.dir_tools.specs.Headline.{Question, RunOutput, output_at, output_of}
+use Rattle.dir_tools.specs.Headline.{RunTerms, RunOutput, output_at, output_of}
 use Rattle.dir_tools.specs.Laws.{GroupsAreUndos, WrittenRunsAreTakenBack}
 use Rattle.dir_tools.specs.RunAnswers.{AnswersRun, AreBadChanges, IsBadText, IsCausedBy, IsStatedRun, IsWholeRun, Sources, sources}
 use Rattle.dir_tools.specs.StoppedReading.{HeldBefore, KnownBytes}
@@ -50,7 +50,7 @@ read_so rows copy suffix d begun same is h =
     subst (λ (z : Dir). IfSome copy (λ text. copy_of rows z.suffix text ≡ Ok z)) (sym is) (subst (λ k. IfSome copy (λ text. copy_of rows k text ≡ Ok d)) (sym same) h)
 
 -- a copy's fault, as a fault of the copy's text
-pub copy_blamed_so : (q : Question) (copy left : Option (List ℕ)) (empty : Dir) (failures failures' : ℕ) (fault : ToolFault)
+pub copy_blamed_so : (q : RunTerms) (copy left : Option (List ℕ)) (empty : Dir) (failures failures' : ℕ) (fault : ToolFault)
     → suffix_of q.rows q.suffix ≡ Some empty.suffix → HasNoEntries empty → IsCopyFaultCause q.rows empty copy failures failures' fault → IsCausedBy q (sources copy left) fault
 copy_blamed_so q copy left empty failures failures' (tool.BadCopy line why) key bare h = (empty.suffix, key, h bare)
 copy_blamed_so q copy left empty failures failures' (tool.Read input.Copy) key bare h = tt
@@ -60,9 +60,11 @@ copy_blamed_so q copy left empty failures failures' tool.Memory key bare h = tt
 copy_blamed_so q copy left empty failures failures' (tool.Write output) key bare h = absurd (h)
 copy_blamed_so q copy left empty failures failures' (tool.BadQuestion item) key bare h = absurd (h)
 copy_blamed_so q copy left empty failures failures' (tool.BadChanges fault) key bare h = absurd (h)
+copy_blamed_so q copy left empty failures failures' (tool.Config fault) key bare h = absurd (h)
+copy_blamed_so q copy left empty failures failures' tool.NoEntry key bare h = absurd (h)
 
 -- the complete records before the fault of a copy's reader
-pub copy_first : (q : Question) (copy copy' : Option (List ℕ)) (changes : KnownBytes) (empty : Dir) (failures failures' : ℕ) (fault : ToolFault)
+pub copy_first : (q : RunTerms) (copy copy' : Option (List ℕ)) (changes : KnownBytes) (empty : Dir) (failures failures' : ℕ) (fault : ToolFault)
     → suffix_of q.rows q.suffix ≡ Some empty.suffix → IsCopyFaultCause q.rows empty copy failures failures' fault
     → (IsReaderFault fault → GaveBytes copy copy' (λ bytes. CompleteRecordsLoad q.rows (empty_copy empty.suffix) (answers_after q.rows bytes)))
     → HeldBefore q (copy, copy') changes fault
@@ -81,8 +83,10 @@ copy_first q copy copy' changes empty failures failures' tool.Memory key h settl
 copy_first q copy copy' changes empty failures failures' (tool.Write output) key h settled = absurd (h)
 copy_first q copy copy' changes empty failures failures' (tool.BadQuestion item) key h settled = absurd (h)
 copy_first q copy copy' changes empty failures failures' (tool.BadChanges fault) key h settled = absurd (h)
+copy_first q copy copy' changes empty failures failures' (tool.Config fault) key h settled = absurd (h)
+copy_first q copy copy' changes empty failures failures' tool.NoEntry key h settled = absurd (h)
 
-module _ {D : Type 0} (state : D → Dir) (q : Question) (copy left : Option (List ℕ)) (begun : Run D)
+module _ {D : Type 0} (state : D → Dir) (q : RunTerms) (copy left : Option (List ℕ)) (begun : Run D)
     (reads : IfSome copy (λ text. copy_of q.rows (state begun.directory).suffix text ≡ Ok (state begun.directory))) where
   bad : (fault : StreamFault) → ((text : List ℕ) → run_of q.rows q.options.go_on (state begun.directory) (records_of q.rows text) ≡ Err fault → IsBadText q (state begun.directory) text fault)
       → begun.options ≡ q.options → suffix_of q.rows q.suffix ≡ Some (state begun.directory).suffix → BreaksOff state q.rows (option_map (records_of q.rows) left) begun fault → AreBadChanges q (sources copy left) fault
@@ -105,6 +109,8 @@ module _ {D : Type 0} (state : D → Dir) (q : Question) (copy left : Option (Li
   blamed_so failures failures' (tool.BadChanges stream.Read) same key long h = absurd (h)
   blamed_so failures failures' (tool.BadChanges stream.Memory) same key long h = absurd (h)
   blamed_so failures failures' (tool.BadChanges stream.Ended) same key long h = absurd (h)
+  blamed_so failures failures' (tool.Config fault) same key long h = absurd (h)
+  blamed_so failures failures' tool.NoEntry same key long h = absurd (h)
   blamed_so failures failures' (tool.Read input.Changes) same key long h = tt
   blamed_so failures failures' (tool.Read input.Copy) same key long h = absurd (h)
   blamed_so failures failures' (tool.Read input.Config) same key long h = absurd (h)
@@ -127,6 +133,8 @@ module _ {D : Type 0} (state : D → Dir) (q : Question) (copy left : Option (Li
   changes_first copy' left' failures failures' (tool.BadChanges stream.Read) key h settled = absurd (h)
   changes_first copy' left' failures failures' (tool.BadChanges stream.Memory) key h settled = absurd (h)
   changes_first copy' left' failures failures' (tool.BadChanges stream.Ended) key h settled = absurd (h)
+  changes_first copy' left' failures failures' (tool.Config fault) key h settled = absurd (h)
+  changes_first copy' left' failures failures' tool.NoEntry key h settled = absurd (h)
   changes_first copy' left' failures failures' tool.Memory key h settled = tt
   changes_first copy' left' failures failures' (tool.BadCopy line why) key h settled = absurd (h)
   changes_first copy' left' failures failures' (tool.Write output) key h settled = absurd (h)
@@ -207,6 +215,8 @@ module _ {A : Type 0} (s : Texts) (t : RunTexts) (undo out report : TakenBytes) 
   dry_written (Err tool.Memory) h = h
   dry_written (Err (tool.BadQuestion item)) h = h
   dry_written (Err (tool.BadChanges fault)) h = h
+  dry_written (Err (tool.Config fault)) h = h
+  dry_written (Err tool.NoEntry) h = h
 
   -- what was written of the texts as they were made, was written of the stated ones
   pub written_so : (dry : Bool) (r : Result A ToolFault) → AreTexts dry s t → is_dry t ≡ dry → WroteInOrder (is_dry t) r (texts_of t) undo out report → WroteInOrder dry r s undo out report
@@ -224,16 +234,18 @@ dry_of dry s t h = by t.files refl h.0
 
 -- ---- the answer
 
-pub answers_write : (q : Question) (known : Sources) (output : RunOutput) (fault : ToolFault) → IsWriteFault fault → IsStatedRun q known output → AnswersRun q known (Err fault) output
+pub answers_write : (q : RunTerms) (known : Sources) (output : RunOutput) (fault : ToolFault) → IsWriteFault fault → IsStatedRun q known output → AnswersRun q known (Err fault) output
 answers_write q known output (tool.Write writer) h run = run
 answers_write q known output (tool.BadCopy line why) h run = absurd (h)
 answers_write q known output (tool.Read from) h run = absurd (h)
 answers_write q known output tool.Memory h run = absurd (h)
 answers_write q known output (tool.BadQuestion item) h run = absurd (h)
 answers_write q known output (tool.BadChanges fault) h run = absurd (h)
+answers_write q known output (tool.Config fault) h run = absurd (h)
+answers_write q known output tool.NoEntry h run = absurd (h)
 
 -- a fault before the writing
-pub unwritten : (A : Type 0) (q : Question) (known : Sources) (output : RunOutput) (fault : ToolFault) (u o w : TakenBytes)
+pub unwritten : (A : Type 0) (q : RunTerms) (known : Sources) (output : RunOutput) (fault : ToolFault) (u o w : TakenBytes)
     → IsCausedBy q known fault → u.1 ≡ u.0 → o.1 ≡ o.0 → w.1 ≡ w.0
     → WroteInOrder {A = A} q.options.dry (Err fault) output.texts u o w × AnswersRun q known (Err fault) output
 unwritten A q known output (tool.Write writer) u o w h a b c = absurd (h)
@@ -244,6 +256,8 @@ unwritten A q known output (tool.Read input.Config) u o w h a b c = absurd (h)
 unwritten A q known output tool.Memory u o w h a b c = ((a, b, c), h)
 unwritten A q known output (tool.BadQuestion item) u o w h a b c = ((a, b, c), h)
 unwritten A q known output (tool.BadChanges fault) u o w h a b c = ((a, b, c), h)
+unwritten A q known output (tool.Config fault) u o w h a b c = ((a, b, c), h)
+unwritten A q known output tool.NoEntry u o w h a b c = ((a, b, c), h)
 
 -- ---- over sources that tell their texts
 
@@ -262,7 +276,7 @@ if_any None b R f = tt
 if_any (Some x) None R f = tt
 if_any (Some x) (Some y) R f = f x y
 
-module _ (q : Question) (known : Sources) where
+module _ (q : RunTerms) (known : Sources) where
   abbrev Gives : RunOutput → Type 0
   Gives output = IfSome known.copy (λ copy. IfSome known.changes (λ changes. output_of q copy changes ≡ Ok output))
 
@@ -303,6 +317,8 @@ module _ (q : Question) (known : Sources) where
   fault_whole output (tool.BadChanges stream.Memory) h = changes_fail stream.Memory h.first h.suffix h.copy h.changes
   fault_whole output (tool.BadChanges stream.Ended) h = changes_fail stream.Ended h.first h.suffix h.copy h.changes
   fault_whole output (tool.BadChanges stream.BadVersion) h = changes_fail stream.BadVersion h.first h.suffix h.copy h.changes
+  fault_whole output (tool.Config fault) h = absurd (h)
+  fault_whole output tool.NoEntry h = absurd (h)
   fault_whole output (tool.Read from) h = if_any known.copy known.changes _ (λ copy changes. tt)
   fault_whole output tool.Memory h = if_any known.copy known.changes _ (λ copy changes. tt)
   fault_whole output (tool.Write writer) h = absurd (h)
@@ -314,3 +330,5 @@ module _ (q : Question) (known : Sources) where
   write_whole output tool.Memory h run = absurd (h)
   write_whole output (tool.BadQuestion item) h run = absurd (h)
   write_whole output (tool.BadChanges fault) h run = absurd (h)
+  write_whole output (tool.Config fault) h run = absurd (h)
+  write_whole output tool.NoEntry h run = absurd (h)

@@ -15,7 +15,7 @@ use Rattle.dir_tools.specs.declared.round_trip.RunInMemory.{RunInMemory}
 use Rattle.dir_tools.specs.declared.run.Summary.{Summary}
 use Rattle.dir_tools.specs.Canonical.{canonical_of}
 use Rattle.dir_tools.specs.CopyOf.{CopyFault, copy_of}
-use Rattle.dir_tools.specs.Headline.{Headline, IsTakenBack, Question, RunOutput, canonical_copy_of, directory_of, ok_or_bad_changes, ok_or_bad_copy, ok_or_bad_suffix, output_at, output_of, question}
+use Rattle.dir_tools.specs.Headline.{Headline, IsTakenBack, RunTerms, RunOutput, canonical_copy_of, directory_of, ok_or_bad_changes, ok_or_bad_copy, ok_or_bad_suffix, output_at, output_of, terms}
 use Rattle.dir_tools.specs.Inside.RunInMemory.{IsRunInMemory}
 use Rattle.dir_tools.specs.Laws.{CopiesAreSound, LeadsBackTo, RunsAcceptChanges, WrittenRunsAreTakenBack}
 use Rattle.dir_tools.specs.RunOf.{RunEnd, run_of}
@@ -25,7 +25,7 @@ use Rattle.dir_tools.proofs.SuffixLemmas.{named_suffix}
 
 -- ---- the whole run, part by part
 
-module _ (q : Question) (copy changes : List ℕ) where
+module _ (q : RunTerms) (copy changes : List ℕ) where
   abbrev from_directory : Dir → Result RunOutput ToolFault
   from_directory first = and_then (ok_or_bad_changes (run_of q.rows q.options.go_on first (records_of q.rows changes))) (λ ran. Ok (output_at q ran))
 
@@ -54,18 +54,18 @@ module _ (q : Question) (copy changes : List ℕ) where
 
 -- ---- the run back
 
-pub gives_back : (q : Question) (first : Dir) (ran : RunEnd) → suffix_of q.rows q.suffix ≡ Some first.suffix → (options : ModifyOptions) → LeadsBackTo q.rows first ran options.go_on
+pub gives_back : (q : RunTerms) (first : Dir) (ran : RunEnd) → suffix_of q.rows q.suffix ≡ Some first.suffix → (options : ModifyOptions) → LeadsBackTo q.rows first ran options.go_on
     → IsTakenBack q (output_at q ran) options (canonical_of first)
 gives_back q first ran named options leads = record {
-  back = output_at (question q.rows q.suffix options) leads.back;
-  runs = whole_run (question q.rows q.suffix options) (output_at q ran).texts.out (output_at q ran).texts.undo first.suffix named ran.end leads.copied leads.back leads.runs;
+  back = output_at (terms q.rows q.suffix options) leads.back;
+  runs = whole_run (terms q.rows q.suffix options) (output_at q ran).texts.out (output_at q ran).texts.undo first.suffix named ran.end leads.copied leads.back leads.runs;
   refuses_nothing = ap length leads.refuses_nothing;
   gives_first = ap canonical_of leads.ends_first;
 }
 
 -- ---- the theorem
 
-abbrev IsTaken : Question → List ℕ → RunOutput → Type 0
+abbrev IsTaken : RunTerms → List ℕ → RunOutput → Type 0
 IsTaken q copy output = (first : List ℕ) × (canonical_copy_of q copy ≡ Ok first) × ((options : ModifyOptions) → IsTakenBack q output options first)
 
 pub headline : RecordsAreSound → CopiesAreSound → RunsAcceptChanges → WrittenRunsAreTakenBack → Headline
@@ -95,13 +95,13 @@ headline records copies accept taken q copy changes output copy_bytes changes_by
 
 -- ---- there and back in memory
 
-pub there_and_back : Headline → (q : Question) (options : ModifyOptions) (copy changes : List ℕ) (there back : RunInMemory) → IsBytes copy → IsBytes changes
-    → IsRunInMemory q copy changes there → IsRunInMemory (question q.rows q.suffix options) there.out.items there.undo.items back
+pub there_and_back : Headline → (q : RunTerms) (options : ModifyOptions) (copy changes : List ℕ) (there back : RunInMemory) → IsBytes copy → IsBytes changes
+    → IsRunInMemory q copy changes there → IsRunInMemory (terms q.rows q.suffix options) there.out.items there.undo.items back
     → (back.summary.refused ≡ 0) × (canonical_copy_of q copy ≡ Ok back.out.items)
 there_and_back law q options copy changes there back copy_bytes changes_bytes ran ran_back =
     let taken = law q copy changes ran.output copy_bytes changes_bytes ran.runs in
     let leads : IsTakenBack q ran.output options taken.0 = taken.2 options in
-    let answers : Ok ran_back.output ≡ Ok leads.back = sym ran_back.runs ∙ (λ i. output_of (question q.rows q.suffix options) (ran.out i) (ran.undo i)) ∙ leads.runs in
+    let answers : Ok ran_back.output ≡ Ok leads.back = sym ran_back.runs ∙ (λ i. output_of (terms q.rows q.suffix options) (ran.out i) (ran.undo i)) ∙ leads.runs in
     let same : ran_back.output ≡ leads.back = cc in (
       ap (λ (n : Summary). n.refused) ran_back.summary ∙ ap (λ (o : RunOutput). o.summary.refused) same ∙ leads.refuses_nothing,
       taken.1 ∙ ap Ok (sym (ran_back.out ∙ ap (λ (o : RunOutput). o.texts.out) same ∙ leads.gives_first)),

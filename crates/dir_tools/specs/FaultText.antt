@@ -2,6 +2,7 @@
 use Rattle.std.specs.Prelude.{ℕ, List, ◌++◌, codes}
 use Rattle.std.specs.Fmt.{decimal}
 use Rattle.dir_ldif.specs.FaultText.{stream_fault_text}
+use Rattle.dir_acl.specs.FaultText.{config_cause_text}
 use Rattle.dir_tools.specs.declared.fault.Input.{Input}
 use Rattle.dir_tools.specs.declared.fault.Input.TheVariants as input
 use Rattle.dir_tools.specs.declared.fault.Item.{Item}
@@ -35,3 +36,5 @@ tool_fault_text (tool.Write to) = codes "cannot write " ++ output_text to
 tool_fault_text tool.Memory = codes "out of memory"
 tool_fault_text (tool.BadQuestion part) = codes "bad question: " ++ item_text part
 tool_fault_text (tool.BadChanges fault) = codes "changes: " ++ stream_fault_text fault
+tool_fault_text (tool.Config fault) = codes "config, line " ++ decimal fault.line ++ codes ": " ++ config_cause_text fault.cause
+tool_fault_text tool.NoEntry = codes "no such entry"

@@ -21,14 +21,14 @@ use Rattle.dir_tools.specs.RunOf.{RunEnd, causes_in, groups_in, run_of}
 use Rattle.dir_tools.specs.Suffix.{suffix_of}
 use Rattle.dir_tools.specs.Writing.{Texts}
 
--- what a run is asked beside its two texts: the types of attributes, the suffix of the directory, and how it is to run
-pub record Question : Type 0 where
+-- what a run is given beside its two texts: the types of attributes, the suffix of the directory, and how it is to run
+pub record RunTerms : Type 0 where
   pub rows : List TypeRow
   pub suffix : List ℕ
   pub options : ModifyOptions
 
-abbrev pub question : List TypeRow → List ℕ → ModifyOptions → Question
-question rows suffix options = record { rows = rows; suffix = suffix; options = options }
+abbrev pub terms : List TypeRow → List ℕ → ModifyOptions → RunTerms
+terms rows suffix options = record { rows = rows; suffix = suffix; options = options }
 
 -- what a run gives: the undo text, the new copy and the report, and how many records it accepted and refused
 pub record RunOutput : Type 0 where
@@ -50,17 +50,17 @@ ok_or_bad_changes (Ok ran) = Ok ran
 ok_or_bad_changes (Err fault) = Err (BadChanges fault)
 
 -- the directory that a copy is the text of
-abbrev pub directory_of : Question → List ℕ → Result Dir ToolFault
+abbrev pub directory_of : RunTerms → List ℕ → Result Dir ToolFault
 directory_of q copy = and_then (ok_or_bad_suffix (suffix_of q.rows q.suffix)) (λ key. ok_or_bad_copy (copy_of q.rows key copy))
 
-abbrev pub output_at : Question → RunEnd → RunOutput
+abbrev pub output_at : RunTerms → RunEnd → RunOutput
 output_at q ran = record {
   texts = record { undo = undo_text_of (groups_in ran.outcomes); out = canonical_of ran.end; report = modify_report_of q.options.verbose ran.outcomes };
   summary = record { accepted = length (groups_in ran.outcomes); refused = length (causes_in ran.outcomes) };
 }
 
 -- what the run of a text of changes on a copy gives, or its first fault: of the suffix, of the copy, of the text of changes
-abbrev pub output_of : Question → List ℕ → List ℕ → Result RunOutput ToolFault
+abbrev pub output_of : RunTerms → List ℕ → List ℕ → Result RunOutput ToolFault
 output_of q copy changes =
     and_then (directory_of q copy) (λ first.
     and_then (ok_or_bad_changes (run_of q.rows q.options.go_on first (records_of q.rows changes))) (λ ran. Ok (output_at q ran)))
@@ -68,17 +68,17 @@ output_of q copy changes =
 -- ---- the theorem
 
 -- the canonical text of the directory that a copy is the text of
-abbrev pub canonical_copy_of : Question → List ℕ → Result (List ℕ) ToolFault
+abbrev pub canonical_copy_of : RunTerms → List ℕ → Result (List ℕ) ToolFault
 canonical_copy_of q copy = and_then (directory_of q copy) (λ first. Ok (canonical_of first))
 
 -- the undo text of an output, run on its new copy, refuses nothing, and its own new copy is this first text
-pub record IsTakenBack (q : Question) (output : RunOutput) (options : ModifyOptions) (first : List ℕ) : Type 0 where
+pub record IsTakenBack (q : RunTerms) (output : RunOutput) (options : ModifyOptions) (first : List ℕ) : Type 0 where
   pub back : RunOutput
-  pub runs : output_of (question q.rows q.suffix options) output.texts.out output.texts.undo ≡ Ok back
+  pub runs : output_of (terms q.rows q.suffix options) output.texts.out output.texts.undo ≡ Ok back
   pub refuses_nothing : back.summary.refused ≡ 0
   pub gives_first : back.texts.out ≡ first
 
 -- every run that gives an output is taken back by it, whatever the options: to the canonical text of the first copy
 abbrev pub Headline : Type 0
-Headline = (q : Question) (copy changes : List ℕ) (output : RunOutput) → IsBytes copy → IsBytes changes → output_of q copy changes ≡ Ok output
+Headline = (q : RunTerms) (copy changes : List ℕ) (output : RunOutput) → IsBytes copy → IsBytes changes → output_of q copy changes ≡ Ok output
     → (first : List ℕ) × (canonical_copy_of q copy ≡ Ok first) × ((options : ModifyOptions) → IsTakenBack q output options first)

@@ -1,3 +1,4 @@
+pub mod Asking
 pub mod Loading
 pub mod RunInMemory
 pub mod RunTexts

@@ -5,11 +5,11 @@ use Rattle.dir_tools.specs.declared.fault.Cause.TheVariants as cause
 use Rattle.dir_tools.specs.declared.fault.ToolFault.{ToolFault}
 use Rattle.dir_tools.specs.declared.fault.ToolFault.TheVariants as tool
 use Rattle.dir_tools.specs.declared.round_trip.RoundTrip as trips
-use Rattle.dir_tools.specs.Headline.{Question, RunOutput, output_of}
+use Rattle.dir_tools.specs.Headline.{RunTerms, RunOutput, output_of}
 use Rattle.dir_tools.specs.ReadCalls.{FillsReadCalls}
 
 -- both runs have an output. Of the run there these are the numbers; of the run back, over what that one wrote, the numbers and the new copy
-pub record IsRoundTrip (q : Question) (copy changes : List ℕ) (trip : trips.RoundTrip) : Type 0 where
+pub record IsRoundTrip (q : RunTerms) (copy changes : List ℕ) (trip : trips.RoundTrip) : Type 0 where
   pub there : RunOutput
   pub back : RunOutput
   pub runs_there : output_of q copy changes ≡ Ok there
@@ -28,14 +28,14 @@ StopsInMemory copy changes (tool.BadChanges stream.TooManyTurns) = FillsReadCall
 StopsInMemory copy changes fault = ⊥
 
 -- the fault of a run in memory: the one that its texts have, or one of those
-abbrev pub IsFaultThere : Question → List ℕ → List ℕ → ToolFault → Type 0
+abbrev pub IsFaultThere : RunTerms → List ℕ → List ℕ → ToolFault → Type 0
 IsFaultThere q copy changes fault = (output_of q copy changes ≡ Err fault) ⊎ StopsInMemory copy changes fault
 
 -- the run there had an output, and over its texts, which have no fault, the run back came to one of those
-pub record IsFaultBack (q : Question) (copy changes : List ℕ) (fault : ToolFault) : Type 0 where
+pub record IsFaultBack (q : RunTerms) (copy changes : List ℕ) (fault : ToolFault) : Type 0 where
   pub there : RunOutput
   pub runs_there : output_of q copy changes ≡ Ok there
   pub stops : StopsInMemory there.texts.out there.texts.undo fault
 
-abbrev pub IsRoundTripFault : Question → List ℕ → List ℕ → ToolFault → Type 0
+abbrev pub IsRoundTripFault : RunTerms → List ℕ → List ℕ → ToolFault → Type 0
 IsRoundTripFault q copy changes fault = IsFaultThere q copy changes fault ⊎ IsFaultBack q copy changes fault

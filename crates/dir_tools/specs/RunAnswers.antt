@@ -16,7 +16,7 @@ use Rattle.dir_tools.specs.declared.run.Summary.{Summary}
 use Rattle.dir_tools.specs.Canonical.{canonical_of}
 use Rattle.dir_tools.specs.CopyFaults.{IsBadCopy}
 use Rattle.dir_tools.specs.CopyOf.{copy_of}
-use Rattle.dir_tools.specs.Headline.{IsTakenBack, Question, RunOutput, output_at, output_of}
+use Rattle.dir_tools.specs.Headline.{IsTakenBack, RunTerms, RunOutput, output_at, output_of}
 use Rattle.dir_tools.specs.ReadCalls.{FillsReadCalls}
 use Rattle.dir_tools.specs.RunOf.{AreUndos, ReadsAsGroups, RunEnd, groups_in, run_of}
 use Rattle.dir_tools.specs.Suffix.{suffix_of}
@@ -33,7 +33,7 @@ sources copy changes = record { copy = copy; changes = changes }
 
 -- a run from the directory that its copy is the text of, over the records of its changes. Each accepted record has an undo as its group; the
 -- records of the undo text are those of the groups, the last first; and the output takes the run back, whatever the options
-pub record IsStatedRun (q : Question) (known : Sources) (output : RunOutput) : Type 0 where
+pub record IsStatedRun (q : RunTerms) (known : Sources) (output : RunOutput) : Type 0 where
   pub first : Dir
   pub ran : RunEnd
   pub suffix : suffix_of q.rows q.suffix ≡ Some first.suffix
@@ -48,23 +48,23 @@ pub record IsStatedRun (q : Question) (known : Sources) (output : RunOutput) : T
 
 -- the run from a directory comes to this fault of the text of changes; or the text has a byte or more for each read call of
 -- a reader
-abbrev pub IsBadText : Question → Dir → List ℕ → StreamFault → Type 0
+abbrev pub IsBadText : RunTerms → Dir → List ℕ → StreamFault → Type 0
 IsBadText q first text stream.TooManyTurns = FillsReadCalls text
 IsBadText q first text fault = run_of q.rows q.options.go_on first (records_of q.rows text) ≡ Err fault
 
 -- the copy is the text of a directory, and from there the text of changes is at fault
-pub record AreBadChanges (q : Question) (known : Sources) (fault : StreamFault) : Type 0 where
+pub record AreBadChanges (q : RunTerms) (known : Sources) (fault : StreamFault) : Type 0 where
   pub first : Dir
   pub suffix : suffix_of q.rows q.suffix ≡ Some first.suffix
   pub copy : IfSome known.copy (λ text. copy_of q.rows first.suffix text ≡ Ok first)
   pub changes : IfSome known.changes (λ text. IsBadText q first text fault)
 
 -- the fault is that of the copy's text
-abbrev pub HasBadCopy : Question → Sources → ℕ → Cause → Type 0
+abbrev pub HasBadCopy : RunTerms → Sources → ℕ → Cause → Type 0
 HasBadCopy q known line why = (key : DnKeys) × (suffix_of q.rows q.suffix ≡ Some key) × IfSome known.copy (λ text. IsBadCopy q.rows key text line why)
 
 -- what a fault says of the texts that were read. Out of memory says nothing of them; for a read fault see `StoppedReading`
-abbrev pub IsCausedBy : Question → Sources → ToolFault → Type 0
+abbrev pub IsCausedBy : RunTerms → Sources → ToolFault → Type 0
 IsCausedBy q known (tool.BadQuestion item.Suffix) = suffix_of q.rows q.suffix ≡ None
 IsCausedBy q known (tool.BadCopy line why) = HasBadCopy q known line why
 IsCausedBy q known (tool.BadChanges fault) = AreBadChanges q known fault
@@ -76,7 +76,7 @@ IsCausedBy q known fault = ⊥
 -- ---- the answer
 
 -- the answer of a run that has this output, if it came to one
-abbrev pub AnswersRun : Question → Sources → Result Summary ToolFault → RunOutput → Type 0
+abbrev pub AnswersRun : RunTerms → Sources → Result Summary ToolFault → RunOutput → Type 0
 AnswersRun q known (Ok summary) output = (summary ≡ output.summary) × IsStatedRun q known output
 AnswersRun q known (Err (tool.Write writer)) output = IsStatedRun q known output
 AnswersRun q known (Err fault) output = IsCausedBy q known fault
@@ -92,5 +92,5 @@ IsAnswerOf (Err (tool.BadChanges stream.TooManyTurns)) output wanted = ⊤
 IsAnswerOf (Err fault) output wanted = wanted ≡ Err fault
 
 -- where both sources tell their texts, the run does as the definition says
-abbrev pub IsWholeRun : Question → Sources → Result Summary ToolFault → RunOutput → Type 0
+abbrev pub IsWholeRun : RunTerms → Sources → Result Summary ToolFault → RunOutput → Type 0
 IsWholeRun q known result output = IfSome known.copy (λ copy. IfSome known.changes (λ changes. IsAnswerOf result output (output_of q copy changes)))

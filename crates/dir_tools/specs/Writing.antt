@@ -75,6 +75,16 @@ WroteCopy (Err (fault.Write output)) tape text = WroteCopyPrefix output tape tex
 WroteCopy (Err fault.Memory) tape text = TookNothing tape
 WroteCopy (Err e) tape text = ⊥
 
+-- the report of slapacl, or a prefix of it after a fault of its writer; after any other fault nothing is written
+abbrev pub WroteReportPrefix : Output → TakenBytes → List ℕ → Type 0
+WroteReportPrefix to.Report tape text = TookPrefix tape text
+WroteReportPrefix output tape text = ⊥
+
+abbrev pub WroteReport : {A : Type 0} → Result A ToolFault → TakenBytes → List ℕ → Type 0
+WroteReport (Ok x) tape text = TookWhole tape text
+WroteReport (Err (fault.Write output)) tape text = WroteReportPrefix output tape text
+WroteReport (Err e) tape text = TookNothing tape
+
 -- a fault of a writer
 abbrev pub IsWriteFault : ToolFault → Type 0
 IsWriteFault (fault.Write output) = ⊤

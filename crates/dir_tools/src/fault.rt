@@ -6,11 +6,12 @@ ghost use Rattle.dir_tools.specs.FaultText.{input_text, item_text, output_text, 
 ghost use Rattle.dir_tools.specs.Report.{cause_text};
 ghost use Rattle.dir_tools.specs.declared.fault.ToolFault.TheVariants.{Memory};
 
+use dir_acl::ConfigFault;
 use dir_change::ResultCode;
 use dir_ldif::{RecordFault, StreamFault};
 use dir_names::Memory;
 use itoa::Buffer;
-use std::alloc::AllocFailed;
+use std::alloc::{AllocError, AllocFailed};
 use std::fmt::{self, Display};
 use thiserror::Error;
 
@@ -30,6 +31,10 @@ pub enum ToolFault {
     BadQuestion(Item),
     /// The text of changes is at fault as a whole.
     BadChanges(StreamFault),
+    /// The configuration is at fault.
+    Config(ConfigFault),
+    /// The base of the question is outside the suffix, or the copy has no entry of this name.
+    NoEntry,
 }
 
 impl Display for ToolFault {
@@ -48,6 +53,11 @@ impl Display for ToolFault {
             ToolFault::Memory => f.write_str("out of memory"),
             ToolFault::BadQuestion(item) => show_after(f, "bad question: ", item),
             ToolFault::BadChanges(fault) => show_after(f, "changes: ", fault),
+            ToolFault::Config(fault) => {
+                show_after(f, "config, line ", &Number(fault.line))?;
+                show_after(f, ": ", &fault.cause)
+            }
+            ToolFault::NoEntry => f.write_str("no such entry"),
         }
     }
 }
@@ -178,6 +188,14 @@ impl From<Memory> for ToolFault {
     ghost from_gives = { λ _ e. e ≡ Memory };
 
     fn from(_error: Memory) -> ToolFault {
+        ToolFault::Memory
+    }
+}
+
+impl From<AllocError> for ToolFault {
+    ghost from_gives = { λ _ e. e ≡ Memory };
+
+    fn from(_error: AllocError) -> ToolFault {
         ToolFault::Memory
     }
 }

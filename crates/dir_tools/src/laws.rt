@@ -1,5 +1,6 @@
 //! Laws about copies and runs: functions with no code, whose contracts are the laws.
 
+ghost use Rattle.dir_tools.specs.AccessAsBefore.{AccessIsAsBefore};
 ghost use Rattle.dir_tools.specs.Headline.{Headline};
 ghost use Rattle.dir_tools.specs.Laws.{CanonicalTextsReadBack, CopiesAreSound, GroupsAreUndos, RunsAcceptChanges, WrittenRunsAreTakenBack};
 
@@ -57,4 +58,14 @@ pub fn headline()
     copies_are_sound();
     runs_accept_changes();
     written_runs_are_taken_back();
+}
+
+/// A law: after a run is taken back, whatever the options, every question has the report that it had before the
+/// run, or the same fault, under each configuration of the run's suffix.
+pub fn access_is_as_before()
+    ensures { AccessIsAsBefore }
+{
+    copies_are_sound();
+    canonical_texts_read_back();
+    headline();
 }

@@ -1,7 +1,8 @@
 //! The tools over any readers and writers: `run_modify` applies changes to a copy of a directory and
-//! writes the new copy, the undo text and the report.
+//! writes the new copy, the undo text and the report; `run_acl` reports what a requester may do.
 #![tactic(auto)]
 
+mod acl;
 mod canonical;
 mod copy;
 mod fault;
@@ -13,11 +14,12 @@ mod run;
 mod taking;
 mod write;
 
+pub use acl::{Question, run_acl};
 pub use copy::{read_copy, write_copy};
 pub use fault::{Cause, Input, Item, Output, ToolFault};
 pub use laws::{
-    canonical_texts_read_back, copies_are_sound, groups_are_undos, headline, runs_accept_changes,
-    written_runs_are_taken_back,
+    access_is_as_before, canonical_texts_read_back, copies_are_sound, groups_are_undos, headline,
+    runs_accept_changes, written_runs_are_taken_back,
 };
 pub use modify::run_modify;
 pub use round_trip::{RoundTrip, run_there_and_back};

@@ -2,7 +2,7 @@
 
 ghost use Rattle.std.specs.Prelude.{◌≡◌, ◌⊎◌, Err, IfErr, IfOk, OnOk, Some};
 ghost use Rattle.dir_ldif.specs.Device.{HasFailed};
-ghost use Rattle.dir_tools.specs.Headline.{RunOutput, question};
+ghost use Rattle.dir_tools.specs.Headline.{RunOutput, terms};
 ghost use Rattle.dir_tools.specs.Inside.RunTexts.{AreTexts, is_dry, texts_of};
 ghost use Rattle.dir_tools.specs.RunAnswers.{AnswersRun, IsCausedBy, IsStatedRun, IsWholeRun, sources};
 ghost use Rattle.dir_tools.specs.StoppedReading.{HeldBefore};
@@ -48,9 +48,9 @@ pub fn run_modify<R: Source, R2: Source, W: Sink, W2: Sink, W3: Sink>(
     ensures unfailed { OnOk result ((W.failures undo.new ≡ W.failures undo.old) × (W2.failures out.new ≡ W2.failures out.old) × (W3.failures report.new ≡ W3.failures report.old)) }
     ensures headline { (output : RunOutput)
         × WroteInOrder options.dry result output.texts (W.taken undo.old, W.taken undo.new) (W2.taken out.old, W2.taken out.new) (W3.taken report.old, W3.taken report.new)
-        × AnswersRun (question schema.now suffix.now options) (sources (R.left copy.old) (R2.left changes.old)) result output
-        × IsWholeRun (question schema.now suffix.now options) (sources (R.left copy.old) (R2.left changes.old)) result output }
-    ensures first { IfErr result (HeldBefore (question schema.now suffix.now options) (R.left copy.old, R.left copy.new) (R2.left changes.old, R2.left changes.new)) }
+        × AnswersRun (terms schema.now suffix.now options) (sources (R.left copy.old) (R2.left changes.old)) result output
+        × IsWholeRun (terms schema.now suffix.now options) (sources (R.left copy.old) (R2.left changes.old)) result output }
+    ensures first { IfErr result (HeldBefore (terms schema.now suffix.now options) (R.left copy.old, R.left copy.new) (R2.left changes.old, R2.left changes.new)) }
     ensures unfailed_copy { OnOk result (R.failures copy.new ≡ R.failures copy.old) }
     ensures unfailed_changes { OnOk result (R2.failures changes.new ≡ R2.failures changes.old) }
     ensures read_copy { result ≡ Err (ToolFault.Read Input.Copy) → HasFailed (R.failures copy.old) (R.failures copy.new) }
@@ -105,9 +105,9 @@ fn make_texts<R: Source, R2: Source>(
     changes: &mut R2,
 ) -> Result<RunTexts, ToolFault>
     ensures ok { IfOk result (λ texts. (output : RunOutput) × AreTexts options.dry output.texts texts × (texts.summary ≡ output.summary)
-        × IsStatedRun (question schema.now suffix.now options) (sources (R.left copy.old) (R2.left changes.old)) output) }
-    ensures blamed { IfErr result (IsCausedBy (question schema.now suffix.now options) (sources (R.left copy.old) (R2.left changes.old))) }
-    ensures first { IfErr result (HeldBefore (question schema.now suffix.now options) (R.left copy.old, R.left copy.new) (R2.left changes.old, R2.left changes.new)) }
+        × IsStatedRun (terms schema.now suffix.now options) (sources (R.left copy.old) (R2.left changes.old)) output) }
+    ensures blamed { IfErr result (IsCausedBy (terms schema.now suffix.now options) (sources (R.left copy.old) (R2.left changes.old))) }
+    ensures first { IfErr result (HeldBefore (terms schema.now suffix.now options) (R.left copy.old, R.left copy.new) (R2.left changes.old, R2.left changes.new)) }
     ensures unfailed_copy { OnOk result (R.failures copy.new ≡ R.failures copy.old) }
     ensures unfailed_changes { OnOk result (R2.failures changes.new ≡ R2.failures changes.old) }
     ensures read_copy { result ≡ Err (ToolFault.Read Input.Copy) → HasFailed (R.failures copy.old) (R.failures copy.new) }

@@ -1,12 +1,13 @@
 //! A run there and back in memory: it shows in one call what the headline says.
 
 ghost use Rattle.std.specs.Prelude.{◌≡◌, IfErr, IfOk, Ok, Some, [], false};
-ghost use Rattle.dir_tools.specs.Headline.{canonical_copy_of, question};
+ghost use Rattle.dir_tools.specs.AccessAsBefore.{HaveSameAccess};
+ghost use Rattle.dir_tools.specs.Headline.{canonical_copy_of, terms};
 ghost use Rattle.dir_tools.specs.Inside.RunInMemory.{IsRunInMemory};
 ghost use Rattle.dir_tools.specs.RoundTrip.{IsFaultThere, IsRoundTrip, IsRoundTripFault};
 
 use crate::run::{ModifyOptions, Summary};
-use crate::{ToolFault, headline, run_modify};
+use crate::{ToolFault, access_is_as_before, headline, run_modify};
 use dir_ldif::{DeviceFault, Sink, Source};
 use dir_names::Schema;
 use std::alloc::Global;
@@ -24,7 +25,7 @@ pub struct RoundTrip {
 
 /// Runs changes on a copy in memory, and then the undo text of that run on its new copy. If both runs
 /// come to their ends, the second refuses nothing, and its new copy is the canonical text of the first
-/// copy.
+/// copy, on which each question of access has the same report as on the first copy itself.
 ///
 /// # Errors
 ///
@@ -38,9 +39,10 @@ pub fn run_there_and_back(
     copy: &[u8],
     changes: &[u8],
 ) -> Result<RoundTrip, ToolFault>
-    ensures taken_back { IfOk result (λ trip. (trip.back.refused ≡ 0) × (canonical_copy_of (question schema.now suffix.now options) copy.now ≡ Ok trip.copy.items)) }
-    ensures runs { IfOk result (IsRoundTrip (question schema.now suffix.now options) copy.now changes.now) }
-    ensures fault { IfErr result (IsRoundTripFault (question schema.now suffix.now options) copy.now changes.now) }
+    ensures taken_back { IfOk result (λ trip. (trip.back.refused ≡ 0) × (canonical_copy_of (terms schema.now suffix.now options) copy.now ≡ Ok trip.copy.items)) }
+    ensures access { IfOk result (λ trip. HaveSameAccess (terms schema.now suffix.now options) copy.now trip.copy.items) }
+    ensures runs { IfOk result (IsRoundTrip (terms schema.now suffix.now options) copy.now changes.now) }
+    ensures fault { IfErr result (IsRoundTripFault (terms schema.now suffix.now options) copy.now changes.now) }
 {
     let written = ModifyOptions {
         go_on: options.go_on,
@@ -48,6 +50,7 @@ pub fn run_there_and_back(
         verbose: options.verbose,
     };
     headline();
+    access_is_as_before();
     let there = match run_in_memory(alloc, schema, suffix, written, copy, changes) {
         Ok(there) => there,
         Err(fault) => return Err(fault),
@@ -81,8 +84,8 @@ fn run_in_memory(
     changes: &[u8],
 ) -> Result<RunInMemory, ToolFault>
     requires { options.dry ≡ false }
-    ensures ok { IfOk result (IsRunInMemory (question schema.now suffix.now options) copy.now changes.now) }
-    ensures fault { IfErr result (IsFaultThere (question schema.now suffix.now options) copy.now changes.now) }
+    ensures ok { IfOk result (IsRunInMemory (terms schema.now suffix.now options) copy.now changes.now) }
+    ensures fault { IfErr result (IsFaultThere (terms schema.now suffix.now options) copy.now changes.now) }
 {
     let mut copy = Text { rest: copy };
     let mut changes = Text { rest: changes };

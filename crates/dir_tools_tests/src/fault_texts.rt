@@ -1,6 +1,7 @@
 //! The texts of faults.
 
 use crate::running::assert_text;
+use dir_acl::{ConfigCause, ConfigFault};
 use dir_change::ResultCode;
 use dir_ldif::{RecordFault, StreamFault};
 use dir_tools::{Cause, Input, Item, Output, ToolFault};
@@ -27,7 +28,7 @@ fn padded(rt: &impl Abort, alloc: Global, fault: ToolFault) -> String {
 }
 
 /// Faults, and the text of each.
-const FAULTS: [(ToolFault, &str); 15] = [
+const FAULTS: [(ToolFault, &str); 18] = [
     (
         ToolFault::BadCopy(7, Cause::Code(ResultCode::NoSuchObject)),
         "copy, line 7: 32 noSuchObject",
@@ -58,6 +59,21 @@ const FAULTS: [(ToolFault, &str); 15] = [
         ToolFault::BadChanges(StreamFault::BadVersion),
         "changes: L15 BadVersion",
     ),
+    (
+        ToolFault::Config(ConfigFault {
+            line: 12,
+            cause: ConfigCause::Unsupported,
+        }),
+        "config, line 12: C2 Unsupported",
+    ),
+    (
+        ToolFault::Config(ConfigFault {
+            line: 0,
+            cause: ConfigCause::ConfigTooLong,
+        }),
+        "config, line 0: C11 ConfigTooLong",
+    ),
+    (ToolFault::NoEntry, "no such entry"),
 ];
 
 #[test]

@@ -3,6 +3,12 @@
 #![tactic(auto)]
 
 #[cfg(test)]
+mod access;
+#[cfg(test)]
+mod access_faults;
+#[cfg(test)]
+mod asking;
+#[cfg(test)]
 mod devices;
 #[cfg(test)]
 mod fault_texts;

@@ -3,8 +3,8 @@
 use crate::running::{STOP, assert_text};
 use dir_names::Schema;
 use dir_tools::{
-    RoundTrip, canonical_texts_read_back, copies_are_sound, groups_are_undos, headline,
-    run_there_and_back, runs_accept_changes, written_runs_are_taken_back,
+    RoundTrip, access_is_as_before, canonical_texts_read_back, copies_are_sound, groups_are_undos,
+    headline, run_there_and_back, runs_accept_changes, written_runs_are_taken_back,
 };
 use std::alloc::Global;
 use std::process::Abort;
@@ -33,6 +33,7 @@ fn a_run_there_and_back_gives_the_canonical_text_of_the_first_copy(rt: HostRunti
 
 #[test]
 fn laws_are_called() {
+    access_is_as_before();
     canonical_texts_read_back();
     copies_are_sound();
     groups_are_undos();

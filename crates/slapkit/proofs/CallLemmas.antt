@@ -9,7 +9,7 @@ use Rattle.slapkit.specs.declared.command.OutputPaths.{OutputPaths}
 use Rattle.slapkit.specs.declared.fault.Fault.{Fault}
 use Rattle.slapkit.specs.declared.files.Refusal.{Refusal}
 use Rattle.slapkit.specs.Files.{Call, Disk, Told, closes, creates, opens, standard_input, with_call}
-use Rattle.slapkit.specs.Runs.{AllCalls, Creates, CreatesFiles, FailsSo, IsCannotOpen, IsNotCreated, Made, OpensChanges, RunCalls, RunsOver, Then, WritesFiles, changes_text, question_of, sources_of}
+use Rattle.slapkit.specs.Runs.{AllCalls, Creates, CreatesFiles, FailsSo, IsCannotOpen, IsNotCreated, Made, OpensChanges, RunCalls, RunsOver, Then, WritesFiles, changes_text, terms_of, sources_of}
 
 -- no call
 pub made_none : (a : Option Disk) (P : Disk → List Call → Type 0) → ((d : Disk) → a ≡ Some d → P d []) → Made a a P
@@ -84,32 +84,32 @@ module _ (words : ModifyWords) (result : Result Summary Fault) (report : TakenBy
   same_sources d e f = λ i. sources (e i) (f i)
 
   pub creates_some : (a b : Option Disk) (files : OutputPaths) → words.files ≡ Some files → IfSome a (λ d. copy ≡ d.text_at words.data.now)
-      → IfSome a (λ d. changes ≡ changes_text d (option_copied words.changes)) → Made a b (λ d. WritesFiles files result (RunsOver (question_of words) (sources copy changes) result report))
-      → Made a b (λ d. CreatesFiles words.files result (RunsOver (question_of words) (sources_of words d) result report))
+      → IfSome a (λ d. changes ≡ changes_text d (option_copied words.changes)) → Made a b (λ d. WritesFiles files result (RunsOver (terms_of words) (sources copy changes) result report))
+      → Made a b (λ d. CreatesFiles words.files result (RunsOver (terms_of words) (sources_of words d) result report))
   creates_some a None files is e f made = tt
   creates_some None (Some last) files is e f made = absurd (made)
   creates_some (Some d) (Some last) files is e f made = (
     made.0,
     made.1,
-    subst (λ (o : Option OutputPaths). CreatesFiles o result (RunsOver (question_of words) (sources_of words d) result report) made.0) (sym is)
-        (subst (λ (k : Sources). WritesFiles files result (RunsOver (question_of words) k result report) made.0) (same_sources d e f) made.2),
+    subst (λ (o : Option OutputPaths). CreatesFiles o result (RunsOver (terms_of words) (sources_of words d) result report) made.0) (sym is)
+        (subst (λ (k : Sources). WritesFiles files result (RunsOver (terms_of words) k result report) made.0) (same_sources d e f) made.2),
   )
 
   pub creates_none : (a : Option Disk) → words.files ≡ None → IfSome a (λ d. copy ≡ d.text_at words.data.now) → IfSome a (λ d. changes ≡ changes_text d (option_copied words.changes))
-      → RunsOver (question_of words) (sources copy changes) result report (None, None) (None, None)
-      → Made a a (λ d. CreatesFiles words.files result (RunsOver (question_of words) (sources_of words d) result report))
+      → RunsOver (terms_of words) (sources copy changes) result report (None, None) (None, None)
+      → Made a a (λ d. CreatesFiles words.files result (RunsOver (terms_of words) (sources_of words d) result report))
   creates_none None is e f ran = tt
   creates_none (Some d) is e f ran = (
     [],
     sym (append-nil d.calls),
-    subst (λ (o : Option OutputPaths). CreatesFiles o result (RunsOver (question_of words) (sources_of words d) result report) []) (sym is)
-        (refl, subst (λ (k : Sources). RunsOver (question_of words) k result report (None, None) (None, None)) (same_sources d e f) ran),
+    subst (λ (o : Option OutputPaths). CreatesFiles o result (RunsOver (terms_of words) (sources_of words d) result report) []) (sym is)
+        (refl, subst (λ (k : Sources). RunsOver (terms_of words) k result report (None, None) (None, None)) (same_sources d e f) ran),
   )
 
 -- the run from its beginning, where no path is given twice
 module _ (words : ModifyWords) (repeated : Option (List ℕ)) (result : Result Summary Fault) (report : TakenBytes) (none : repeated ≡ None) where
   abbrev Rest : Disk → List Call → Type 0
-  Rest d calls = CreatesFiles words.files result (RunsOver (question_of words) (sources_of words d) result report) calls
+  Rest d calls = CreatesFiles words.files result (RunsOver (terms_of words) (sources_of words d) result report) calls
 
   abbrev Changes : Disk → List Call → Type 0
   Changes d calls = OpensChanges (option_copied words.changes) result (Rest d) calls

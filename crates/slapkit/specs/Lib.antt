@@ -1,3 +1,4 @@
+pub mod AccessRuns
 pub mod FaultText
 pub mod Files
 pub mod Paths

@@ -4,7 +4,7 @@ use Rattle.std.specs.Option.{option_copied}
 use Rattle.dir_names.specs.Table.Builtin.{builtin_rows}
 use Rattle.dir_tools.specs.declared.fault.ToolFault.{ToolFault}
 use Rattle.dir_tools.specs.declared.run.Summary.{Summary}
-use Rattle.dir_tools.specs.Headline.{Question, RunOutput, question}
+use Rattle.dir_tools.specs.Headline.{RunTerms, RunOutput, terms}
 use Rattle.dir_tools.specs.RunAnswers.{AnswersRun, IsWholeRun, Sources, sources}
 use Rattle.dir_tools.specs.Writing.{TakenBytes, WroteInOrder}
 use Rattle.slapkit.specs.declared.command.ModifyWords.{ModifyWords}
@@ -66,12 +66,12 @@ IsToolAnswer (Ok summary) answer = answer ≡ Ok summary
 IsToolAnswer (Err (fault.Tool e)) answer = answer ≡ Err e
 IsToolAnswer (Err e) answer = ⊥
 
--- the question that a command line asks: with the built-in types, and the words' own suffix and options
-abbrev pub question_of : ModifyWords → Question
-question_of words = question builtin_rows words.suffix.now words.options
+-- the terms of the run that a command line asks for: with the built-in types, and the words' own suffix and options
+abbrev pub terms_of : ModifyWords → RunTerms
+terms_of words = terms builtin_rows words.suffix.now words.options
 
 -- what was written into the undo file and the new copy, and the answer, are those of a run over these texts
-abbrev pub RunsOver : Question → Sources → Result Summary Fault → TakenBytes → TakenBytes → TakenBytes → Type 0
+abbrev pub RunsOver : RunTerms → Sources → Result Summary Fault → TakenBytes → TakenBytes → TakenBytes → Type 0
 RunsOver q known result report undo out = (answer : Result Summary ToolFault) × (output : RunOutput) × IsToolAnswer result answer
     × WroteInOrder q.options.dry answer output.texts undo out report × AnswersRun q known answer output × IsWholeRun q known answer output
 
@@ -100,7 +100,7 @@ CreatesFiles None result wrote calls = (calls ≡ []) × wrote (None, None) (Non
 -- the copy is opened first, then the changes, then the files to be written are created
 abbrev pub RunCalls : ModifyWords → Disk → Result Summary Fault → TakenBytes → Calls
 RunCalls words d result report = Opens words.data.now result (OpensChanges (option_copied words.changes) result
-    (CreatesFiles words.files result (RunsOver (question_of words) (sources_of words d) result report)))
+    (CreatesFiles words.files result (RunsOver (terms_of words) (sources_of words d) result report)))
 
 -- where a path is given twice there is no call
 abbrev pub AllCalls : Option (List ℕ) → ModifyWords → Disk → Result Summary Fault → TakenBytes → Calls

@@ -7,3 +7,8 @@ use Rattle.slapkit.specs.declared.fault.Fault.{Fault}
 abbrev pub status_of : Result Summary Fault → ℕ
 status_of (Ok summary) = cond (summary.refused == 0) 0 1
 status_of (Err fault) = 1
+
+-- of a question of access: 0 where it was answered, also with `DENIED`, else 1
+abbrev pub access_status_of : {A : Type 0} → Result A Fault → ℕ
+access_status_of (Ok answer) = 0
+access_status_of (Err fault) = 1

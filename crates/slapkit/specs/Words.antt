@@ -1,9 +1,10 @@
 -- What a command line asks for.
-use Rattle.std.specs.Prelude.{◌≡◌, ℕ, Bool, true, false, List, [], codes, Option, None, Some}
+use Rattle.std.specs.Prelude.{◌≡◌, ⊤, ℕ, Bool, true, false, List, [], codes, map, Option, None, Some, option_map}
 use Rattle.std.specs.Option.{option_copied}
-use Rattle.clap.specs.Matches.{first_value, found_of, one_text}
+use Rattle.clap.specs.Matches.{first_value, found_of, matched_of, one_text, raw_values}
 use Rattle.clap.specs.declared.parser.matches.ArgMatches.{ArgMatches}
 use Rattle.clap.specs.declared.parser.matches.Found.{Found}
+use Rattle.slapkit.specs.declared.command.AccessWords.{AccessWords}
 use Rattle.slapkit.specs.declared.command.ModifyWords.{ModifyWords}
 use Rattle.slapkit.specs.declared.command.OutputPaths.{OutputPaths}
 use Rattle.slapkit.specs.declared.command.Words.{Words}
@@ -15,6 +16,7 @@ IsDryWithoutFiles words = words.options.dry ≡ true → words.files ≡ None
 
 abbrev pub WritesNoFileDry : Words → Type 0
 WritesNoFileDry (tool.Slapmodify words) = IsDryWithoutFiles words
+WritesNoFileDry (tool.Slapacl words) = ⊤
 
 -- ---- the words of `slapmodify`
 
@@ -49,3 +51,19 @@ pub record AreWordsOf (m : ArgMatches) (words : ModifyWords) : Type 0 where
   pub go_on : IsFlag (found_of m) (codes "go_on") words.options.go_on
   pub dry : IsFlag (found_of m) (codes "dry") words.options.dry
   pub verbose : IsFlag (found_of m) (codes "verbose") words.options.verbose
+
+-- ---- the words of `slapacl`
+
+abbrev pub words_or_none : Option (List (List ℕ)) → List (List ℕ)
+words_or_none None = []
+words_or_none (Some words) = words
+
+-- each word is the value of its own argument
+pub record AreAccessWordsOf (m : ArgMatches) (words : AccessWords) : Type 0 where
+  pub base : words.base.now ≡ text_or_empty (first_value (found_of m) (codes "base"))
+  pub config : words.config.now ≡ text_or_empty (first_value (found_of m) (codes "config"))
+  pub copy : words.data.now ≡ text_or_empty (first_value (found_of m) (codes "data"))
+  pub authc : option_copied words.authc ≡ first_value (found_of m) (codes "authc")
+  pub words : map (λ word. word.now) words.words.items ≡ words_or_none (option_map raw_values (matched_of (found_of m) (codes "words")))
+  pub fake : IsFlag (found_of m) (codes "fake") words.fake
+  pub verbose : IsFlag (found_of m) (codes "verbose") words.verbose

@@ -1,7 +1,7 @@
 //! The command line, by `clap`.
 
 ghost use Rattle.std.specs.Prelude.{IfOk};
-ghost use Rattle.slapkit.specs.Words.{AreWordsOf, IsDryWithoutFiles, WritesNoFileDry};
+ghost use Rattle.slapkit.specs.Words.{AreAccessWordsOf, AreWordsOf, IsDryWithoutFiles, WritesNoFileDry};
 
 use clap::error::ErrorKind;
 use clap::{Arg, ArgAction, ArgMatches, Command, Error};
@@ -13,6 +13,7 @@ use std::convert::AsStr;
 #[derive(Debug, Drop)]
 pub enum Words<'a> {
     Slapmodify(ModifyWords<'a>),
+    Slapacl(AccessWords<'a>),
 }
 
 /// The words of `slapkit slapmodify`.
@@ -25,6 +26,20 @@ pub struct ModifyWords<'a> {
     /// The file of changes; without it they come from standard input.
     pub changes: Option<&'a str>,
     pub options: ModifyOptions,
+}
+
+/// The words of `slapkit slapacl`.
+#[derive(Debug, Drop)]
+pub struct AccessWords<'a> {
+    pub base: &'a str,
+    pub config: &'a str,
+    pub data: &'a str,
+    /// The requester's name; without it nobody asks.
+    pub authc: Option<&'a str>,
+    /// The words `attr[/access][:value]`.
+    pub words: Vec<&'a str>,
+    pub fake: bool,
+    pub verbose: bool,
 }
 
 /// Where the new copy and the undo file go.
@@ -44,8 +59,11 @@ pub fn read_words<'a, S: AsStr>(alloc: Global, words: &'a [S]) -> Result<Words<'
 {
     let mut program = program(alloc)?;
     let matches = program.try_get_matches_from_mut(words)?;
-    match matches.subcommand_matches("slapmodify") {
-        Some(matches) => Ok(Words::Slapmodify(modify_words(matches))),
+    if let Some(matches) = matches.subcommand_matches("slapmodify") {
+        return Ok(Words::Slapmodify(modify_words(matches)));
+    }
+    match matches.subcommand_matches("slapacl") {
+        Some(matches) => Ok(Words::Slapacl(access_words(alloc, matches)?)),
         None => Err(program.error(ErrorKind::MissingSubcommand, "a tool must be named")?),
     }
 }
@@ -72,18 +90,38 @@ fn modify_words<'a>(matches: &ArgMatches<'a>) -> ModifyWords<'a>
     }
 }
 
+fn access_words<'a>(alloc: Global, matches: &ArgMatches<'a>) -> Result<AccessWords<'a>, AllocError>
+    ensures { IfOk result (AreAccessWordsOf matches.now) }
+{
+    let words = match matches.get_strs("words") {
+        Some(words) => words.to_vec(alloc)?,
+        None => Vec::new(alloc),
+    };
+    Ok(AccessWords {
+        base: matches.get_str("base").unwrap_or(""),
+        config: matches.get_str("config").unwrap_or(""),
+        data: matches.get_str("data").unwrap_or(""),
+        authc: matches.get_str("authc"),
+        words,
+        fake: matches.get_flag("fake"),
+        verbose: matches.get_flag("verbose"),
+    })
+}
+
 fn program<'a>(alloc: Global) -> Result<Command<'a>, AllocError> {
     Command::new(alloc, "slapkit")
         .about("Offline tools for the administrator of an LDAP directory")
         .subcommand_required(true)
         .arg_required_else_help(true)
-        .subcommand(slapmodify(alloc)?)
+        .subcommand(slapmodify(alloc)?)?
+        .subcommand(slapacl(alloc)?)
 }
 
 fn slapmodify<'a>(alloc: Global) -> Result<Command<'a>, AllocError> {
     Command::new(alloc, "slapmodify")
         .about("Applies LDIF change records to an LDIF copy of a directory")
         .long_about(ABOUT)
+        .after_help(EXAMPLE)
         .arg(
             path(
                 alloc,
@@ -141,6 +179,59 @@ fn slapmodify<'a>(alloc: Global) -> Result<Command<'a>, AllocError> {
         .arg(flag(alloc, "verbose", 'v', "Report accepted records too"))
 }
 
+fn slapacl<'a>(alloc: Global) -> Result<Command<'a>, AllocError> {
+    Command::new(alloc, "slapacl")
+        .about("Reports what a requester may do, by a slapd.conf and an LDIF copy of a directory")
+        .long_about(ACCESS_ABOUT)
+        .after_help(ACCESS_EXAMPLE)
+        .arg(
+            path(alloc, "base", "DN", "The name of the entry")
+                .short('b')
+                .required(true),
+        )?
+        .arg(
+            path(
+                alloc,
+                "config",
+                "CONF",
+                "The slapd.conf that has the access rules",
+            )
+            .short('f')
+            .required(true),
+        )?
+        .arg(
+            path(
+                alloc,
+                "data",
+                "COPY",
+                "The copy, in LDIF as slapcat writes it",
+            )
+            .long("data")
+            .required(true),
+        )?
+        .arg(path(
+            alloc,
+            "authc",
+            "AUTHCDN",
+            "The requester's name [default: nobody's]",
+        )
+        .short('D'))?
+        .arg(flag(
+            alloc,
+            "fake",
+            'u',
+            "Do not look the entry up: take it to have no attributes",
+        ))?
+        .arg(flag(alloc, "verbose", 'v', "Report the requester's name first"))?
+        .arg(
+            Arg::new(alloc, "words")
+                .value_name("WORD")
+                .help("What is asked for, as attr[/access][:value] [default: entry]")
+                .num_args(0..)
+                .action(ArgAction::Append),
+        )
+}
+
 fn path<'a>(alloc: Global, id: &'a str, value: &'a str, help: &'a str) -> Arg<'a> {
     Arg::new(alloc, id)
         .value_name(value)
@@ -159,3 +250,17 @@ const ABOUT: &str = "\
 Applies LDIF change records to an LDIF copy of a directory, and writes the new copy, an undo file and \
 a report. The undo file is a text of changes too: run on the new copy, it leads back to the first directory. \
 The report goes to standard output. The exit status is 0 where every record was accepted, and else 1.";
+
+const EXAMPLE: &str = "\
+Example:
+  slapkit slapmodify -b dc=com --data copy.ldif --out new.ldif --undo undo.ldif -l changes.ldif";
+
+const ACCESS_ABOUT: &str = "\
+Reports what a requester may do with an entry of an LDIF copy of a directory, under the access rules of a slapd.conf. \
+For each word the report has the privileges on an attribute, or on the entry (entry) or its children (children); with an \
+access level, as in cn/read, whether it is ALLOWED or DENIED. The exit status is 0 where the question was answered, and \
+else 1.";
+
+const ACCESS_EXAMPLE: &str = "\
+Example:
+  slapkit slapacl -b cn=a,dc=com -f slapd.conf --data copy.ldif -D cn=b,dc=com cn/read entry";

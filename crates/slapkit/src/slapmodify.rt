@@ -7,7 +7,7 @@ ghost use Rattle.dir_tools.specs.RunAnswers.{AnswersRun, IsWholeRun, sources};
 ghost use Rattle.dir_tools.specs.StoppedReading.{HeldBefore};
 ghost use Rattle.dir_tools.specs.Writing.{FlushedInOrder, WroteInOrder};
 ghost use Rattle.slapkit.specs.Paths.{NamesItsPath, RefusesSamePath, first_repeated};
-ghost use Rattle.slapkit.specs.Runs.{AllCalls, CreatesFiles, IsNotCreated, IsToolAnswer, Made, RunsOver, WritesFiles, changes_text, question_of, sources_of};
+ghost use Rattle.slapkit.specs.Runs.{AllCalls, CreatesFiles, IsNotCreated, IsToolAnswer, Made, RunsOver, WritesFiles, changes_text, terms_of, sources_of};
 
 use crate::command::{ModifyWords, OutputPaths};
 use crate::fault::Fault;
@@ -85,7 +85,7 @@ fn with_changes<'a, F: FileSystem, R: Source, R2: Source, W: Sink>(
     requires copy { IfSome (F.disk files.old) (λ d. R.left copy.old ≡ d.text_at words.now.data.now) }
     requires changes { IfSome (F.disk files.old) (λ d. R2.left changes.old ≡ changes_text d (option_copied words.now.changes)) }
     ensures faults { IfErr result (NamesItsPath words.now) }
-    ensures calls { Made (F.disk files.old) (F.disk files.new) (λ d. CreatesFiles words.now.files result (RunsOver (question_of words.now) (sources_of words.now d) result (W.taken report.old, W.taken report.new))) }
+    ensures calls { Made (F.disk files.old) (F.disk files.new) (λ d. CreatesFiles words.now.files result (RunsOver (terms_of words.now) (sources_of words.now d) result (W.taken report.old, W.taken report.new))) }
 {
     match words.files {
         Some(paths) => with_paths(alloc, files, words, paths, copy, changes, report),
@@ -109,7 +109,7 @@ fn with_paths<'a, F: FileSystem, R: Source, R2: Source, W: Sink>(
 ) -> Result<Summary, Fault<'a>>
     requires { words.now.files ≡ Some paths }
     ensures faults { IfErr result (NamesItsPath words.now) }
-    ensures calls { Made (F.disk files.old) (F.disk files.new) (λ d. WritesFiles paths.entry result (RunsOver (question_of words.now) (sources (R.left copy.old) (R2.left changes.old)) result (W.taken report.old, W.taken report.new))) }
+    ensures calls { Made (F.disk files.old) (F.disk files.new) (λ d. WritesFiles paths.entry result (RunsOver (terms_of words.now) (sources (R.left copy.old) (R2.left changes.old)) result (W.taken report.old, W.taken report.new))) }
 {
     let mut undo = match files.create(paths.undo) {
         Ok(undo) => undo,
@@ -137,9 +137,9 @@ fn with_files<R: Source, R2: Source, W: Sink, W2: Sink, W3: Sink>(
 ) -> Result<Summary, ToolFault>
     ensures headline { (output : RunOutput)
         × WroteInOrder words.now.options.dry result output.texts (W.taken undo.old, W.taken undo.new) (W2.taken out.old, W2.taken out.new) (W3.taken report.old, W3.taken report.new)
-        × AnswersRun (question_of words.now) (sources (R.left copy.old) (R2.left changes.old)) result output
-        × IsWholeRun (question_of words.now) (sources (R.left copy.old) (R2.left changes.old)) result output }
-    ensures first { IfErr result (HeldBefore (question_of words.now) (R.left copy.old, R.left copy.new) (R2.left changes.old, R2.left changes.new)) }
+        × AnswersRun (terms_of words.now) (sources (R.left copy.old) (R2.left changes.old)) result output
+        × IsWholeRun (terms_of words.now) (sources (R.left copy.old) (R2.left changes.old)) result output }
+    ensures first { IfErr result (HeldBefore (terms_of words.now) (R.left copy.old, R.left copy.new) (R2.left changes.old, R2.left changes.new)) }
     ensures flushed { FlushedInOrder words.now.options.dry result (W.is_flushed undo.new) (W2.is_flushed out.new) (W3.is_flushed report.new) }
 {
     let Ok(schema) = Schema::builtin(alloc) else {

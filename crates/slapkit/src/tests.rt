@@ -1,5 +1,6 @@
-//! Tests of the command line, of paths that must differ, of fault texts, and of runs over a folder in memory.
+//! Tests of the command line, of paths that must differ, of fault texts, and of runs and questions over a folder in memory.
 
+mod access;
 mod folder;
 mod runs;
 
@@ -31,7 +32,9 @@ fn words_become_options(rt: HostRuntime) -> Result<(), Fail> {
         "-c",
         "-v",
     ];
-    let Words::Slapmodify(read) = read_words(alloc, words.as_slice())?;
+    let Words::Slapmodify(read) = read_words(alloc, words.as_slice())? else {
+        panic!(rt; "another tool");
+    };
     assert_eq!(rt; read.suffix, "dc=com");
     assert_eq!(rt; read.data, "a");
     assert!(rt;
@@ -61,7 +64,9 @@ fn a_dry_run_needs_no_outputs_and_touches_none(rt: HostRuntime) -> Result<(), Fa
         "--out",
         "a",
     ];
-    let Words::Slapmodify(read) = read_words(alloc, words.as_slice())?;
+    let Words::Slapmodify(read) = read_words(alloc, words.as_slice())? else {
+        panic!(rt; "another tool");
+    };
     assert!(rt; read.options.dry && read.files.is_none() && read.changes.is_none());
     assert!(rt; first_repeated(&read).is_none());
     Ok(())
@@ -139,7 +144,9 @@ fn paths_must_differ(rt: HostRuntime) -> Result<(), Fail> {
     ];
     for (data, out, undo, changes, want) in rows {
         let words = four_paths(data, out, undo, changes);
-        let Words::Slapmodify(read) = read_words(alloc, words.as_slice())?;
+        let Words::Slapmodify(read) = read_words(alloc, words.as_slice())? else {
+            panic!(rt; "another tool");
+        };
         assert_eq!(rt; first_repeated(&read).unwrap_or(""), want);
     }
     Ok(())
@@ -206,6 +213,7 @@ fn each_fault_has_its_text(rt: HostRuntime) -> Result<(), Fail> {
             Fault::Tool(ToolFault::BadChanges(StreamFault::LineTooLong)),
             "changes: L10 LineTooLong",
         ),
+        (Fault::Tool(ToolFault::NoEntry), "no such entry"),
     ];
     for (fault, want) in rows {
         let text = format!(in alloc; "{fault}")?;

@@ -1,6 +1,6 @@
 use Rattle.std.proofs.Common.{[], Err, refl}
 use Rattle.dir_tools.specs.declared.run.Summary.{Summary}
-use Rattle.dir_tools.specs.Headline.{Question, RunOutput, question}
+use Rattle.dir_tools.specs.Headline.{RunTerms, RunOutput, terms}
 use Rattle.dir_tools.specs.RunAnswers.{Sources, sources}
 use Rattle.dir_tools.specs.Writing.{TakenBytes}
 use Rattle.dir_tools.proofs.TextLemmas.{answers_write, dry_of, fault_whole, unwritten, write_whole, written_so}
@@ -8,7 +8,7 @@ use Rattle.dir_tools.proofs.modify.run_modify.Goals as goal
 
 pub returns-in-Err-clause-headline : goal.returns-in-Err-clause-headline
 returns-in-Err-clause-headline g c =
-    let q : Question = question c.args.schema.now c.args.suffix.now c.args.options in
+    let q : RunTerms = terms c.args.schema.now c.args.suffix.now c.args.options in
     let known : Sources = sources (g.R.Source.left c.args.copy.now) (g.R2.Source.left c.args.changes.now) in
     let none : RunOutput = record { texts = record { undo = []; out = []; report = [] }; summary = record { accepted = 0; refused = 0 } } in
     let u : TakenBytes = (g.W.Sink.taken c.args.undo.now, g.W.Sink.taken c.args.undo.now) in
@@ -19,7 +19,7 @@ returns-in-Err-clause-headline g c =
 
 pub returns-clause-headline : goal.returns-clause-headline
 returns-clause-headline g c =
-    let q : Question = question c.args.schema.now c.args.suffix.now c.args.options in
+    let q : RunTerms = terms c.args.schema.now c.args.suffix.now c.args.options in
     let known : Sources = sources (g.R.Source.left c.args.copy.now) (g.R2.Source.left c.args.changes.now) in
     let made = c.in-Ok.ensures.ok in
     let u : TakenBytes = (g.W.Sink.taken c.args.undo.now, g.W.Sink.taken c.write_texts.new.undo) in

@@ -1,0 +1,109 @@
+-- What `run_acl` answers over devices, which may tell their bytes or not.
+use Rattle.std.specs.Prelude.{◌≡◌, ◌≢◌, ℕ, ⊤, List, Option, IfSome, Result, Ok, Err}
+use Rattle.dir_ldif.specs.declared.faults.StreamFault.TheVariants as stream
+use Rattle.dir_tree.specs.Content.{Content}
+use Rattle.dir_tree.specs.Dir.{Dir}
+use Rattle.dir_acl.specs.declared.fault.ConfigCause.TheVariants.{Memory}
+use Rattle.dir_acl.specs.Config.{config_of}
+use Rattle.dir_acl.specs.Rules.{Configuration}
+use Rattle.dir_tools.specs.declared.fault.Cause.TheVariants as cause
+use Rattle.dir_tools.specs.declared.fault.Input.TheVariants as input
+use Rattle.dir_tools.specs.declared.fault.ToolFault.{ToolFault}
+use Rattle.dir_tools.specs.declared.fault.ToolFault.TheVariants as tool
+use Rattle.dir_tools.specs.AccessReport.{AccessTerms, QuestionParts, acl_report_of, parts_of, report_on, target_of}
+use Rattle.dir_tools.specs.CompleteRecords.{CompleteRecordsLoad, GaveBytes, answers_after}
+use Rattle.dir_tools.specs.CopyFaults.{IsBadCopy}
+use Rattle.dir_tools.specs.CopyOf.{copy_of, empty_copy}
+use Rattle.dir_tools.specs.StoppedReading.{KnownBytes}
+
+-- the texts that the two sources have left, where they tell them
+pub record AccessSources : Type 0 where
+  pub config : Option (List ℕ)
+  pub copy : Option (List ℕ)
+
+abbrev pub access_sources : Option (List ℕ) → Option (List ℕ) → AccessSources
+access_sources config copy = record { config = config; copy = copy }
+
+-- ---- a report
+
+-- a configuration, and what the parts of the question say
+pub record Asking : Type 0 where
+  pub config : Configuration
+  pub parts : QuestionParts
+
+-- the text is that of the configuration, and the question has these parts
+pub record IsAsked (t : AccessTerms) (config : Option (List ℕ)) (asking : Asking) : Type 0 where
+  pub reads : IfSome config (λ text. config_of t.rows text ≡ Ok asking.config)
+  pub parts : parts_of t ≡ Ok asking.parts
+
+-- the report on a directory that the copy is the text of
+pub record IsStatedReport (t : AccessTerms) (known : AccessSources) (report : List ℕ) : Type 0 where
+  pub asking : Asking
+  pub asked : IsAsked t known.config asking
+  pub directory : Dir
+  pub copy : IfSome known.copy (λ text. copy_of t.rows asking.config.suffix text ≡ Ok directory)
+  pub target : Option Content
+  pub target_is : target_of t.question.fake directory asking.parts.base ≡ Ok target
+  pub report_is : report ≡ report_on t.question.verbose asking.config directory asking.parts target
+
+-- ---- a fault before the writing
+
+-- the configuration is one, and the question has this fault
+pub record IsBadQuestion (t : AccessTerms) (config : Option (List ℕ)) (fault : ToolFault) : Type 0 where
+  pub configuration : Configuration
+  pub reads : IfSome config (λ text. config_of t.rows text ≡ Ok configuration)
+  pub parts : parts_of t ≡ Err fault
+
+-- the copy is the text of a directory, and the base is no entry of it
+pub record HasNoEntry (t : AccessTerms) (known : AccessSources) : Type 0 where
+  pub asking : Asking
+  pub asked : IsAsked t known.config asking
+  pub directory : Dir
+  pub copy : IfSome known.copy (λ text. copy_of t.rows asking.config.suffix text ≡ Ok directory)
+  pub target_is : target_of t.question.fake directory asking.parts.base ≡ Err tool.NoEntry
+
+-- what a fault says of the texts that were read. Out of memory and a reader's fault say nothing of them
+abbrev pub IsAccessFault : AccessTerms → AccessSources → ToolFault → Type 0
+IsAccessFault t known (tool.Config fault) = (fault.cause ≢ Memory) × IfSome known.config (λ text. config_of t.rows text ≡ Err fault)
+IsAccessFault t known (tool.BadQuestion item) = IsBadQuestion t known.config (tool.BadQuestion item)
+IsAccessFault t known (tool.BadCopy line why) = (asking : Asking) × IsAsked t known.config asking × IfSome known.copy (λ text. IsBadCopy t.rows asking.config.suffix text line why)
+IsAccessFault t known tool.NoEntry = HasNoEntry t known
+IsAccessFault t known (tool.Read input.Config) = ⊤
+IsAccessFault t known (tool.Read input.Copy) = ⊤
+IsAccessFault t known tool.Memory = ⊤
+IsAccessFault t known fault = ⊥
+
+-- ---- the answer
+
+-- the answer where this is the report, if it came to one
+abbrev pub AnswersQuestion : {A : Type 0} → AccessTerms → AccessSources → Result A ToolFault → List ℕ → Type 0
+AnswersQuestion t known (Ok x) report = IsStatedReport t known report
+AnswersQuestion t known (Err (tool.Write writer)) report = IsStatedReport t known report
+AnswersQuestion t known (Err fault) report = IsAccessFault t known fault
+
+-- the answer, and the report, are those of the definition. Where reading stopped, or memory ran out, the answer says nothing of it
+abbrev pub IsReportAnswer : {A : Type 0} → Result A ToolFault → List ℕ → Result (List ℕ) ToolFault → Type 0
+IsReportAnswer (Ok x) report wanted = wanted ≡ Ok report
+IsReportAnswer (Err (tool.Write writer)) report wanted = wanted ≡ Ok report
+IsReportAnswer (Err tool.Memory) report wanted = ⊤
+IsReportAnswer (Err (tool.Read from)) report wanted = ⊤
+IsReportAnswer (Err (tool.BadCopy line (cause.Ended stream.TooManyTurns))) report wanted = ⊤
+IsReportAnswer (Err fault) report wanted = wanted ≡ Err fault
+
+-- where both sources tell their texts, the answer is what the definition says
+abbrev pub IsWholeReport : {A : Type 0} → AccessTerms → AccessSources → Result A ToolFault → List ℕ → Type 0
+IsWholeReport t known result report = IfSome known.config (λ config. IfSome known.copy (λ copy. IsReportAnswer result report (acl_report_of t config copy)))
+
+-- ---- reading that stopped
+
+-- the text is a configuration, the question has no fault, and every complete record among the bytes of the copy was right
+pub record RecordsWereRight (t : AccessTerms) (config : Option (List ℕ)) (copy : KnownBytes) : Type 0 where
+  pub asking : Asking
+  pub asked : IsAsked t config asking
+  pub loaded : GaveBytes copy.0 copy.1 (λ bytes. CompleteRecordsLoad t.rows (empty_copy asking.config.suffix) (answers_after t.rows bytes))
+
+-- for each fault of the copy's reader, what holds of the complete records before it
+abbrev pub AccessHeldBefore : AccessTerms → Option (List ℕ) → KnownBytes → ToolFault → Type 0
+AccessHeldBefore t config copy (tool.Read input.Copy) = RecordsWereRight t config copy
+AccessHeldBefore t config copy (tool.BadCopy line (cause.Ended stream.TooManyTurns)) = RecordsWereRight t config copy
+AccessHeldBefore t config copy fault = ⊤

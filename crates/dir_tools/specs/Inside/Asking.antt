@@ -1,0 +1,62 @@
+-- The views of the parts of a question, and how they and the configuration are read. No public contract needs this file.
+use Rattle.std.specs.Prelude.{◌≡◌, ◌≢◌, ℕ, ⊤, List, map, Option, option_map, IfSome, Result, Err}
+use Rattle.std.specs.Borrow.{Bor}
+use Rattle.dir_names.specs.declared.schema.TypeRow.{TypeRow}
+use Rattle.dir_names.specs.Results.{Meets}
+use Rattle.dir_ldif.specs.Device.{HasFailed}
+use Rattle.dir_acl.specs.declared.fault.ConfigCause.{ConfigCause}
+use Rattle.dir_acl.specs.declared.fault.ConfigCause.TheVariants as cause
+use Rattle.dir_acl.specs.declared.fault.ConfigFault.{ConfigFault}
+use Rattle.dir_acl.specs.declared.privileges.Level.{Level}
+use Rattle.dir_acl.specs.Config.{config_of}
+use Rattle.dir_tools.specs.declared.acl.parts.Parts.{Parts}
+use Rattle.dir_tools.specs.declared.acl.parts.Word as code
+use Rattle.dir_tools.specs.declared.fault.Input.TheVariants as input
+use Rattle.dir_tools.specs.declared.fault.ToolFault.{ToolFault}
+use Rattle.dir_tools.specs.declared.fault.ToolFault.TheVariants as tool
+use Rattle.dir_tools.specs.AccessReport.{QuestionParts, Word}
+
+-- ---- views
+
+abbrev pub access_in : Option (Bor (List ℕ) × Level) → Option (List ℕ × Level)
+access_in access = option_map (λ a. (a.0.now, a.1)) access
+
+abbrev pub word_in : code.Word → Word
+word_in word = record { attr = word.attr.now; asked = word.asked; access = access_in word.access }
+
+abbrev pub parts_in : Parts → QuestionParts
+parts_in parts = record { base = parts.base; requester = parts.requester; words = map word_in parts.words.items }
+
+-- ---- how a question is read
+
+-- the question is faulty in this part, or memory ran out
+abbrev pub IsPartFault : {A : Type 0} → ToolFault → Result A ToolFault → Type 0
+IsPartFault (tool.BadQuestion item) wanted = wanted ≡ Err (tool.BadQuestion item)
+IsPartFault tool.Memory wanted = ⊤
+IsPartFault fault wanted = ⊥
+
+abbrev pub GivesPart : {A T : Type 0} → (T → A) → Result T ToolFault → Result A ToolFault → Type 0
+GivesPart view result wanted = Meets IsPartFault view result wanted
+
+-- ---- how a configuration is read
+
+-- what a configuration's fault means
+abbrev pub fault_at : ConfigCause → ConfigFault → ToolFault
+fault_at cause.Memory fault = tool.Memory
+fault_at why fault = tool.Config fault
+
+abbrev pub config_fault : ConfigFault → ToolFault
+config_fault fault = fault_at fault.cause fault
+
+-- the source failed, or memory ran out
+abbrev pub IsReadFault : ℕ → ℕ → ToolFault → Type 0
+IsReadFault failures failures' (tool.Read input.Config) = HasFailed failures failures'
+IsReadFault failures failures' tool.Memory = ⊤
+IsReadFault failures failures' fault = ⊥
+
+-- the text is no configuration, and this is its first fault; or there is no text, or no memory
+abbrev pub IsConfigFault : List TypeRow → Option (List ℕ) → ToolFault → Type 0
+IsConfigFault rows config (tool.Config fault) = (fault.cause ≢ cause.Memory) × IfSome config (λ text. config_of rows text ≡ Err fault)
+IsConfigFault rows config (tool.Read input.Config) = ⊤
+IsConfigFault rows config tool.Memory = ⊤
+IsConfigFault rows config fault = ⊥

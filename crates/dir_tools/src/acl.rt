@@ -1,0 +1,143 @@
+//! `run_acl`: what a requester may do, by a configuration and a copy, and the report written (slapacl(8)).
+
+mod configuration;
+mod cut;
+mod parts;
+mod report;
+
+ghost use Rattle.std.specs.Io.KnownBytes.{Consumes};
+ghost use Rattle.std.specs.Prelude.{◌≡◌, ◌⊎◌, ◌≤◌, ℕ, Err, IfErr, IfOk, List, Ok, OnOk, length, option_copied};
+ghost use Rattle.dir_ldif.specs.Device.{HasFailed};
+ghost use Rattle.dir_tools.specs.AccessAnswers.{AccessHeldBefore, AnswersQuestion, IsAccessFault, IsStatedReport, IsWholeReport, access_sources};
+ghost use Rattle.dir_tools.specs.AccessReport.{access_terms, target_of};
+ghost use Rattle.dir_tools.specs.Writing.{WroteReport};
+ghost use Rattle.dir_tools.specs.declared.fault.Input.TheVariants as Input;
+ghost use Rattle.dir_tools.specs.declared.fault.Output.TheVariants as Output;
+ghost use Rattle.dir_tools.specs.declared.fault.ToolFault.TheVariants as ToolFault;
+
+use crate::acl::configuration::read_config;
+use crate::acl::parts::read_parts;
+use crate::acl::report::report_text;
+use crate::copy::read_copy;
+use crate::write::write_text;
+use crate::{Output, ToolFault};
+use dir_ldif::{Sink, Source};
+use dir_names::{Bytes, DnKey, Schema, Texts};
+use dir_tree::{Directory, Entry, TreeDirectory};
+use std::alloc::Global;
+
+/// What slapacl is asked (slapacl(8)).
+#[derive(Debug, Drop)]
+pub struct Question {
+    /// The name of the target (`-b`).
+    pub base: Bytes,
+    /// The requester's name (`-D`). Nobody asks if there is none, or if it is the name without RDNs.
+    pub authc: Option<Bytes>,
+    /// The words `attr[/access][:value]`. Without any word, `entry` is asked for.
+    pub words: Texts,
+    /// The target is not looked up: it has no attributes, whether or not the copy has it (`-u`).
+    pub fake: bool,
+    /// The report begins with the requester's name (`-v`).
+    pub verbose: bool,
+}
+
+/// Reports what a requester may do with an entry of a copy, under the access rules of a slapd.conf. The report
+/// is built whole, and then written and flushed.
+///
+/// At most 16,785,408 bytes of the configuration are read, whatever its reader gives.
+///
+/// # Errors
+///
+/// In this order: the configuration's first fault; the base, the requester or the first word that is faulty;
+/// the copy, as `read_copy` answers; `NoEntry`, if the base is outside the suffix, or the copy has no such entry
+/// and it is to be looked up; the writer's fault. A read fault and out of memory come where they are met.
+pub fn run_acl<R: Source, R2: Source, W: Sink>(
+    alloc: Global,
+    schema: &Schema,
+    question: &Question,
+    config: &mut R,
+    copy: &mut R2,
+    report: &mut W,
+) -> Result<(), ToolFault>
+    ensures unfailed { OnOk result (W.failures report.new ≡ W.failures report.old) }
+    ensures answer { (text : List ℕ)
+        × WroteReport result (W.taken report.old, W.taken report.new) text
+        × AnswersQuestion (access_terms schema.now question.now) (access_sources (R.left config.old) (R2.left copy.old)) result text
+        × IsWholeReport (access_terms schema.now question.now) (access_sources (R.left config.old) (R2.left copy.old)) result text }
+    ensures first { IfErr result (AccessHeldBefore (access_terms schema.now question.now) (R.left config.old) (R2.left copy.old, R2.left copy.new)) }
+    ensures bounded { (bytes : List ℕ) × Consumes (R.left config.old) (R.left config.new) bytes × (length bytes ≤ 16785408) }
+    ensures unfailed_config { OnOk result (R.failures config.new ≡ R.failures config.old) }
+    ensures unfailed_copy { OnOk result (R2.failures copy.new ≡ R2.failures copy.old) }
+    ensures read_config { result ≡ Err (ToolFault.Read Input.Config) → HasFailed (R.failures config.old) (R.failures config.new) }
+    ensures read_copy { result ≡ Err (ToolFault.Read Input.Copy) → HasFailed (R2.failures copy.old) (R2.failures copy.new) }
+    ensures flushed { OnOk result (W.is_flushed report.new) }
+    ensures write_report { result ≡ Err (ToolFault.Write Output.Report) → HasFailed (W.failures report.old) (W.failures report.new) ⊎ W.may_stall report.new }
+{
+    let text = match make_report(alloc, schema, question, config, copy) {
+        Ok(text) => text,
+        Err(fault) => return Err(fault),
+    };
+    write_text(report, text.as_slice(), Output::Report)
+}
+
+fn make_report<R: Source, R2: Source>(
+    alloc: Global,
+    schema: &Schema,
+    question: &Question,
+    config: &mut R,
+    copy: &mut R2,
+) -> Result<Vec<u8>, ToolFault>
+    ensures ok { IfOk result (λ text. IsStatedReport (access_terms schema.now question.now) (access_sources (R.left config.old) (R2.left copy.old)) text.items) }
+    ensures blamed { IfErr result (IsAccessFault (access_terms schema.now question.now) (access_sources (R.left config.old) (R2.left copy.old))) }
+    ensures first { IfErr result (AccessHeldBefore (access_terms schema.now question.now) (R.left config.old) (R2.left copy.old, R2.left copy.new)) }
+    ensures bounded { (bytes : List ℕ) × Consumes (R.left config.old) (R.left config.new) bytes × (length bytes ≤ 16785408) }
+    ensures unfailed_config { OnOk result (R.failures config.new ≡ R.failures config.old) }
+    ensures unfailed_copy { OnOk result (R2.failures copy.new ≡ R2.failures copy.old) }
+    ensures read_config { result ≡ Err (ToolFault.Read Input.Config) → HasFailed (R.failures config.old) (R.failures config.new) }
+    ensures read_copy { result ≡ Err (ToolFault.Read Input.Copy) → HasFailed (R2.failures copy.old) (R2.failures copy.new) }
+{
+    let config = match read_config(alloc, schema, config) {
+        Ok(config) => config,
+        Err(fault) => return Err(fault),
+    };
+    let parts = match read_parts(alloc, schema, question) {
+        Ok(parts) => parts,
+        Err(fault) => return Err(fault),
+    };
+    let Ok(suffix) = config.suffix().try_clone(alloc) else {
+        return Err(ToolFault::Memory);
+    };
+    let directory = match read_copy(alloc, schema, TreeDirectory::new(alloc, suffix), copy) {
+        Ok(directory) => directory,
+        Err(fault) => return Err(fault),
+    };
+    let target = match find_target(&directory, &parts.base, question.fake) {
+        Ok(target) => target,
+        Err(fault) => return Err(fault),
+    };
+    match report_text(alloc, question.verbose, &config, &directory, &parts, target) {
+        Ok(text) => Ok(text),
+        Err(_) => Err(ToolFault::Memory),
+    }
+}
+
+/// The entry of the base, or none if it is made up.
+fn find_target<'d, D: Directory>(
+    directory: &'d D,
+    base: &DnKey,
+    fake: bool,
+) -> Result<Option<&'d Entry>, ToolFault>
+    ensures ok { IfOk result (λ target. target_of fake (D.state directory.now) base.now ≡ Ok (option_copied target)) }
+    ensures none { IfErr result (λ fault. (fault ≡ ToolFault.NoEntry) × (target_of fake (D.state directory.now) base.now ≡ Err ToolFault.NoEntry)) }
+{
+    if !base.at_or_below(directory.suffix()) {
+        return Err(ToolFault::NoEntry);
+    }
+    if fake {
+        return Ok(None);
+    }
+    match directory.get(base) {
+        Some(entry) => Ok(Some(entry)),
+        None => Err(ToolFault::NoEntry),
+    }
+}

@@ -1,0 +1,75 @@
+//! The configuration read from its source, in pieces, and no further than it may be long.
+
+ghost use Rattle.std.specs.Io.KnownBytes.{Consumes, IsAtEnd};
+ghost use Rattle.std.specs.Prelude.{◌≡◌, ◌⊎◌, ◌<◌, ◌≤◌, ℕ, Err, IfErr, IfOk, IfSome, List, Ok, OnOk, length};
+ghost use Rattle.dir_acl.specs.Config.{config_of};
+ghost use Rattle.dir_acl.specs.Inside.ReadingConfig.{configuration_of};
+ghost use Rattle.dir_ldif.specs.Device.{HasFailed};
+ghost use Rattle.dir_tools.specs.Inside.Asking.{IsConfigFault, IsReadFault, config_fault};
+ghost use Rattle.dir_tools.specs.declared.fault.Input.TheVariants as Input;
+ghost use Rattle.dir_tools.specs.declared.fault.ToolFault.TheVariants as ToolFault;
+
+use crate::{Input, ToolFault};
+use dir_acl::{Config, ConfigCause, ConfigFault, MAX_CONFIG};
+use dir_ldif::Source;
+use dir_names::Schema;
+use std::alloc::Global;
+
+/// The greatest number of bytes that one read call is asked for.
+const PIECE: usize = 8192;
+
+/// Reads a configuration. At most 16,785,408 bytes are read.
+///
+/// # Errors
+///
+/// A read fault; the configuration's first fault; out of memory.
+pub(super) fn read_config<R: Source>(
+    alloc: Global,
+    schema: &Schema,
+    source: &mut R,
+) -> Result<Config, ToolFault>
+    ensures ok { IfOk result (λ config. IfSome (R.left source.old) (λ text. config_of schema.now text ≡ Ok (configuration_of config))) }
+    ensures fault { IfErr result (IsConfigFault schema.now (R.left source.old)) }
+    ensures bounded { (bytes : List ℕ) × Consumes (R.left source.old) (R.left source.new) bytes × (length bytes ≤ 16785408) }
+    ensures read { result ≡ Err (ToolFault.Read Input.Config) → HasFailed (R.failures source.old) (R.failures source.new) }
+    ensures unfailed { OnOk result (R.failures source.new ≡ R.failures source.old) }
+{
+    let text = match read_text(alloc, source) {
+        Ok(text) => text,
+        Err(fault) => return Err(fault),
+    };
+    match Config::read(alloc, schema, text.as_slice()) {
+        Ok(config) => Ok(config),
+        Err(fault) => Err(config_fault(fault)),
+    }
+}
+
+/// The fault of a configuration, as a fault of the tool.
+fn config_fault(fault: ConfigFault) -> ToolFault
+    ensures { result ≡ config_fault fault }
+{
+    match fault.cause {
+        ConfigCause::Memory => ToolFault::Memory,
+        _ => ToolFault::Config(fault),
+    }
+}
+
+/// All that a source gives, or more than a configuration may have.
+fn read_text<R: Source>(alloc: Global, source: &mut R) -> Result<Vec<u8>, ToolFault>
+    ensures text { IfOk result (λ text. Consumes (R.left source.old) (R.left source.new) text.items) }
+    ensures whole { IfOk result (λ text. (16777216 < length text.items) ⊎ IsAtEnd (R.left source.new)) }
+    ensures bounded { (bytes : List ℕ) × Consumes (R.left source.old) (R.left source.new) bytes × (length bytes ≤ 16785408) }
+    ensures fault { IfErr result (IsReadFault (R.failures source.old) (R.failures source.new)) }
+    ensures unfailed { OnOk result (R.failures source.new ≡ R.failures source.old) }
+{
+    let mut text = Vec::new(alloc);
+    let mut buffer = [0u8; PIECE];
+    while text.len() <= MAX_CONFIG {
+        match source.read(&mut buffer) {
+            Ok(0) => return Ok(text),
+            Ok(n) => text.extend_from_slice(&buffer[..n])?,
+            Err(_) => return Err(ToolFault::Read(Input::Config)),
+        }
+    }
+    Ok(text)
+}
