@@ -1,4 +1,5 @@
 pub mod FaultText
+pub mod Faults
 pub mod Files
 pub mod Paths
 pub mod Runs
