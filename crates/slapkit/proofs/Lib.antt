@@ -1,3 +1,4 @@
 pub mod CallLemmas
+pub mod EscapeLemmas
 pub mod Examples
 pub mod PathLemmas

@@ -1,3 +1,4 @@
+pub mod Escape
 pub mod FaultText
 pub mod Faults
 pub mod Files

@@ -148,6 +148,10 @@ fn each_fault_has_its_text(rt: HostRuntime) -> Result<(), Fail> {
         ),
         (Fault::SamePath("a"), "same path twice: a"),
         (Fault::CannotOpen("a"), "cannot open a"),
+        (
+            Fault::CannotOpen("\tM\u{fc}ller\u{9b}\n\x7f"),
+            "cannot open \\x09M\u{fc}ller\\x9b\\x0a\\x7f",
+        ),
         (Fault::Exists("a"), "exists already: a"),
         (
             Fault::Tool(ToolFault::BadCopy(7, bad_name)),
