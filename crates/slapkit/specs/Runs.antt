@@ -105,7 +105,7 @@ WritesOutputs paths mode q known result =
     Tries (creates paths.undo.now mode) (IsNotCreated paths.undo.now) [] result
     (Tries (creates paths.out.now mode) (IsNotCreated paths.out.now) (discards paths.undo.now ∷ []) result
     (λ calls. (answer : Result Summary ToolFault) × (undo : Option (List ℕ)) × (out : Option (List ℕ)) × (report : List ℕ)
-        × RunsOver q known answer (Some [], undo) (Some [], out) (Some [], Some report) × EndsWithOutputs paths undo out report answer result calls))
+    × RunsOver q known answer (Some [], undo) (Some [], out) (Some [], Some report) × EndsWithOutputs paths undo out report answer result calls))
 
 -- the tool runs, and nothing but the report is written
 abbrev pub WritesReport : Question → Sources → Result Summary Fault → Calls

@@ -126,7 +126,15 @@ fn without_outputs<'a, F: FileSystem, R: Source, R2: Source>(
     let mut undo = dropped();
     let mut out = dropped();
     let mut report = Buffer::new(alloc);
-    match with_files(alloc, words, copy, changes, &mut undo, &mut out, &mut report) {
+    match with_files(
+        alloc,
+        words,
+        copy,
+        changes,
+        &mut undo,
+        &mut out,
+        &mut report,
+    ) {
         Ok(summary) => match files.report(report.as_slice()) {
             Ok(()) => Ok(summary),
             Err(why) => Err(not_reported(why)),
@@ -161,8 +169,17 @@ fn with_outputs<'a, F: FileSystem, R: Source, R2: Source>(
         }
     };
     let mut report = Buffer::new(alloc);
-    match with_files(alloc, words, copy, changes, &mut undo, &mut out, &mut report) {
-        Ok(summary) => synced(files, paths, undo, out, report.as_slice(), summary),
+    let answer = with_files(
+        alloc,
+        words,
+        copy,
+        changes,
+        &mut undo,
+        &mut out,
+        &mut report,
+    );
+    match answer {
+        Ok(summary) => sync_outputs(files, paths, undo, out, report.as_slice(), summary),
         Err(fault) => {
             files.discard(paths.out, out);
             files.discard(paths.undo, undo);
@@ -172,7 +189,7 @@ fn with_outputs<'a, F: FileSystem, R: Source, R2: Source>(
 }
 
 /// Syncs the two files, and publishes them.
-fn synced<'a, F: FileSystem>(
+fn sync_outputs<'a, F: FileSystem>(
     files: &mut F,
     paths: &OutputPaths<'a>,
     undo: F::Draft,
@@ -193,11 +210,11 @@ fn synced<'a, F: FileSystem>(
         files.discard(paths.undo, undo);
         return Err(not_written(paths.out, Output::Out, why));
     }
-    published(files, paths, undo, out, report, summary)
+    publish_outputs(files, paths, undo, out, report, summary)
 }
 
 /// Publishes the two files, the undo file first, and writes the report.
-fn published<'a, F: FileSystem>(
+fn publish_outputs<'a, F: FileSystem>(
     files: &mut F,
     paths: &OutputPaths<'a>,
     undo: F::Draft,
@@ -293,9 +310,8 @@ fn not_written<'a>(path: &'a str, output: Output, why: Refusal) -> Fault<'a>
     ensures { IsNotWritten path.entry.now output why result }
 {
     match why {
-        Refusal::Exists => Fault::Exists(path),
-        Refusal::Memory => Fault::Tool(ToolFault::Memory),
         Refusal::Other => Fault::Tool(ToolFault::Write(output)),
+        why => not_created(path, why),
     }
 }
 

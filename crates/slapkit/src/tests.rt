@@ -44,15 +44,7 @@ fn words_become_options(rt: HostRuntime) -> Result<(), Fail> {
 #[test]
 fn a_dry_run_needs_no_outputs(rt: HostRuntime) -> Result<(), Fail> {
     let alloc = rt.alloc();
-    let words = [
-        "slapkit",
-        "slapmodify",
-        "-b",
-        "dc=com",
-        "--data",
-        "a",
-        "-u",
-    ];
+    let words = ["slapkit", "slapmodify", "-b", "dc=com", "--data", "a", "-u"];
     let Words::Slapmodify(read) = read_words(alloc, words.as_slice())?;
     assert!(rt; read.options.dry && read.out.is_none() && read.undo.is_none());
     assert!(rt; first_repeated(&read).is_none());

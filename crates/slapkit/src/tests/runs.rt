@@ -153,7 +153,8 @@ fn expect(
 #[test]
 fn each_file_is_made_in_its_turn_and_takes_its_own_text(rt: HostRuntime) -> Result<(), Fail> {
     let alloc = rt.alloc();
-    let made = "create undo 640;create new 640;sync undo UNDO;sync new NEW;publish undo UNDO;publish new NEW;report ACCEPTED;1, 0";
+    let made =
+        "create undo 640;create new 640;sync undo UNDO;sync new NEW;publish undo UNDO;publish new NEW;report ACCEPTED;1, 0";
     let want = format!(in alloc; "open copy;open changes;{made}")?;
     let named = words("copy", Some("changes"), ["new", "undo"], STOP);
     expect(&rt, alloc, &named, MISSING, ALL, want.as_str())?;

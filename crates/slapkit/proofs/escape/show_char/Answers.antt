@@ -6,7 +6,7 @@ use Rattle.slapkit.proofs.EscapeLemmas.{control_text, three_shown, three_written
 use Rattle.slapkit.proofs.escape.show_char.Goals as goal
 
 pub returns-clause-writes : goal.returns-clause-writes
-returns-clause-writes g c = 
+returns-clause-writes g c =
     let ok : Result (Unit {0}) Error = Ok tt in
     three_written g.W.Write.write_str_gives c.args.f.now c.write_str.new.self c.write_char-2.new.self c.write_char-3.new.self ok ok c.write_char-3.result
     (codes "\\x") (encode_utf8 c.hex_digit.result) (encode_utf8 c.hex_digit-2.result) (shown_char c.args.c)
