@@ -1,18 +1,19 @@
 -- Calls of a file system, one after the other.
-use Rattle.std.proofs.Common.{◌≡◌, ℕ, List, [], ◌∷◌, ◌++◌, Option, None, Some, IfSome, Result, Ok, inl, inr, refl, sym, ap, subst, ◌∙◌, append-nil, append_assoc}
+use Rattle.std.proofs.Common.{◌≡◌, ℕ, List, [], ◌∷◌, ◌++◌, Option, None, Some, IfSome, Result, Ok, Err, inl, inr, refl, sym, ap, subst, ◌∙◌, append-nil, append_assoc}
 use Rattle.std.specs.Option.{option_copied}
 use Rattle.dir_tools.specs.declared.fault.ToolFault.{ToolFault}
 use Rattle.dir_tools.specs.declared.run.Summary.{Summary}
-use Rattle.dir_tools.specs.Headline.{Question}
-use Rattle.dir_tools.specs.RunAnswers.{Sources, sources}
+use Rattle.dir_tools.specs.Headline.{Question, RunOutput}
+use Rattle.dir_tools.specs.RunAnswers.{AnswersRun, IsWholeRun, Sources, sources}
+use Rattle.dir_tools.specs.Writing.{TakenBytes, WroteInOrder}
 use Rattle.slapkit.specs.declared.command.ModifyWords.{ModifyWords}
 use Rattle.slapkit.specs.declared.command.OutputPaths.{OutputPaths}
 use Rattle.slapkit.specs.declared.fault.Fault.{Fault}
 use Rattle.slapkit.specs.declared.files.Refusal.{Refusal}
-use Rattle.slapkit.specs.Faults.{FailsSo, IsNotCreated, IsNotOpened}
-use Rattle.slapkit.specs.Files.{Call, Disk, Told, creates, discards, opens, standard_input, with_call}
+use Rattle.slapkit.specs.Faults.{FailsSo, IsNotCreated, IsNotOpened, IsNotReported, IsRunFault}
+use Rattle.slapkit.specs.Files.{Call, Disk, Told, creates, discards, opens, reports, standard_input, with_call}
 use Rattle.slapkit.specs.Paths.{outputs_of}
-use Rattle.slapkit.specs.Runs.{AllCalls, Ends, EndsWithOutputs, Made, OpensChanges, RunCalls, RunsOver, Tries, WritesAll, WritesOutputs, WritesReport, changes_text, question_of, sources_of}
+use Rattle.slapkit.specs.Runs.{AllCalls, Ends, EndsWithOutputs, EndsWithoutOutputs, Made, OpensChanges, RunCalls, RunsOver, RunsOverDrafts, Tries, WritesAll, WritesOutputs, WritesReport, both_discarded, changes_text, question_of, sources_of}
 
 -- ---- calls in a row
 
@@ -83,37 +84,83 @@ module _ {A : Type 0} (call : Option Refusal → Call) (fault : Refusal → Faul
       (λ d after is same. inr (why, ap (λ (l : List Call). call (Some why) ∷ l) same, fails))
 
 pub ends : {A : Type 0} (a : Option Disk) (answer : A) → Made a a (λ d. Ends answer (Ok answer))
-ends {A} a answer = made_none a (λ d. Ends {A} answer (Ok answer)) (λ d is. (refl, refl))
+ends a answer = made_none a (λ d. Ends answer (Ok answer)) (λ d is. (refl, refl))
 
 -- ---- the tool's run
 
--- both drafts are created, and the tool runs over them
-module _ (paths : OutputPaths) (mode : ℕ) (q : Question) (known : Sources) (answer : Result Summary ToolFault) (result : Result Summary Fault)
-    (undo undo' out out' : Option (List ℕ)) (report : List ℕ) where
-  abbrev Rest : List Call → Type 0
-  Rest calls = EndsWithOutputs paths undo' out' report answer result calls
+-- what the tool writes into the report is what the buffer has taken
+pub runs_over : (q : Question) (known : Sources) (answer : Result Summary ToolFault) (output : RunOutput) (undo out : TakenBytes) (before after : Option (List ℕ)) (report : List ℕ)
+    → WroteInOrder q.options.dry answer output.texts undo out (before, after) → AnswersRun q known answer output → IsWholeRun q known answer output
+    → before ≡ Some [] → after ≡ Some report → RunsOver q known answer undo out (Some [], Some report)
+runs_over q known answer output undo out before after report wrote answers whole fresh taken = record {
+  output = output;
+  wrote = subst (λ (t : Option (List ℕ)). WroteInOrder q.options.dry answer output.texts undo out (Some [], t)) taken
+      (subst (λ (t : Option (List ℕ)). WroteInOrder q.options.dry answer output.texts undo out (t, after)) fresh wrote);
+  answers = answers;
+  whole = whole;
+}
 
-  abbrev Full : List Call → Type 0
-  Full calls = (answer : Result Summary ToolFault) × (undo : Option (List ℕ)) × (out : Option (List ℕ)) × (report : List ℕ)
-      × RunsOver q known answer (Some [], undo) (Some [], out) (Some [], Some report) × EndsWithOutputs paths undo out report answer result calls
+module _ (paths : OutputPaths) (mode : ℕ) (q : Question) (known : Sources) (result : Result Summary Fault) where
+  abbrev CreatesOut : (List Call → Type 0) → List Call → Type 0
+  CreatesOut rest calls = Tries (creates paths.out.now mode) (IsNotCreated paths.out.now) (discards paths.undo.now ∷ []) result rest calls
 
-  abbrev Second : (List Call → Type 0) → List Call → Type 0
-  Second rest calls = Tries (creates paths.out.now mode) (IsNotCreated paths.out.now) (discards paths.undo.now ∷ []) result rest calls
+  -- the draft of the new copy is not created
+  pub no_draft : (a b c e : Option Disk) (why : Refusal) → Told a b (creates paths.undo.now mode None) → Told b c (creates paths.out.now mode (Some why))
+      → Told c e (discards paths.undo.now) → FailsSo (IsNotCreated paths.out.now why) result → Made a e (λ d. WritesOutputs paths mode q known result)
+  no_draft a b c e why first second third fails =
+      tries_on (creates paths.undo.now mode) (IsNotCreated paths.undo.now) [] result (CreatesOut (RunsOverDrafts paths q known result)) a b e first
+      (tries_refused (creates paths.out.now mode) (IsNotCreated paths.out.now) (discards paths.undo.now ∷ []) result (λ d. RunsOverDrafts paths q known result) b c e why second
+      (just_one c e (discards paths.undo.now) third) fails)
 
-  pub writes_outputs : (a b c e : Option Disk) → Told a b (creates paths.undo.now mode None) → Told b c (creates paths.out.now mode None)
-      → IfSome b (λ d. undo ≡ Some []) → IfSome c (λ d. out ≡ Some []) → RunsOver q known answer (undo, undo') (out, out') (Some [], Some report)
-      → Made c e (λ d. Rest) → Made a e (λ d. WritesOutputs paths mode q known result)
-  writes_outputs a b c e first second fresh_undo fresh_out ran rest =
-      tries_on (creates paths.undo.now mode) (IsNotCreated paths.undo.now) [] result (Second Full) a b e first
-      (made_as b e (λ d. Second (λ calls. (out ≡ Some []) × Rest calls)) (λ d. Second Full)
-      (tries_on (creates paths.out.now mode) (IsNotCreated paths.out.now) (discards paths.undo.now ∷ []) result (λ calls. (out ≡ Some []) × Rest calls) b c e second
-      (made_as c e (λ d. Rest) (λ d calls. (out ≡ Some []) × Rest calls) rest (λ d calls is h. (at_some (out ≡ Some []) c d is fresh_out, h))))
-      (λ d calls is. tries_as (creates paths.out.now mode) (IsNotCreated paths.out.now) (discards paths.undo.now ∷ []) result (λ after. (out ≡ Some []) × Rest after) Full
-      (λ after h. (answer, undo', out', report, from (at_some (undo ≡ Some []) b d is fresh_undo) h.0, h.1)) calls))
-    where
-      from : undo ≡ Some [] → out ≡ Some [] → RunsOver q known answer (Some [], undo') (Some [], out') (Some [], Some report)
-      from u o = subst (λ (t : Option (List ℕ)). RunsOver q known answer (t, undo') (Some [], out') (Some [], Some report)) u
-          (subst (λ (t : Option (List ℕ)). RunsOver q known answer (undo, undo') (t, out') (Some [], Some report)) o ran)
+  -- both drafts are created, and the tool runs over them
+  module _ (answer : Result Summary ToolFault) (undo undo' out out' : Option (List ℕ)) (report : List ℕ) where
+    abbrev Rest : List Call → Type 0
+    Rest calls = EndsWithOutputs paths undo' out' report answer result calls
+
+    pub writes_outputs : (a b c e : Option Disk) → Told a b (creates paths.undo.now mode None) → Told b c (creates paths.out.now mode None)
+        → IfSome b (λ d. undo ≡ Some []) → IfSome c (λ d. out ≡ Some []) → RunsOver q known answer (undo, undo') (out, out') (Some [], Some report)
+        → Made c e (λ d. Rest) → Made a e (λ d. WritesOutputs paths mode q known result)
+    writes_outputs a b c e first second fresh_undo fresh_out ran rest =
+        tries_on (creates paths.undo.now mode) (IsNotCreated paths.undo.now) [] result (CreatesOut (RunsOverDrafts paths q known result)) a b e first
+        (made_as b e (λ d. CreatesOut (λ calls. (out ≡ Some []) × Rest calls)) (λ d. CreatesOut (RunsOverDrafts paths q known result))
+        (tries_on (creates paths.out.now mode) (IsNotCreated paths.out.now) (discards paths.undo.now ∷ []) result (λ calls. (out ≡ Some []) × Rest calls) b c e second
+        (made_as c e (λ d. Rest) (λ d calls. (out ≡ Some []) × Rest calls) rest (λ d calls is h. (at_some (out ≡ Some []) c d is fresh_out, h))))
+        (λ d calls is. tries_as (creates paths.out.now mode) (IsNotCreated paths.out.now) (discards paths.undo.now ∷ []) result
+        (λ after. (out ≡ Some []) × Rest after) (RunsOverDrafts paths q known result)
+        (λ after h. (answer, undo', out', report, from (at_some (undo ≡ Some []) b d is fresh_undo) h.0, h.1)) calls))
+      where
+        from : undo ≡ Some [] → out ≡ Some [] → RunsOver q known answer (Some [], undo') (Some [], out') (Some [], Some report)
+        from u o = subst (λ (t : Option (List ℕ)). RunsOver q known answer (t, undo') (Some [], out') (Some [], Some report)) u
+            (subst (λ (t : Option (List ℕ)). RunsOver q known answer (undo, undo') (t, out') (Some [], Some report)) o ran)
+
+-- after the tool's own fault the drafts are removed
+pub ends_in_fault : (paths : OutputPaths) (undo out : Option (List ℕ)) (report : List ℕ) (told : ToolFault) (e : Fault) (a b c : Option Disk)
+    → Told a b (discards paths.out.now) → Told b c (discards paths.undo.now) → IsRunFault told e
+    → Made a c (λ d. EndsWithOutputs paths undo out report (Err told) (Err e))
+ends_in_fault paths undo out report told e a b c first second fails =
+    made_as a c (Just (both_discarded paths)) (λ d. EndsWithOutputs paths undo out report (Err told) (Err e))
+    (just_two a b c (discards paths.out.now) (discards paths.undo.now) first second) (λ d calls is same. (same, fails))
+
+-- where no files are to be written
+pub writes_report : (q : Question) (known : Sources) (answer : Result Summary ToolFault) (report : List ℕ) (result : Result Summary Fault) (a b : Option Disk)
+    → RunsOver q known answer (None, None) (None, None) (Some [], Some report) → Made a b (λ d. EndsWithoutOutputs report answer result)
+    → Made a b (λ d. WritesReport q known result)
+writes_report q known answer report result a b ran ended =
+    made_as a b (λ d. EndsWithoutOutputs report answer result) (λ d. WritesReport q known result) ended (λ d calls is h. (answer, report, ran, h))
+
+pub report_refused : (report : List ℕ) (summary : Summary) (why : Refusal) (e : Fault) (a b : Option Disk) → Told a b (reports report (Some why)) → IsNotReported why e
+    → Made a b (λ d. EndsWithoutOutputs report (Ok summary) (Err e))
+report_refused report summary why e a b told fails =
+    let failed : Result Summary Fault = Err e in
+    tries_refused (reports report) IsNotReported [] failed (λ d. Ends summary failed) a b b why told (just_none b) fails
+
+pub reported : (report : List ℕ) (summary : Summary) (a b : Option Disk) → Told a b (reports report None) → Made a b (λ d. EndsWithoutOutputs report (Ok summary) (Ok summary))
+reported report summary a b told =
+    let done : Result Summary Fault = Ok summary in
+    tries_on (reports report) IsNotReported [] done (Ends summary done) a b b told (ends b summary)
+
+pub no_report_due : (report : List ℕ) (told : ToolFault) (e : Fault) (a : Option Disk) → IsRunFault told e → Made a a (λ d. EndsWithoutOutputs report (Err told) (Err e))
+no_report_due report told e a fails = made_none a (λ d. EndsWithoutOutputs report (Err told) (Err e)) (λ d is. (refl, fails))
 
 -- the files to be written, with what the two sources have left and the mode
 module _ (words : ModifyWords) (result : Result Summary Fault) (mode : ℕ) (copy changes : Option (List ℕ)) where

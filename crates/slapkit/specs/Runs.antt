@@ -99,13 +99,16 @@ EndsWithoutOutputs report (Err e) result calls = (calls ≡ []) × FailsSo (IsRu
 
 -- ---- the whole run
 
+-- the tool runs over the drafts, and the run ends
+abbrev pub RunsOverDrafts : OutputPaths → Question → Sources → Result Summary Fault → Calls
+RunsOverDrafts paths q known result calls = (answer : Result Summary ToolFault) × (undo : Option (List ℕ)) × (out : Option (List ℕ)) × (report : List ℕ)
+    × RunsOver q known answer (Some [], undo) (Some [], out) (Some [], Some report) × EndsWithOutputs paths undo out report answer result calls
+
 -- the draft of the undo file is created, then that of the new copy, with the mode of the copy; and the tool runs over them
 abbrev pub WritesOutputs : OutputPaths → ℕ → Question → Sources → Result Summary Fault → Calls
 WritesOutputs paths mode q known result =
     Tries (creates paths.undo.now mode) (IsNotCreated paths.undo.now) [] result
-    (Tries (creates paths.out.now mode) (IsNotCreated paths.out.now) (discards paths.undo.now ∷ []) result
-    (λ calls. (answer : Result Summary ToolFault) × (undo : Option (List ℕ)) × (out : Option (List ℕ)) × (report : List ℕ)
-    × RunsOver q known answer (Some [], undo) (Some [], out) (Some [], Some report) × EndsWithOutputs paths undo out report answer result calls))
+    (Tries (creates paths.out.now mode) (IsNotCreated paths.out.now) (discards paths.undo.now ∷ []) result (RunsOverDrafts paths q known result))
 
 -- the tool runs, and nothing but the report is written
 abbrev pub WritesReport : Question → Sources → Result Summary Fault → Calls

@@ -1,6 +1,6 @@
 //! The files of a run: a file system as the program needs it.
 
-ghost use Rattle.std.specs.Prelude.{◌≡◌, ◌×◌, [], IfOk, IfSome, Option, Some};
+ghost use Rattle.std.specs.Prelude.{◌≡◌, [], IfOk, IfSome, Option, Some};
 ghost use Rattle.slapkit.specs.Files.{Disk, Told, refusal_of};
 ghost use Rattle.slapkit.specs.Files.{creates, discards, opens, publishes, reports, standard_input, syncs, withdraws};
 
