@@ -12,7 +12,7 @@ use Rattle.slapkit.specs.declared.command.AccessWords.{AccessWords}
 use Rattle.slapkit.specs.declared.fault.Fault.{Fault}
 use Rattle.slapkit.specs.declared.fault.Fault.TheVariants.{CannotOpen, SamePath, Tool}
 use Rattle.slapkit.specs.Files.{Disk}
-use Rattle.slapkit.specs.Runs.{Calls, Opens}
+use Rattle.slapkit.specs.Runs.{Calls, EndsWithoutOutputs, Opens}
 
 -- ---- what is asked
 
@@ -26,29 +26,29 @@ asked_for words = record {
 }
 
 -- with the built-in types
-abbrev pub terms_of : AccessWords → AccessTerms
-terms_of words = access_terms builtin_rows (asked_for words)
+abbrev pub access_terms_of : AccessWords → AccessTerms
+access_terms_of words = access_terms builtin_rows (asked_for words)
 
 -- ---- the question over the files
 
--- what the report took, and the answer, are those of the question over these texts
-abbrev pub AsksOver : {A : Type 0} → AccessTerms → AccessSources → Result A ToolFault → TakenBytes → Type 0
-AsksOver t known answer tape = (report : List ℕ) × WroteReport answer tape report × AnswersQuestion t known answer report × IsWholeReport t known answer report
+-- what the tool answers over these texts, and what it writes into the report
+pub record AsksOver {A : Type 0} (t : AccessTerms) (known : AccessSources) (answer : Result A ToolFault) (tape : TakenBytes) : Type 0 where
+  pub report : List ℕ
+  pub wrote : WroteReport answer report tape
+  pub answers : AnswersQuestion t known answer report
+  pub whole : IsWholeReport t known answer report
 
--- the tool's answer is the program's
-abbrev pub IsToolAccess : {A : Type 0} → Result A Fault → Result A ToolFault → Type 0
-IsToolAccess (Ok x) answer = answer ≡ Ok x
-IsToolAccess (Err (Tool e)) answer = answer ≡ Err e
-IsToolAccess (Err e) answer = ⊥
+-- the tool answers over these texts, and its report is written
+abbrev pub Asks : {A : Type 0} → AccessTerms → AccessSources → Result A Fault → Calls
+Asks {A} t known result calls = (answer : Result A ToolFault) × (report : List ℕ) × AsksOver t known answer (Some [], Some report) × EndsWithoutOutputs report answer result calls
 
--- no further file is opened, and this is the answer over the texts of the two
-abbrev pub AsksFiles : {A : Type 0} → AccessWords → Disk → Result A Fault → TakenBytes → Calls
-AsksFiles {A} words d result tape calls =
-    (calls ≡ []) × ((answer : Result A ToolFault) × IsToolAccess result answer × AsksOver (terms_of words) (access_sources (d.text_at words.config.now) (d.text_at words.data.now)) answer tape)
+-- the texts of the configuration and of the copy
+abbrev pub access_sources_of : AccessWords → Disk → AccessSources
+access_sources_of words d = access_sources (d.text_at words.config.now) (d.text_at words.data.now)
 
 -- the configuration is opened first, then the copy
-abbrev pub AccessCalls : {A : Type 0} → AccessWords → Disk → Result A Fault → TakenBytes → Calls
-AccessCalls words d result tape = Opens words.config.now result (Opens words.data.now result (AsksFiles words d result tape))
+abbrev pub AccessCalls : {A : Type 0} → AccessWords → Disk → Result A Fault → Calls
+AccessCalls words d result = Opens words.config.now result (Opens words.data.now result (Asks (access_terms_of words) (access_sources_of words d) result))
 
 -- ---- the paths
 
@@ -57,9 +57,9 @@ abbrev pub first_repeated_file : AccessWords → Option (List ℕ)
 first_repeated_file words = cond (bytes_eq words.data.now words.config.now) (Some words.data.now) None
 
 -- where one path is given twice there is no call
-abbrev pub AllAccessCalls : {A : Type 0} → Option (List ℕ) → AccessWords → Disk → Result A Fault → TakenBytes → Calls
-AllAccessCalls (Some path) words d result tape calls = calls ≡ []
-AllAccessCalls None words d result tape calls = AccessCalls words d result tape calls
+abbrev pub AllAccessCalls : {A : Type 0} → Option (List ℕ) → AccessWords → Disk → Result A Fault → Calls
+AllAccessCalls (Some path) words d result calls = calls ≡ []
+AllAccessCalls None words d result calls = AccessCalls words d result calls
 
 -- the fault names one of the two paths, or is the tool's own
 abbrev pub NamesItsFile : AccessWords → Fault → Type 0

@@ -1,14 +1,15 @@
 //! `slapkit slapacl`: the files that a command line names, and the question over them.
 
-ghost use Rattle.std.specs.Option.{option_map};
-ghost use Rattle.std.specs.Prelude.{◌≡◌, Err, IfErr, IfOk, OnOk, map};
+ghost use Rattle.std.specs.Prelude.{◌≡◌, Err, IfErr, IfOk, IfSome, OnOk, Option, Some, map};
 ghost use Rattle.dir_tools.specs.AccessAnswers.{AccessHeldBefore, access_sources};
-ghost use Rattle.slapkit.specs.AccessRuns.{AllAccessCalls, AsksOver, NamesItsFile, RefusesSameFile, asked_for, first_repeated_file, terms_of};
+ghost use Rattle.slapkit.specs.AccessRuns.{AllAccessCalls, Asks, AsksOver, NamesItsFile, RefusesSameFile, access_terms_of, asked_for, first_repeated_file};
 ghost use Rattle.slapkit.specs.Runs.{Made};
 
 use crate::command::AccessWords;
+use crate::devices::Buffer;
 use crate::fault::Fault;
 use crate::files::FileSystem;
+use crate::slapmodify::{not_opened, not_reported, run_fault};
 use dir_ldif::{Sink, Source};
 use dir_names::{Bytes, Memory, Schema, Texts};
 use dir_tools::{Question, ToolFault, run_acl};
@@ -19,28 +20,47 @@ use std::alloc::Global;
 /// # Errors
 ///
 /// In this order: two paths that are the same; a file that can't be opened, the configuration before the copy;
-/// the tool's own fault.
-pub fn run<'a, F: FileSystem, W: Sink>(
+/// the tool's own fault; the report can't be written.
+pub fn run<'a, F: FileSystem>(
     alloc: Global,
     files: &mut F,
     words: &AccessWords<'a>,
-    report: &mut W,
 ) -> Result<(), Fault<'a>>
     ensures faults { RefusesSameFile words.now (first_repeated_file words.now) result }
-    ensures calls { Made (F.disk files.old) (F.disk files.new) (λ d. AllAccessCalls (first_repeated_file words.now) words.now d result (W.taken report.old, W.taken report.new)) }
+    ensures calls { Made (F.disk files.old) (F.disk files.new) (λ d. AllAccessCalls (first_repeated_file words.now) words.now d result) }
 {
     if words.data == words.config {
         return Err(Fault::SamePath(words.data));
     }
-    let Ok(mut config) = files.open(words.config) else {
-        return Err(Fault::CannotOpen(words.config));
+    let mut config = match files.open(words.config) {
+        Ok(opened) => opened.file,
+        Err(why) => return Err(not_opened(words.config, why)),
     };
-    let Ok(mut copy) = files.open(words.data) else {
-        return Err(Fault::CannotOpen(words.data));
+    let mut copy = match files.open(words.data) {
+        Ok(opened) => opened.file,
+        Err(why) => return Err(not_opened(words.data, why)),
     };
-    match ask(alloc, words, &mut config, &mut copy, report) {
-        Ok(()) => Ok(()),
-        Err(fault) => Err(Fault::Tool(fault)),
+    answer(alloc, files, words, &mut config, &mut copy)
+}
+
+/// Asks, and writes the report.
+fn answer<'a, F: FileSystem, R: Source, R2: Source>(
+    alloc: Global,
+    files: &mut F,
+    words: &AccessWords<'a>,
+    config: &mut R,
+    copy: &mut R2,
+) -> Result<(), Fault<'a>>
+    ensures faults { IfErr result (NamesItsFile words.now) }
+    ensures calls { Made (F.disk files.old) (F.disk files.new) (λ _. Asks (access_terms_of words.now) (access_sources (R.left config.old) (R2.left copy.old)) result) }
+{
+    let mut report = Buffer::new(alloc);
+    match ask(alloc, words, config, copy, &mut report) {
+        Ok(()) => match files.report(report.as_slice()) {
+            Ok(()) => Ok(()),
+            Err(why) => Err(not_reported(why)),
+        },
+        Err(fault) => Err(run_fault(fault)),
     }
 }
 
@@ -52,8 +72,8 @@ fn ask<R: Source, R2: Source, W: Sink>(
     copy: &mut R2,
     report: &mut W,
 ) -> Result<(), ToolFault>
-    ensures answer { AsksOver (terms_of words.now) (access_sources (R.left config.old) (R2.left copy.old)) result (W.taken report.old, W.taken report.new) }
-    ensures first { IfErr result (AccessHeldBefore (terms_of words.now) (R.left config.old) (R2.left copy.old, R2.left copy.new)) }
+    ensures answer { AsksOver (access_terms_of words.now) (access_sources (R.left config.old) (R2.left copy.old)) result (W.taken report.old, W.taken report.new) }
+    ensures first { IfErr result (AccessHeldBefore (access_terms_of words.now) (R.left config.old) (R2.left copy.old, R2.left copy.new)) }
     ensures flushed { OnOk result (W.is_flushed report.new) }
 {
     let Ok(schema) = Schema::builtin(alloc) else {

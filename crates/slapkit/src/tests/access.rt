@@ -3,7 +3,6 @@
 use super::folder::{Asked, Folder};
 use crate::command::{AccessWords, Words, read_words};
 use crate::slapacl::run;
-use dir_ldif::Tape;
 use std::alloc::Global;
 use std::process::Abort;
 use std::test::Fail;
@@ -105,25 +104,25 @@ fn told(
         fake: false,
         verbose: true,
     };
-    let mut room = vec![in alloc; 0u8; 256]?;
-    let mut report = Tape::new(room.as_mut_slice());
-    let answer = run(alloc, folder, &words, &mut report);
+    let answer = run(alloc, folder, &words);
     let mut text = String::new(alloc);
     if let Err(fault) = answer {
         write!(text, "{fault}: ")?;
     }
-    text.push_str(std::str::from_utf8(report.as_slice()).unwrap_or("?"))?;
+    if let Some([.., Asked::Reports(report, None)]) = folder.calls() {
+        text.push_str(std::str::from_utf8(report.as_slice()).unwrap_or("?"))?;
+    }
     Ok(text)
 }
 
-/// Two words, the paths of the configuration and the copy, what is told, and how many files are opened.
+/// The paths of the configuration and the copy, the words, what is told, and how many calls are made.
 const ROWS: [(&str, &str, &[&str], &str, usize); 6] = [
     (
         "changes",
         "copy",
         &["cn/write", "entry"],
         "authcDN: cn=u,dc=com\ncn/write: DENIED\nentry: =rscxd\n",
-        2,
+        3,
     ),
     ("copy", "copy", &[], "same path twice: copy: ", 0),
     ("none", "copy", &[], "cannot open none: ", 1),
@@ -134,17 +133,25 @@ const ROWS: [(&str, &str, &[&str], &str, usize); 6] = [
 
 #[test]
 fn the_configuration_is_opened_before_the_copy(rt: HostRuntime) -> Result<(), Fail> {
-    for (config, data, words, want, opened) in &ROWS {
-        let mut folder = Folder::new(rt.alloc(), COPY, CONFIG, b"");
+    for (config, data, words, want, count) in &ROWS {
+        let mut folder = Folder::new(rt.alloc(), COPY, CONFIG, b"", u64::MAX);
         let text = told(rt.alloc(), &mut folder, config, data, words)?;
         assert!(rt; text.as_str() == *want, "{text}");
         let Some(calls) = folder.calls() else {
             panic!(rt; "memory");
         };
-        assert!(rt; calls.len() == *opened);
+        assert!(rt; calls.len() == *count);
         if let [Asked::Opens(first, _), ..] = calls {
             assert!(rt; first.as_str() == *config);
         }
     }
+    Ok(())
+}
+
+#[test]
+fn a_report_that_is_not_written_is_told(rt: HostRuntime) -> Result<(), Fail> {
+    let mut folder = Folder::new(rt.alloc(), COPY, CONFIG, b"", 0);
+    let text = told(rt.alloc(), &mut folder, "changes", "copy", &["entry"])?;
+    assert!(rt; text.as_str() == "cannot write report: ", "{text}");
     Ok(())
 }
