@@ -1,5 +1,5 @@
 #!/usr/bin/env python3
-"""Compares the manual page and the completions of slapmodify with the program's own options, and its causes with the README's.
+"""Compares the manual pages and the completions of the tools with the program's own options, and slapmodify's causes with the README's.
 
 usage: manual.py PROGRAM
 """
@@ -12,31 +12,41 @@ import checks
 from checks import expect
 
 ROOT = pathlib.Path(__file__).resolve().parent.parent
-PAGE = (ROOT / "share/man/man1/slapkit-slapmodify.1").read_text()
+TOOLS = ["slapacl", "slapmodify"]
 
 
-def options_of(program):
-    """The options that the program's help lists."""
-    told = subprocess.run([program, "slapmodify", "--help"], capture_output=True, text=True, check=True, timeout=60).stdout
-    return set(re.findall(r"(?:^|(?<=, )) *(--?[a-z]+)\b", told, re.M)) - {"-h", "--help"}
+def page_of(tool):
+    return (ROOT / f"share/man/man1/slapkit-{tool}.1").read_text()
 
 
-def the_manual_page_has_the_options(program):
-    items = re.findall(r"^\.It Fl (-?)([a-z]+)", PAGE, re.M)
-    expect({f"-{dash}{name}" for dash, name in items} - {"-h", "--help"}, options_of(program), "options")
+def options_of(program, tool):
+    """The options that the tool's help lists."""
+    told = subprocess.run([program, tool, "--help"], capture_output=True, text=True, check=True, timeout=60).stdout
+    return set(re.findall(r"(?:^|(?<=, )) *(--?[a-zA-Z]+)\b", told, re.M)) - {"-h", "--help"}
+
+
+def the_manual_pages_have_the_options(program):
+    for tool in TOOLS:
+        items = re.findall(r"^\.It Fl (-?)([a-zA-Z]+)", page_of(tool), re.M)
+        expect({f"-{dash}{name}" for dash, name in items} - {"-h", "--help"}, options_of(program, tool), f"options of {tool}")
 
 
 def the_completions_have_the_options(program):
-    shells = {
-        "slapkit.bash": re.search(r'compgen -W "(-b[^"]*)"', text_of("slapkit.bash"))[1].split(),
-        "_slapkit": re.findall(r"^ +'(-[-a-z]+)\[", text_of("_slapkit"), re.M),
-        "slapkit.fish": [
-            f"{'--' if kind == 'l' else '-'}{name}"
-            for kind, name in re.findall(r"from slapmodify' -([sl]) ([a-z]+)", text_of("slapkit.fish"))
-        ],
+    for tool in TOOLS:
+        for shell, options in completed(tool).items():
+            expect(set(options) - {"-h", "--help"}, options_of(program, tool), f"{shell}, {tool}")
+
+
+def completed(tool):
+    """The options of a tool that each shell completes."""
+    bash = re.findall(r'compgen -W "(-b[^"]*)"', text_of("slapkit.bash"))
+    zsh = text_of("_slapkit").split(f"_slapkit_{tool}() {{")[1].split("\n}")[0]
+    fish = re.findall(rf"from {tool}' -([sl]) ([a-zA-Z]+)", text_of("slapkit.fish"))
+    return {
+        "slapkit.bash": bash[TOOLS.index(tool)].split(),
+        "_slapkit": re.findall(r"^ +'(-[-a-zA-Z]+)\[", zsh, re.M),
+        "slapkit.fish": [f"{'--' if kind == 'l' else '-'}{name}" for kind, name in fish],
     }
-    for shell, options in shells.items():
-        expect(set(options) - {"-h", "--help"}, options_of(program), shell)
 
 
 def text_of(completion):
@@ -46,9 +56,10 @@ def text_of(completion):
 def the_manual_page_has_the_causes(_):
     readme = (ROOT / "README.md").read_text()
     causes = set(re.findall(r"\b((?:\d+ [a-z]+[A-Z]\w*)|(?:[LN]\d+ [A-Z]\w+))", readme))
-    expect(sorted(cause for cause in causes if cause not in PAGE), [], "causes that the page lacks")
+    page = page_of("slapmodify")
+    expect(sorted(cause for cause in causes if cause not in page), [], "causes that the page lacks")
 
 
-CHECKS = [the_manual_page_has_the_options, the_completions_have_the_options, the_manual_page_has_the_causes]
+CHECKS = [the_manual_pages_have_the_options, the_completions_have_the_options, the_manual_page_has_the_causes]
 
 sys.exit(checks.run("manual", [(check.__name__.replace("_", " "), lambda check=check: check(sys.argv[1])) for check in CHECKS]))

@@ -2,13 +2,17 @@
 _slapkit() {
     local cur=${COMP_WORDS[COMP_CWORD]} prev=${COMP_WORDS[COMP_CWORD-1]}
     if [ "$COMP_CWORD" -eq 1 ]; then
-        COMPREPLY=($(compgen -W "slapmodify help --help --version" -- "$cur"))
+        COMPREPLY=($(compgen -W "slapacl slapmodify help --help --version" -- "$cur"))
         return
     fi
     case $prev in
-        --data | --out | --undo | -l) COMPREPLY=($(compgen -f -- "$cur")); return ;;
-        -b) return ;;
+        --data | --out | --undo | -f | -l) COMPREPLY=($(compgen -f -- "$cur")); return ;;
+        -b | -D) return ;;
     esac
+    if [ "${COMP_WORDS[1]}" = slapacl ]; then
+        COMPREPLY=($(compgen -W "-b -f --data -D -u -v --help" -- "$cur"))
+        return
+    fi
     COMPREPLY=($(compgen -W "-b --data --out --undo -l -c -u -v --help" -- "$cur"))
 }
 complete -o filenames -F _slapkit slapkit

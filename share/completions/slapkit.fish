@@ -1,4 +1,5 @@
 # fish completion for slapkit(1)
+complete -c slapkit -n __fish_use_subcommand -f -a slapacl -d 'Report what a requester may do'
 complete -c slapkit -n __fish_use_subcommand -f -a slapmodify -d 'Apply change records to a copy'
 complete -c slapkit -n __fish_use_subcommand -f -a help -d 'Print help'
 complete -c slapkit -s h -l help -d 'Print help'
@@ -11,3 +12,9 @@ complete -c slapkit -n '__fish_seen_subcommand_from slapmodify' -s l -r -d 'The 
 complete -c slapkit -n '__fish_seen_subcommand_from slapmodify' -s c -d 'Go on after a refused record'
 complete -c slapkit -n '__fish_seen_subcommand_from slapmodify' -s u -d 'Dry run: write the report alone'
 complete -c slapkit -n '__fish_seen_subcommand_from slapmodify' -s v -d 'Report accepted records too'
+complete -c slapkit -n '__fish_seen_subcommand_from slapacl' -s b -x -d "The name of the entry"
+complete -c slapkit -n '__fish_seen_subcommand_from slapacl' -s f -r -d "The slapd.conf that has the access rules"
+complete -c slapkit -n '__fish_seen_subcommand_from slapacl' -l data -r -d "The copy, in LDIF"
+complete -c slapkit -n '__fish_seen_subcommand_from slapacl' -s D -x -d "The requester's name"
+complete -c slapkit -n '__fish_seen_subcommand_from slapacl' -s u -d "Do not look the entry up"
+complete -c slapkit -n '__fish_seen_subcommand_from slapacl' -s v -d "Report the requester's name first"

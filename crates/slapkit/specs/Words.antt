@@ -42,6 +42,6 @@ pub record AreAccessWordsOf (m : ArgMatches) (words : AccessWords) : Type 0 wher
   pub config : words.config.now ≡ text_or_empty (first_value (found_of m) (codes "config"))
   pub copy : words.data.now ≡ text_or_empty (first_value (found_of m) (codes "data"))
   pub authc : option_copied words.authc ≡ first_value (found_of m) (codes "authc")
-  pub words : map (λ word. word.now) words.words.items ≡ words_or_none (option_map raw_values (matched_of (found_of m) (codes "words")))
+  pub asked : map (λ word. word.now) words.words.items ≡ words_or_none (option_map raw_values (matched_of (found_of m) (codes "words")))
   pub fake : IsFlag (found_of m) (codes "fake") words.fake
   pub verbose : IsFlag (found_of m) (codes "verbose") words.verbose
