@@ -6,7 +6,7 @@ ghost use Rattle.slapkit.specs.Files.{meant_by};
 use crate::devices::{PatientReader, PatientWriter};
 use crate::files::{FileSystem, Opened, Refusal};
 use dir_ldif::{DeviceFault, Sink, write_whole};
-use std::alloc::Global;
+use std::alloc::{AllocError, Global};
 use std::fs::{self, File, OpenFile, OpenOptions};
 use std::io::{self, ErrorKind, Input};
 use std::os::unix::fs::{MetadataExt, OpenOptionsExt};
@@ -36,7 +36,7 @@ impl<'a, R: Files + Input + Print> SystemFiles<'a, R> {
     /// A new file beside the path, under a name that no file has.
     fn new_draft(&self, path: &str, mode: u32) -> Result<Draft<R::File>, Refusal> {
         for n in 0..MOST_DRAFTS {
-            let Ok(name) = format!(in self.alloc; "{path}.slapkit-{n}") else {
+            let Ok(name) = draft_name(self.alloc, path, n) else {
                 return Err(Refusal::Memory);
             };
             match new_file(self.rt, name.as_str(), mode) {
@@ -152,6 +152,11 @@ impl<R: Files + Input + Print> FileSystem for SystemFiles<'_, R> {
         }
         Ok(())
     }
+}
+
+/// The name of the draft with this number, beside the path.
+fn draft_name(alloc: Global, path: &str, n: u32) -> Result<String, AllocError> {
+    format!(in alloc; "{path}.slapkit-{n}")
 }
 
 /// What the system's answer means.

@@ -231,8 +231,8 @@ impl<'a> FileSystem for Folder<'a> {
 
     fn report(&mut self, text: &[u8]) -> Result<(), Refusal> {
         let why = self.refusal();
-        match copied(self.alloc, "", text) {
-            Ok((_, text)) => self.note(Asked::Reports(text, why)),
+        match text.to_vec(self.alloc) {
+            Ok(copy) => self.note(Asked::Reports(copy, why)),
             Err(_) => self.lost = true,
         }
         answer(why)
