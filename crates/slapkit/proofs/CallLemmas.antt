@@ -1,26 +1,26 @@
 -- Calls of a file system, one after the other.
-use Rattle.std.proofs.Common.{◌≡◌, ℕ, List, [], ◌∷◌, ◌++◌, Option, None, Some, IfSome, Result, inl, inr, refl, sym, ap, subst, ◌∙◌, append-nil, append_assoc}
+use Rattle.std.proofs.Common.{◌≡◌, ℕ, List, [], ◌∷◌, ◌++◌, Option, None, Some, IfSome, Result, Ok, Err, inl, inr, refl, sym, ap, subst, ◌∙◌, append-nil, append_assoc}
 use Rattle.std.specs.Option.{option_copied}
+use Rattle.dir_tools.specs.declared.fault.ToolFault.{ToolFault}
 use Rattle.dir_tools.specs.declared.run.Summary.{Summary}
-use Rattle.dir_tools.specs.RunAnswers.{Sources, sources}
-use Rattle.dir_tools.specs.Writing.{TakenBytes}
+use Rattle.dir_tools.specs.Headline.{Question, RunOutput}
+use Rattle.dir_tools.specs.RunAnswers.{AnswersRun, IsWholeRun, Sources, sources}
+use Rattle.dir_tools.specs.Writing.{TakenBytes, WroteInOrder}
 use Rattle.slapkit.specs.declared.command.ModifyWords.{ModifyWords}
 use Rattle.slapkit.specs.declared.command.OutputPaths.{OutputPaths}
 use Rattle.slapkit.specs.declared.fault.Fault.{Fault}
 use Rattle.slapkit.specs.declared.files.Refusal.{Refusal}
-use Rattle.slapkit.specs.Files.{Call, Disk, Told, closes, creates, opens, standard_input, with_call}
-use Rattle.slapkit.specs.Runs.{AllCalls, Creates, CreatesFiles, FailsSo, IsCannotOpen, IsNotCreated, Made, OpensChanges, RunCalls, RunsOver, Then, WritesFiles, changes_text, question_of, sources_of}
+use Rattle.slapkit.specs.Faults.{FailsSo, IsNotCreated, IsNotOpened, IsNotReported, IsRunFault}
+use Rattle.slapkit.specs.Files.{Call, Disk, Told, creates, discards, opens, reports, standard_input, with_call}
+use Rattle.slapkit.specs.Paths.{outputs_of}
+use Rattle.slapkit.specs.Runs.{AllCalls, Ends, EndsWithOutputs, EndsWithoutOutputs, Made, OpensChanges, RunCalls, RunsOver, RunsOverDrafts, Tries, WritesAll, WritesOutputs, WritesReport, both_discarded, changes_text, question_of, sources_of}
+
+-- ---- calls in a row
 
 -- no call
 pub made_none : (a : Option Disk) (P : Disk → List Call → Type 0) → ((d : Disk) → a ≡ Some d → P d []) → Made a a P
 made_none None P h = tt
 made_none (Some d) P h = ([], sym (append-nil d.calls), h d refl)
-
--- one call, the last
-pub made_last : (a b : Option Disk) (call : Call) (P : Disk → List Call → Type 0) → Told a b call → ((d : Disk) → a ≡ Some d → P d (call ∷ [])) → Made a b P
-made_last a None call P told h = tt
-made_last None (Some after) call P told h = absurd (told)
-made_last (Some d) (Some after) call P told h = (call ∷ [], ap (λ (x : Disk). x.calls) told, h d refl)
 
 -- one call, and then others
 pub made_then : (a b c : Option Disk) (call : Call) (P Q : Disk → List Call → Type 0) → Told a b call → Made b c Q
@@ -35,110 +35,208 @@ made_then (Some d) (Some next) (Some last) call P Q told made h =
       h d made.0 refl moved,
     )
 
+-- the same calls, of which something else is said
+pub made_as : (a b : Option Disk) (P Q : Disk → List Call → Type 0) → Made a b P → ((d : Disk) (calls : List Call) → a ≡ Some d → P d calls → Q d calls) → Made a b Q
+made_as a None P Q made h = tt
+made_as None (Some last) P Q made h = absurd (made)
+made_as (Some d) (Some last) P Q made h = (made.0, made.1, h d made.0 refl made.2)
+
+-- these calls alone
+abbrev pub Just : List Call → Disk → List Call → Type 0
+Just wanted d calls = calls ≡ wanted
+
+pub just_none : (a : Option Disk) → Made a a (Just [])
+just_none a = made_none a (Just []) (λ d is. refl)
+
+pub just_one : (a b : Option Disk) (call : Call) → Told a b call → Made a b (Just (call ∷ []))
+just_one a b call told = made_then a b b call (Just (call ∷ [])) (Just []) told (just_none b) (λ d after is same. ap (λ (l : List Call). call ∷ l) same)
+
+pub just_two : (a b c : Option Disk) (call next : Call) → Told a b call → Told b c next → Made a c (Just (call ∷ next ∷ []))
+just_two a b c call next first second =
+    made_then a b c call (Just (call ∷ next ∷ [])) (Just (next ∷ [])) first (just_one b c next second) (λ d after is same. ap (λ (l : List Call). call ∷ l) same)
+
 -- a call leaves the texts
-pub still : (P : (List ℕ → Option (List ℕ)) → List ℕ → Type 0) (a b : Option Disk) (call : Call) → Told a b call → IfSome a (λ d. P d.text_at d.typed) → IfSome b (λ d. P d.text_at d.typed)
+pub still : (P : (List ℕ → Option (List ℕ)) → (List ℕ → ℕ) → List ℕ → Type 0) (a b : Option Disk) (call : Call) → Told a b call → IfSome a (λ d. P d.text_at d.mode_at d.typed)
+    → IfSome b (λ d. P d.text_at d.mode_at d.typed)
 still P a None call told h = tt
 still P None (Some after) call told h = absurd (told)
-still P (Some d) (Some after) call told h = subst (λ (x : Disk). P x.text_at x.typed) (sym told) h
+still P (Some d) (Some after) call told h = subst (λ (x : Disk). P x.text_at x.mode_at x.typed) (sym told) h
 
 at_some : (P : Type 0) (a : Option Disk) (d : Disk) → a ≡ Some d → IfSome a (λ x. P) → P
 at_some P a d is = subst (λ (s : Option Disk). IfSome s (λ x. P)) is
 
--- the undo file is created, and the new copy is not
-module _ {A : Type 0} (files : OutputPaths) (result : Result A Fault) (wrote : TakenBytes → TakenBytes → Type 0) where
-  abbrev Out : Disk → List Call → Type 0
-  Out d calls = Creates files.out.now result (λ last. (u : Option (List ℕ)) × (o : Option (List ℕ)) × (last ≡ closes files.undo.now u ∷ closes files.out.now o ∷ []) × wrote (Some [], u) (Some [], o)) calls
+-- ---- calls that may be refused
 
-  pub no_out : (a b c : Option Disk) (why : Refusal) → Told a b (creates files.undo.now None) → Told b c (creates files.out.now (Some why)) → FailsSo (IsNotCreated files.out.now why) result
-      → Made a c (λ x. WritesFiles files result wrote)
-  no_out a b c why first second fails =
-      made_then a b c (creates files.undo.now None) (λ x. WritesFiles files result wrote) Out first
-      (made_last b c (creates files.out.now (Some why)) Out second (λ x is. inr (why, refl, fails)))
-      (λ x after is h. inl (after, refl, h))
+module _ {A : Type 0} (call : Option Refusal → Call) (fault : Refusal → Fault → Type 0) (removed : List Call) (result : Result A Fault) where
+  pub tries_as : (P Q : List Call → Type 0) → ((calls : List Call) → P calls → Q calls) → (calls : List Call) → Tries call fault removed result P calls → Tries call fault removed result Q calls
+  tries_as P Q h calls (inl made) = inl (made.0, made.1, h made.0 made.2)
+  tries_as P Q h calls (inr refused) = inr refused
 
--- both files are created, take what is written into them, and are closed
-module _ {A : Type 0} (files : OutputPaths) (result : Result A Fault) (wrote : TakenBytes → TakenBytes → Type 0) (undo undo' out out' : Option (List ℕ)) where
-  abbrev Closes : Disk → List Call → Type 0
-  Closes d last = (last ≡ closes files.undo.now undo' ∷ closes files.out.now out' ∷ []) × (out ≡ Some [])
+  -- the call is made, and the run goes on
+  pub tries_on : (rest : List Call → Type 0) (a b c : Option Disk) → Told a b (call None) → Made b c (λ d. rest) → Made a c (λ d. Tries call fault removed result rest)
+  tries_on rest a b c told made = made_then a b c (call None) (λ d. Tries call fault removed result rest) (λ d. rest) told made (λ d after is h. inl (after, refl, h))
 
-  abbrev Goes : Disk → List Call → Type 0
-  Goes d calls = Then (creates files.out.now None) (λ last. (last ≡ closes files.undo.now undo' ∷ closes files.out.now out' ∷ []) × (out ≡ Some [])) calls × (undo ≡ Some [])
+  -- the call is refused
+  pub tries_refused : (rest : Disk → List Call → Type 0) (a b c : Option Disk) (why : Refusal) → Told a b (call (Some why)) → Made b c (Just removed) → FailsSo (fault why) result
+      → Made a c (λ d. Tries call fault removed result (rest d))
+  tries_refused rest a b c why told made fails =
+      made_then a b c (call (Some why)) (λ d. Tries call fault removed result (rest d)) (Just removed) told made
+      (λ d after is same. inr (why, ap (λ (l : List Call). call (Some why) ∷ l) same, fails))
 
-  pub writes_files : (a b c d e : Option Disk) → Told a b (creates files.undo.now None) → Told b c (creates files.out.now None) → Told c d (closes files.undo.now undo')
-      → Told d e (closes files.out.now out') → IfSome b (λ x. undo ≡ Some []) → IfSome c (λ x. out ≡ Some []) → wrote (undo, undo') (out, out') → Made a e (λ x. WritesFiles files result wrote)
-  writes_files a b c d e first second third fourth fresh_undo fresh_out w =
-      made_then a b e (creates files.undo.now None) (λ x. WritesFiles files result wrote) Goes first
-      (made_then b c e (creates files.out.now None) Goes Closes second
-      (made_then c d e (closes files.undo.now undo') Closes (λ x last. last ≡ closes files.out.now out' ∷ []) third
-      (made_last d e (closes files.out.now out') (λ x last. last ≡ closes files.out.now out' ∷ []) fourth (λ x is. refl))
-      (λ x after is same. (ap (λ (l : List Call). closes files.undo.now undo' ∷ l) same, at_some (out ≡ Some []) c x is fresh_out)))
-      (λ x after is h. ((after, refl, h), at_some (undo ≡ Some []) b x is fresh_undo)))
-      (λ x after is h. inl (after, refl, inl (h.0.0, h.0.1, (undo', out', h.0.2.0, from h.1 h.0.2.1))))
-    where
-      from : undo ≡ Some [] → out ≡ Some [] → wrote (Some [], undo') (Some [], out')
-      from u o = subst (λ (t : Option (List ℕ)). wrote (t, undo') (Some [], out')) u (subst (λ (t : Option (List ℕ)). wrote (undo, undo') (t, out')) o w)
+pub ends : {A : Type 0} (a : Option Disk) (answer : A) → Made a a (λ d. Ends answer (Ok answer))
+ends a answer = made_none a (λ d. Ends answer (Ok answer)) (λ d is. (refl, refl))
 
--- the files to be written, with what the two sources have left
-module _ (words : ModifyWords) (result : Result Summary Fault) (report : TakenBytes) (copy changes : Option (List ℕ)) where
+-- ---- the tool's run
+
+-- what the tool writes into the report is what the buffer has taken
+pub runs_over : (q : Question) (known : Sources) (answer : Result Summary ToolFault) (output : RunOutput) (undo out : TakenBytes) (before after : Option (List ℕ)) (report : List ℕ)
+    → WroteInOrder q.options.dry answer output.texts undo out (before, after) → AnswersRun q known answer output → IsWholeRun q known answer output
+    → before ≡ Some [] → after ≡ Some report → RunsOver q known answer undo out (Some [], Some report)
+runs_over q known answer output undo out before after report wrote answers whole fresh taken = record {
+  output = output;
+  wrote = subst (λ (t : Option (List ℕ)). WroteInOrder q.options.dry answer output.texts undo out (Some [], t)) taken
+      (subst (λ (t : Option (List ℕ)). WroteInOrder q.options.dry answer output.texts undo out (t, after)) fresh wrote);
+  answers = answers;
+  whole = whole;
+}
+
+module _ (paths : OutputPaths) (mode : ℕ) (q : Question) (known : Sources) (result : Result Summary Fault) where
+  abbrev CreatesOut : (List Call → Type 0) → List Call → Type 0
+  CreatesOut rest calls = Tries (creates paths.out.now mode) (IsNotCreated paths.out.now) (discards paths.undo.now ∷ []) result rest calls
+
+  -- the draft of the new copy is not created
+  pub no_draft : (a b c e : Option Disk) (why : Refusal) → Told a b (creates paths.undo.now mode None) → Told b c (creates paths.out.now mode (Some why))
+      → Told c e (discards paths.undo.now) → FailsSo (IsNotCreated paths.out.now why) result → Made a e (λ d. WritesOutputs paths mode q known result)
+  no_draft a b c e why first second third fails =
+      tries_on (creates paths.undo.now mode) (IsNotCreated paths.undo.now) [] result (CreatesOut (RunsOverDrafts paths q known result)) a b e first
+      (tries_refused (creates paths.out.now mode) (IsNotCreated paths.out.now) (discards paths.undo.now ∷ []) result (λ d. RunsOverDrafts paths q known result) b c e why second
+      (just_one c e (discards paths.undo.now) third) fails)
+
+  -- both drafts are created, and the tool runs over them
+  module _ (answer : Result Summary ToolFault) (undo undo' out out' : Option (List ℕ)) (report : List ℕ) where
+    abbrev Rest : List Call → Type 0
+    Rest calls = EndsWithOutputs paths undo' out' report answer result calls
+
+    pub writes_outputs : (a b c e : Option Disk) → Told a b (creates paths.undo.now mode None) → Told b c (creates paths.out.now mode None)
+        → IfSome b (λ d. undo ≡ Some []) → IfSome c (λ d. out ≡ Some []) → RunsOver q known answer (undo, undo') (out, out') (Some [], Some report)
+        → Made c e (λ d. Rest) → Made a e (λ d. WritesOutputs paths mode q known result)
+    writes_outputs a b c e first second fresh_undo fresh_out ran rest =
+        tries_on (creates paths.undo.now mode) (IsNotCreated paths.undo.now) [] result (CreatesOut (RunsOverDrafts paths q known result)) a b e first
+        (made_as b e (λ d. CreatesOut (λ calls. (out ≡ Some []) × Rest calls)) (λ d. CreatesOut (RunsOverDrafts paths q known result))
+        (tries_on (creates paths.out.now mode) (IsNotCreated paths.out.now) (discards paths.undo.now ∷ []) result (λ calls. (out ≡ Some []) × Rest calls) b c e second
+        (made_as c e (λ d. Rest) (λ d calls. (out ≡ Some []) × Rest calls) rest (λ d calls is h. (at_some (out ≡ Some []) c d is fresh_out, h))))
+        (λ d calls is. tries_as (creates paths.out.now mode) (IsNotCreated paths.out.now) (discards paths.undo.now ∷ []) result
+        (λ after. (out ≡ Some []) × Rest after) (RunsOverDrafts paths q known result)
+        (λ after h. (answer, undo', out', report, from (at_some (undo ≡ Some []) b d is fresh_undo) h.0, h.1)) calls))
+      where
+        from : undo ≡ Some [] → out ≡ Some [] → RunsOver q known answer (Some [], undo') (Some [], out') (Some [], Some report)
+        from u o = subst (λ (t : Option (List ℕ)). RunsOver q known answer (t, undo') (Some [], out') (Some [], Some report)) u
+            (subst (λ (t : Option (List ℕ)). RunsOver q known answer (undo, undo') (t, out') (Some [], Some report)) o ran)
+
+-- after the tool's own fault the drafts are removed
+pub ends_in_fault : (paths : OutputPaths) (undo out : Option (List ℕ)) (report : List ℕ) (told : ToolFault) (e : Fault) (a b c : Option Disk)
+    → Told a b (discards paths.out.now) → Told b c (discards paths.undo.now) → IsRunFault told e
+    → Made a c (λ d. EndsWithOutputs paths undo out report (Err told) (Err e))
+ends_in_fault paths undo out report told e a b c first second fails =
+    made_as a c (Just (both_discarded paths)) (λ d. EndsWithOutputs paths undo out report (Err told) (Err e))
+    (just_two a b c (discards paths.out.now) (discards paths.undo.now) first second) (λ d calls is same. (same, fails))
+
+-- where no files are to be written
+pub writes_report : (q : Question) (known : Sources) (answer : Result Summary ToolFault) (report : List ℕ) (result : Result Summary Fault) (a b : Option Disk)
+    → RunsOver q known answer (None, None) (None, None) (Some [], Some report) → Made a b (λ d. EndsWithoutOutputs report answer result)
+    → Made a b (λ d. WritesReport q known result)
+writes_report q known answer report result a b ran ended =
+    made_as a b (λ d. EndsWithoutOutputs report answer result) (λ d. WritesReport q known result) ended (λ d calls is h. (answer, report, ran, h))
+
+pub report_refused : (report : List ℕ) (summary : Summary) (why : Refusal) (e : Fault) (a b : Option Disk) → Told a b (reports report (Some why)) → IsNotReported why e
+    → Made a b (λ d. EndsWithoutOutputs report (Ok summary) (Err e))
+report_refused report summary why e a b told fails =
+    let failed : Result Summary Fault = Err e in
+    tries_refused (reports report) IsNotReported [] failed (λ d. Ends summary failed) a b b why told (just_none b) fails
+
+pub reported : (report : List ℕ) (summary : Summary) (a b : Option Disk) → Told a b (reports report None) → Made a b (λ d. EndsWithoutOutputs report (Ok summary) (Ok summary))
+reported report summary a b told =
+    let done : Result Summary Fault = Ok summary in
+    tries_on (reports report) IsNotReported [] done (Ends summary done) a b b told (ends b summary)
+
+pub no_report_due : (report : List ℕ) (told : ToolFault) (e : Fault) (a : Option Disk) → IsRunFault told e → Made a a (λ d. EndsWithoutOutputs report (Err told) (Err e))
+no_report_due report told e a fails = made_none a (λ d. EndsWithoutOutputs report (Err told) (Err e)) (λ d is. (refl, fails))
+
+-- the files to be written, with what the two sources have left and the mode
+module _ (words : ModifyWords) (result : Result Summary Fault) (mode : ℕ) (copy changes : Option (List ℕ)) where
+  abbrev All : Disk → List Call → Type 0
+  All d calls = WritesAll (outputs_of words) (d.mode_at words.data.now) (question_of words) (sources_of words d) result calls
+
   same_sources : (d : Disk) → copy ≡ d.text_at words.data.now → changes ≡ changes_text d (option_copied words.changes) → sources copy changes ≡ sources_of words d
   same_sources d e f = λ i. sources (e i) (f i)
 
-  pub creates_some : (a b : Option Disk) (files : OutputPaths) → words.files ≡ Some files → IfSome a (λ d. copy ≡ d.text_at words.data.now)
-      → IfSome a (λ d. changes ≡ changes_text d (option_copied words.changes)) → Made a b (λ d. WritesFiles files result (RunsOver (question_of words) (sources copy changes) result report))
-      → Made a b (λ d. CreatesFiles words.files result (RunsOver (question_of words) (sources_of words d) result report))
-  creates_some a None files is e f made = tt
-  creates_some None (Some last) files is e f made = absurd (made)
-  creates_some (Some d) (Some last) files is e f made = (
+  pub writes_some : (a b : Option Disk) (paths : OutputPaths) → outputs_of words ≡ Some paths → IfSome a (λ d. copy ≡ d.text_at words.data.now)
+      → IfSome a (λ d. changes ≡ changes_text d (option_copied words.changes)) → IfSome a (λ d. mode ≡ d.mode_at words.data.now)
+      → Made a b (λ d. WritesOutputs paths mode (question_of words) (sources copy changes) result) → Made a b All
+  writes_some a None paths is e f m made = tt
+  writes_some None (Some last) paths is e f m made = absurd (made)
+  writes_some (Some d) (Some last) paths is e f m made = (
     made.0,
     made.1,
-    subst (λ (o : Option OutputPaths). CreatesFiles o result (RunsOver (question_of words) (sources_of words d) result report) made.0) (sym is)
-        (subst (λ (k : Sources). WritesFiles files result (RunsOver (question_of words) k result report) made.0) (same_sources d e f) made.2),
+    subst (λ (o : Option OutputPaths). WritesAll o (d.mode_at words.data.now) (question_of words) (sources_of words d) result made.0) (sym is)
+        (subst (λ (n : ℕ). WritesOutputs paths n (question_of words) (sources_of words d) result made.0) m
+        (subst (λ (k : Sources). WritesOutputs paths mode (question_of words) k result made.0) (same_sources d e f) made.2)),
   )
 
-  pub creates_none : (a : Option Disk) → words.files ≡ None → IfSome a (λ d. copy ≡ d.text_at words.data.now) → IfSome a (λ d. changes ≡ changes_text d (option_copied words.changes))
-      → RunsOver (question_of words) (sources copy changes) result report (None, None) (None, None)
-      → Made a a (λ d. CreatesFiles words.files result (RunsOver (question_of words) (sources_of words d) result report))
-  creates_none None is e f ran = tt
-  creates_none (Some d) is e f ran = (
-    [],
-    sym (append-nil d.calls),
-    subst (λ (o : Option OutputPaths). CreatesFiles o result (RunsOver (question_of words) (sources_of words d) result report) []) (sym is)
-        (refl, subst (λ (k : Sources). RunsOver (question_of words) k result report (None, None) (None, None)) (same_sources d e f) ran),
+  pub writes_none : (a b : Option Disk) → outputs_of words ≡ None → IfSome a (λ d. copy ≡ d.text_at words.data.now)
+      → IfSome a (λ d. changes ≡ changes_text d (option_copied words.changes))
+      → Made a b (λ d. WritesReport (question_of words) (sources copy changes) result) → Made a b All
+  writes_none a None is e f made = tt
+  writes_none None (Some last) is e f made = absurd (made)
+  writes_none (Some d) (Some last) is e f made = (
+    made.0,
+    made.1,
+    subst (λ (o : Option OutputPaths). WritesAll o (d.mode_at words.data.now) (question_of words) (sources_of words d) result made.0) (sym is)
+        (subst (λ (k : Sources). WritesReport (question_of words) k result made.0) (same_sources d e f) made.2),
   )
 
--- the run from its beginning, where no path is given twice
-module _ (words : ModifyWords) (repeated : Option (List ℕ)) (result : Result Summary Fault) (report : TakenBytes) (none : repeated ≡ None) where
-  abbrev Rest : Disk → List Call → Type 0
-  Rest d calls = CreatesFiles words.files result (RunsOver (question_of words) (sources_of words d) result report) calls
+-- ---- the run from its beginning, where no path is given twice
+
+module _ (words : ModifyWords) (repeated : Option (List ℕ)) (result : Result Summary Fault) (none : repeated ≡ None) where
+  abbrev Outputs : Disk → List Call → Type 0
+  Outputs d calls = WritesAll (outputs_of words) (d.mode_at words.data.now) (question_of words) (sources_of words d) result calls
 
   abbrev Changes : Disk → List Call → Type 0
-  Changes d calls = OpensChanges (option_copied words.changes) result (Rest d) calls
+  Changes d calls = OpensChanges (option_copied words.changes) result (Outputs d) calls
 
-  abbrev All : Disk → List Call → Type 0
-  All d calls = AllCalls repeated words d result report calls
+  abbrev Whole : Disk → List Call → Type 0
+  Whole d calls = AllCalls repeated words d result calls
 
-  whole : (d : Disk) (calls : List Call) → RunCalls words d result report calls → All d calls
-  whole d calls h = subst (λ (r : Option (List ℕ)). AllCalls r words d result report calls) (sym none) h
+  whole : (d : Disk) (calls : List Call) → RunCalls words d result calls → Whole d calls
+  whole d calls h = subst (λ (r : Option (List ℕ)). AllCalls r words d result calls) (sym none) h
 
-  opened : (a b e : Option Disk) → Told a b (opens words.data.now None) → Made b e Changes → Made a e All
+  pub no_copy : (a b : Option Disk) (why : Refusal) → Told a b (opens words.data.now (Some why)) → FailsSo (IsNotOpened words.data.now why) result → Made a b Whole
+  no_copy a b why told fails =
+      made_as a b (λ d. RunCalls words d result) Whole
+      (tries_refused (opens words.data.now) (IsNotOpened words.data.now) [] result Changes a b b why told (just_none b) fails)
+      (λ d calls is h. whole d calls h)
+
+  opened : (a b e : Option Disk) → Told a b (opens words.data.now None) → Made b e Changes → Made a e Whole
   opened a b e first made =
-      made_then a b e (opens words.data.now None) All Changes first made (λ d after is h. whole d (opens words.data.now None ∷ after) (inl (after, refl, h)))
+      made_then a b e (opens words.data.now None) Whole Changes first made (λ d after is h. whole d (opens words.data.now None ∷ after) (inl (after, refl, h)))
 
-  pub with_input : (a b c e : Option Disk) → option_copied words.changes ≡ None → Told a b (opens words.data.now None) → Told b c standard_input → Made c e Rest → Made a e All
+  pub with_input : (a b c e : Option Disk) → option_copied words.changes ≡ None → Told a b (opens words.data.now None) → Told b c standard_input → Made c e Outputs → Made a e Whole
   with_input a b c e is first second made =
       opened a b e first
-      (made_then b c e standard_input Changes Rest second made
-      (λ d after at h. subst (λ (o : Option (List ℕ)). OpensChanges o result (Rest d) (standard_input ∷ after)) (sym is) (after, refl, h)))
+      (made_then b c e standard_input Changes Outputs second made
+      (λ d after at h. subst (λ (o : Option (List ℕ)). OpensChanges o result (Outputs d) (standard_input ∷ after)) (sym is) (after, refl, h)))
 
-  pub with_file : (a b c e : Option Disk) (path : List ℕ) → option_copied words.changes ≡ Some path → Told a b (opens words.data.now None) → Told b c (opens path None) → Made c e Rest → Made a e All
+  pub with_file : (a b c e : Option Disk) (path : List ℕ) → option_copied words.changes ≡ Some path → Told a b (opens words.data.now None) → Told b c (opens path None)
+      → Made c e Outputs → Made a e Whole
   with_file a b c e path is first second made =
       opened a b e first
-      (made_then b c e (opens path None) Changes Rest second made
-      (λ d after at h. subst (λ (o : Option (List ℕ)). OpensChanges o result (Rest d) (opens path None ∷ after)) (sym is) (inl (after, refl, h))))
+      (made_then b c e (opens path None) Changes Outputs second made
+      (λ d after at h. subst (λ (o : Option (List ℕ)). OpensChanges o result (Outputs d) (opens path None ∷ after)) (sym is) (inl (after, refl, h))))
 
-  pub no_file : (a b c : Option Disk) (path : List ℕ) (why : Refusal) → option_copied words.changes ≡ Some path → Told a b (opens words.data.now None) → Told b c (opens path (Some why))
-      → FailsSo (IsCannotOpen path) result → Made a c All
+  pub no_file : (a b c : Option Disk) (path : List ℕ) (why : Refusal) → option_copied words.changes ≡ Some path → Told a b (opens words.data.now None)
+      → Told b c (opens path (Some why)) → FailsSo (IsNotOpened path why) result → Made a c Whole
   no_file a b c path why is first second fails =
       opened a b c first
-      (made_last b c (opens path (Some why)) Changes second
-      (λ d at. subst (λ (o : Option (List ℕ)). OpensChanges o result (Rest d) (opens path (Some why) ∷ [])) (sym is) (inr (why, refl, fails))))
+      (made_as b c (λ d. Tries (opens path) (IsNotOpened path) [] result (Outputs d)) Changes
+      (tries_refused (opens path) (IsNotOpened path) [] result Outputs b c c why second (just_none c) fails)
+      (λ d calls at h. subst (λ (o : Option (List ℕ)). OpensChanges o result (Outputs d) calls) (sym is) h))

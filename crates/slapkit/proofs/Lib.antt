@@ -1,2 +1,4 @@
 pub mod CallLemmas
+pub mod EndLemmas
+pub mod EscapeLemmas
 pub mod Examples

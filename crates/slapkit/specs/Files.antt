@@ -5,22 +5,30 @@ use Rattle.std.specs.declared.io.ErrorKind.TheVariants as kind
 use Rattle.slapkit.specs.declared.files.Refusal.{Refusal}
 use Rattle.slapkit.specs.declared.files.Refusal.TheVariants as refusal
 
--- a call: a file is opened to be read, or the standard input; a file is created, which was not there before; one that was created is
--- closed. With each its path, and why it was refused, if it was; with the last what the file took, where it tells
+-- a call, and why it was refused, if it was: a file is opened to be read, or the standard input. The draft of a file is created, with the bits
+-- of a mode, under a name of its own, where no file is at the path; the text that it has taken, where it tells, is synced; and it is published, which
+-- gives it the path as its name; or it is discarded, which removes it, as a publishing that is refused does. A file that was published is
+-- withdrawn, which removes it. A report is written to the standard output
 pub data Call : Type 0 where
   opens : List ℕ → Option Refusal → Call
   standard_input : Call
-  creates : List ℕ → Option Refusal → Call
-  closes : List ℕ → Option (List ℕ) → Call
+  creates : List ℕ → ℕ → Option Refusal → Call
+  syncs : List ℕ → Option (List ℕ) → Option Refusal → Call
+  publishes : List ℕ → Option (List ℕ) → Option Refusal → Call
+  discards : List ℕ → Call
+  withdraws : List ℕ → Call
+  reports : List ℕ → Option Refusal → Call
 
--- the calls so far, in their order; the text of the file at each path, if one is there; and what the standard input gives
+-- the calls so far, in their order; the text of the file at each path, if one is there, and the bits of its mode that say who may read and
+-- write it; and what the standard input gives
 pub record Disk : Type 0 where
   pub calls : List Call
   pub text_at : List ℕ → Option (List ℕ)
+  pub mode_at : List ℕ → ℕ
   pub typed : List ℕ
 
 abbrev pub with_call : Disk → Call → Disk
-with_call d call = record { calls = d.calls ++ call ∷ []; text_at = d.text_at; typed = d.typed }
+with_call d call = record { calls = d.calls ++ call ∷ []; text_at = d.text_at; mode_at = d.mode_at; typed = d.typed }
 
 -- one call is made, and no other; where the file system tells its calls afterwards, it has told them before
 abbrev pub Told : Option Disk → Option Disk → Call → Type 0
@@ -32,7 +40,8 @@ abbrev pub refusal_of : {A : Type 0} → Result A Refusal → Option Refusal
 refusal_of (Ok file) = None
 refusal_of (Err why) = Some why
 
--- of the system's kinds of errors one says that a file exists already
+-- of the system's kinds of errors one says that a file exists already, and one that memory ran out
 abbrev pub meant_by : ErrorKind → Refusal
 meant_by kind.AlreadyExists = refusal.Exists
+meant_by kind.OutOfMemory = refusal.Memory
 meant_by _ = refusal.Other

@@ -1,4 +1,6 @@
+pub mod Escape
 pub mod FaultText
+pub mod Faults
 pub mod Files
 pub mod Paths
 pub mod Runs

@@ -5,3 +5,7 @@ use Rattle.dir_names.specs.Orders.{bytes_eq}
 -- the text of the file at a path: there are two
 abbrev pub folder_text : List ℕ → List ℕ → List ℕ → Option (List ℕ)
 folder_text copy changes path = cond (bytes_eq path (codes "copy")) (Some copy) (cond (bytes_eq path (codes "changes")) (Some changes) None)
+
+-- the mode of the file at a path: the copy is not for others
+abbrev pub folder_mode : List ℕ → ℕ
+folder_mode path = cond (bytes_eq path (codes "copy")) 0o640 0o644

@@ -5,18 +5,6 @@ use Rattle.clap.specs.Matches.{first_value, found_of, one_text}
 use Rattle.clap.specs.declared.parser.matches.ArgMatches.{ArgMatches}
 use Rattle.clap.specs.declared.parser.matches.Found.{Found}
 use Rattle.slapkit.specs.declared.command.ModifyWords.{ModifyWords}
-use Rattle.slapkit.specs.declared.command.OutputPaths.{OutputPaths}
-use Rattle.slapkit.specs.declared.command.Words.{Words}
-use Rattle.slapkit.specs.declared.command.Words.TheVariants as tool
-
--- in a dry run no file is to be written
-abbrev pub IsDryWithoutFiles : ModifyWords → Type 0
-IsDryWithoutFiles words = words.options.dry ≡ true → words.files ≡ None
-
-abbrev pub WritesNoFileDry : Words → Type 0
-WritesNoFileDry (tool.Slapmodify words) = IsDryWithoutFiles words
-
--- ---- the words of `slapmodify`
 
 abbrev pub text_or_empty : Option (List ℕ) → List ℕ
 text_or_empty None = []
@@ -28,23 +16,12 @@ pub record IsFlag (found : Found) (id : List ℕ) (flag : Bool) : Type 0 where
   pub set : one_text found id ≡ Some (codes "true") → flag ≡ true
   pub unset : one_text found id ≡ Some (codes "false") → flag ≡ false
 
--- the texts of the two paths
-abbrev pub path_texts : Option OutputPaths → Option (List ℕ × List ℕ)
-path_texts None = None
-path_texts (Some files) = Some (files.out.now, files.undo.now)
-
--- both paths, if both are given; none in a dry run
-abbrev pub both_paths : Bool → Option (List ℕ) → Option (List ℕ) → Option (List ℕ × List ℕ)
-both_paths true out undo = None
-both_paths false None undo = None
-both_paths false (Some out) None = None
-both_paths false (Some out) (Some undo) = Some (out, undo)
-
 -- each word is the value of its own argument
 pub record AreWordsOf (m : ArgMatches) (words : ModifyWords) : Type 0 where
   pub suffix : words.suffix.now ≡ text_or_empty (first_value (found_of m) (codes "suffix"))
   pub copy : words.data.now ≡ text_or_empty (first_value (found_of m) (codes "data"))
-  pub files : path_texts words.files ≡ both_paths words.options.dry (first_value (found_of m) (codes "out")) (first_value (found_of m) (codes "undo"))
+  pub out : option_copied words.out ≡ first_value (found_of m) (codes "out")
+  pub undo : option_copied words.undo ≡ first_value (found_of m) (codes "undo")
   pub changes : option_copied words.changes ≡ first_value (found_of m) (codes "changes")
   pub go_on : IsFlag (found_of m) (codes "go_on") words.options.go_on
   pub dry : IsFlag (found_of m) (codes "dry") words.options.dry

@@ -1,7 +1,6 @@
 //! The command line, by `clap`.
 
-ghost use Rattle.std.specs.Prelude.{IfOk};
-ghost use Rattle.slapkit.specs.Words.{AreWordsOf, IsDryWithoutFiles, WritesNoFileDry};
+ghost use Rattle.slapkit.specs.Words.{AreWordsOf};
 
 use clap::error::ErrorKind;
 use clap::{Arg, ArgAction, ArgMatches, Command, Error};
@@ -20,14 +19,16 @@ pub enum Words<'a> {
 pub struct ModifyWords<'a> {
     pub suffix: &'a str,
     pub data: &'a str,
-    /// The files to be written; none in a dry run.
-    pub files: Option<OutputPaths<'a>>,
+    /// Where the new copy goes; a dry run doesn't need it.
+    pub out: Option<&'a str>,
+    /// Where the undo file goes; a dry run doesn't need it.
+    pub undo: Option<&'a str>,
     /// The file of changes; without it they come from standard input.
     pub changes: Option<&'a str>,
     pub options: ModifyOptions,
 }
 
-/// Where the new copy and the undo file go.
+/// The files to be written: the new copy and the undo file.
 #[derive(Clone, Copy, PartialEq, Eq, Debug)]
 pub struct OutputPaths<'a> {
     pub out: &'a str,
@@ -39,9 +40,7 @@ pub struct OutputPaths<'a> {
 /// # Errors
 ///
 /// What `clap` says of words that it refuses, and its help.
-pub fn read_words<'a, S: AsStr>(alloc: Global, words: &'a [S]) -> Result<Words<'a>, Error>
-    ensures { IfOk result WritesNoFileDry }
-{
+pub fn read_words<'a, S: AsStr>(alloc: Global, words: &'a [S]) -> Result<Words<'a>, Error> {
     let mut program = program(alloc)?;
     let matches = program.try_get_matches_from_mut(words)?;
     match matches.subcommand_matches("slapmodify") {
@@ -51,22 +50,17 @@ pub fn read_words<'a, S: AsStr>(alloc: Global, words: &'a [S]) -> Result<Words<'
 }
 
 fn modify_words<'a>(matches: &ArgMatches<'a>) -> ModifyWords<'a>
-    ensures dry { IsDryWithoutFiles result }
-    ensures words { AreWordsOf matches.now result }
+    ensures { AreWordsOf matches.now result }
 {
-    let dry = matches.get_flag("dry");
-    let files = match (matches.get_str("out"), matches.get_str("undo")) {
-        (Some(out), Some(undo)) if !dry => Some(OutputPaths { out, undo }),
-        _ => None,
-    };
     ModifyWords {
         suffix: matches.get_str("suffix").unwrap_or(""),
         data: matches.get_str("data").unwrap_or(""),
-        files,
+        out: matches.get_str("out"),
+        undo: matches.get_str("undo"),
         changes: matches.get_str("changes"),
         options: ModifyOptions {
             go_on: matches.get_flag("go_on"),
-            dry,
+            dry: matches.get_flag("dry"),
             verbose: matches.get_flag("verbose"),
         },
     }
@@ -74,6 +68,7 @@ fn modify_words<'a>(matches: &ArgMatches<'a>) -> ModifyWords<'a>
 
 fn program<'a>(alloc: Global) -> Result<Command<'a>, AllocError> {
     Command::new(alloc, "slapkit")
+        .version(VERSION)
         .about("Offline tools for the administrator of an LDAP directory")
         .subcommand_required(true)
         .arg_required_else_help(true)
@@ -154,6 +149,8 @@ fn flag<'a>(alloc: Global, id: &'a str, letter: char, help: &'a str) -> Arg<'a> 
         .help(help)
         .action(ArgAction::SetTrue)
 }
+
+const VERSION: &str = "0.1.0";
 
 const ABOUT: &str = "\
 Applies LDIF change records to an LDIF copy of a directory, and writes the new copy, an undo file and \

@@ -2,8 +2,10 @@
 
 ghost use Rattle.std.specs.Prelude.{◌++◌};
 ghost use Rattle.std.specs.Fmt.{WritesOnOk, WritesStyledOnOk};
+ghost use Rattle.slapkit.specs.Escape.{escaped};
 ghost use Rattle.slapkit.specs.FaultText.{fault_text};
 
+use crate::escape::show_escaped;
 use dir_tools::ToolFault;
 use std::{fmt, io};
 
@@ -38,11 +40,11 @@ impl fmt::Display for Fault<'_> {
     }
 }
 
-/// Shows a path after some words, whatever the options.
+/// Shows a path after some words, whatever the options. Its control characters are escaped.
 fn show_path<W: fmt::Write>(f: &mut fmt::Formatter<W>, words: &str, path: &str) -> fmt::Result
-    ensures writes { WritesOnOk W.write_str_gives f.old result (words.now ++ path.now) f.new }
-    ensures styled { WritesStyledOnOk W.write_str_gives f.old result (words.now ++ path.now) f.new }
+    ensures writes { WritesOnOk W.write_str_gives f.old result (words.now ++ escaped path.now) f.new }
+    ensures styled { WritesStyledOnOk W.write_str_gives f.old result (words.now ++ escaped path.now) f.new }
 {
     f.write_str(words)?;
-    f.write_str(path)
+    show_escaped(f, path)
 }

@@ -1,24 +1,35 @@
-//! The files of a run: a file system as the program needs it, and the system's own.
+//! The files of a run: a file system as the program needs it.
 
-ghost use Rattle.std.specs.Prelude.{◌≡◌, [], IfOk, IfSome, None, Option, Some};
-ghost use Rattle.slapkit.specs.Files.{Disk, Told, meant_by, refusal_of};
-ghost use Rattle.slapkit.specs.Files.{closes, creates, opens, standard_input};
+ghost use Rattle.std.specs.Prelude.{◌≡◌, [], IfOk, IfSome, Option, Some};
+ghost use Rattle.slapkit.specs.Files.{Disk, Told, refusal_of};
+ghost use Rattle.slapkit.specs.Files.{creates, discards, opens, publishes, reports, standard_input, syncs, withdraws};
 
-use dir_ldif::{Reader, Sink, Source, Writer};
-use std::fs::{File, OpenOptions};
-use std::io::{self, Input};
-use std::rt::Files;
+use dir_ldif::{Sink, Source};
 
-/// Why a file system doesn't open a file, or doesn't create one.
+/// Why a file system doesn't do what it is asked.
 #[derive(Clone, Copy, PartialEq, Eq, Debug)]
 pub enum Refusal {
-    /// A file that was to be created exists already.
+    /// A file that was to be made exists already.
     Exists,
+    /// Memory ran out.
+    Memory,
     /// Any other reason.
     Other,
 }
 
-/// A file system, and the standard input.
+/// A file that is open to be read.
+#[derive(Drop)]
+pub struct Opened<F> {
+    pub file: F,
+    /// The bits of its mode that say who may read and write it.
+    pub mode: u32,
+}
+
+/// A file system, and the standard streams.
+///
+/// A file is made in steps: it is created as a draft, which has a name of its own; its text is written, and
+/// then synced, so that it outlasts a loss of power; and only then is it published under the name that it is to
+/// have.
 pub trait FileSystem {
     /// A file that is read.
     type Input: Source + Drop;
@@ -26,84 +37,46 @@ pub trait FileSystem {
     /// The standard input.
     type Typed: Source + Drop;
 
-    /// A file that was created.
-    type Output: Sink + Drop;
+    /// A file that is being made.
+    type Draft: Sink + Drop;
 
     // Its calls so far and the texts that it has, where it tells them.
     ghost disk: { Self → Option Disk };
 
     /// Opens a file to be read.
-    fn open(&mut self, path: &str) -> Result<Self::Input, Refusal>
+    fn open(&mut self, path: &str) -> Result<Opened<Self::Input>, Refusal>
         ensures told { Told (disk self.old) (disk self.new) (opens path.now (refusal_of result)) }
-        ensures text { IfOk result (λ file. IfSome (disk self.new) (λ d. Self.Input.left file ≡ d.text_at path.now)) };
+        ensures text { IfOk result (λ opened. IfSome (disk self.new) (λ d. Self.Input.left opened.file ≡ d.text_at path.now)) }
+        ensures mode { IfOk result (λ opened. IfSome (disk self.new) (λ d. opened.mode ≡ d.mode_at path.now)) };
 
-    /// The standard input.
+    /// Opens the standard input.
     fn standard_input(&mut self) -> Self::Typed
         ensures told { Told (disk self.old) (disk self.new) standard_input }
         ensures text { IfSome (disk self.new) (λ d. Self.Typed.left result ≡ Some d.typed) };
 
-    /// Creates a file, which must not exist yet.
-    fn create(&mut self, path: &str) -> Result<Self::Output, Refusal>
-        ensures told { Told (disk self.old) (disk self.new) (creates path.now (refusal_of result)) }
-        ensures empty { IfOk result (λ file. IfSome (disk self.new) (λ d. Self.Output.taken file ≡ Some [])) };
+    /// Creates the draft of a file that is to be made at this path, where no file is. Of the bits of the mode
+    /// it has those that the system leaves to a new file.
+    fn create(&mut self, path: &str, mode: u32) -> Result<Self::Draft, Refusal>
+        ensures told { Told (disk self.old) (disk self.new) (creates path.now mode (refusal_of result)) }
+        ensures empty { IfOk result (λ draft. IfSome (disk self.new) (λ d. Self.Draft.taken draft ≡ Some [])) };
 
-    /// Closes a file that was created at this path.
-    fn close(&mut self, path: &str, file: Self::Output)
-        ensures { Told (disk self.old) (disk self.new) (closes path.now (Self.Output.taken file)) };
-}
+    /// Syncs what was written into the draft of the file at this path.
+    fn sync(&mut self, path: &str, draft: &Self::Draft) -> Result<(), Refusal>
+        ensures { Told (disk self.old) (disk self.new) (syncs path.now (Self.Draft.taken draft.now) (refusal_of result)) };
 
-/// The system's files and standard input. What they hold no contract can tell.
-#[derive(Drop)]
-pub struct SystemFiles<'a, R> {
-    rt: &'a R,
-}
+    /// Gives a draft its name, and syncs the name. A file that has come there is left as it is. Of a draft that is refused nothing is left.
+    fn publish(&mut self, path: &str, draft: Self::Draft) -> Result<(), Refusal>
+        ensures { Told (disk self.old) (disk self.new) (publishes path.now (Self.Draft.taken draft) (refusal_of result)) };
 
-impl<'a, R: Files + Input> SystemFiles<'a, R> {
-    pub fn new(rt: &'a R) -> SystemFiles<'a, R> {
-        SystemFiles { rt }
-    }
-}
+    /// Removes the draft of the file at this path.
+    fn discard(&mut self, path: &str, draft: Self::Draft)
+        ensures { Told (disk self.old) (disk self.new) (discards path.now) };
 
-impl<R: Files + Input> FileSystem for SystemFiles<'_, R> {
-    type Input = Reader<R::File>;
+    /// Removes a file that was published at this path.
+    fn withdraw(&mut self, path: &str)
+        ensures { Told (disk self.old) (disk self.new) (withdraws path.now) };
 
-    type Typed = Reader<R::Reader>;
-
-    type Output = Writer<R::File>;
-
-    ghost disk = { λ _. None };
-
-    fn open(&mut self, path: &str) -> Result<Reader<R::File>, Refusal> {
-        match File::open(self.rt, path) {
-            Ok(file) => Ok(Reader::new(file)),
-            Err(_) => Err(Refusal::Other),
-        }
-    }
-
-    fn standard_input(&mut self) -> Reader<R::Reader> {
-        Reader::new(self.rt.reader())
-    }
-
-    fn create(&mut self, path: &str) -> Result<Writer<R::File>, Refusal> {
-        match OpenOptions::new()
-            .write(true)
-            .create_new(true)
-            .open(self.rt, path)
-        {
-            Ok(file) => Ok(Writer::new(file)),
-            Err(error) => Err(meaning_of(error.kind())),
-        }
-    }
-
-    fn close(&mut self, _path: &str, _file: Writer<R::File>) {}
-}
-
-/// What the system's answer means.
-fn meaning_of(kind: io::ErrorKind) -> Refusal
-    ensures { result ≡ meant_by kind }
-{
-    match kind {
-        io::ErrorKind::AlreadyExists => Refusal::Exists,
-        _ => Refusal::Other,
-    }
+    /// Writes a report to the standard output.
+    fn report(&mut self, text: &[u8]) -> Result<(), Refusal>
+        ensures { Told (disk self.old) (disk self.new) (reports text.now (refusal_of result)) };
 }

@@ -3,7 +3,7 @@
 mod folder;
 mod runs;
 
-use crate::command::{ModifyWords, OutputPaths, Words, read_words};
+use crate::command::{Words, read_words};
 use crate::fault::Fault;
 use crate::slapmodify::first_repeated;
 use dir_ldif::{RecordFault, StreamFault};
@@ -34,13 +34,7 @@ fn words_become_options(rt: HostRuntime) -> Result<(), Fail> {
     let Words::Slapmodify(read) = read_words(alloc, words.as_slice())?;
     assert_eq!(rt; read.suffix, "dc=com");
     assert_eq!(rt; read.data, "a");
-    assert!(rt;
-        read.files
-            == Some(OutputPaths {
-                out: "b",
-                undo: "c"
-            })
-    );
+    assert!(rt; read.out == Some("b") && read.undo == Some("c"));
     assert_eq!(rt; read.changes.unwrap_or(""), "d");
     assert!(rt; read.options.go_on && read.options.verbose && !read.options.dry);
     assert!(rt; first_repeated(&read).is_none());
@@ -48,21 +42,11 @@ fn words_become_options(rt: HostRuntime) -> Result<(), Fail> {
 }
 
 #[test]
-fn a_dry_run_needs_no_outputs_and_touches_none(rt: HostRuntime) -> Result<(), Fail> {
+fn a_dry_run_needs_no_outputs(rt: HostRuntime) -> Result<(), Fail> {
     let alloc = rt.alloc();
-    let words = [
-        "slapkit",
-        "slapmodify",
-        "-b",
-        "dc=com",
-        "--data",
-        "a",
-        "-u",
-        "--out",
-        "a",
-    ];
+    let words = ["slapkit", "slapmodify", "-b", "dc=com", "--data", "a", "-u"];
     let Words::Slapmodify(read) = read_words(alloc, words.as_slice())?;
-    assert!(rt; read.options.dry && read.files.is_none() && read.changes.is_none());
+    assert!(rt; read.options.dry && read.out.is_none() && read.undo.is_none());
     assert!(rt; first_repeated(&read).is_none());
     Ok(())
 }
@@ -156,6 +140,10 @@ fn each_fault_has_its_text(rt: HostRuntime) -> Result<(), Fail> {
         ),
         (Fault::SamePath("a"), "same path twice: a"),
         (Fault::CannotOpen("a"), "cannot open a"),
+        (
+            Fault::CannotOpen("\tM\u{fc}ller\u{9b}\n\x7f"),
+            "cannot open \\x09M\u{fc}ller\\x9b\\x0a\\x7f",
+        ),
         (Fault::Exists("a"), "exists already: a"),
         (
             Fault::Tool(ToolFault::BadCopy(7, bad_name)),

@@ -1,23 +1,23 @@
-use Rattle.std.proofs.Common.{ap, refl, sym}
+use Rattle.std.proofs.Common.{ap, sym}
 use Rattle.std.specs.Option.{option_copied}
 use Rattle.slapkit.specs.Paths.{first_repeated}
 use Rattle.slapkit.proofs.CallLemmas.{no_file, with_file, with_input}
 use Rattle.slapkit.proofs.slapmodify.run.Goals as goal
 
-pub returns-in_default-open-2-clause-calls : goal.returns-in_default-open-2-clause-calls
-returns-in_default-open-2-clause-calls g c =
-    no_file c.args.words.now (first_repeated c.args.words.now) _ _ (sym c.in_default.ensures) (g.F.FileSystem.disk c.args.files.now) (g.F.FileSystem.disk c.open.new.self)
-    (g.F.FileSystem.disk c.open-in-Some-changes.new.self) c.in-Some-changes.path.now c.in_default-open-2.field-0 (ap option_copied c.in-Some-changes.is) c.in-Ok.ensures.told
-    c.in_default-open-2.ensures.told refl
+pub returns-in-Err-open-clause-calls : goal.returns-in-Err-open-clause-calls
+returns-in-Err-open-clause-calls g c =
+    no_file c.args.words.now (first_repeated c.args.words.now) _ (sym c.in_default.ensures) (g.F.FileSystem.disk c.args.files.now) (g.F.FileSystem.disk c.open.new.self)
+    (g.F.FileSystem.disk c.open-in-Some-changes.new.self) c.in-Some-changes.path.now c.in-Err-open.why (ap option_copied c.in-Some-changes.is) c.in-Ok.ensures.told
+    c.in-Err-open.ensures.told c.not_opened-in-Err-open.ensures
 
 pub returns-in-Some-changes-clause-calls : goal.returns-in-Some-changes-clause-calls
 returns-in-Some-changes-clause-calls g c =
-    with_file c.args.words.now (first_repeated c.args.words.now) c.with_changes.result (g.W.Sink.taken c.args.report.now, g.W.Sink.taken c.with_changes.new.report) (sym c.in_default.ensures)
-    (g.F.FileSystem.disk c.args.files.now) (g.F.FileSystem.disk c.open.new.self) (g.F.FileSystem.disk c.open-in-Some-changes.new.self) (g.F.FileSystem.disk c.with_changes.new.files)
-    c.in-Some-changes.path.now (ap option_copied c.in-Some-changes.is) c.in-Ok.ensures.told c.in-Ok-open.ensures.told c.with_changes.ensures.calls
+    with_file c.args.words.now (first_repeated c.args.words.now) _ (sym c.in_default.ensures) (g.F.FileSystem.disk c.args.files.now) (g.F.FileSystem.disk c.open.new.self)
+    (g.F.FileSystem.disk c.open-in-Some-changes.new.self) (g.F.FileSystem.disk c.with_changes.new.files) c.in-Some-changes.path.now (ap option_copied c.in-Some-changes.is)
+    c.in-Ok.ensures.told c.in-Ok-open.ensures.told c.with_changes.ensures.calls
 
 pub returns-clause-calls : goal.returns-clause-calls
 returns-clause-calls g c =
-    with_input c.args.words.now (first_repeated c.args.words.now) c.with_changes-in-None.result (g.W.Sink.taken c.args.report.now, g.W.Sink.taken c.with_changes-in-None.new.report)
-    (sym c.in_default.ensures) (g.F.FileSystem.disk c.args.files.now) (g.F.FileSystem.disk c.open.new.self) (g.F.FileSystem.disk c.standard_input-changes.new.self)
-    (g.F.FileSystem.disk c.with_changes-in-None.new.files) (ap option_copied c.in-None.is) c.in-Ok.ensures.told c.standard_input-changes.ensures.told c.with_changes-in-None.ensures.calls
+    with_input c.args.words.now (first_repeated c.args.words.now) _ (sym c.in_default.ensures) (g.F.FileSystem.disk c.args.files.now) (g.F.FileSystem.disk c.open.new.self)
+    (g.F.FileSystem.disk c.standard_input-changes.new.self) (g.F.FileSystem.disk c.with_changes-in-None.new.files) (ap option_copied c.in-None.is) c.in-Ok.ensures.told
+    c.standard_input-changes.ensures.told c.with_changes-in-None.ensures.calls
