@@ -13,7 +13,7 @@ demo: $(PROGRAM)
 test:
 	.ci/run
 
-# Runs the program on files, on large inputs, and with each of its calls for memory, openings, reads and writes refused in turn.
+# Runs the program on files and on large inputs, with each of its calls for memory and on files refused in turn, and kills it at many moments.
 trial: $(PROGRAM)
 	tests/trial.py $(PROGRAM)
 

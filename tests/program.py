@@ -8,6 +8,7 @@ import pathlib
 import subprocess
 import sys
 import tempfile
+import time
 
 import checks
 from checks import expect
@@ -31,10 +32,15 @@ class Trial:
         for name, text in files.items():
             (self.folder / name).write_text(text)
 
-    def run(self, words, typed="", out=subprocess.PIPE, err=subprocess.PIPE):
-        """The exit status, and what went to standard output and to standard error."""
+    def run(self, words, typed="", out=subprocess.PIPE, err=subprocess.PIPE, closed=()):
+        """The exit status, and what went to standard output and to standard error. Some of these may be closed from the start."""
+
+        def close():
+            for stream in closed:
+                os.close(stream)
+
         ended = subprocess.run(
-            [self.program, *words], cwd=self.folder, input=typed.encode(), stdout=out, stderr=err, timeout=60
+            [self.program, *words], cwd=self.folder, input=typed.encode(), stdout=out, stderr=err, preexec_fn=close, timeout=60
         )
         return ended.returncode, (ended.stdout or b"").decode(), (ended.stderr or b"").decode()
 
@@ -211,9 +217,12 @@ def each_of_four_options_is_needed(trial):
     trial.expect_files(NEW, UNDO)
 
 
-def a_fault_leaves_its_files_empty(trial):
+def a_fault_leaves_no_file(trial):
     expect(trial.modify(*ONTO, typed="version: 2\n"), (1, "", "slapkit: changes: L15 BadVersion\n"))
-    trial.expect_files("", "")
+    trial.expect_no_files()
+    # the same command runs again
+    expect(trial.modify(*ONTO, typed=ADD), (0, "accepted 1, refused 0\n", ""))
+    trial.expect_files(NEW, UNDO)
 
 
 def a_faulty_copy_is_named_by_its_line(trial):
@@ -227,9 +236,7 @@ def a_bad_suffix_is_refused(trial):
         for words in (["-u"], ONTO):
             found = trial.run(["slapmodify", "-b", suffix, "--data", "copy", *words])
             expect(found, (1, "", "slapkit: bad question: suffix\n"), suffix)
-        trial.expect_files("", "")
-        for name in ("new", "undo"):
-            (trial.folder / name).unlink()
+        trial.expect_no_files()
 
 
 def a_suffix_may_end_in_an_escaped_backslash(trial):
@@ -242,7 +249,61 @@ def a_suffix_may_end_in_an_escaped_backslash(trial):
 def a_file_that_is_there_is_not_written_over(trial):
     trial.write("new", "kept")
     expect(trial.modify(*ONTO, typed=ADD), (1, "", "slapkit: exists already: new\n"))
-    trial.expect_files("kept", "")
+    trial.expect_files("kept", None)
+
+
+def a_file_that_comes_while_the_run_goes_on_is_not_written_over(trial):
+    for name in ("undo", "new"):
+        with running(trial, *ONTO) as run:
+            # both drafts are there, and the run waits for the changes
+            wait_for(lambda: len(trial.names()) == 2)
+            trial.write(name, "kept")
+            told, said = run.communicate(ADD.encode(), timeout=60)
+        expect((run.returncode, told, said.decode()), (1, b"", f"slapkit: exists already: {name}\n"))
+        expect(trial.names(), [name])
+        expect(trial.text(name), "kept")
+        (trial.folder / name).unlink()
+
+
+def no_file_has_its_name_before_it_is_whole(trial):
+    with running(trial, *ONTO) as run:
+        wait_for(lambda: len(trial.names()) == 2)
+        expect(trial.names(), ["new.slapkit-0", "undo.slapkit-0"])
+        expect(run.communicate(ADD.encode(), timeout=60)[1], b"")
+    trial.expect_files(NEW, UNDO)
+    expect(trial.names(), ["new", "undo"])
+
+
+def a_draft_that_was_left_behind_is_in_no_way(trial):
+    left = [f"{name}.slapkit-{n}" for name in ("new", "undo") for n in range(3)]
+    for name in left:
+        trial.write(name, "left behind")
+    expect(trial.modify(*ONTO, typed=ADD), (0, "accepted 1, refused 0\n", ""))
+    trial.expect_files(NEW, UNDO)
+    expect(trial.names(), sorted(["new", "undo", *left]))
+    expect({trial.text(name) for name in left}, {"left behind"})
+
+
+def files_are_read_and_written_by_those_who_read_and_write_the_copy(trial):
+    umask = os.umask(0o027)
+    try:
+        for mode, made in ((0o600, 0o600), (0o640, 0o640), (0o664, 0o640), (0o644, 0o640), (0o400, 0o400), (0o755, 0o640)):
+            (trial.folder / "copy").chmod(mode)
+            expect(trial.modify(*ONTO, typed=ADD), (0, "accepted 1, refused 0\n", ""))
+            for name in ("new", "undo"):
+                path = trial.folder / name
+                expect(oct(path.stat().st_mode & 0o7777), oct(made), f"mode of {name}, of a copy of mode {mode:o}")
+                path.unlink()
+    finally:
+        os.umask(umask)
+
+
+def a_draft_is_never_open_to_more(trial):
+    (trial.folder / "copy").chmod(0o600)
+    with running(trial, *ONTO) as run:
+        wait_for(lambda: len(trial.names()) == 2)
+        expect({oct(path.stat().st_mode & 0o7777) for path in trial.folder.glob("*.slapkit-*")}, {"0o600"})
+        run.communicate(ADD.encode(), timeout=60)
 
 
 def an_undo_file_that_is_there_comes_first(trial):
@@ -260,9 +321,20 @@ def a_link_is_not_followed_to_a_file_that_is_made(trial):
 
 
 def paths_must_differ(trial):
-    expect(trial.modify("-l", "copy", *ONTO), (1, "", "slapkit: same path twice: copy\n"))
-    expect(trial.modify("--out", "x", "--undo", "x"), (1, "", "slapkit: same path twice: x\n"))
-    trial.expect_no_files()
+    # in a dry run too; of those that repeat an earlier one the first is named: the new copy, the undo file, the changes
+    for dry in ([], ["-u"]):
+        for words, named in (
+            (["-l", "copy", *ONTO], "copy"),
+            (["--out", "x", "--undo", "x"], "x"),
+            (["--out", "copy", "--undo", "x", "-l", "x"], "copy"),
+            (["--out", "x", "--undo", "copy", "-l", "x"], "copy"),
+            (["--out", "x", "--undo", "x", "-l", "copy"], "x"),
+            (["--out", "x", "--undo", "y", "-l", "y"], "y"),
+        ):
+            expect(trial.modify(*dry, *words, typed=ADD), (1, "", f"slapkit: same path twice: {named}\n"), words)
+            trial.expect_no_files()
+    for words, named in ((["--out", "copy"], "copy"), (["--undo", "x", "-l", "x"], "x")):
+        expect(trial.modify("-u", *words), (1, "", f"slapkit: same path twice: {named}\n"), words)
 
 
 def the_copy_is_not_written_over(trial):
@@ -288,13 +360,13 @@ def a_folder_cannot_be_read(trial):
 def a_full_device_is_told(trial):
     with open("/dev/full", "wb") as full:
         expect(trial.modify(*ONTO, typed=ADD, out=full), (1, "", "slapkit: cannot write report\n"))
-    trial.expect_files(NEW, UNDO)
+    trial.expect_no_files()
 
 
 def a_fault_that_cannot_be_told_ends_with_status_1(trial):
     with open("/dev/full", "wb") as full:
         expect(trial.modify(*ONTO, typed="version: 2\n", err=full), (1, "", ""))
-        trial.expect_files("", "")
+        trial.expect_no_files()
         expect(trial.modify("-u", typed="version: 2\n", out=full, err=full), (1, "", ""))
         expect(trial.modify("-u", typed=ADD, out=full, err=full), (1, "", ""))
         expect(trial.run(["slapmodify", "-x"], err=full), (1, "", ""))
@@ -305,6 +377,70 @@ def a_report_needs_no_standard_error(trial):
         expect(trial.modify(*ONTO, typed=ADD, err=full), (0, "accepted 1, refused 0\n", ""))
         trial.expect_files(NEW, UNDO)
         expect(trial.modify("-u", typed=MISSING, err=full), (1, f"{REFUSED}accepted 0, refused 1\n", ""))
+
+
+def a_reader_that_is_gone_is_told(trial):
+    left, right = os.pipe()
+    os.close(left)
+    with open(right, "wb") as gone:
+        expect(trial.modify(*ONTO, typed=ADD, out=gone), (1, "", "slapkit: cannot write report\n"))
+    trial.expect_no_files()
+
+
+def a_closed_standard_input_is_no_text(trial):
+    expect(trial.modify(*ONTO, closed=[0]), (1, "", "slapkit: cannot read changes\n"))
+    trial.expect_no_files()
+    expect(trial.modify("-l", "changes", *ONTO, closed=[0]), (0, "accepted 1, refused 0\n", ""))
+    trial.expect_files(NEW, UNDO)
+
+
+def a_closed_standard_output_is_no_file_of_the_run(trial):
+    expect(trial.modify("-l", "changes", *ONTO, closed=[1]), (1, "", "slapkit: cannot write report\n"))
+    expect(trial.modify("-l", "changes", "-u", closed=[1]), (1, "", "slapkit: cannot write report\n"))
+    trial.expect_no_files()
+
+
+def a_closed_standard_error_is_no_file_of_the_run(trial):
+    expect(trial.modify("-l", "changes", *ONTO, closed=[2]), (0, "accepted 1, refused 0\n", ""))
+    trial.expect_files(NEW, UNDO)
+    expect(trial.modify("-l", "changes", *ONTO, closed=[2]), (1, "", ""))
+    trial.expect_files(NEW, UNDO)
+
+
+def without_standard_streams_no_text_is_written_into_a_file_of_the_run(trial):
+    expect(trial.modify("-l", "changes", *ONTO, closed=[0, 1, 2]), (1, "", ""))
+    trial.expect_no_files()
+    expect(trial.modify(*ONTO, closed=[0, 2]), (1, "", ""))
+    trial.expect_no_files()
+
+
+def control_characters_of_a_path_are_escaped(trial):
+    for path, told in (
+        ("no\nfile", "no\\x0afile"),
+        ("\x1b[31mred", "\\x1b[31mred"),
+        ("\t\x7f", "\\x09\\x7f"),
+        ("\x80\x9bm", "\\x80\\x9bm"),
+        ("M\u00fcller \\ \u65e5\u672c \xa0", "M\u00fcller \\ \u65e5\u672c \xa0"),
+    ):
+        expect(trial.modify("-l", path, "-u"), (1, "", f"slapkit: cannot open {told}\n"))
+        expect(trial.modify("--out", path, "--undo", path), (1, "", f"slapkit: same path twice: {told}\n"))
+        trial.write(path, "kept")
+        expect(trial.modify("--out", path, "--undo", "undo"), (1, "", f"slapkit: exists already: {told}\n"))
+
+
+def a_folder_that_is_missing_is_told(trial):
+    expect(trial.modify("--out", "none/new", "--undo", "undo"), (1, "", "slapkit: cannot open none/new\n"))
+    expect(trial.modify("--out", "new", "--undo", "none/undo"), (1, "", "slapkit: cannot open none/undo\n"))
+    trial.expect_no_files()
+
+
+def a_folder_may_be_another_one(trial):
+    for name in ("a", "b"):
+        (trial.folder / name).mkdir()
+    undo = f"{trial.folder}/a/undo"
+    expect(trial.modify("--out", "b//new", "--undo", undo, typed=ADD), (0, "accepted 1, refused 0\n", ""))
+    expect((trial.text("b/new"), trial.text("a/undo")), (NEW, UNDO))
+    expect([sorted(path.name for path in (trial.folder / name).iterdir()) for name in ("a", "b")], [["undo"], ["new"]])
 
 
 def a_faulty_command_line_ends_with_status_1(trial):
@@ -323,6 +459,29 @@ def help_ends_with_status_0(trial):
     for words in (["--help"], ["slapmodify", "--help"], ["help", "slapmodify"]):
         status, told, said = trial.run(words)
         expect((status, told != "", said), (0, True, ""), words)
+
+
+def the_version_is_told(trial):
+    for words in (["--version"], ["-V"]):
+        expect(trial.run(words), (0, "slapkit 0.1.0\n", ""), words)
+
+
+# ---- runs that are looked at while they go on
+
+
+def running(trial, *words):
+    """A run that waits for the changes on its standard input."""
+    words = [trial.program, "slapmodify", "-b", "dc=com", "--data", "copy", *words]
+    return subprocess.Popen(words, cwd=trial.folder, stdin=subprocess.PIPE, stdout=subprocess.PIPE, stderr=subprocess.PIPE)
+
+
+def wait_for(holds):
+    """Waits until it holds, for a minute at most."""
+    for _ in range(6000):
+        if holds():
+            return
+        time.sleep(0.01)
+    raise checks.Wrong("waited for a minute")
 
 
 TRIALS = [
@@ -344,11 +503,16 @@ TRIALS = [
     a_verbose_run_reports_each_record,
     one_option_alone_is_refused,
     each_of_four_options_is_needed,
-    a_fault_leaves_its_files_empty,
+    a_fault_leaves_no_file,
     a_faulty_copy_is_named_by_its_line,
     a_bad_suffix_is_refused,
     a_suffix_may_end_in_an_escaped_backslash,
     a_file_that_is_there_is_not_written_over,
+    a_file_that_comes_while_the_run_goes_on_is_not_written_over,
+    no_file_has_its_name_before_it_is_whole,
+    a_draft_that_was_left_behind_is_in_no_way,
+    files_are_read_and_written_by_those_who_read_and_write_the_copy,
+    a_draft_is_never_open_to_more,
     an_undo_file_that_is_there_comes_first,
     a_link_is_not_followed_to_a_file_that_is_made,
     paths_must_differ,
@@ -358,9 +522,18 @@ TRIALS = [
     a_full_device_is_told,
     a_fault_that_cannot_be_told_ends_with_status_1,
     a_report_needs_no_standard_error,
+    a_reader_that_is_gone_is_told,
+    a_closed_standard_input_is_no_text,
+    a_closed_standard_output_is_no_file_of_the_run,
+    a_closed_standard_error_is_no_file_of_the_run,
+    without_standard_streams_no_text_is_written_into_a_file_of_the_run,
+    control_characters_of_a_path_are_escaped,
+    a_folder_that_is_missing_is_told,
+    a_folder_may_be_another_one,
     a_faulty_command_line_ends_with_status_1,
     words_that_are_not_utf_8_are_refused,
     help_ends_with_status_0,
+    the_version_is_told,
 ]
 
 

@@ -1,11 +1,12 @@
 #!/usr/bin/env python3
-"""Refuses each call of slapkit for memory, each opening, read and write in turn.
+"""Refuses each call of slapkit for memory, each opening, read, write, sync, link and removal in turn.
 
 usage: refusals.py PROGRAM
 
 The program makes the changes of examples/ on the copy there, once for each call that is refused: that call
 alone, or it and all after it. A shared object, made by cc and preloaded, refuses the call. Each run must end
-with the fault that README names, and with each text begun only where the one before it is whole.
+with the fault that README names, and leave no file; where files can't be removed, none that is cut under the name
+that it was to have, and no new copy without its undo file.
 """
 import dataclasses
 import os
@@ -21,7 +22,7 @@ EXAMPLES = pathlib.Path(__file__).resolve().parent.parent / "examples"
 COPY, CHANGES = EXAMPLES / "company.ldif", EXAMPLES / "changes.ldif"
 
 # Counts the calls of the kind that REFUSE_KIND names, and refuses number REFUSE_AT, with REFUSE_ON all after
-# it too. A call that is refused leaves the file REFUSE_TOLD.
+# it too. A call that is refused leaves the file REFUSE_TOLD. With NO_LINKS the file system has no hard links.
 SHIM = r"""
 #define _GNU_SOURCE
 #include <dlfcn.h>
@@ -64,11 +65,36 @@ int open(const char *path, int flags, ...) {
     int mode = va_arg(rest, int);
     va_end(rest);
     if (is_refused("opening")) { errno = EMFILE; return -1; }
+    if (is_refused("opening, by a signal")) { errno = EINTR; return -1; }
     return syscall(SYS_openat, AT_FDCWD, path, flags, mode);
+}
+
+int fsync(int file) {
+    if (is_refused("sync")) { errno = EIO; return -1; }
+    if (is_refused("sync that is never done")) { errno = EINVAL; return -1; }
+    if (is_refused("sync, by a signal")) { errno = EINTR; return -1; }
+    return syscall(SYS_fsync, file);
+}
+
+int link(const char *from, const char *to) {
+    if (getenv("NO_LINKS") != NULL) { errno = EPERM; return -1; }
+    if (is_refused("link")) { errno = EIO; return -1; }
+    return syscall(SYS_linkat, AT_FDCWD, from, AT_FDCWD, to, 0);
+}
+
+int rename(const char *from, const char *to) {
+    if (is_refused("renaming")) { errno = EIO; return -1; }
+    return syscall(SYS_renameat, AT_FDCWD, from, AT_FDCWD, to);
+}
+
+int unlink(const char *path) {
+    if (is_refused("removal")) { errno = EIO; return -1; }
+    return syscall(SYS_unlinkat, AT_FDCWD, path, 0);
 }
 
 ssize_t read(int file, void *to, size_t size) {
     if (is_refused("read")) { errno = EIO; return -1; }
+    if (is_refused("read, by a signal")) { errno = EINTR; return -1; }
     if (size > 1 && is_refused("all but a byte of a read")) size = 1;
     return syscall(SYS_read, file, to, size);
 }
@@ -76,6 +102,7 @@ ssize_t read(int file, void *to, size_t size) {
 ssize_t write(int file, const void *from, size_t size) {
     if (file == 2) return syscall(SYS_write, file, from, size);
     if (is_refused("write")) { errno = ENOSPC; return -1; }
+    if (is_refused("write, by a signal")) { errno = EINTR; return -1; }
     if (size > 1 && is_refused("all but a byte of a write")) size = 1;
     return syscall(SYS_write, file, from, size);
 }
@@ -86,12 +113,11 @@ ssize_t __write(int file, const void *from, size_t size) { return write(file, fr
 
 @dataclasses.dataclass
 class Left:
-    """What a run left: its texts are None where their files were not made."""
+    """What a run left: the texts of the files, by their names, and what went to the standard streams."""
 
     status: int
     message: str
-    undo: bytes | None
-    new: bytes | None
+    files: dict[str, bytes]
     report: bytes
 
 
@@ -103,73 +129,104 @@ def run(program, shim, refusal):
         words += ["--out", folder / "new", "--undo", folder / "undo", "-v"]
         environment = {"LD_PRELOAD": shim, "REFUSE_TOLD": str(folder / "told")} | refusal
         ended = subprocess.run(words, env=environment, capture_output=True, timeout=60)
-        undo, new = (path.read_bytes() if path.exists() else None for path in (folder / "undo", folder / "new"))
+        files = {path.name: path.read_bytes() for path in folder.iterdir()}
         # The paths of the run's own folder are not the same twice.
-        message = ended.stderr.decode().replace(f"{folder}/", "")
-        return Left(ended.returncode, message, undo, new, ended.stdout), (folder / "told").exists()
+        message = ended.stderr.decode().replace(f"{folder}/", "").replace(str(folder), ".")
+        was_refused = files.pop("told", None) is not None
+        return Left(ended.returncode, message, files, ended.stdout), was_refused
 
 
-def nothing_is_written(left):
-    return not left.undo and not left.new and not left.report
+# ---- what a run may leave
 
 
-def texts_come_in_order(left, whole):
-    """Each text is a prefix of the whole one, and empty where the one before it is not whole."""
-    pairs = [(left.undo, whole.undo), (left.new, whole.new), (left.report, whole.report)]
-    prefixes = all(full.startswith(text or b"") for text, full in pairs)
-    return prefixes and all(not text or last == full for (last, full), (text, _) in zip(pairs, pairs[1:]))
+def ends(left, *told):
+    """Whether the run ends with one of these messages, and leaves nothing."""
+    return left.status == 1 and left.message in told and not left.files and not left.report
 
 
 def memory_is_told(left, whole):
     # The program asks for more room than it needs in some places, and goes on without it.
     told = ("slapkit: out of memory\n", "error: out of memory\n", "slapkit: cannot read the command line: out of memory\n")
-    return left == whole or (left.status == 1 and left.message in told and nothing_is_written(left))
+    return left == whole or ends(left, *told)
 
 
 def opening_is_told(left, whole):
-    paths = (str(COPY), str(CHANGES), "undo", "new")
-    told = [f"slapkit: cannot open {path}\n" for path in paths]
-    return left.status == 1 and left.message in told and nothing_is_written(left)
+    paths = ("/", str(COPY), str(CHANGES), "undo", "new")
+    # The folder is opened to be synced.
+    return ends(left, *(f"slapkit: cannot open {path}\n" for path in paths), *NOT_WRITTEN)
 
 
 def read_is_told(left, whole):
-    told = ("slapkit: cannot read copy\n", "slapkit: cannot read changes\n")
-    return left.status == 1 and left.message in told and nothing_is_written(left)
+    return ends(left, "slapkit: cannot read copy\n", "slapkit: cannot read changes\n")
 
 
 def write_is_told(left, whole):
-    named = "undo" if left.undo != whole.undo else "out" if left.new != whole.new else "report"
-    return left.status == 1 and left.message == f"slapkit: cannot write {named}\n" and texts_come_in_order(left, whole)
+    if left.message == "slapkit: cannot write report\n":
+        return left.status == 1 and not left.files and whole.report.startswith(left.report) and left.report != whole.report
+    return ends(left, *NOT_WRITTEN)
+
+
+def a_file_is_not_written(left, whole):
+    return ends(left, *NOT_WRITTEN)
+
+
+def files_are_whole_where_they_cannot_be_removed(left, whole):
+    named = {name: text for name, text in left.files.items() if ".slapkit-" not in name}
+    in_order = "new" not in named or "undo" in named
+    return left.status == 1 and left.message in NOT_WRITTEN and not left.report and in_order and named.items() <= whole.files.items()
 
 
 def run_is_whole(left, whole):
     return left == whole
 
 
+def folders_need_not_be_synced(left, whole):
+    return left == whole or ends(left, *NOT_WRITTEN)
+
+
+NOT_WRITTEN = ("slapkit: cannot write undo\n", "slapkit: cannot write out\n")
+NO_LINKS = {"NO_LINKS": "1"}
+
+# Each kind of call, what its refusal may leave, and, of the refusal of all calls after it too, the same.
 KINDS = {
-    "memory": memory_is_told,
-    "opening": opening_is_told,
-    "read": read_is_told,
-    "write": write_is_told,
-    "all but a byte of a read": run_is_whole,
-    "all but a byte of a write": run_is_whole,
+    "memory": (memory_is_told, memory_is_told),
+    "opening": (opening_is_told, opening_is_told),
+    "read": (read_is_told, read_is_told),
+    "write": (write_is_told, write_is_told),
+    "sync": (a_file_is_not_written, a_file_is_not_written),
+    "sync that is never done": (folders_need_not_be_synced, folders_need_not_be_synced),
+    "link": (a_file_is_not_written, a_file_is_not_written),
+    "removal": (a_file_is_not_written, files_are_whole_where_they_cannot_be_removed),
+    "all but a byte of a read": (run_is_whole, run_is_whole),
+    "all but a byte of a write": (run_is_whole, run_is_whole),
+    "opening, by a signal": (run_is_whole, None),
+    "read, by a signal": (run_is_whole, None),
+    "write, by a signal": (run_is_whole, None),
+    "sync, by a signal": (run_is_whole, None),
+}
+
+# The same on a file system without hard links.
+KINDS_WITHOUT_LINKS = {
+    "opening": (opening_is_told, opening_is_told),
+    "write": (write_is_told, write_is_told),
+    "sync": (a_file_is_not_written, a_file_is_not_written),
+    "renaming": (a_file_is_not_written, a_file_is_not_written),
 }
 
 
-def refuse_in_turn(program, shim, whole, kind, on):
+def refuse_in_turn(program, shim, whole, kind, check, more):
     """Refuses each call of a kind, in a run of its own, and returns how many runs that were."""
     at = 1
     while True:
-        refusal = {"REFUSE_KIND": kind, "REFUSE_AT": str(at)} | ({"REFUSE_ON": "1"} if on else {})
-        left, was_refused = run(program, shim, refusal)
+        left, was_refused = run(program, shim, {"REFUSE_KIND": kind, "REFUSE_AT": str(at)} | more)
         if not was_refused:
             if left != whole:
                 raise Wrong(f"no {kind} was refused, and the run is not whole: {left}")
             if at == 1:
                 raise Wrong(f"no {kind} was refused")
             return f"{at - 1} runs"
-        if not KINDS[kind](left, whole):
-            raise Wrong(f"{kind} refused at {at}{' and on' if on else ''}: {left}")
+        if not check(left, whole):
+            raise Wrong(f"{kind} refused at {at}, {more}: {left}")
         at += 1
 
 
@@ -180,14 +237,15 @@ def main():
         pathlib.Path(source).write_text(SHIM)
         subprocess.run([os.environ.get("CC", "cc"), "-shared", "-fPIC", "-o", shim, source, "-ldl"], check=True)
         whole, _ = run(program, shim, {})
-        if whole.status != 0 or not (whole.undo and whole.new and whole.report):
+        if whole.status != 0 or sorted(whole.files) != ["new", "undo"] or not whole.report:
             sys.exit(f"refusals: the run is not whole where nothing is refused: {whole}")
         trials = []
-        for kind in KINDS:
-            for on in (False, True):
-                name = f"{kind} refused{', and all after it' if on else ''}"
-                trials.append((name, lambda kind=kind, on=on: refuse_in_turn(program, shim, whole, kind, on)))
-        sys.exit(checks.run("refusals", trials))
+        for kinds, more, where in ((KINDS, {}, ""), (KINDS_WITHOUT_LINKS, NO_LINKS, ", without hard links")):
+            for kind, (alone, on) in kinds.items():
+                trials.append((f"{kind} refused{where}", (kind, alone, more)))
+                if on:
+                    trials.append((f"{kind} refused, and all after it{where}", (kind, on, more | {"REFUSE_ON": "1"})))
+        sys.exit(checks.run("refusals", [(name, lambda way=way: refuse_in_turn(program, shim, whole, *way)) for name, way in trials]))
 
 
 main()
