@@ -2,7 +2,7 @@
 _slapkit() {
     local cur=${COMP_WORDS[COMP_CWORD]} prev=${COMP_WORDS[COMP_CWORD-1]}
     if [ "$COMP_CWORD" -eq 1 ]; then
-        COMPREPLY=($(compgen -W "slapmodify help --help" -- "$cur"))
+        COMPREPLY=($(compgen -W "slapmodify help --help --version" -- "$cur"))
         return
     fi
     case $prev in

@@ -2,6 +2,7 @@
 complete -c slapkit -n __fish_use_subcommand -f -a slapmodify -d 'Apply change records to a copy'
 complete -c slapkit -n __fish_use_subcommand -f -a help -d 'Print help'
 complete -c slapkit -s h -l help -d 'Print help'
+complete -c slapkit -n __fish_use_subcommand -s V -l version -d 'Print the version'
 complete -c slapkit -n '__fish_seen_subcommand_from slapmodify' -s b -x -d "The name at the directory's root"
 complete -c slapkit -n '__fish_seen_subcommand_from slapmodify' -l data -r -d 'The copy, in LDIF'
 complete -c slapkit -n '__fish_seen_subcommand_from slapmodify' -l out -r -d 'The file for the new copy'
