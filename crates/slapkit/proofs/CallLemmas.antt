@@ -148,19 +148,20 @@ pub writes_report : (q : RunTerms) (known : Sources) (answer : Result Summary To
 writes_report q known answer report result a b ran ended =
     made_as a b (λ d. EndsWithoutOutputs report answer result) (λ d. WritesReport q known result) ended (λ d calls is h. (answer, report, ran, h))
 
-pub report_refused : (report : List ℕ) (summary : Summary) (why : Refusal) (e : Fault) (a b : Option Disk) → Told a b (reports report (Some why)) → IsNotReported why e
-    → Made a b (λ d. EndsWithoutOutputs report (Ok summary) (Err e))
-report_refused report summary why e a b told fails =
-    let failed : Result Summary Fault = Err e in
-    tries_refused (reports report) IsNotReported [] failed (λ d. Ends summary failed) a b b why told (just_none b) fails
+module _ {A : Type 0} (report : List ℕ) where
+  pub report_refused : (answer : A) (why : Refusal) (e : Fault) (a b : Option Disk) → Told a b (reports report (Some why)) → IsNotReported why e
+      → Made a b (λ d. EndsWithoutOutputs {A = A} report (Ok answer) (Err e))
+  report_refused answer why e a b told fails =
+      let failed : Result A Fault = Err e in
+      tries_refused (reports report) IsNotReported [] failed (λ d. Ends answer failed) a b b why told (just_none b) fails
 
-pub reported : (report : List ℕ) (summary : Summary) (a b : Option Disk) → Told a b (reports report None) → Made a b (λ d. EndsWithoutOutputs report (Ok summary) (Ok summary))
-reported report summary a b told =
-    let done : Result Summary Fault = Ok summary in
-    tries_on (reports report) IsNotReported [] done (Ends summary done) a b b told (ends b summary)
+  pub reported : (answer : A) (a b : Option Disk) → Told a b (reports report None) → Made a b (λ d. EndsWithoutOutputs {A = A} report (Ok answer) (Ok answer))
+  reported answer a b told =
+      let done : Result A Fault = Ok answer in
+      tries_on (reports report) IsNotReported [] done (Ends answer done) a b b told (ends b answer)
 
-pub no_report_due : (report : List ℕ) (told : ToolFault) (e : Fault) (a : Option Disk) → IsRunFault told e → Made a a (λ d. EndsWithoutOutputs report (Err told) (Err e))
-no_report_due report told e a fails = made_none a (λ d. EndsWithoutOutputs report (Err told) (Err e)) (λ d is. (refl, fails))
+pub no_report_due : (A : Type 0) (report : List ℕ) (told : ToolFault) (e : Fault) (a : Option Disk) → IsRunFault told e → Made a a (λ d. EndsWithoutOutputs {A = A} report (Err told) (Err e))
+no_report_due A report told e a fails = made_none a (λ d. EndsWithoutOutputs {A = A} report (Err told) (Err e)) (λ d is. (refl, fails))
 
 -- the files to be written, with what the two sources have left and the mode
 module _ (words : ModifyWords) (result : Result Summary Fault) (mode : ℕ) (copy changes : Option (List ℕ)) where

@@ -1,3 +1,4 @@
+pub mod AccessCalls
 pub mod CallLemmas
 pub mod EndLemmas
 pub mod EscapeLemmas

@@ -34,7 +34,7 @@ access_terms_of words = access_terms builtin_rows (asked_for words)
 -- what the tool answers over these texts, and what it writes into the report
 pub record AsksOver {A : Type 0} (t : AccessTerms) (known : AccessSources) (answer : Result A ToolFault) (tape : TakenBytes) : Type 0 where
   pub report : List ℕ
-  pub wrote : WroteReport answer report tape
+  pub wrote : WroteReport answer tape report
   pub answers : AnswersQuestion t known answer report
   pub whole : IsWholeReport t known answer report
 

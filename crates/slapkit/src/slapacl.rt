@@ -1,8 +1,9 @@
 //! `slapkit slapacl`: the files that a command line names, and the question over them.
 
-ghost use Rattle.std.specs.Prelude.{◌≡◌, Err, IfErr, IfOk, IfSome, OnOk, Option, Some, map};
-ghost use Rattle.dir_tools.specs.AccessAnswers.{AccessHeldBefore, access_sources};
-ghost use Rattle.slapkit.specs.AccessRuns.{AllAccessCalls, Asks, AsksOver, NamesItsFile, RefusesSameFile, access_terms_of, asked_for, first_repeated_file};
+ghost use Rattle.std.specs.Prelude.{◌≡◌, ℕ, Err, IfErr, IfOk, List, OnOk, map};
+ghost use Rattle.dir_tools.specs.AccessAnswers.{AccessHeldBefore, AnswersQuestion, IsWholeReport, access_sources};
+ghost use Rattle.dir_tools.specs.Writing.{WroteReport};
+ghost use Rattle.slapkit.specs.AccessRuns.{AllAccessCalls, Asks, NamesItsFile, RefusesSameFile, access_terms_of, asked_for, first_repeated_file};
 ghost use Rattle.slapkit.specs.Runs.{Made};
 
 use crate::command::AccessWords;
@@ -72,7 +73,10 @@ fn ask<R: Source, R2: Source, W: Sink>(
     copy: &mut R2,
     report: &mut W,
 ) -> Result<(), ToolFault>
-    ensures answer { AsksOver (access_terms_of words.now) (access_sources (R.left config.old) (R2.left copy.old)) result (W.taken report.old, W.taken report.new) }
+    ensures answer { (text : List ℕ)
+        × WroteReport result (W.taken report.old, W.taken report.new) text
+        × AnswersQuestion (access_terms_of words.now) (access_sources (R.left config.old) (R2.left copy.old)) result text
+        × IsWholeReport (access_terms_of words.now) (access_sources (R.left config.old) (R2.left copy.old)) result text }
     ensures first { IfErr result (AccessHeldBefore (access_terms_of words.now) (R.left config.old) (R2.left copy.old, R2.left copy.new)) }
     ensures flushed { OnOk result (W.is_flushed report.new) }
 {

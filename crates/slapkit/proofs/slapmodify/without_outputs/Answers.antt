@@ -26,4 +26,4 @@ returns-clause-calls g c =
     let h = c.in-Err.ensures.headline in
     writes_report q known answer c.with_files.new.report.bytes.items (Err c.run_fault.result) (g.F.FileSystem.disk c.args.files.now) (g.F.FileSystem.disk c.args.files.now)
     (runs_over q known answer h.0 _ _ _ _ c.with_files.new.report.bytes.items h.1 h.2 h.3 c.new-report.ensures refl)
-    (no_report_due c.with_files.new.report.bytes.items c.in-Err.fault c.run_fault.result (g.F.FileSystem.disk c.args.files.now) c.run_fault.ensures)
+    (no_report_due Summary c.with_files.new.report.bytes.items c.in-Err.fault c.run_fault.result (g.F.FileSystem.disk c.args.files.now) c.run_fault.ensures)
