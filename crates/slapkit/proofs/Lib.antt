@@ -1,2 +1,3 @@
+pub mod AccessCalls
 pub mod CallLemmas
 pub mod Examples
