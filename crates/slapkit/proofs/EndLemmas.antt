@@ -1,5 +1,5 @@
 -- The last calls of a run: what was written is synced and published, or removed.
-use Rattle.std.proofs.Common.{◌≡◌, ℕ, List, [], ◌∷◌, Option, None, Some, Result, Ok, Err, refl}
+use Rattle.std.proofs.Common.{ℕ, List, [], ◌∷◌, Option, None, Some, Result, Ok, Err}
 use Rattle.dir_tools.specs.declared.fault.Output.TheVariants as to
 use Rattle.dir_tools.specs.declared.run.Summary.{Summary}
 use Rattle.slapkit.specs.declared.command.OutputPaths.{OutputPaths}
@@ -8,7 +8,7 @@ use Rattle.slapkit.specs.declared.files.Refusal.{Refusal}
 use Rattle.slapkit.specs.Faults.{IsNotReported, IsNotWritten}
 use Rattle.slapkit.specs.Files.{Call, Disk, Told, discards, publishes, reports, syncs, withdraws}
 use Rattle.slapkit.specs.Runs.{Ends, Made, Publishes, Syncs, Tries, both_discarded}
-use Rattle.slapkit.proofs.CallLemmas.{ends, just_none, just_one, just_two, tries_on, tries_refused}
+use Rattle.slapkit.proofs.CallLemmas.{ends, just_one, just_two, tries_on, tries_refused}
 
 module _ (paths : OutputPaths) (undo out : Option (List ℕ)) (report : List ℕ) (summary : Summary) where
   -- ---- publishing

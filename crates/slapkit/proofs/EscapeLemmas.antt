@@ -1,5 +1,5 @@
 -- A text that is written character by character, each of which is escaped.
-use Rattle.std.proofs.Common.{◌≡◌, ℕ, List, [], ◌∷◌, ◌++◌, ◌<◌, arith, length, ◌/◌, ◌%◌, true, codes, cond, ◌&&◌, Result, IsOk, refl, sym, ap, subst, ◌∙◌, append-nil, append_assoc}
+use Rattle.std.proofs.Common.{◌≡◌, ℕ, List, [], ◌∷◌, ◌++◌, ◌<◌, arith, length, ◌/◌, ◌%◌, true, codes, cond, ◌&&◌, Result, IsOk, refl, sym, ap, ◌∙◌, append-nil, append_assoc}
 use Rattle.std.proofs.lemmas.Str.{encode_ascii}
 use Rattle.std.proofs.str.Decodes.{chars-nil, decodes_before}
 use Rattle.std.specs.declared.fmt.Error.{Error}

@@ -199,26 +199,42 @@ fn a_path_that_is_refused_ends_the_run(rt: HostRuntime) -> Result<(), Fail> {
     Ok(())
 }
 
-/// What is told where each call is refused that could be done: the first, the second and so on.
-const REFUSALS: [&str; 7] = [
-    "create undo 640, refused;cannot open undo",
-    "create undo 640;create new 640, refused;discard undo;cannot open new",
-    "create undo 640;create new 640;sync undo UNDO, refused;discard new;discard undo;cannot write undo",
-    "create undo 640;create new 640;sync undo UNDO;sync new NEW, refused;discard new;discard undo;cannot write out",
-    "create undo 640;create new 640;sync undo UNDO;sync new NEW;publish undo UNDO, refused;discard new;cannot write undo",
-    "create undo 640;create new 640;sync undo UNDO;sync new NEW;publish undo UNDO;publish new NEW, refused;withdraw undo;cannot write out",
-    "create undo 640;create new 640;sync undo UNDO;sync new NEW;publish undo UNDO;publish new NEW;report ACCEPTED, refused;withdraw new;withdraw undo;cannot write report",
+/// How many calls are done before one is refused, and what is told then.
+const REFUSALS: [(u64, &str); 7] = [
+    (0, "create undo 640, refused;cannot open undo"),
+    (
+        1,
+        "create undo 640;create new 640, refused;discard undo;cannot open new",
+    ),
+    (
+        2,
+        "create undo 640;create new 640;sync undo UNDO, refused;discard new;discard undo;cannot write undo",
+    ),
+    (
+        3,
+        "create undo 640;create new 640;sync undo UNDO;sync new NEW, refused;discard new;discard undo;cannot write out",
+    ),
+    (
+        4,
+        "create undo 640;create new 640;sync undo UNDO;sync new NEW;publish undo UNDO, refused;discard new;cannot write undo",
+    ),
+    (
+        5,
+        "create undo 640;create new 640;sync undo UNDO;sync new NEW;publish undo UNDO;publish new NEW, refused;withdraw undo;cannot write out",
+    ),
+    (
+        6,
+        "create undo 640;create new 640;sync undo UNDO;sync new NEW;publish undo UNDO;publish new NEW;report ACCEPTED, refused;withdraw new;withdraw undo;cannot write report",
+    ),
 ];
 
 #[test]
 fn after_a_call_that_is_refused_nothing_is_left(rt: HostRuntime) -> Result<(), Fail> {
     let alloc = rt.alloc();
     let words = words("copy", Some("changes"), ["new", "undo"], STOP);
-    let mut good = 0;
-    for want in &REFUSALS {
+    for (good, want) in &REFUSALS {
         let want = format!(in alloc; "open copy;open changes;{want}")?;
-        expect(&rt, alloc, &words, MISSING, good, want.as_str())?;
-        good += 1;
+        expect(&rt, alloc, &words, MISSING, *good, want.as_str())?;
     }
     Ok(())
 }

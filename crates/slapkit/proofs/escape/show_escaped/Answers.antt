@@ -1,5 +1,4 @@
-use Rattle.std.proofs.Common.{◌≡◌, [], ◌∷◌, ◌++◌, ap, append_assoc, refl, rules, sym, true, ◌∙◌}
-use Rattle.std.proofs.Math.Utf8.{scalar}
+use Rattle.std.proofs.Common.{[], ◌∷◌, ◌++◌, ap, append_assoc, refl, rules, sym, true, ◌∙◌}
 use Rattle.std.specs.Str.{chars}
 use Rattle.std.proofs.Output.{has_written_of_eq, has_written_styled_of_eq}
 use Rattle.slapkit.specs.Escape.{escaped, shown_chars}

@@ -4,7 +4,7 @@ use Rattle.dir_tools.specs.declared.run.Summary.{Summary}
 use Rattle.dir_tools.specs.Headline.{RunTerms}
 use Rattle.dir_tools.specs.RunAnswers.{Sources, sources}
 use Rattle.slapkit.specs.Runs.{terms_of}
-use Rattle.slapkit.proofs.CallLemmas.{no_report_due, report_refused, reported, runs_over, writes_report}
+use Rattle.slapkit.proofs.CallLemmas.{no_report_due, report_refused, runs_over, writes_report}
 use Rattle.slapkit.proofs.slapmodify.without_outputs.Goals as goal
 
 pub returns-in-Ok-clause-calls : goal.returns-in-Ok-clause-calls
