@@ -1,5 +1,6 @@
 #!/bin/sh
-# Applies examples/changes.ldif to examples/company.ldif, takes the run back, and compares.
+# Applies examples/changes.ldif to examples/company.ldif, takes the run back, and compares. Before the run, after it, and once
+# it is taken back, it asks examples/slapd.conf what some people may do.
 # usage: demo.sh PROGRAM
 set -eu
 program=$(realpath "$1")
@@ -7,6 +8,21 @@ cd "$(dirname "$0")"
 work=$(mktemp -d)
 trap 'rm -rf "$work"' EXIT
 
+zoe='uid=zoe,ou=people,dc=example,dc=com'
+juergen='cn=J\C3\BCrgen M\C3\BCller,ou=people,dc=example,dc=com'
+mei='uid=mei,ou=trainees,dc=example,dc=com'
+
+# Three questions about Zoe's entry: of Juergen, of Mei, and of somebody who has not logged in.
+ask() {
+    "$program" slapacl -b "$zoe" -f slapd.conf --data "$1" -v -D "$juergen" mail/write
+    "$program" slapacl -b "$zoe" -f slapd.conf --data "$1" -v -D "$mei" title mail
+    "$program" slapacl -b "$zoe" -f slapd.conf --data "$1" -v mail userPassword
+}
+
+echo "slapkit slapacl -b $zoe -f slapd.conf --data company.ldif -v -D NAME WORD.."
+ask company.ldif | tee "$work/before"
+
+echo
 echo "slapkit slapmodify -b dc=example,dc=com --data company.ldif -l changes.ldif --out new.ldif --undo undo.ldif -v"
 "$program" slapmodify -b dc=example,dc=com --data company.ldif -l changes.ldif \
     --out "$work/new.ldif" --undo "$work/undo.ldif" -v
@@ -14,6 +30,10 @@ echo "slapkit slapmodify -b dc=example,dc=com --data company.ldif -l changes.ldi
 echo
 echo "The entries of the new copy, the interns and Juergen under their new names:"
 grep '^dn:' "$work/new.ldif"
+
+echo
+echo "The same questions: Mei administers now, in place of Juergen."
+ask "$work/new.ldif"
 
 echo
 echo "The undo file:"
@@ -24,3 +44,5 @@ echo "slapkit slapmodify -b dc=example,dc=com --data new.ldif -l undo.ldif --out
     --out "$work/back.ldif" --undo "$work/redo.ldif" -v
 
 cmp company.ldif "$work/back.ldif" && echo "back.ldif is company.ldif again, byte for byte."
+ask "$work/back.ldif" > "$work/after"
+cmp "$work/before" "$work/after" && echo "The questions are answered as at first."
