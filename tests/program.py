@@ -443,6 +443,73 @@ def a_folder_may_be_another_one(trial):
     expect([sorted(path.name for path in (trial.folder / name).iterdir()) for name in ("a", "b")], [["undo"], ["new"]])
 
 
+CONF = "database mdb\nsuffix dc=com\naccess to attrs=dc by * =cs break\naccess to * by users +r\n"
+
+
+def ask(trial, *words, **how):
+    trial.write("conf", CONF)
+    return trial.run(["slapacl", "-b", "dc=com", "-f", "conf", "--data", "copy", *words], **how)
+
+
+def a_question_is_answered(trial):
+    expect(ask(trial), (0, "entry: =0\n", ""))
+    expect(ask(trial, "-D", "cn=u,dc=com", "-v", "dc", "ENTRY", "dc/read:x", "dc/write"), (
+        0,
+        "authcDN: cn=u,dc=com\ndc: =rsc\nENTRY: =r\ndc/read: ALLOWED\ndc/write: DENIED\n",
+        "",
+    ))
+    expect(ask(trial, "-D", "", "-v", "dc"), (0, "authcDN: anonymous\ndc: =0\n", ""))
+    expect(trial.names(), ["conf"], "files")
+
+
+def a_question_of_a_missing_entry_needs_its_option(trial):
+    words = ["slapacl", "-f", "conf", "--data", "copy", "-D", "cn=u,dc=com"]
+    trial.write("conf", CONF)
+    expect(trial.run([*words, "-b", "cn=no,dc=com"]), (1, "", "slapkit: no such entry\n"))
+    expect(trial.run([*words, "-b", "cn=no,dc=com", "-u"]), (0, "entry: =r\n", ""))
+    expect(trial.run([*words, "-b", "dc=org", "-u"]), (1, "", "slapkit: no such entry\n"))
+
+
+def faults_of_questions_are_told(trial):
+    rows = [
+        (CONF + "access to * by peername.ip=127.0.0.1 read\n", [], "config, line 5: C2 Unsupported"),
+        ("access to * by * read\n", [], "config, line 1: C7 GlobalAccess"),
+        ("database mdb\n", [], "config, line 0: C10 NoSuffix"),
+        (CONF, ["-D", "cn"], "bad question: authcDN"),
+        (CONF, ["cn", "cn/peek"], "bad question: word 2"),
+        (CONF.replace("dc=com", "dc=org"), [], "copy, line 1: 32 noSuchObject"),
+    ]
+    for conf, words, told in rows:
+        trial.write("conf", conf)
+        expect(trial.run(["slapacl", "-b", "dc=com", "-f", "conf", "--data", "copy", *words]), (1, "", f"slapkit: {told}\n"))
+    trial.write("conf", CONF)
+    expect(trial.run(["slapacl", "-b", "cn", "-f", "conf", "--data", "copy"]), (1, "", "slapkit: bad question: base\n"))
+    for conf, data, told in (("copy", "copy", "same path twice: copy"), ("none", "no", "cannot open none"), ("copy", "no", "cannot open no")):
+        expect(trial.run(["slapacl", "-b", "dc=com", "-f", conf, "--data", data]), (1, "", f"slapkit: {told}\n"))
+
+
+def a_question_is_not_answered_on_a_full_device(trial):
+    with open("/dev/full", "w") as full:
+        expect(ask(trial, out=full), (1, "", "slapkit: cannot write report\n"))
+
+
+def access_is_as_before_once_a_run_is_taken_back(trial):
+    trial.write("change", "dn: dc=com\nchangetype: modify\nadd: manager\nmanager: cn=m,dc=com\n-\n")
+    conf = "database mdb\nsuffix dc=com\naccess to * by dnattr=manager write by * read\n"
+    trial.write("conf", conf)
+
+    def answers(copy):
+        words = ["slapacl", "-b", "dc=com", "-f", "conf", "--data", copy, "-D", "cn=m,dc=com", "dc"]
+        return trial.run(words)
+
+    before = answers("copy")
+    expect(trial.modify("-l", "change", *ONTO)[0], 0)
+    expect(answers("new"), (0, "dc: =wrscxd\n", ""))
+    back = ["slapmodify", "-b", "dc=com", "--data", "new", "-l", "undo", "--out", "back", "--undo", "redo"]
+    expect(trial.run(back)[0], 0)
+    expect((before, answers("back")), ((0, "dc: =rscxd\n", ""),) * 2)
+
+
 def a_faulty_command_line_ends_with_status_1(trial):
     for words in ([], ["slapadd"], ["slapmodify"], ["slapmodify", "-b", "dc=com", "--data", "copy"]):
         status, told, said = trial.run(words)
@@ -456,7 +523,7 @@ def words_that_are_not_utf_8_are_refused(trial):
 
 
 def help_ends_with_status_0(trial):
-    for words in (["--help"], ["slapmodify", "--help"], ["help", "slapmodify"]):
+    for words in (["--help"], ["slapmodify", "--help"], ["slapacl", "--help"], ["help", "slapmodify"]):
         status, told, said = trial.run(words)
         expect((status, told != "", said), (0, True, ""), words)
 
@@ -530,6 +597,11 @@ TRIALS = [
     control_characters_of_a_path_are_escaped,
     a_folder_that_is_missing_is_told,
     a_folder_may_be_another_one,
+    a_question_is_answered,
+    a_question_of_a_missing_entry_needs_its_option,
+    faults_of_questions_are_told,
+    a_question_is_not_answered_on_a_full_device,
+    access_is_as_before_once_a_run_is_taken_back,
     a_faulty_command_line_ends_with_status_1,
     words_that_are_not_utf_8_are_refused,
     help_ends_with_status_0,

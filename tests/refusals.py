@@ -3,9 +3,9 @@
 
 usage: refusals.py PROGRAM
 
-The program makes the changes of examples/ on the copy there, once for each call that is refused: that call
-alone, or it and all after it. A shared object, made by cc and preloaded, refuses the call. Each run must end
-with the fault that README names, and leave no file; where files can't be removed, none that is cut under the name
+The program makes the changes of examples/ on the copy there, and answers a question about it, once for each call that is
+refused: that call alone, or it and all after it. A shared object, made by cc and preloaded, refuses the call. Each run must
+end with the fault that README names, and leave no file; where files can't be removed, none that is cut under the name
 that it was to have, and no new copy without its undo file.
 """
 import dataclasses
@@ -19,7 +19,7 @@ import checks
 from checks import Wrong
 
 EXAMPLES = pathlib.Path(__file__).resolve().parent.parent / "examples"
-COPY, CHANGES = EXAMPLES / "company.ldif", EXAMPLES / "changes.ldif"
+COPY, CHANGES, CONF = EXAMPLES / "company.ldif", EXAMPLES / "changes.ldif", EXAMPLES / "slapd.conf"
 
 # Counts the calls of the kind that REFUSE_KIND names, and refuses number REFUSE_AT, with REFUSE_ON all after
 # it too. A call that is refused leaves the file REFUSE_TOLD. With NO_LINKS the file system has no hard links.
@@ -121,12 +121,23 @@ class Left:
     report: bytes
 
 
-def run(program, shim, refusal):
+def changes_in(folder):
+    """The words of a run of slapmodify that makes its files in a folder."""
+    words = ["slapmodify", "-b", "dc=example,dc=com", "--data", COPY, "-l", CHANGES]
+    return [*words, "--out", folder / "new", "--undo", folder / "undo", "-v"]
+
+
+def question_in(folder):
+    """The words of a question, which makes no files."""
+    zoe, juergen = "uid=zoe,ou=people,dc=example,dc=com", "cn=J\\C3\\BCrgen M\\C3\\BCller,ou=people,dc=example,dc=com"
+    return ["slapacl", "-b", zoe, "-f", CONF, "--data", COPY, "-D", juergen, "-v", "mail/write", "title", "userPassword"]
+
+
+def run(program, shim, words_in, refusal):
     """What a run leaves, and whether a call of it was refused."""
     with tempfile.TemporaryDirectory() as name:
         folder = pathlib.Path(name)
-        words = [program, "slapmodify", "-b", "dc=example,dc=com", "--data", COPY, "-l", CHANGES]
-        words += ["--out", folder / "new", "--undo", folder / "undo", "-v"]
+        words = [program, *words_in(folder)]
         environment = {"LD_PRELOAD": shim, "REFUSE_TOLD": str(folder / "told")} | refusal
         ended = subprocess.run(words, env=environment, capture_output=True, timeout=60)
         files = {path.name: path.read_bytes() for path in folder.iterdir()}
@@ -151,13 +162,13 @@ def memory_is_told(left, whole):
 
 
 def opening_is_told(left, whole):
-    paths = ("/", str(COPY), str(CHANGES), "undo", "new")
+    paths = ("/", str(CONF), str(COPY), str(CHANGES), "undo", "new")
     # The folder is opened to be synced.
     return ends(left, *(f"slapkit: cannot open {path}\n" for path in paths), *NOT_WRITTEN)
 
 
 def read_is_told(left, whole):
-    return ends(left, "slapkit: cannot read copy\n", "slapkit: cannot read changes\n")
+    return ends(left, *(f"slapkit: cannot read {text}\n" for text in ("config", "copy", "changes")))
 
 
 def write_is_told(left, whole):
@@ -214,11 +225,32 @@ KINDS_WITHOUT_LINKS = {
 }
 
 
-def refuse_in_turn(program, shim, whole, kind, check, more):
+# A question makes no files.
+KINDS_OF_QUESTIONS = {
+    "memory": (memory_is_told, memory_is_told),
+    "opening": (opening_is_told, opening_is_told),
+    "read": (read_is_told, read_is_told),
+    "write": (write_is_told, write_is_told),
+    "all but a byte of a read": (run_is_whole, run_is_whole),
+    "all but a byte of a write": (run_is_whole, run_is_whole),
+    "opening, by a signal": (run_is_whole, None),
+    "read, by a signal": (run_is_whole, None),
+    "write, by a signal": (run_is_whole, None),
+}
+
+# The runs that are tried: what a run is called, its words, the files that it makes, the kinds of calls, and what else is set.
+RUNS = [
+    ("", changes_in, ["new", "undo"], KINDS, {}),
+    (", without hard links", changes_in, ["new", "undo"], KINDS_WITHOUT_LINKS, NO_LINKS),
+    (" of a question", question_in, [], KINDS_OF_QUESTIONS, {}),
+]
+
+
+def refuse_in_turn(program, shim, words_in, whole, kind, check, more):
     """Refuses each call of a kind, in a run of its own, and returns how many runs that were."""
     at = 1
     while True:
-        left, was_refused = run(program, shim, {"REFUSE_KIND": kind, "REFUSE_AT": str(at)} | more)
+        left, was_refused = run(program, shim, words_in, {"REFUSE_KIND": kind, "REFUSE_AT": str(at)} | more)
         if not was_refused:
             if left != whole:
                 raise Wrong(f"no {kind} was refused, and the run is not whole: {left}")
@@ -236,16 +268,16 @@ def main():
         source, shim = f"{folder}/shim.c", f"{folder}/shim.so"
         pathlib.Path(source).write_text(SHIM)
         subprocess.run([os.environ.get("CC", "cc"), "-shared", "-fPIC", "-o", shim, source, "-ldl"], check=True)
-        whole, _ = run(program, shim, {})
-        if whole.status != 0 or sorted(whole.files) != ["new", "undo"] or not whole.report:
-            sys.exit(f"refusals: the run is not whole where nothing is refused: {whole}")
         trials = []
-        for kinds, more, where in ((KINDS, {}, ""), (KINDS_WITHOUT_LINKS, NO_LINKS, ", without hard links")):
+        for called, words_in, files, kinds, more in RUNS:
+            whole, _ = run(program, shim, words_in, {})
+            if whole.status != 0 or sorted(whole.files) != files or not whole.report:
+                sys.exit(f"refusals: the run{called} is not whole where nothing is refused: {whole}")
             for kind, (alone, on) in kinds.items():
-                trials.append((f"{kind} refused{where}", (kind, alone, more)))
+                trials.append((f"{kind} refused{called}", (words_in, whole, kind, alone, more)))
                 if on:
-                    trials.append((f"{kind} refused, and all after it{where}", (kind, on, more | {"REFUSE_ON": "1"})))
-        sys.exit(checks.run("refusals", [(name, lambda way=way: refuse_in_turn(program, shim, whole, *way)) for name, way in trials]))
+                    trials.append((f"{kind} refused, and all after it{called}", (words_in, whole, kind, on, more | {"REFUSE_ON": "1"})))
+        sys.exit(checks.run("refusals", [(name, lambda way=way: refuse_in_turn(program, shim, *way)) for name, way in trials]))
 
 
 main()

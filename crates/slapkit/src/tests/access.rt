@@ -88,12 +88,12 @@ fn assert_refused(rt: &impl Abort, alloc: Global, words: &[&str], is_fault: bool
 }
 
 /// A question on a folder with the configuration at `changes`: the answer's fault, if there is one, and the report.
-fn told(
+fn told<'a>(
     alloc: Global,
     folder: &mut Folder<'_>,
-    config: &str,
-    data: &str,
-    words: &[&str],
+    config: &'a str,
+    data: &'a str,
+    words: &[&'a str],
 ) -> Result<String, Fail> {
     let words = AccessWords {
         base: "dc=com",
