@@ -107,6 +107,7 @@ fn program<'a>(alloc: Global) -> Result<Command<'a>, AllocError> {
     Command::new(alloc, "slapkit")
         .version(VERSION)
         .about("Offline tools for the administrator of an LDAP directory")
+        .after_help(EXAMPLES)
         .subcommand_required(true)
         .arg_required_else_help(true)
         .subcommand(slapmodify(alloc)?)?
@@ -243,6 +244,11 @@ fn flag<'a>(alloc: Global, id: &'a str, letter: char, help: &'a str) -> Arg<'a> 
 }
 
 const VERSION: &str = "0.1.0";
+
+const EXAMPLES: &str = "\
+Examples:
+  slapkit slapmodify -b dc=com --data copy.ldif --out new.ldif --undo undo.ldif -l changes.ldif
+  slapkit slapacl -b cn=a,dc=com -f slapd.conf --data copy.ldif -D cn=b,dc=com cn/read";
 
 const ABOUT: &str = "\
 Applies LDIF change records to an LDIF copy of a directory, and writes the new copy, an undo file and \
