@@ -4,7 +4,11 @@
 usage: gate.py
 
 The last line is that of `rt ci`. It is held back until the trial has passed; where the trial fails, the last line tells so.
+
+Each proof has one processor. Where some are idle, `rt ci` would give one proof several, which ends sooner and takes half as much
+processor time again. RT_JOBS says otherwise.
 """
+import os
 import pathlib
 import re
 import subprocess
@@ -13,10 +17,21 @@ import sys
 ROOT = pathlib.Path(__file__).resolve().parent.parent
 
 
+# What a proof may take of memory.
+PROOF = 5 << 30
+
+
+def proofs_at_once():
+    """As many as there are processors, and as memory holds."""
+    memory = os.sysconf("SC_PHYS_PAGES") * os.sysconf("SC_PAGE_SIZE")
+    return max(1, min(len(os.sched_getaffinity(0)), memory // PROOF))
+
+
 def prove():
     """Runs `rt ci`, and returns its exit status and its last line, which is not printed yet."""
     last = ""
-    with subprocess.Popen(["rt", "ci"], cwd=ROOT, stdout=subprocess.PIPE, text=True, errors="replace") as running:
+    jobs = {"RT_JOBS": str(proofs_at_once()), **os.environ}
+    with subprocess.Popen(["rt", "ci"], cwd=ROOT, env=jobs, stdout=subprocess.PIPE, text=True, errors="replace") as running:
         for line in running.stdout:
             print(last, end="", flush=True)
             last = line
