@@ -19,7 +19,7 @@ pub fn show_escaped<W: fmt::Write>(f: &mut fmt::Formatter<W>, text: &str) -> fmt
 }
 
 /// Shows a character, or its code if it is a control character.
-fn show_char<W: fmt::Write>(f: &mut fmt::Formatter<W>, c: char) -> fmt::Result
+pub fn show_char<W: fmt::Write>(f: &mut fmt::Formatter<W>, c: char) -> fmt::Result
     ensures writes { WritesOnOk W.write_str_gives f.old result (shown_char c) f.new }
     ensures styled { WritesStyledOnOk W.write_str_gives f.old result (shown_char c) f.new }
 {

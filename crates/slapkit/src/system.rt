@@ -5,10 +5,11 @@ ghost use Rattle.slapkit.specs.Files.{meant_by};
 
 use crate::devices::{PatientReader, PatientWriter};
 use crate::files::{FileSystem, Opened, Refusal};
+use crate::progress::{Progress, ProgressLine, TellingReader, TellingWriter};
 use dir_ldif::{DeviceFault, Sink, write_whole};
 use std::alloc::{AllocError, Global};
 use std::fs::{self, File, OpenFile, OpenOptions};
-use std::io::{self, ErrorKind, Input};
+use std::io::{self, ErrorKind, Input, IsTerminal};
 use std::os::unix::fs::{MetadataExt, OpenOptionsExt};
 use std::rt::Files;
 
@@ -25,16 +26,17 @@ const OWNER_ALONE: u32 = 0o600;
 #[derive(Drop)]
 pub struct SystemFiles<'a, R> {
     rt: &'a R,
+    line: &'a ProgressLine,
     alloc: Global,
 }
 
 impl<'a, R: Files + Input + Print> SystemFiles<'a, R> {
-    pub fn new(rt: &'a R, alloc: Global) -> SystemFiles<'a, R> {
-        SystemFiles { rt, alloc }
+    pub fn new(rt: &'a R, line: &'a ProgressLine, alloc: Global) -> SystemFiles<'a, R> {
+        SystemFiles { rt, line, alloc }
     }
 
     /// A new file beside the path, under a name that no file has.
-    fn new_draft(&self, path: &str, mode: u32) -> Result<Draft<R::File>, Refusal> {
+    fn new_draft(&self, path: &str, mode: u32) -> Result<Draft<'a, R::File>, Refusal> {
         for n in 0..MOST_DRAFTS {
             let Ok(name) = draft_name(self.alloc, path, n) else {
                 return Err(Refusal::Memory);
@@ -42,6 +44,7 @@ impl<'a, R: Files + Input + Print> SystemFiles<'a, R> {
             match new_file(self.rt, name.as_str(), mode) {
                 Ok(file) => {
                     let file = PatientWriter::new(file);
+                    let file = TellingWriter::new(file, self.line, self.alloc, path);
                     return Ok(Draft { name, file });
                 }
                 Err(error) => {
@@ -58,18 +61,18 @@ impl<'a, R: Files + Input + Print> SystemFiles<'a, R> {
 
 /// A file that is being made.
 #[derive(Drop)]
-pub struct Draft<F> {
+pub struct Draft<'a, F> {
     /// Its own name, beside the one that it is to have.
     name: String,
-    file: PatientWriter<F>,
+    file: TellingWriter<'a, PatientWriter<F>>,
 }
 
-impl<F: io::Write> Sink for Draft<F> {
+impl<F: io::Write> Sink for Draft<'_, F> {
     ghost use Rattle.std.specs.Prelude.{⊤, None};
 
     ghost taken = { λ _. None };
 
-    ghost failures = { λ d. ⟦<PatientWriter<F> as Sink>⟧.failures d.file };
+    ghost failures = { λ d. ⟦<TellingWriter<PatientWriter<F>> as Sink>⟧.failures d.file };
 
     ghost may_stall = { λ _. ⊤ };
 
@@ -84,45 +87,60 @@ impl<F: io::Write> Sink for Draft<F> {
     }
 }
 
-impl<R: Files + Input + Print> FileSystem for SystemFiles<'_, R> {
-    type Input = PatientReader<R::File>;
+impl<'a, R: Files + Input + Print> FileSystem for SystemFiles<'a, R>
+where
+    R::Reader: IsTerminal,
+{
+    type Input = TellingReader<'a, PatientReader<R::File>>;
 
-    type Typed = PatientReader<R::Reader>;
+    type Typed = TellingReader<'a, PatientReader<R::Reader>>;
 
-    type Draft = Draft<R::File>;
+    type Draft = Draft<'a, R::File>;
 
     ghost disk = { λ _. None };
 
-    fn open(&mut self, path: &str) -> Result<Opened<PatientReader<R::File>>, Refusal> {
+    fn open(
+        &mut self,
+        path: &str,
+    ) -> Result<Opened<TellingReader<'a, PatientReader<R::File>>>, Refusal> {
         match File::open(self.rt, path) {
             Ok(file) => {
-                let mode = mode_of(&file);
+                let About { mode, size } = about(&file);
                 let file = PatientReader::new(file);
+                let file = TellingReader::new(file, self.line, self.alloc, path, size);
                 Ok(Opened { file, mode })
             }
             Err(error) => Err(meaning_of(error.kind())),
         }
     }
 
-    fn standard_input(&mut self) -> PatientReader<R::Reader> {
-        PatientReader::new(self.rt.reader())
+    fn standard_input(&mut self) -> TellingReader<'a, PatientReader<R::Reader>> {
+        let reader = self.rt.reader();
+        let is_typed = reader.is_terminal();
+        let reader = PatientReader::new(reader);
+        if is_typed {
+            TellingReader::typed(reader, self.line)
+        } else {
+            TellingReader::new(reader, self.line, self.alloc, "changes", None)
+        }
     }
 
-    fn create(&mut self, path: &str, mode: u32) -> Result<Draft<R::File>, Refusal> {
+    fn create(&mut self, path: &str, mode: u32) -> Result<Draft<'a, R::File>, Refusal> {
         if fs::symlink_metadata(self.rt, path).is_ok() {
             return Err(Refusal::Exists);
         }
         self.new_draft(path, mode)
     }
 
-    fn sync(&mut self, _path: &str, draft: &Draft<R::File>) -> Result<(), Refusal> {
-        match draft.file.inner().sync_all() {
+    fn sync(&mut self, path: &str, draft: &Draft<'a, R::File>) -> Result<(), Refusal> {
+        self.line.update(&Progress::syncing(path));
+        match draft.file.inner().inner().sync_all() {
             Ok(()) => Ok(()),
             Err(_) => Err(Refusal::Other),
         }
     }
 
-    fn publish(&mut self, path: &str, draft: Draft<R::File>) -> Result<(), Refusal> {
+    fn publish(&mut self, path: &str, draft: Draft<'a, R::File>) -> Result<(), Refusal> {
         let name = draft.name.as_str();
         if let Err(error) = give_name(self.rt, name, path) {
             remove(self.rt, name);
@@ -135,7 +153,7 @@ impl<R: Files + Input + Print> FileSystem for SystemFiles<'_, R> {
         Ok(())
     }
 
-    fn discard(&mut self, _path: &str, draft: Draft<R::File>) {
+    fn discard(&mut self, _path: &str, draft: Draft<'a, R::File>) {
         remove(self.rt, draft.name.as_str());
     }
 
@@ -146,6 +164,7 @@ impl<R: Files + Input + Print> FileSystem for SystemFiles<'_, R> {
     }
 
     fn report(&mut self, text: &[u8]) -> Result<(), Refusal> {
+        self.line.clear();
         let mut output = PatientWriter::new(io::writer(self.rt));
         if write_whole(&mut output, text).is_err() || output.flush().is_err() {
             return Err(Refusal::Other);
@@ -170,11 +189,25 @@ fn meaning_of(kind: ErrorKind) -> Refusal
     }
 }
 
-/// Who may read and write a file: its owner alone, where the system doesn't say.
-fn mode_of<F: OpenFile>(file: &F) -> u32 {
+/// What the system says of an open file.
+#[derive(Drop)]
+struct About {
+    /// Who may read and write it: its owner alone, where the system doesn't say.
+    mode: u32,
+    /// Its size. A pipe or a device has none.
+    size: Option<u64>,
+}
+
+fn about<F: OpenFile>(file: &F) -> About {
     match file.metadata() {
-        Ok(metadata) => metadata.mode() & READ_AND_WRITE,
-        Err(_) => OWNER_ALONE,
+        Ok(metadata) => About {
+            mode: metadata.mode() & READ_AND_WRITE,
+            size: metadata.is_file().then_some(metadata.len()),
+        },
+        Err(_) => About {
+            mode: OWNER_ALONE,
+            size: None,
+        },
     }
 }
 
