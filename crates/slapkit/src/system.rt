@@ -67,12 +67,12 @@ pub struct Draft<'a, F> {
     file: TellingWriter<'a, PatientWriter<F>>,
 }
 
-impl<F: io::Write> Sink for Draft<'_, F> {
+impl<'a, F: io::Write> Sink for Draft<'a, F> {
     ghost use Rattle.std.specs.Prelude.{⊤, None};
 
     ghost taken = { λ _. None };
 
-    ghost failures = { λ d. ⟦<TellingWriter<PatientWriter<F>> as Sink>⟧.failures d.file };
+    ghost failures = { λ d. ⟦<TellingWriter<'a, PatientWriter<F>> as Sink>⟧.failures d.file };
 
     ghost may_stall = { λ _. ⊤ };
 
@@ -105,7 +105,7 @@ where
     ) -> Result<Opened<TellingReader<'a, PatientReader<R::File>>>, Refusal> {
         match File::open(self.rt, path) {
             Ok(file) => {
-                let About { mode, size } = about(&file);
+                let Facts { mode, size } = facts_of(&file);
                 let file = PatientReader::new(file);
                 let file = TellingReader::new(file, self.line, self.alloc, path, size);
                 Ok(Opened { file, mode })
@@ -191,20 +191,20 @@ fn meaning_of(kind: ErrorKind) -> Refusal
 
 /// What the system says of an open file.
 #[derive(Drop)]
-struct About {
+struct Facts {
     /// Who may read and write it: its owner alone, where the system doesn't say.
     mode: u32,
     /// Its size. A pipe or a device has none.
     size: Option<u64>,
 }
 
-fn about<F: OpenFile>(file: &F) -> About {
+fn facts_of<F: OpenFile>(file: &F) -> Facts {
     match file.metadata() {
-        Ok(metadata) => About {
+        Ok(metadata) => Facts {
             mode: metadata.mode() & READ_AND_WRITE,
             size: metadata.is_file().then_some(metadata.len()),
         },
-        Err(_) => About {
+        Err(_) => Facts {
             mode: OWNER_ALONE,
             size: None,
         },

@@ -6,6 +6,7 @@ mod runs;
 
 use crate::command::{Words, read_words};
 use crate::fault::Fault;
+use crate::progress::{Amount, Doing, Progress};
 use crate::slapmodify::first_repeated;
 use dir_ldif::{RecordFault, StreamFault};
 use dir_names::NameFault;
@@ -208,6 +209,64 @@ fn each_fault_has_its_text(rt: HostRuntime) -> Result<(), Fail> {
         assert_eq!(rt; text.as_str(), want);
         let styled = format!(in alloc; "{fault:#}")?;
         assert_eq!(rt; styled.as_str(), want);
+    }
+    Ok(())
+}
+
+#[test]
+fn each_progress_has_its_text(rt: HostRuntime) -> Result<(), Fail> {
+    let alloc = rt.alloc();
+    let rows = [
+        (
+            Doing::Reading,
+            "a",
+            48_999_999,
+            Some(98_200_000),
+            "reading a, 48 of 98 MB",
+        ),
+        (
+            Doing::Reading,
+            "a",
+            0,
+            Some(1_000_000),
+            "reading a, 0 of 1 MB",
+        ),
+        (Doing::Reading, "a", 999_999, Some(999_999), "reading a"),
+        // more than the size was read: it is another one
+        (
+            Doing::Reading,
+            "a",
+            12_000_000,
+            Some(11_999_999),
+            "reading a, 12 MB",
+        ),
+        (Doing::Reading, "\x1b[2J", 999_999, None, "reading \\x1b[2J"),
+        (Doing::HasRead, "a", 12_000_000, None, "read a, 12 MB"),
+        (Doing::Writing, "a", 8_388_608, None, "writing a, 8 MB"),
+        (
+            Doing::Syncing,
+            "0123456789012345678901234567890123456789",
+            0,
+            None,
+            "syncing 0123456789012345678901234567890123456789",
+        ),
+        (
+            Doing::Syncing,
+            "/0123456789012345678901234567890123456789",
+            0,
+            None,
+            "syncing ...0123456789012345678901234567890123456789",
+        ),
+    ];
+    for (doing, path, done, size, want) in rows {
+        let amount = Amount { done, size };
+        let progress = Progress {
+            doing,
+            path,
+            amount,
+        };
+        let text = format!(in alloc; "{progress}")?;
+        assert_eq!(rt; text.as_str(), want);
     }
     Ok(())
 }
