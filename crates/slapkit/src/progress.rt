@@ -1,6 +1,8 @@
 //! Progress: a line on standard error that tells how far a long run is, where that is a terminal.
 
-ghost use Rattle.std.specs.Prelude.{◌≡◌, ◌+◌, ◌/◌, ◌<◌, ◌≤◌, ◌↔◌, IsTrue, MatchOption, None, SomeIff, min, take};
+ghost use Rattle.std.specs.Prelude.{◌≡◌, ◌+◌, ◌/◌, ◌<◌, ◌≤◌, ◌↔◌, IfOk, IsTrue, MatchOption, None, SomeIff, length, min};
+ghost use Rattle.std.specs.Io.KnownBytes.{WriteAppends};
+ghost use Rattle.dir_ldif.specs.Device.{Counts};
 
 use crate::escape::{show_char, show_escaped};
 use dir_ldif::{DeviceFault, Sink, Source};
@@ -367,7 +369,7 @@ impl<W: Sink> Sink for TellingWriter<'_, W> {
         if let Some(gauge) = &self.gauge {
             gauge.begin(Doing::Writing);
         }
-        let answer = self.inner.write(first_step(bytes));
+        let answer = write_step(&mut self.inner, bytes);
         if let (Some(gauge), Ok(n)) = (&mut self.gauge, answer) {
             gauge.count(Doing::Writing, n);
         }
@@ -382,13 +384,13 @@ impl<W: Sink> Sink for TellingWriter<'_, W> {
     }
 }
 
-/// At most a step of a text.
-fn first_step(bytes: &[u8]) -> &[u8]
-    ensures { result.now ≡ take STEP bytes.now }
+/// Writes a text's first step, or less of it.
+fn write_step<W: Sink>(sink: &mut W, bytes: &[u8]) -> Result<usize, DeviceFault>
+    ensures bound { IfOk result (λ n. n ≤ length bytes.now) }
+    ensures bytes { WriteAppends (W.taken sink.old) (W.taken sink.new) result bytes.now }
+    ensures count { Counts result (W.failures sink.old) (W.failures sink.new) }
+    ensures stalls { IfOk result (λ n. n ≡ 0 → 0 < length bytes.now → W.may_stall sink.new) }
 {
-    if bytes.len() <= STEP {
-        bytes
-    } else {
-        &bytes[..STEP]
-    }
+    let n = STEP.min(bytes.len());
+    sink.write(&bytes[..n])
 }
