@@ -127,8 +127,8 @@ class Terminal:
         return bool(sent)
 
     def look_until(self, holds):
-        """Shows what comes until it holds, for a minute at most."""
-        end = time.monotonic() + 60
+        """Shows what comes until it holds, for two minutes at most."""
+        end = time.monotonic() + 120
         while not holds(self.screen):
             if not self.look(0.1) or time.monotonic() > end:
                 raise Wrong(f"on the screen: {self.screen.text()!r}")
@@ -156,8 +156,8 @@ class Trial:
         """A run to its end: its exit status, and what went to standard output where that is a pipe."""
         run = terminal.start([self.program, *words], self.folder, stdin=stdin, stdout=stdout, stderr=stderr, **more)
         terminal.look_to_the_end()
-        told = run.communicate(timeout=60)[0]
-        return run.returncode, told and told.decode()
+        told = run.communicate(timeout=120)[0]
+        return run.returncode, None if told is None else told.decode()
 
     def modify(self, *words, copy="copy"):
         return ["slapmodify", "-b", "dc=com", "--data", copy, *words]
@@ -215,7 +215,7 @@ def a_long_run_tells_how_far_it_is(trial):
 
 
 def a_question_tells_how_far_it_is(trial):
-    copy = ROOT + comments(20_000_000)
+    copy = ROOT + comments(17_000_000)
     trial.write("copy", copy)
     terminal = Terminal()
     words = ["slapacl", "-b", "dc=com", "-f", "conf", "--data", "copy", "dc"]
@@ -225,13 +225,13 @@ def a_question_tells_how_far_it_is(trial):
 
 
 def nothing_is_told_where_standard_error_is_no_terminal(trial):
-    trial.write("copy", ROOT + comments(20_000_000))
+    trial.write("copy", ROOT + comments(17_000_000))
     terminal = Terminal()
     with open(trial.folder / "said", "wb") as said:
         expect(trial.on(terminal, trial.modify("-l", "changes", "-u"), stdout="terminal", stderr=said), (0, None))
     expect(trial.text("said"), "", "standard error, a file")
     expect(terminal.screen.sent, "accepted 1, refused 0\r\n", "standard output, a terminal")
-    piped = subprocess.run([trial.program, *trial.modify("-l", "changes", "-u")], cwd=trial.folder, stdin=subprocess.DEVNULL, capture_output=True, timeout=60)
+    piped = subprocess.run([trial.program, *trial.modify("-l", "changes", "-u")], cwd=trial.folder, stdin=subprocess.DEVNULL, capture_output=True, timeout=120)
     expect((piped.returncode, piped.stdout, piped.stderr), (0, b"accepted 1, refused 0\n", b""), "pipes")
 
 
@@ -245,14 +245,14 @@ def nothing_is_told_of_a_short_run(trial):
 
 
 def nothing_is_told_on_a_terminal_without_control_sequences(trial):
-    trial.write("copy", ROOT + comments(20_000_000))
+    trial.write("copy", ROOT + comments(17_000_000))
     terminal = Terminal()
     expect(trial.on(terminal, trial.modify("-l", "changes", "-u"), term="dumb"), (0, "accepted 1, refused 0\n"))
     expect(terminal.screen.sent, "")
 
 
 def a_fault_is_alone_on_its_line(trial):
-    copy = ROOT + comments(20_000_000)
+    copy = ROOT + comments(17_000_000)
     at = copy.count("\n") + 2
     trial.write("copy", f"{copy}\ndn: cn=a,ou=none,dc=com\ncn: a\n\n")
     terminal = Terminal()
@@ -266,7 +266,7 @@ def a_size_is_told_only_where_it_is_known(trial):
     # a pipe has none, be it the standard input or under a name
     trial.write("copy", ROOT)
     os.mkfifo(trial.folder / "pipe")
-    changes = CHANGES + "\n" + comments(20_000_000)
+    changes = CHANGES + "\n" + comments(17_000_000)
     steps = [megabytes(at) for at in range(STEP, len(changes) + 1, STEP)] + [megabytes(len(changes))]
     for words, name in ((["-u"], "changes"), (["-u", "-l", "pipe"], "pipe")):
         terminal = Terminal()
@@ -276,14 +276,14 @@ def a_size_is_told_only_where_it_is_known(trial):
             pipe.write(changes)
             pipe.close()
             terminal.look_to_the_end()
-            expect((run.stdout.read(), run.wait(60)), (b"accepted 1, refused 0\n", 0), name)
+            expect((run.stdout.read(), run.wait(120)), (b"accepted 1, refused 0\n", 0), name)
         told = [f"slapkit: {'reading' if i < len(steps) - 1 else 'read'} {name}, {n} MB" for i, n in enumerate(steps)]
         expect(terminal.screen.erased, told, "what was told")
 
 
 def a_long_path_is_cut_and_escaped(trial):
     # on a narrow terminal too, where a line that was wrapped could not be erased
-    copy, name = ROOT + comments(20_000_000), "a" * 50 + "/M\u00fcller\x1b[2J\n\u009b" + "b" * 30
+    copy, name = ROOT + comments(17_000_000), "a" * 50 + "/M\u00fcller\x1b[2J\n\u009b" + "b" * 30
     path = trial.folder / name
     path.parent.mkdir()
     path.write_text(copy)
@@ -298,7 +298,7 @@ def a_long_path_is_cut_and_escaped(trial):
 
 
 def changes_are_typed(trial):
-    for copy in (ROOT, ROOT + comments(20_000_000)):
+    for copy in (ROOT, ROOT + comments(17_000_000)):
         trial.write("copy", copy)
         terminal = Terminal()
         words = [trial.program, *trial.modify(*ONTO)]
@@ -306,7 +306,7 @@ def changes_are_typed(trial):
         terminal.look_until(lambda screen: screen.text() == f"{REQUEST}\n")
         os.write(terminal.mine, CHANGES.encode() + b"\x04")
         terminal.look_to_the_end()
-        expect(run.wait(60), 0, "exit status")
+        expect(run.wait(120), 0, "exit status")
         # the terminal itself shows what is typed
         typed = CHANGES.removesuffix("\n") + "\n"
         expect(terminal.screen.text().replace("^D", ""), f"{REQUEST}\n{typed}accepted 1, refused 0\n", "what is left on the screen")
@@ -331,7 +331,7 @@ def changes_are_asked_for_only_where_they_are_typed(trial):
 
 
 def a_terminal_that_goes_away_changes_nothing(trial):
-    copy = large(40_000_000)
+    copy = large(17_000_000)
     trial.write("copy", copy)
     terminal = Terminal()
     words = [trial.program, *trial.modify("-l", "changes", *ONTO)]
@@ -340,7 +340,7 @@ def a_terminal_that_goes_away_changes_nothing(trial):
         terminal.look_until(lambda screen: "reading" in screen.text())
         expect(run.poll(), None, "the run, which goes on")
         os.close(terminal.mine)
-        told = run.communicate(timeout=60)[0]
+        told = run.communicate(timeout=120)[0]
     expect((run.returncode, told), (0, b"accepted 1, refused 0\n"))
     trial.expect_files(copy)
 
