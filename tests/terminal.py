@@ -134,8 +134,12 @@ class Terminal:
                 raise Wrong(f"on the screen: {self.screen.text()!r}")
 
     def look_to_the_end(self):
-        while self.look(60):
-            pass
+        """Shows what comes until the program has let go of its end, for five minutes at most."""
+        end = time.monotonic() + 300
+        while self.look(1):
+            if time.monotonic() > end:
+                raise Wrong(f"the run goes on; on the screen: {self.screen.text()!r}")
+        os.close(self.mine)
 
 
 class Trial:
