@@ -1,5 +1,5 @@
 -- Worked examples of paths and fault texts, proved of the definitions.
-use Rattle.std.proofs.Common.{◌≡◌, ℕ, true, false, List, [], ◌∷◌, codes, refl, Option, Some, None, Ok, Err}
+use Rattle.std.proofs.Common.{◌≡◌, ℕ, true, false, List, [], ◌∷◌, codes, refl, Option, Some, None}
 use denote.Ref.{Bor}
 use Rattle.std.specs.declared.io.ErrorKind.TheVariants as kind
 use Rattle.dir_tools.specs.declared.fault.Item.TheVariants.{Suffix}
