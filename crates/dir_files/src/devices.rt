@@ -1,7 +1,9 @@
 //! Devices: over the system's files and standard streams, and in memory.
 
-ghost use Rattle.std.specs.Prelude.{◌≡◌, ⊤, None, Some};
+ghost use Rattle.std.specs.Prelude.{◌≡◌, ◌<◌, ◌≤◌, ⊤, IfOk, None, Some, length};
 ghost use Rattle.std.specs.Io.{ReadsAtMost, WritesAtMost};
+ghost use Rattle.std.specs.Io.KnownBytes.{WriteAppends};
+ghost use Rattle.dir_ldif.specs.Device.{Counts};
 
 use dir_ldif::{DeviceFault, Sink, Source};
 use std::alloc::Global;
@@ -124,6 +126,17 @@ fn flush_again<W: Write>(writer: &mut W) -> io::Result<()> {
         }
     }
     Err(io::Error::from(ErrorKind::Interrupted))
+}
+
+/// Writes a text's first bytes, so many of them at most.
+pub fn write_at_most<W: Sink>(sink: &mut W, bytes: &[u8], most: usize) -> Result<usize, DeviceFault>
+    ensures bound { IfOk result (λ n. (n ≤ length bytes.now) × (n ≤ most)) }
+    ensures bytes { WriteAppends (W.taken sink.old) (W.taken sink.new) result bytes.now }
+    ensures count { Counts result (W.failures sink.old) (W.failures sink.new) }
+    ensures stalls { IfOk result (λ n. n ≡ 0 → 0 < length bytes.now → 0 < most → W.may_stall sink.new) }
+{
+    let n = most.min(bytes.len());
+    sink.write(&bytes[..n])
 }
 
 /// A sink that keeps what it takes. It fails only where memory runs out.

@@ -5,6 +5,7 @@ mod devices;
 mod escape;
 mod fault;
 mod files;
+mod limit;
 mod progress;
 pub mod slapacl;
 pub mod slapmodify;

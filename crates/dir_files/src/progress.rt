@@ -4,6 +4,7 @@ ghost use Rattle.std.specs.Prelude.{◌≡◌, ◌+◌, ◌/◌, ◌<◌, ◌≤
 ghost use Rattle.std.specs.Io.KnownBytes.{WriteAppends};
 ghost use Rattle.dir_ldif.specs.Device.{Counts};
 
+use crate::devices::write_at_most;
 use crate::escape::{show_char, show_escaped};
 use dir_ldif::{DeviceFault, Sink, Source};
 use std::alloc::Global;
@@ -369,7 +370,7 @@ impl<W: Sink> Sink for TellingWriter<'_, W> {
         if let Some(gauge) = &self.gauge {
             gauge.begin(Doing::Writing);
         }
-        let answer = write_step(&mut self.inner, bytes);
+        let answer = write_at_most(&mut self.inner, bytes, STEP);
         if let (Some(gauge), Ok(n)) = (&mut self.gauge, answer) {
             gauge.count(Doing::Writing, n);
         }
@@ -382,15 +383,4 @@ impl<W: Sink> Sink for TellingWriter<'_, W> {
         }
         self.inner.flush()
     }
-}
-
-/// Writes a text's first step, or less of it.
-fn write_step<W: Sink>(sink: &mut W, bytes: &[u8]) -> Result<usize, DeviceFault>
-    ensures bound { IfOk result (λ n. n ≤ length bytes.now) }
-    ensures bytes { WriteAppends (W.taken sink.old) (W.taken sink.new) result bytes.now }
-    ensures count { Counts result (W.failures sink.old) (W.failures sink.new) }
-    ensures stalls { IfOk result (λ n. n ≡ 0 → 0 < length bytes.now → W.may_stall sink.new) }
-{
-    let n = STEP.min(bytes.len());
-    sink.write(&bytes[..n])
 }

@@ -5,6 +5,7 @@ ghost use Rattle.dir_files.specs.Files.{meant_by};
 
 use crate::devices::{PatientReader, PatientWriter};
 use crate::files::{FileSystem, Opened, Refusal};
+use crate::limit::{LimitedWriter, largest_file};
 use crate::progress::{Progress, ProgressLine, TellingReader, TellingWriter};
 use dir_ldif::{DeviceFault, Sink, write_whole};
 use std::alloc::{AllocError, Global};
@@ -44,6 +45,7 @@ impl<'a, R: Files + Input + Print> SystemFiles<'a, R> {
             match new_file(self.rt, name.as_str(), mode) {
                 Ok(file) => {
                     let file = PatientWriter::new(file);
+                    let file = LimitedWriter::new(file, largest_file(self.rt));
                     let file = TellingWriter::new(file, self.line, self.alloc, path);
                     return Ok(Draft { name, file });
                 }
@@ -64,7 +66,7 @@ impl<'a, R: Files + Input + Print> SystemFiles<'a, R> {
 pub struct Draft<'a, F> {
     /// Its own name, beside the one that it is to have.
     name: String,
-    file: TellingWriter<'a, PatientWriter<F>>,
+    file: TellingWriter<'a, LimitedWriter<PatientWriter<F>>>,
 }
 
 impl<'a, F: io::Write> Sink for Draft<'a, F> {
@@ -72,7 +74,7 @@ impl<'a, F: io::Write> Sink for Draft<'a, F> {
 
     ghost taken = { λ _. None };
 
-    ghost failures = { λ d. ⟦<TellingWriter<'a, PatientWriter<F>> as Sink>⟧.failures d.file };
+    ghost failures = { λ d. ⟦<TellingWriter<'a, LimitedWriter<PatientWriter<F>>> as Sink>⟧.failures d.file };
 
     ghost may_stall = { λ _. ⊤ };
 
@@ -134,7 +136,7 @@ where
 
     fn sync(&mut self, path: &str, draft: &Draft<'a, R::File>) -> Result<(), Refusal> {
         self.line.update(&Progress::syncing(path));
-        match draft.file.inner().inner().sync_all() {
+        match draft.file.inner().inner().inner().sync_all() {
             Ok(()) => Ok(()),
             Err(_) => Err(Refusal::Other),
         }
