@@ -8,7 +8,19 @@ import subprocess
 import sys
 
 HERE = pathlib.Path(__file__).resolve().parent
-SCRIPTS = ("program.py", "refusals.py", "crashes.py", "power.py", "size.py", "operations.py", "memory_answers.py", "frequent_types.py", "manual.py", "readme.py")
+SCRIPTS = (
+    "program.py",
+    "refusals.py",
+    "crashes.py",
+    "power.py",
+    "size.py",
+    "operations.py",
+    "terminal.py",
+    "memory_answers.py",
+    "frequent_types.py",
+    "manual.py",
+    "readme.py",
+)
 
 
 def main():

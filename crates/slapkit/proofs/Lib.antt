@@ -1,5 +1,1 @@
-pub mod AccessCalls
-pub mod CallLemmas
-pub mod EndLemmas
-pub mod EscapeLemmas
 pub mod Examples

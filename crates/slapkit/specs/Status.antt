@@ -1,7 +1,7 @@
 -- The exit status of the program.
 use Rattle.std.specs.Prelude.{ℕ, ◌==◌, cond, Result, Ok, Err}
 use Rattle.dir_tools.specs.declared.run.Summary.{Summary}
-use Rattle.slapkit.specs.declared.fault.Fault.{Fault}
+use Rattle.dir_files.specs.declared.fault.Fault.{Fault}
 
 -- 0 where the run came to its end and refused no record, else 1
 abbrev pub status_of : Result Summary Fault → ℕ

@@ -4,8 +4,8 @@ use Rattle.std.specs.Option.{option_copied}
 use Rattle.clap.specs.Matches.{first_value, found_of, matched_of, one_text, raw_values}
 use Rattle.clap.specs.declared.parser.matches.ArgMatches.{ArgMatches}
 use Rattle.clap.specs.declared.parser.matches.Found.{Found}
-use Rattle.slapkit.specs.declared.command.AccessWords.{AccessWords}
-use Rattle.slapkit.specs.declared.command.ModifyWords.{ModifyWords}
+use Rattle.dir_files.specs.declared.words.AccessWords.{AccessWords}
+use Rattle.dir_files.specs.declared.words.ModifyWords.{ModifyWords}
 
 -- ---- the words of `slapmodify`
 

@@ -5,6 +5,7 @@ ghost use Rattle.slapkit.specs.Words.{AreAccessWordsOf, AreWordsOf};
 
 use clap::error::ErrorKind;
 use clap::{Arg, ArgAction, ArgMatches, Command, Error};
+use dir_files::{AccessWords, ModifyWords};
 use dir_tools::ModifyOptions;
 use std::alloc::{AllocError, Global};
 use std::convert::AsStr;
@@ -14,41 +15,6 @@ use std::convert::AsStr;
 pub enum Words<'a> {
     Slapmodify(ModifyWords<'a>),
     Slapacl(AccessWords<'a>),
-}
-
-/// The words of `slapkit slapmodify`.
-#[derive(Debug, Drop)]
-pub struct ModifyWords<'a> {
-    pub suffix: &'a str,
-    pub data: &'a str,
-    /// Where the new copy goes; a dry run doesn't need it.
-    pub out: Option<&'a str>,
-    /// Where the undo file goes; a dry run doesn't need it.
-    pub undo: Option<&'a str>,
-    /// The file of changes; without it they come from standard input.
-    pub changes: Option<&'a str>,
-    pub options: ModifyOptions,
-}
-
-/// The words of `slapkit slapacl`.
-#[derive(Debug, Drop)]
-pub struct AccessWords<'a> {
-    pub base: &'a str,
-    pub config: &'a str,
-    pub data: &'a str,
-    /// The requester's name; without it nobody asks.
-    pub authc: Option<&'a str>,
-    /// The words `attr[/access][:value]`.
-    pub words: Vec<&'a str>,
-    pub fake: bool,
-    pub verbose: bool,
-}
-
-/// The files to be written: the new copy and the undo file.
-#[derive(Clone, Copy, PartialEq, Eq, Debug)]
-pub struct OutputPaths<'a> {
-    pub out: &'a str,
-    pub undo: &'a str,
 }
 
 /// Reads the words of a command line, the first of which is the program's name.

@@ -1,0 +1,5 @@
+pub mod AccessCalls
+pub mod CallLemmas
+pub mod EndLemmas
+pub mod EscapeLemmas
+pub mod Examples

@@ -1,0 +1,29 @@
+use Rattle.std.proofs.Common.{Err, Ok, Result, refl}
+use Rattle.dir_tools.specs.declared.fault.ToolFault.{ToolFault}
+use Rattle.dir_tools.specs.AccessAnswers.{AccessSources, access_sources}
+use Rattle.dir_tools.specs.AccessReport.{AccessTerms}
+use Rattle.dir_files.specs.AccessRuns.{access_terms_of}
+use Rattle.dir_files.proofs.AccessCalls.{asks_and_ends, asks_over}
+use Rattle.dir_files.proofs.CallLemmas.{no_report_due, report_refused}
+use Rattle.dir_files.proofs.slapacl.answer.Goals as goal
+
+pub returns-in-Ok-clause-calls : goal.returns-in-Ok-clause-calls
+returns-in-Ok-clause-calls g c =
+    let t : AccessTerms = access_terms_of c.args.words.now in
+    let known : AccessSources = access_sources (g.R.Source.left c.args.config.now) (g.R2.Source.left c.args.copy.now) in
+    let answer : Result Unit ToolFault = Ok c.in-Ok.field-0 in
+    let h = c.in-Ok.ensures.answer in
+    asks_and_ends t known answer c.as_slice.result.now (Err c.not_reported.result) (g.F.FileSystem.disk c.args.files.now) (g.F.FileSystem.disk c.report.new.self)
+    (asks_over t known answer h.0 _ _ c.as_slice.result.now h.1 h.2 h.3 c.new-report.ensures c.as_slice.ensures)
+    (report_refused c.as_slice.result.now c.in-Ok.field-0 c.in-Err-report.why c.not_reported.result (g.F.FileSystem.disk c.args.files.now) (g.F.FileSystem.disk c.report.new.self)
+    c.in-Err-report.ensures c.not_reported.ensures)
+
+pub returns-clause-calls : goal.returns-clause-calls
+returns-clause-calls g c =
+    let t : AccessTerms = access_terms_of c.args.words.now in
+    let known : AccessSources = access_sources (g.R.Source.left c.args.config.now) (g.R2.Source.left c.args.copy.now) in
+    let answer : Result Unit ToolFault = Err c.in-Err.fault in
+    let h = c.in-Err.ensures.answer in
+    asks_and_ends t known answer c.ask.new.report.bytes.items (Err c.run_fault.result) (g.F.FileSystem.disk c.args.files.now) (g.F.FileSystem.disk c.args.files.now)
+    (asks_over t known answer h.0 _ _ c.ask.new.report.bytes.items h.1 h.2 h.3 c.new-report.ensures refl)
+    (no_report_due Unit c.ask.new.report.bytes.items c.in-Err.fault c.run_fault.result (g.F.FileSystem.disk c.args.files.now) c.run_fault.ensures)

@@ -1,0 +1,44 @@
+use Rattle.std.proofs.Common.{Err, Ok, Result, refl}
+use Rattle.dir_tools.specs.declared.fault.ToolFault.{ToolFault}
+use Rattle.dir_tools.specs.declared.run.Summary.{Summary}
+use Rattle.dir_tools.specs.Headline.{RunTerms}
+use Rattle.dir_tools.specs.RunAnswers.{Sources, sources}
+use Rattle.dir_files.specs.Runs.{terms_of}
+use Rattle.dir_files.proofs.CallLemmas.{ends_in_fault, no_draft, runs_over, writes_outputs}
+use Rattle.dir_files.proofs.slapmodify.with_outputs.Goals as goal
+
+pub returns-in-Err-create-clause-calls : goal.returns-in-Err-create-clause-calls
+returns-in-Err-create-clause-calls g c =
+    no_draft c.args.paths.now c.args.mode (terms_of c.args.words.now) (sources (g.R.Source.left c.args.copy.now) (g.R2.Source.left c.args.changes.now))
+    (Err c.not_created-in-Err-create.result)
+    (g.F.FileSystem.disk c.args.files.now) (g.F.FileSystem.disk c.create.new.self) (g.F.FileSystem.disk c.create-2.new.self) (g.F.FileSystem.disk c.discard.new.self)
+    c.in-Err-create.why c.in-Ok.ensures.told c.in-Err-create.ensures.told c.discard.ensures c.not_created-in-Err-create.ensures
+
+pub returns-in-Ok-answer-clause-calls : goal.returns-in-Ok-answer-clause-calls
+returns-in-Ok-answer-clause-calls g c =
+    let q : RunTerms = terms_of c.args.words.now in
+    let known : Sources = sources (g.R.Source.left c.args.copy.now) (g.R2.Source.left c.args.changes.now) in
+    let answer : Result Summary ToolFault = Ok c.in-Ok-answer.summary in
+    let h = c.in-Ok-answer.ensures.headline in
+    writes_outputs c.args.paths.now c.args.mode q known c.sync_outputs.result answer
+    (g.F.Draft.Sink.taken c.in-Ok.undo) (g.F.Draft.Sink.taken c.with_files-answer.new.undo) (g.F.Draft.Sink.taken c.in-Ok-create.out) (g.F.Draft.Sink.taken c.with_files-answer.new.out)
+    c.as_slice.result.now
+    (g.F.FileSystem.disk c.args.files.now) (g.F.FileSystem.disk c.create.new.self) (g.F.FileSystem.disk c.create-2.new.self) (g.F.FileSystem.disk c.sync_outputs.new.files)
+    c.in-Ok.ensures.told c.in-Ok-create.ensures.told c.in-Ok.ensures.empty c.in-Ok-create.ensures.empty
+    (runs_over q known answer h.0 _ _ _ _ c.as_slice.result.now h.1 h.2 h.3 c.new-report.ensures c.as_slice.ensures) c.sync_outputs.ensures.calls
+
+pub returns-clause-calls : goal.returns-clause-calls
+returns-clause-calls g c =
+    let q : RunTerms = terms_of c.args.words.now in
+    let known : Sources = sources (g.R.Source.left c.args.copy.now) (g.R2.Source.left c.args.changes.now) in
+    let answer : Result Summary ToolFault = Err c.in-Err-answer.fault in
+    let h = c.in-Err-answer.ensures.headline in
+    writes_outputs c.args.paths.now c.args.mode q known (Err c.run_fault.result) answer
+    (g.F.Draft.Sink.taken c.in-Ok.undo) (g.F.Draft.Sink.taken c.with_files-answer.new.undo) (g.F.Draft.Sink.taken c.in-Ok-create.out) (g.F.Draft.Sink.taken c.with_files-answer.new.out)
+    c.with_files-answer.new.report.bytes.items
+    (g.F.FileSystem.disk c.args.files.now) (g.F.FileSystem.disk c.create.new.self) (g.F.FileSystem.disk c.create-2.new.self) (g.F.FileSystem.disk c.discard-in-Err-answer-2.new.self)
+    c.in-Ok.ensures.told c.in-Ok-create.ensures.told c.in-Ok.ensures.empty c.in-Ok-create.ensures.empty
+    (runs_over q known answer h.0 _ _ _ _ c.with_files-answer.new.report.bytes.items h.1 h.2 h.3 c.new-report.ensures refl)
+    (ends_in_fault c.args.paths.now (g.F.Draft.Sink.taken c.with_files-answer.new.undo) (g.F.Draft.Sink.taken c.with_files-answer.new.out) c.with_files-answer.new.report.bytes.items
+    c.in-Err-answer.fault c.run_fault.result (g.F.FileSystem.disk c.create-2.new.self) (g.F.FileSystem.disk c.discard-in-Err-answer.new.self)
+    (g.F.FileSystem.disk c.discard-in-Err-answer-2.new.self) c.discard-in-Err-answer.ensures c.discard-in-Err-answer-2.ensures c.run_fault.ensures)

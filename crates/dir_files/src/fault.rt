@@ -1,0 +1,50 @@
+//! Why the program ends without an answer, and what it says then.
+
+ghost use Rattle.std.specs.Prelude.{◌++◌};
+ghost use Rattle.std.specs.Fmt.{WritesOnOk, WritesStyledOnOk};
+ghost use Rattle.dir_files.specs.Escape.{escaped};
+ghost use Rattle.dir_files.specs.FaultText.{fault_text};
+
+use crate::escape::show_escaped;
+use dir_tools::ToolFault;
+use std::{fmt, io};
+
+/// Why the program ends without an answer.
+#[derive(Debug, Drop)]
+pub enum Fault<'a> {
+    /// The words of the command line can't be read, as where one is not UTF-8.
+    NoWords(io::Error),
+    /// Two of the paths are the same text.
+    SamePath(&'a str),
+    /// A file can't be opened or created.
+    CannotOpen(&'a str),
+    /// A file that is to be written exists already.
+    Exists(&'a str),
+    /// The tool's own fault.
+    Tool(ToolFault),
+}
+
+impl fmt::Display for Fault<'_> {
+    ghost output = { fault_text };
+
+    ghost styled_output = { λ fault _. fault_text fault };
+
+    fn fmt<W: fmt::Write>(&self, f: &mut fmt::Formatter<W>) -> fmt::Result {
+        match self {
+            Fault::NoWords(error) => write!(f, "cannot read the command line: {error}"),
+            Fault::SamePath(path) => show_path(f, "same path twice: ", path),
+            Fault::CannotOpen(path) => show_path(f, "cannot open ", path),
+            Fault::Exists(path) => show_path(f, "exists already: ", path),
+            Fault::Tool(fault) => fault.fmt(f),
+        }
+    }
+}
+
+/// Shows a path after some words, whatever the options. Its control characters are escaped.
+fn show_path<W: fmt::Write>(f: &mut fmt::Formatter<W>, words: &str, path: &str) -> fmt::Result
+    ensures writes { WritesOnOk W.write_str_gives f.old result (words.now ++ escaped path.now) f.new }
+    ensures styled { WritesStyledOnOk W.write_str_gives f.old result (words.now ++ escaped path.now) f.new }
+{
+    f.write_str(words)?;
+    show_escaped(f, path)
+}

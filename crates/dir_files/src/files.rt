@@ -1,0 +1,82 @@
+//! The files of a run: a file system as the program needs it.
+
+ghost use Rattle.std.specs.Prelude.{◌≡◌, [], IfOk, IfSome, Option, Some};
+ghost use Rattle.dir_files.specs.Files.{Disk, Told, refusal_of};
+ghost use Rattle.dir_files.specs.Files.{creates, discards, opens, publishes, reports, standard_input, syncs, withdraws};
+
+use dir_ldif::{Sink, Source};
+
+/// Why a file system doesn't do what it is asked.
+#[derive(Clone, Copy, PartialEq, Eq, Debug)]
+pub enum Refusal {
+    /// A file that was to be made exists already.
+    Exists,
+    /// Memory ran out.
+    Memory,
+    /// Any other reason.
+    Other,
+}
+
+/// A file that is open to be read.
+#[derive(Drop)]
+pub struct Opened<F> {
+    pub file: F,
+    /// The bits of its mode that say who may read and write it.
+    pub mode: u32,
+}
+
+/// A file system, and the standard streams.
+///
+/// A file is made in steps: it is created as a draft, which has a name of its own; its text is written, and
+/// then synced, so that it outlasts a loss of power; and only then is it published under the name that it is to
+/// have.
+pub trait FileSystem {
+    /// A file that is read.
+    type Input: Source + Drop;
+
+    /// The standard input.
+    type Typed: Source + Drop;
+
+    /// A file that is being made.
+    type Draft: Sink + Drop;
+
+    // Its calls so far and the texts that it has, where it tells them.
+    ghost disk: { Self → Option Disk };
+
+    /// Opens a file to be read.
+    fn open(&mut self, path: &str) -> Result<Opened<Self::Input>, Refusal>
+        ensures told { Told (disk self.old) (disk self.new) (opens path.now (refusal_of result)) }
+        ensures text { IfOk result (λ opened. IfSome (disk self.new) (λ d. Self.Input.left opened.file ≡ d.text_at path.now)) }
+        ensures mode { IfOk result (λ opened. IfSome (disk self.new) (λ d. opened.mode ≡ d.mode_at path.now)) };
+
+    /// Opens the standard input.
+    fn standard_input(&mut self) -> Self::Typed
+        ensures told { Told (disk self.old) (disk self.new) standard_input }
+        ensures text { IfSome (disk self.new) (λ d. Self.Typed.left result ≡ Some d.typed) };
+
+    /// Creates the draft of a file that is to be made at this path, where no file is. Of the bits of the mode
+    /// it has those that the system leaves to a new file.
+    fn create(&mut self, path: &str, mode: u32) -> Result<Self::Draft, Refusal>
+        ensures told { Told (disk self.old) (disk self.new) (creates path.now mode (refusal_of result)) }
+        ensures empty { IfOk result (λ draft. IfSome (disk self.new) (λ d. Self.Draft.taken draft ≡ Some [])) };
+
+    /// Syncs what was written into the draft of the file at this path.
+    fn sync(&mut self, path: &str, draft: &Self::Draft) -> Result<(), Refusal>
+        ensures { Told (disk self.old) (disk self.new) (syncs path.now (Self.Draft.taken draft.now) (refusal_of result)) };
+
+    /// Gives a draft its name, and syncs the name. A file that has come there is left as it is. Of a draft that is refused nothing is left.
+    fn publish(&mut self, path: &str, draft: Self::Draft) -> Result<(), Refusal>
+        ensures { Told (disk self.old) (disk self.new) (publishes path.now (Self.Draft.taken draft) (refusal_of result)) };
+
+    /// Removes the draft of the file at this path.
+    fn discard(&mut self, path: &str, draft: Self::Draft)
+        ensures { Told (disk self.old) (disk self.new) (discards path.now) };
+
+    /// Removes a file that was published at this path.
+    fn withdraw(&mut self, path: &str)
+        ensures { Told (disk self.old) (disk self.new) (withdraws path.now) };
+
+    /// Writes a report to the standard output.
+    fn report(&mut self, text: &[u8]) -> Result<(), Refusal>
+        ensures { Told (disk self.old) (disk self.new) (reports text.now (refusal_of result)) };
+}

@@ -1,0 +1,20 @@
+//! The two tools over a file system: the files that `slapmodify` opens, makes and publishes, and those that `slapacl` opens.
+#![tactic(auto)]
+
+mod devices;
+mod escape;
+mod fault;
+mod files;
+mod limit;
+mod progress;
+pub mod slapacl;
+pub mod slapmodify;
+mod system;
+mod words;
+
+pub use devices::Buffer;
+pub use fault::Fault;
+pub use files::{FileSystem, Opened, Refusal};
+pub use progress::{Amount, Doing, Progress, ProgressLine};
+pub use system::SystemFiles;
+pub use words::{AccessWords, ModifyWords, OutputPaths};

@@ -1,0 +1,333 @@
+//! `slapkit slapmodify`: the files that a command line names, and the run over them.
+
+ghost use Rattle.std.specs.Prelude.{◌≡◌, IfErr, IfSome, None, Some};
+ghost use Rattle.std.specs.Option.{option_copied};
+ghost use Rattle.dir_tools.specs.Headline.{RunOutput};
+ghost use Rattle.dir_tools.specs.RunAnswers.{AnswersRun, IsWholeRun, sources};
+ghost use Rattle.dir_tools.specs.StoppedReading.{HeldBefore};
+ghost use Rattle.dir_tools.specs.Writing.{FlushedInOrder, WroteInOrder};
+ghost use Rattle.dir_files.specs.Faults.{IsNotCreated, IsNotOpened, IsNotReported, IsNotWritten, IsRunFault};
+ghost use Rattle.dir_files.specs.Paths.{IsWriteFaultOf, NamesItsPath, RefusesSamePath, first_repeated, outputs_of};
+ghost use Rattle.dir_files.specs.Runs.{AllCalls, Made, Publishes, RunsOver, Syncs, WritesAll, WritesOutputs, WritesReport, changes_text, terms_of, sources_of};
+
+use crate::devices::Buffer;
+use crate::fault::Fault;
+use crate::files::{FileSystem, Refusal};
+use crate::words::{ModifyWords, OutputPaths};
+use dir_ldif::{Sink, Source, Writer};
+use dir_names::Schema;
+use dir_tools::{Output, Summary, ToolFault, run_modify};
+use std::alloc::Global;
+use std::io;
+
+/// Runs `slapmodify` on the files that the words name.
+///
+/// The undo file and the new copy get their names only when both are whole and synced, the undo file first, and
+/// the report is written last. After a fault nothing is left of what the run has made.
+///
+/// # Errors
+///
+/// In this order: two paths that are the same; a file that can't be opened, the copy before the
+/// changes; one that can't be created, the undo file before the new copy; the tool's own fault; a file that
+/// can't be synced or published, or the report that can't be written.
+pub fn run<'a, F: FileSystem>(
+    alloc: Global,
+    files: &mut F,
+    words: &ModifyWords<'a>,
+) -> Result<Summary, Fault<'a>>
+    ensures faults { RefusesSamePath words.now (first_repeated words.now) result }
+    ensures calls { Made (F.disk files.old) (F.disk files.new) (λ d. AllCalls (first_repeated words.now) words.now d result) }
+{
+    if let Some(path) = first_repeated(words) {
+        return Err(Fault::SamePath(path));
+    }
+    let copy = match files.open(words.data) {
+        Ok(copy) => copy,
+        Err(why) => return Err(not_opened(words.data, why)),
+    };
+    let mut text = copy.file;
+    match words.changes {
+        Some(path) => {
+            let mut changes = match files.open(path) {
+                Ok(changes) => changes.file,
+                Err(why) => return Err(not_opened(path, why)),
+            };
+            with_changes(alloc, files, words, copy.mode, &mut text, &mut changes)
+        }
+        None => {
+            let mut changes = files.standard_input();
+            with_changes(alloc, files, words, copy.mode, &mut text, &mut changes)
+        }
+    }
+}
+
+/// The first path that is the same text as one given before it.
+pub fn first_repeated<'a>(words: &ModifyWords<'a>) -> Option<&'a str>
+    ensures { option_copied result ≡ first_repeated words.now }
+{
+    let data = Some(words.data);
+    let out = words.out;
+    let undo = words.undo;
+    let changes = words.changes;
+    if out.is_some() && out == data {
+        return out;
+    }
+    if undo.is_some() && (undo == data || undo == out) {
+        return undo;
+    }
+    if changes.is_some() && (changes == data || changes == out || changes == undo) {
+        return changes;
+    }
+    None
+}
+
+/// The files that are to be written: none in a dry run.
+fn outputs_of<'a>(words: &ModifyWords<'a>) -> Option<OutputPaths<'a>>
+    ensures { result ≡ outputs_of words.now }
+{
+    match (words.out, words.undo) {
+        (Some(out), Some(undo)) if !words.options.dry => Some(OutputPaths { out, undo }),
+        _ => None,
+    }
+}
+
+/// Runs over the copy and the changes.
+fn with_changes<'a, F: FileSystem, R: Source, R2: Source>(
+    alloc: Global,
+    files: &mut F,
+    words: &ModifyWords<'a>,
+    mode: u32,
+    copy: &mut R,
+    changes: &mut R2,
+) -> Result<Summary, Fault<'a>>
+    requires copy { IfSome (F.disk files.old) (λ d. R.left copy.old ≡ d.text_at words.now.data.now) }
+    requires changes { IfSome (F.disk files.old) (λ d. R2.left changes.old ≡ changes_text d (option_copied words.now.changes)) }
+    requires mode { IfSome (F.disk files.old) (λ d. mode ≡ d.mode_at words.now.data.now) }
+    ensures faults { IfErr result (NamesItsPath words.now) }
+    ensures calls { Made (F.disk files.old) (F.disk files.new) (λ d. WritesAll (outputs_of words.now) (d.mode_at words.now.data.now) (terms_of words.now) (sources_of words.now d) result) }
+{
+    match outputs_of(words) {
+        Some(paths) => with_outputs(alloc, files, words, &paths, mode, copy, changes),
+        None => without_outputs(alloc, files, words, copy, changes),
+    }
+}
+
+/// Runs without files to be written.
+fn without_outputs<'a, F: FileSystem, R: Source, R2: Source>(
+    alloc: Global,
+    files: &mut F,
+    words: &ModifyWords<'a>,
+    copy: &mut R,
+    changes: &mut R2,
+) -> Result<Summary, Fault<'a>>
+    ensures faults { IfErr result (NamesItsPath words.now) }
+    ensures calls { Made (F.disk files.old) (F.disk files.new) (λ _. WritesReport (terms_of words.now) (sources (R.left copy.old) (R2.left changes.old)) result) }
+{
+    let mut undo = dropped();
+    let mut out = dropped();
+    let mut report = Buffer::new(alloc);
+    match with_files(
+        alloc,
+        words,
+        copy,
+        changes,
+        &mut undo,
+        &mut out,
+        &mut report,
+    ) {
+        Ok(summary) => match files.report(report.as_slice()) {
+            Ok(()) => Ok(summary),
+            Err(why) => Err(not_reported(why)),
+        },
+        Err(fault) => Err(run_fault(fault)),
+    }
+}
+
+/// Creates the drafts of the two files, that of the undo file first, and runs over them.
+fn with_outputs<'a, F: FileSystem, R: Source, R2: Source>(
+    alloc: Global,
+    files: &mut F,
+    words: &ModifyWords<'a>,
+    paths: &OutputPaths<'a>,
+    mode: u32,
+    copy: &mut R,
+    changes: &mut R2,
+) -> Result<Summary, Fault<'a>>
+    requires { outputs_of words.now ≡ Some paths.now }
+    ensures faults { IfErr result (NamesItsPath words.now) }
+    ensures calls { Made (F.disk files.old) (F.disk files.new) (λ _. WritesOutputs paths.now mode (terms_of words.now) (sources (R.left copy.old) (R2.left changes.old)) result) }
+{
+    let mut undo = match files.create(paths.undo, mode) {
+        Ok(undo) => undo,
+        Err(why) => return Err(not_created(paths.undo, why)),
+    };
+    let mut out = match files.create(paths.out, mode) {
+        Ok(out) => out,
+        Err(why) => {
+            files.discard(paths.undo, undo);
+            return Err(not_created(paths.out, why));
+        }
+    };
+    let mut report = Buffer::new(alloc);
+    let answer = with_files(
+        alloc,
+        words,
+        copy,
+        changes,
+        &mut undo,
+        &mut out,
+        &mut report,
+    );
+    match answer {
+        Ok(summary) => sync_outputs(files, paths, undo, out, report.as_slice(), summary),
+        Err(fault) => {
+            files.discard(paths.out, out);
+            files.discard(paths.undo, undo);
+            Err(run_fault(fault))
+        }
+    }
+}
+
+/// Syncs the two files, and publishes them.
+fn sync_outputs<'a, F: FileSystem>(
+    files: &mut F,
+    paths: &OutputPaths<'a>,
+    undo: F::Draft,
+    out: F::Draft,
+    report: &[u8],
+    summary: Summary,
+) -> Result<Summary, Fault<'a>>
+    ensures faults { IfErr result (IsWriteFaultOf paths.now) }
+    ensures calls { Made (F.disk files.old) (F.disk files.new) (λ _. Syncs paths.now (F.Draft.taken undo) (F.Draft.taken out) report.now summary result) }
+{
+    if let Err(why) = files.sync(paths.undo, &undo) {
+        files.discard(paths.out, out);
+        files.discard(paths.undo, undo);
+        return Err(not_written(paths.undo, Output::Undo, why));
+    }
+    if let Err(why) = files.sync(paths.out, &out) {
+        files.discard(paths.out, out);
+        files.discard(paths.undo, undo);
+        return Err(not_written(paths.out, Output::Out, why));
+    }
+    publish_outputs(files, paths, undo, out, report, summary)
+}
+
+/// Publishes the two files, the undo file first, and writes the report.
+fn publish_outputs<'a, F: FileSystem>(
+    files: &mut F,
+    paths: &OutputPaths<'a>,
+    undo: F::Draft,
+    out: F::Draft,
+    report: &[u8],
+    summary: Summary,
+) -> Result<Summary, Fault<'a>>
+    ensures faults { IfErr result (IsWriteFaultOf paths.now) }
+    ensures calls { Made (F.disk files.old) (F.disk files.new) (λ _. Publishes paths.now (F.Draft.taken undo) (F.Draft.taken out) report.now summary result) }
+{
+    if let Err(why) = files.publish(paths.undo, undo) {
+        files.discard(paths.out, out);
+        return Err(not_written(paths.undo, Output::Undo, why));
+    }
+    if let Err(why) = files.publish(paths.out, out) {
+        files.withdraw(paths.undo);
+        return Err(not_written(paths.out, Output::Out, why));
+    }
+    if let Err(why) = files.report(report) {
+        files.withdraw(paths.out);
+        files.withdraw(paths.undo);
+        return Err(not_reported(why));
+    }
+    Ok(summary)
+}
+
+/// Runs what the words ask for, with the built-in types.
+fn with_files<R: Source, R2: Source, W: Sink, W2: Sink, W3: Sink>(
+    alloc: Global,
+    words: &ModifyWords<'_>,
+    copy: &mut R,
+    changes: &mut R2,
+    undo: &mut W,
+    out: &mut W2,
+    report: &mut W3,
+) -> Result<Summary, ToolFault>
+    ensures headline { (output : RunOutput)
+        × WroteInOrder words.now.options.dry result output.texts (W.taken undo.old, W.taken undo.new) (W2.taken out.old, W2.taken out.new) (W3.taken report.old, W3.taken report.new)
+        × AnswersRun (terms_of words.now) (sources (R.left copy.old) (R2.left changes.old)) result output
+        × IsWholeRun (terms_of words.now) (sources (R.left copy.old) (R2.left changes.old)) result output }
+    ensures first { IfErr result (HeldBefore (terms_of words.now) (R.left copy.old, R.left copy.new) (R2.left changes.old, R2.left changes.new)) }
+    ensures flushed { FlushedInOrder words.now.options.dry result (W.is_flushed undo.new) (W2.is_flushed out.new) (W3.is_flushed report.new) }
+{
+    let Ok(schema) = Schema::builtin(alloc) else {
+        return Err(ToolFault::Memory);
+    };
+    run_modify(
+        alloc,
+        &schema,
+        words.suffix.as_bytes(),
+        words.options,
+        copy,
+        changes,
+        undo,
+        out,
+        report,
+    )
+}
+
+/// The tool's fault, as the program's. The report is written into memory first.
+pub(crate) fn run_fault<'a>(fault: ToolFault) -> Fault<'a>
+    ensures { IsRunFault fault result }
+{
+    match fault {
+        ToolFault::Write(Output::Report) => Fault::Tool(ToolFault::Memory),
+        fault => Fault::Tool(fault),
+    }
+}
+
+/// What it means that a file isn't opened.
+pub(crate) fn not_opened<'a>(path: &'a str, why: Refusal) -> Fault<'a>
+    ensures { IsNotOpened path.entry.now why result }
+{
+    match why {
+        Refusal::Memory => Fault::Tool(ToolFault::Memory),
+        Refusal::Exists | Refusal::Other => Fault::CannotOpen(path),
+    }
+}
+
+/// What it means that a file isn't created.
+fn not_created<'a>(path: &'a str, why: Refusal) -> Fault<'a>
+    ensures { IsNotCreated path.entry.now why result }
+{
+    match why {
+        Refusal::Exists => Fault::Exists(path),
+        Refusal::Memory => Fault::Tool(ToolFault::Memory),
+        Refusal::Other => Fault::CannotOpen(path),
+    }
+}
+
+/// What it means that a file isn't synced or published.
+fn not_written<'a>(path: &'a str, output: Output, why: Refusal) -> Fault<'a>
+    ensures { IsNotWritten path.entry.now output why result }
+{
+    match why {
+        Refusal::Other => Fault::Tool(ToolFault::Write(output)),
+        why => not_created(path, why),
+    }
+}
+
+/// What it means that the report isn't written.
+pub(crate) fn not_reported<'a>(why: Refusal) -> Fault<'a>
+    ensures { IsNotReported why result }
+{
+    match why {
+        Refusal::Memory => Fault::Tool(ToolFault::Memory),
+        Refusal::Exists | Refusal::Other => Fault::Tool(ToolFault::Write(Output::Report)),
+    }
+}
+
+/// A sink that drops what it takes.
+fn dropped() -> Writer<io::Sink>
+    ensures { ⟦<Writer<io::Sink> as Sink>⟧.taken result ≡ None }
+{
+    Writer::new(io::sink())
+}

@@ -1,0 +1,288 @@
+//! The system's own files and standard streams. What they hold no contract can tell.
+
+ghost use Rattle.std.specs.Prelude.{◌≡◌, None};
+ghost use Rattle.dir_files.specs.Files.{meant_by};
+
+use crate::devices::{PatientReader, PatientWriter};
+use crate::files::{FileSystem, Opened, Refusal};
+use crate::limit::{LimitedWriter, largest_file};
+use crate::progress::{Progress, ProgressLine, TellingReader, TellingWriter};
+use dir_ldif::{DeviceFault, Sink, write_whole};
+use std::alloc::{AllocError, Global};
+use std::fs::{self, File, OpenFile, OpenOptions};
+use std::io::{self, ErrorKind, Input, IsTerminal};
+use std::os::unix::fs::{MetadataExt, OpenOptionsExt};
+use std::rt::Files;
+
+/// How many names are tried for a draft. A run that was killed may have left one behind.
+const MOST_DRAFTS: u32 = 1000;
+
+/// Of a mode, the bits that say who may read and write the file.
+const READ_AND_WRITE: u32 = 0o666;
+
+/// Only the owner may read and write the file.
+const OWNER_ALONE: u32 = 0o600;
+
+/// The system's files and standard streams.
+#[derive(Drop)]
+pub struct SystemFiles<'a, R> {
+    rt: &'a R,
+    line: &'a ProgressLine,
+    alloc: Global,
+}
+
+impl<'a, R: Files + Input + Print> SystemFiles<'a, R> {
+    pub fn new(rt: &'a R, line: &'a ProgressLine, alloc: Global) -> SystemFiles<'a, R> {
+        SystemFiles { rt, line, alloc }
+    }
+
+    /// A new file beside the path, under a name that no file has.
+    fn new_draft(&self, path: &str, mode: u32) -> Result<Draft<'a, R::File>, Refusal> {
+        for n in 0..MOST_DRAFTS {
+            let Ok(name) = draft_name(self.alloc, path, n) else {
+                return Err(Refusal::Memory);
+            };
+            match new_file(self.rt, name.as_str(), mode) {
+                Ok(file) => {
+                    let file = PatientWriter::new(file);
+                    let file = LimitedWriter::new(file, largest_file(self.rt));
+                    let file = TellingWriter::new(file, self.line, self.alloc, path);
+                    return Ok(Draft { name, file });
+                }
+                Err(error) => {
+                    let why = meaning_of(error.kind());
+                    if why != Refusal::Exists {
+                        return Err(why);
+                    }
+                }
+            }
+        }
+        Err(Refusal::Other)
+    }
+}
+
+/// A file that is being made.
+#[derive(Drop)]
+pub struct Draft<'a, F> {
+    /// Its own name, beside the one that it is to have.
+    name: String,
+    file: TellingWriter<'a, LimitedWriter<PatientWriter<F>>>,
+}
+
+impl<'a, F: io::Write> Sink for Draft<'a, F> {
+    ghost use Rattle.std.specs.Prelude.{⊤, None};
+
+    ghost taken = { λ _. None };
+
+    ghost failures = { λ d. ⟦<TellingWriter<'a, LimitedWriter<PatientWriter<F>>> as Sink>⟧.failures d.file };
+
+    ghost may_stall = { λ _. ⊤ };
+
+    ghost is_flushed = { λ _. ⊤ };
+
+    fn write(&mut self, bytes: &[u8]) -> Result<usize, DeviceFault> {
+        self.file.write(bytes)
+    }
+
+    fn flush(&mut self) -> Result<(), DeviceFault> {
+        self.file.flush()
+    }
+}
+
+impl<'a, R: Files + Input + Print> FileSystem for SystemFiles<'a, R>
+where
+    R::Reader: IsTerminal,
+{
+    type Input = TellingReader<'a, PatientReader<R::File>>;
+
+    type Typed = TellingReader<'a, PatientReader<R::Reader>>;
+
+    type Draft = Draft<'a, R::File>;
+
+    ghost disk = { λ _. None };
+
+    fn open(
+        &mut self,
+        path: &str,
+    ) -> Result<Opened<TellingReader<'a, PatientReader<R::File>>>, Refusal> {
+        match File::open(self.rt, path) {
+            Ok(file) => {
+                let Facts { mode, size } = facts_of(&file);
+                let file = PatientReader::new(file);
+                let file = TellingReader::new(file, self.line, self.alloc, path, size);
+                Ok(Opened { file, mode })
+            }
+            Err(error) => Err(meaning_of(error.kind())),
+        }
+    }
+
+    fn standard_input(&mut self) -> TellingReader<'a, PatientReader<R::Reader>> {
+        let reader = self.rt.reader();
+        let is_typed = reader.is_terminal();
+        let reader = PatientReader::new(reader);
+        if is_typed {
+            TellingReader::typed(reader, self.line)
+        } else {
+            TellingReader::new(reader, self.line, self.alloc, "changes", None)
+        }
+    }
+
+    fn create(&mut self, path: &str, mode: u32) -> Result<Draft<'a, R::File>, Refusal> {
+        if fs::symlink_metadata(self.rt, path).is_ok() {
+            return Err(Refusal::Exists);
+        }
+        self.new_draft(path, mode)
+    }
+
+    fn sync(&mut self, path: &str, draft: &Draft<'a, R::File>) -> Result<(), Refusal> {
+        self.line.update(&Progress::syncing(path));
+        match draft.file.inner().inner().inner().sync_all() {
+            Ok(()) => Ok(()),
+            Err(_) => Err(Refusal::Other),
+        }
+    }
+
+    fn publish(&mut self, path: &str, draft: Draft<'a, R::File>) -> Result<(), Refusal> {
+        let name = draft.name.as_str();
+        if let Err(error) = give_name(self.rt, name, path) {
+            remove(self.rt, name);
+            return Err(meaning_of(error.kind()));
+        }
+        if sync_folder(self.rt, path).is_err() {
+            self.withdraw(path);
+            return Err(Refusal::Other);
+        }
+        Ok(())
+    }
+
+    fn discard(&mut self, _path: &str, draft: Draft<'a, R::File>) {
+        remove(self.rt, draft.name.as_str());
+    }
+
+    fn withdraw(&mut self, path: &str) {
+        remove(self.rt, path);
+        // A run that has failed tells its first fault alone.
+        let _ = sync_folder(self.rt, path);
+    }
+
+    fn report(&mut self, text: &[u8]) -> Result<(), Refusal> {
+        self.line.clear();
+        let mut output = PatientWriter::new(io::writer(self.rt));
+        if write_whole(&mut output, text).is_err() || output.flush().is_err() {
+            return Err(Refusal::Other);
+        }
+        Ok(())
+    }
+}
+
+/// The name of the draft with this number, beside the path.
+fn draft_name(alloc: Global, path: &str, n: u32) -> Result<String, AllocError> {
+    format!(in alloc; "{path}.slapkit-{n}")
+}
+
+/// What the system's answer means.
+fn meaning_of(kind: ErrorKind) -> Refusal
+    ensures { result ≡ meant_by kind }
+{
+    match kind {
+        ErrorKind::AlreadyExists => Refusal::Exists,
+        ErrorKind::OutOfMemory => Refusal::Memory,
+        _ => Refusal::Other,
+    }
+}
+
+/// What the system says of an open file.
+#[derive(Drop)]
+struct Facts {
+    /// Who may read and write it: its owner alone, where the system doesn't say.
+    mode: u32,
+    /// Its size. A pipe or a device has none.
+    size: Option<u64>,
+}
+
+fn facts_of<F: OpenFile>(file: &F) -> Facts {
+    match file.metadata() {
+        Ok(metadata) => Facts {
+            mode: metadata.mode() & READ_AND_WRITE,
+            size: metadata.is_file().then_some(metadata.len()),
+        },
+        Err(_) => Facts {
+            mode: OWNER_ALONE,
+            size: None,
+        },
+    }
+}
+
+/// Makes a file that is written, where no file is.
+fn new_file<R: Files>(rt: &R, path: &str, mode: u32) -> io::Result<R::File> {
+    OpenOptions::new()
+        .write(true)
+        .create_new(true)
+        .mode(mode)
+        .open(rt, path)
+}
+
+/// Gives a file another name, which no file has, in place of its own.
+fn give_name<R: Files>(rt: &R, name: &str, path: &str) -> io::Result<()> {
+    match fs::hard_link(rt, name, path) {
+        Ok(()) => {
+            if let Err(error) = fs::remove_file(rt, name) {
+                remove(rt, path);
+                return Err(error);
+            }
+            Ok(())
+        }
+        Err(error) if has_no_links(error.kind()) => take_place(rt, name, path),
+        Err(error) => Err(error),
+    }
+}
+
+/// Whether the system refuses a hard link since the file system has none.
+fn has_no_links(kind: ErrorKind) -> bool {
+    matches!(kind, ErrorKind::PermissionDenied | ErrorKind::Unsupported)
+}
+
+/// Gives a file another name without a hard link: the name is taken by an empty file, whose place the whole
+/// one takes.
+fn take_place<R: Files>(rt: &R, name: &str, path: &str) -> io::Result<()> {
+    new_file(rt, path, OWNER_ALONE)?;
+    if let Err(error) = fs::rename(rt, name, path) {
+        remove(rt, path);
+        return Err(error);
+    }
+    Ok(())
+}
+
+/// Removes a file, if the system lets it be removed: a run that has failed tells its first fault alone.
+fn remove<R: Files>(rt: &R, path: &str) {
+    let _ = fs::remove_file(rt, path);
+}
+
+/// Syncs the names in the folder of a file, if the system lets folders be opened and synced.
+fn sync_folder<R: Files>(rt: &R, path: &str) -> io::Result<()> {
+    let synced = match File::open(rt, folder_of(path)) {
+        Ok(folder) => folder.sync_all(),
+        Err(error) => Err(error),
+    };
+    match synced {
+        Err(error) if !is_never_synced(error.kind()) => Err(error),
+        _ => Ok(()),
+    }
+}
+
+/// Whether the answer means that this folder can't be opened and synced at all.
+fn is_never_synced(kind: ErrorKind) -> bool {
+    matches!(
+        kind,
+        ErrorKind::PermissionDenied | ErrorKind::InvalidInput | ErrorKind::Unsupported
+    )
+}
+
+/// The folder of a file.
+fn folder_of(path: &str) -> &str {
+    match path.rsplit_once('/') {
+        None => ".",
+        Some(("", _)) => "/",
+        Some((folder, _)) => folder,
+    }
+}

@@ -1,0 +1,38 @@
+//! What a command line asks for.
+
+use dir_tools::ModifyOptions;
+
+/// The words of `slapkit slapmodify`.
+#[derive(Debug, Drop)]
+pub struct ModifyWords<'a> {
+    pub suffix: &'a str,
+    pub data: &'a str,
+    /// Where the new copy goes; a dry run doesn't need it.
+    pub out: Option<&'a str>,
+    /// Where the undo file goes; a dry run doesn't need it.
+    pub undo: Option<&'a str>,
+    /// The file of changes; without it they come from standard input.
+    pub changes: Option<&'a str>,
+    pub options: ModifyOptions,
+}
+
+/// The words of `slapkit slapacl`.
+#[derive(Debug, Drop)]
+pub struct AccessWords<'a> {
+    pub base: &'a str,
+    pub config: &'a str,
+    pub data: &'a str,
+    /// The requester's name; without it nobody asks.
+    pub authc: Option<&'a str>,
+    /// The words `attr[/access][:value]`.
+    pub words: Vec<&'a str>,
+    pub fake: bool,
+    pub verbose: bool,
+}
+
+/// The files to be written: the new copy and the undo file.
+#[derive(Clone, Copy, PartialEq, Eq, Debug)]
+pub struct OutputPaths<'a> {
+    pub out: &'a str,
+    pub undo: &'a str,
+}

@@ -1,0 +1,12 @@
+//! Tests of `dir_files`: runs and questions over a folder in memory, which tells its calls, paths that must differ, and texts. They
+//! are a crate of their own, so that the proof of `dir_files` is made once, without them.
+#![tactic(auto)]
+
+#[cfg(test)]
+mod access;
+#[cfg(test)]
+mod folder;
+#[cfg(test)]
+mod runs;
+#[cfg(test)]
+mod texts;
