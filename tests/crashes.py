@@ -97,14 +97,13 @@ def past_a_limit_of_size(trial):
         return lambda: resource.setrlimit(resource.RLIMIT_FSIZE, (size, size))
 
     for size, output in ((0, "undo"), (sizes["undo"] - 1, "undo"), (sizes["undo"], "out"), (sizes["new"] - 1, "out")):
-        # where the signal of the limit is ignored, the fault is told, and nothing is left
-        said = f"slapkit: cannot write {output}\n"
-        expect(trial.run(preexec_fn=limit(size), restore_signals=False), (1, "", said), f"a limit of {size} bytes")
-        expect(trial.left(), {})
-        # else it ends the run
-        status, told, _ = trial.run(preexec_fn=limit(size))
-        expect((status, told), (-signal.SIGXFSZ, ""), f"a limit of {size} bytes")
-        trial.run_again(trial.look(told))
+        # the limit's signal, which would end the run, does not come, be it ignored or not
+        for ignored in (True, False):
+            told = trial.run(preexec_fn=limit(size), restore_signals=not ignored)
+            expect(told, (1, "", f"slapkit: cannot write {output}\n"), f"a limit of {size} bytes")
+            expect(trial.left(), {})
+    expect(trial.run(preexec_fn=limit(sizes["new"]))[:2], (0, trial.report), "a limit that is just met")
+    trial.clear()
 
 
 def into_folders_that_take_no_file(trial):
