@@ -59,14 +59,20 @@ void *realloc(void *old, size_t size) {
     return real(old, size);
 }
 
+static int of_proc = -1;
+
 int open(const char *path, int flags, ...) {
     va_list rest;
     va_start(rest, flags);
     int mode = va_arg(rest, int);
     va_end(rest);
-    if (is_refused("opening")) { errno = EMFILE; return -1; }
+    int is_of_proc = strncmp(path, "/proc/", 6) == 0;
+    if (is_refused(is_of_proc ? "opening in /proc" : "opening")) { errno = EMFILE; return -1; }
     if (is_refused("opening, by a signal")) { errno = EINTR; return -1; }
-    return syscall(SYS_openat, AT_FDCWD, path, flags, mode);
+    int file = syscall(SYS_openat, AT_FDCWD, path, flags, mode);
+    if (is_of_proc) of_proc = file;
+    else if (file == of_proc) of_proc = -1;
+    return file;
 }
 
 int fsync(int file) {
@@ -93,7 +99,7 @@ int unlink(const char *path) {
 }
 
 ssize_t read(int file, void *to, size_t size) {
-    if (is_refused("read")) { errno = EIO; return -1; }
+    if (is_refused(file == of_proc ? "read in /proc" : "read")) { errno = EIO; return -1; }
     if (is_refused("read, by a signal")) { errno = EINTR; return -1; }
     if (size > 1 && is_refused("all but a byte of a read")) size = 1;
     return syscall(SYS_read, file, to, size);
@@ -203,6 +209,8 @@ KINDS = {
     "memory": (memory_is_told, memory_is_told),
     "opening": (opening_is_told, opening_is_told),
     "read": (read_is_told, read_is_told),
+    "opening in /proc": (run_is_whole, run_is_whole),
+    "read in /proc": (run_is_whole, run_is_whole),
     "write": (write_is_told, write_is_told),
     "sync": (a_file_is_not_written, a_file_is_not_written),
     "sync that is never done": (folders_need_not_be_synced, folders_need_not_be_synced),
