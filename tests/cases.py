@@ -21,8 +21,8 @@ class Texts:
     copy: bytes
     changes: bytes
     suffix: str = "dc=com"
-    # the copy is cut after each so many bytes
-    step: int = 1
+    # after each so many bytes the changes are cut, and the copy
+    steps: tuple[int, int] = (1, 1)
 
 
 def entry(name, *more):
@@ -100,7 +100,7 @@ TEXTS = {
             "".join(rename("ou=m,dc=com", "ou=m", f"newsuperior: {deep_name(rdns)}") for rdns in (63, 62))
             + "".join(f"dn: {deep_name(rdns)}|changetype: add||" for rdns in (64, 65))
         ),
-        step=61,
+        steps=(17, 211),
     ),
     "a manager is replaced": Texts(
         lines(ROOT + STAFF), lines("dn: cn=t,dc=com|changetype: modify|replace: manager|manager: cn=k,dc=com|-|")

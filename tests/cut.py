@@ -1,7 +1,9 @@
 #!/usr/bin/env python3
 """Runs slapkit on texts that are cut after each of their bytes, as by a transfer that broke off.
 
-usage: cut.py PROGRAM
+usage: cut.py PROGRAM [WORD]
+
+With a word, only the texts whose names have it.
 
 Each run must end by itself, with status 0 or 1 and at most one line on standard error. And it must answer what the definitions say of the
 texts as they are then: a run of slapmodify by answers.py, which reads LDIF and makes the changes in another language (the report, both
@@ -29,6 +31,10 @@ from runs import SECONDS, Place
 PIECE = 8192
 
 
+def cuts(text, step=1):
+    return range(0, len(text) + 1, step)
+
+
 # ---- changes of a copy
 
 
@@ -53,9 +59,9 @@ def check_run(place, texts, what):
 
 def cut_after_each_byte(program, texts):
     with Place(program) as place:
-        for at in range(len(texts.changes) + 1):
+        for at in cuts(texts.changes, texts.steps[0]):
             check_run(place, dataclasses.replace(texts, changes=texts.changes[:at]), f"the changes cut after byte {at}")
-        for at in range(0, len(texts.copy), texts.step):
+        for at in cuts(texts.copy, texts.steps[1]):
             check_run(place, dataclasses.replace(texts, copy=texts.copy[:at]), f"the copy cut after byte {at}")
     return f"{len(texts.changes)} and {len(texts.copy)} bytes"
 
@@ -72,10 +78,10 @@ def check_question(place, config, copy, question, what):
 
 def question_cut_after_each_byte(program, rules):
     with Place(program) as place:
-        for at in range(len(rules.config) + 1):
+        for at in cuts(rules.config):
             for question in rules.questions:
                 check_question(place, rules.config[:at], rules.copy, question, f"the configuration cut after byte {at}")
-        for at in range(len(rules.copy)):
+        for at in cuts(rules.copy):
             check_question(place, rules.config, rules.copy[:at], rules.questions[-1], f"the copy cut after byte {at}")
     return f"{len(rules.config)} and {len(rules.copy)} bytes"
 
@@ -126,7 +132,8 @@ def main():
     pairs = [(name, lambda texts=texts: cut_after_each_byte(program, texts)) for name, texts in TEXTS.items()]
     pairs += [(name, lambda rules=rules: question_cut_after_each_byte(program, rules)) for name, rules in RULES.items()]
     pairs.append(("a line without end", lambda: a_line_without_end(program)))
-    sys.exit(checks.run("cut", pairs))
+    wanted = sys.argv[2] if len(sys.argv) > 2 else ""
+    sys.exit(checks.run("cut", [pair for pair in pairs if wanted in pair[0]]))
 
 
 main()
