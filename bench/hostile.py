@@ -73,6 +73,11 @@ def one_modify_of_many_values(n):
     return {"copy": [ROOT], "changes": [head, b"add: description\n", *added, b"-\n\n", head, b"delete: description\n", *deleted, b"-\n\n"]}
 
 
+def one_modify_of_many_descriptions(n):
+    mods = shuffled([b"add: description;lang-a%d\ndescription;lang-a%d: c\n-\n" % (i, i) for i in range(n)])
+    return {"copy": [ROOT], "changes": [b"dn: dc=com\nchangetype: modify\n", *mods]}
+
+
 def large_values(n):
     """Values of 1,048,575 bytes, folded after 76."""
     value = b"x" * (MOST_OF_A_VALUE - 1 - len("00000000"))
@@ -229,6 +234,7 @@ FAMILIES = [
     Family(descriptions_with_options, "descriptions", 20_000),
     Family(one_modify, "modifications", 100_000),
     Family(one_modify_of_many_values, "values", 200_000),
+    Family(one_modify_of_many_descriptions, "descriptions", 20_000),
     Family(large_values, "values", 4_000, memory=12 * MOST_OF_A_VALUE),
     Family(values_with_a_common_prefix, "values", 20_000),
     Family(entries_in_reverse, "entries", 500_000),

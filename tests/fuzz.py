@@ -1,7 +1,7 @@
 #!/usr/bin/env python3
 """Runs slapkit on copies, changes and configurations that were changed at random.
 
-usage: fuzz.py PROGRAM [--seed S] [--runs N] [--jobs J] [--failures FOLDER]
+usage: fuzz.py PROGRAM [--seed S] [--runs N] [--minutes M] [--jobs J] [--failures FOLDER]
 
 Each case begins with texts that are right, or with the random directories of operations.py, and changes bytes, lines, words, records,
 folds, base64, names, options and characters of them. Then
@@ -23,6 +23,7 @@ import pathlib
 import random
 import re
 import sys
+import time
 import traceback
 
 import names
@@ -81,6 +82,8 @@ def random_texts(rng):
     directory = operations.random_directory(rng, rng.choice([0, 0, 0, 3]), rng.choice([2, 5, 9]))
     copy, planned, printed = directory.text(), operations.Planned(), operations.freely_printed(rng)
     for _ in range(rng.choice([1, 3, 6, 12])):
+        if not directory.entries:
+            break
         planned.make(directory, operations.random_change(rng, directory), printed)
     return "dc=com", copy.encode(), planned.text.encode(), None
 
@@ -368,18 +371,20 @@ def main():
     parser.add_argument("program")
     parser.add_argument("--seed", type=int, default=1)
     parser.add_argument("--runs", type=int, default=10_000, help="of the program, at least")
+    parser.add_argument("--minutes", type=float, default=1e6, help="after which it ends, too")
     parser.add_argument("--jobs", type=int, default=1)
     parser.add_argument("--failures", type=pathlib.Path, default=pathlib.Path("fuzz-failures").absolute())
     args = parser.parse_args()
     args.program = str(pathlib.Path(args.program).resolve())
     runs = cases = failures = 0
+    ends_by = time.monotonic() + 60 * args.minutes
     told = collections.Counter()
     with multiprocessing.Pool(args.jobs) as pool:
         for more_runs, more_cases, more_told, failed in pool.imap(try_cases, tasks_of(args)):
             runs, cases, failures, told = runs + more_runs, cases + more_cases, failures + len(failed), told + more_told
             for text in failed:
                 print(f"FAILED, {text}", flush=True)
-            if runs >= args.runs:
+            if runs >= args.runs or time.monotonic() > ends_by:
                 break
     for what, count in sorted(told.items()):
         print(f"{count:9} {what}")
