@@ -273,12 +273,12 @@ class Trial:
 
     def case(self, case):
         self.place.remove(*FILES)
-        for name, data in (("copy", case.copy), ("changes", case.changes), ("conf", case.config), ("none", b"")):
+        given = {"copy": case.copy, "changes": case.changes, "conf": case.config, "none": b""}
+        for name, data in given.items():
             self.place.write(name, data)
         ended = self.modify(case, "copy", "changes", "new", "undo", "-v", *(["-c"] if case.goes_on else []))
         found = (*ended, self.text("new"), self.text("undo"))
-        if ended[2]:
-            expect(found[3:], (None, None), "files after a fault")
+        expect(self.place.names() - given.keys(), set() if ended[2] else {"new", "undo"}, "files made")
         self.count(ended)
         self.expect_answer(found, case)
         if not ended[2]:

@@ -8,6 +8,7 @@ from checks import Wrong
 
 SECONDS = 10
 MEMORY = "/dev/shm"
+REPORT, MESSAGE = ".report", ".message"
 
 
 class Place:
@@ -39,6 +40,10 @@ class Place:
         except FileNotFoundError:
             return None
 
+    def names(self):
+        """The files of the folder, but for those of the streams."""
+        return {name for name in os.listdir() if name not in (REPORT, MESSAGE)}
+
     def remove(self, *names):
         for name in names:
             pathlib.Path(name).unlink(missing_ok=True)
@@ -47,7 +52,7 @@ class Place:
         """The exit status, and what went to standard output and to standard error. The program ends by itself, soon, and with one line at most."""
         flags = os.O_WRONLY | os.O_CREAT | os.O_TRUNC
         streams = [(os.POSIX_SPAWN_OPEN, 0, "/dev/null", os.O_RDONLY, 0)]
-        streams += [(os.POSIX_SPAWN_OPEN, stream, name, flags, 0o600) for stream, name in ((1, ".report"), (2, ".message"))]
+        streams += [(os.POSIX_SPAWN_OPEN, stream, name, flags, 0o600) for stream, name in ((1, REPORT), (2, MESSAGE))]
         child = os.posix_spawn(self.program, [self.program, *words], os.environ, file_actions=streams)
         signal.setitimer(signal.ITIMER_REAL, SECONDS)
         try:
@@ -58,7 +63,7 @@ class Place:
             raise Wrong(f"no end within {SECONDS} s: {words}") from None
         finally:
             signal.setitimer(signal.ITIMER_REAL, 0)
-        status, report, message = os.waitstatus_to_exitcode(status), self.read(".report"), self.read(".message")
+        status, report, message = os.waitstatus_to_exitcode(status), self.read(REPORT), self.read(MESSAGE)
         if status not in (0, 1) or message.count(b"\n") > 1:
             raise Wrong(f"status {status}, standard error: {message!r}")
         return status, report.decode(), message.decode()
