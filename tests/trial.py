@@ -8,7 +8,7 @@ import subprocess
 import sys
 
 HERE = pathlib.Path(__file__).resolve().parent
-SCRIPTS = ("program.py", "refusals.py", "crashes.py", "size.py", "operations.py", "cut.py", "memory_answers.py", "frequent_types.py", "manual.py", "readme.py")
+SCRIPTS = ("program.py", "refusals.py", "crashes.py", "size.py", "operations.py", "cut.py", "forms.py", "memory_answers.py", "frequent_types.py", "manual.py", "readme.py")
 
 
 def main():
