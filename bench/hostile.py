@@ -203,9 +203,9 @@ def one_rule(n):
 
 
 def pieces_of_a_long_value(n):
-    """A value of n bytes, and substring filters of a piece of half its length that is nearly everywhere in it; twenty of them."""
+    """A value of n bytes, and two substring filters, each of a piece of half its length that is nearly everywhere in it."""
     rule = b"access to filter=(description=*" + b"a" * (n // 2) + b"b*) by * none\n"
-    return {"copy": [ROOT, block(b"cn=a,dc=com", [b"description: " + b"a" * n + b"\n"])], "conf": [HEAD, *[rule] * 20]}
+    return {"copy": [ROOT, block(b"cn=a,dc=com", [b"description: " + b"a" * n + b"\n"])], "conf": [HEAD, rule, rule]}
 
 
 @dataclasses.dataclass
@@ -233,7 +233,7 @@ FAMILIES = [
     Family(values_of_one_entry, "values", 200_000),
     Family(descriptions_with_options, "descriptions", 20_000),
     Family(one_modify, "modifications", 100_000),
-    Family(one_modify_of_many_values, "values", 200_000),
+    Family(one_modify_of_many_values, "values", 100_000),
     Family(one_modify_of_many_descriptions, "descriptions", 20_000),
     Family(large_values, "values", 4_000, memory=12 * MOST_OF_A_VALUE),
     Family(values_with_a_common_prefix, "values", 20_000),
@@ -254,7 +254,7 @@ FAMILIES = [
     Family(wide_filters, "bytes", MOST_OF_A_CONFIGURATION),
     Family(plain_rules, "bytes", MOST_OF_A_CONFIGURATION),
     Family(one_rule, "bytes", MOST_OF_A_CONFIGURATION),
-    Family(pieces_of_a_long_value, "bytes", MOST_OF_A_VALUE),
+    Family(pieces_of_a_long_value, "bytes", 262_144),
 ]
 
 
@@ -334,8 +334,8 @@ class Measure:
 
     def __init__(self, args, folder):
         self.program, self.how, self.divided_by, self.folder = args.program, instructions if args.instructions else seconds, args.divided_by, folder
-        nothing = words_of(self.program, write(folder, {"copy": [ROOT]}))
-        self.of_nothing = min(self.how(words_of(nothing[0], write(folder, {"copy": [ROOT]}))).cost for _ in range(TRIES))
+        files = write(folder, {"copy": [ROOT]})
+        self.of_nothing = min(self.how(words_of(self.program, files)).cost for _ in range(TRIES))
 
     def cost_of(self, family, size):
         """What a run takes, and how large its texts are."""
@@ -358,9 +358,9 @@ class Measure:
         is_met = exponent <= MOST and (not family.is_constant or abs(high.memory - low.memory) <= SAME_MEMORY)
         cost = f"{best[1] / MEGABYTE:,.0f} million instructions" if self.how is instructions else f"{best[1]:.2f} s"
         memory = f"{low.memory / MEGABYTE:.1f} and {high.memory / MEGABYTE:.1f} MB" if high.memory else ""
-        less = f" ({family.largest:,} divided)" if large < family.largest else ""
+        less = f" of {family.largest:,}" if large < family.largest else ""
         note = "" if is_met else " **missed**"
-        print(f"| {family.name()} | {large:,} {family.counts}{less}, {size / MEGABYTE:.1f} MB | {cost} | {exponent:.2f}{note} | {memory} |", flush=True)
+        print(f"| {family.name()} | {large:,}{less} {family.counts}, {size / MEGABYTE:.1f} MB | {cost} | {exponent:.2f}{note} | {memory} |", flush=True)
         return is_met
 
 
