@@ -226,7 +226,8 @@ def changed(rng, data, others):
 
 
 def random_question(rng, suffix, copy):
-    found = re.findall(rb"^dn: ([ -~]+)$", copy, re.M)
+    # what begins with a hyphen is no value of an option
+    found = re.findall(rb"^dn: (?!-)([ -~]+)$", copy, re.M)
     known = [name.decode() for name in found] + [suffix, f"cn=a,{suffix}", f"cn=none,{suffix}", f"cn=root,{suffix}"]
     words = ["entry", "children", "cn", "sn/read", "description/write", "description;lang-en", "mail/add", "note", "member/disclose", "Entry/none"]
     requester = rng.choice([None, "", *known]) if rng.random() < 0.8 else rng.choice(known)
@@ -384,6 +385,8 @@ def main():
             runs, cases, failures, told = runs + more_runs, cases + more_cases, failures + len(failed), told + more_told
             for text in failed:
                 print(f"FAILED, {text}", flush=True)
+            if cases % (20 * CASES_AT_A_TIME) == 0:
+                print(f"fuzz: {runs} runs in {cases} cases until now", file=sys.stderr, flush=True)
             if runs >= args.runs or time.monotonic() > ends_by:
                 break
     for what, count in sorted(told.items()):
