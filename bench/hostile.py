@@ -189,7 +189,7 @@ def deep_filters(n):
 
 
 def wide_filters(n):
-    return rules(b"access to filter=(|" + b"(cn=b*a*a*a)" * 1000 + b") by * none\n", n)
+    return rules(b"access to filter=(|" + b"(cn=b*a*a*a)" * 50 + b") by * none\n", n)
 
 
 def plain_rules(n):

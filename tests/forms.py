@@ -12,94 +12,174 @@ import sys
 import checks
 from access import Question, access_answer
 from answers import answer
+from cases import lines
 from checks import expect
+from names import as_bytes
 from runs import Place
 
-COPY = b"dn: dc=com\ndc: com\n\n"
-HEAD = b"database mdb\nsuffix dc=com\n"
+COPY = lines("dn: dc=com|dc: com||")
+HEAD = "database mdb|suffix dc=com|"
+ENTRY = "dn: cn=e,dc=com|changetype: add|"
 MOST_OF_A_DESCRIPTION, MOST_OF_AN_RDN, MOST_LEVELS = 512, 4096, 64
 
 
-def added(name, *lines):
-    return b"".join(line + b"\n" for line in (b"dn: " + name, b"changetype: add", *lines)) + b"\n"
+def added(name, *more):
+    return as_bytes("\n".join([f"dn: {name}", "changetype: add", *more, "\n"]))
 
 
-def entry(*lines):
-    return added(b"cn=e,dc=com", *lines)
-
-
-def changed(*lines):
-    return b"dn: cn=e,dc=com\nchangetype: " + b"\n".join(lines) + b"\n\n"
+def entry(*more):
+    return added("cn=e,dc=com", *more)
 
 
 def around(limit):
     return limit - 1, limit, limit + 1
 
 
+def each(texts, begin="", end=""):
+    """The texts of some lines, each with something before and after it. In them `|` stands for the end of a line."""
+    return [lines(f"{begin}{text}{end}") for text in texts.strip("\n").split("\n")]
+
+
+def each_rule(rules, begin="", end=""):
+    return [lines(HEAD) + rule + b"\n" for rule in each(rules, begin, end)]
+
+
 DESCRIPTIONS = [
-    *(entry(b"a" * length + b": x") for length in around(MOST_OF_A_DESCRIPTION)),
-    *(entry(b"cn;" + b"o" * (length - 3) + b": x") for length in around(MOST_OF_A_DESCRIPTION)),
-    *(entry(name + b": x") for name in (b"1.2", b"1.02", b"1", b"cn;", b"cn;;a", b"cn;a_b", b"-a", b"a-", b"dn", b"dn;x", b"Control", b"c\xc3\xb6")),
-    entry(b"x-cn;b: 1", b"x;c;a: 2", b"X: 3", b"x-a: 4", b"x;a: 5", b"x;A;c: 6", b"x;c;a;c: 2"),
+    *(entry(f"{'a' * length}: x") for length in around(MOST_OF_A_DESCRIPTION)),
+    *(entry(f"cn;{'o' * (length - 3)}: x") for length in around(MOST_OF_A_DESCRIPTION)),
+    *each("1.2|1.02|1|cn;|cn;;a|cn;a_b|-a|a-|dn|dn;x|Control|c\u00f6".replace("|", "\n"), ENTRY, ": x|"),
+    entry("x-cn;b: 1", "x;c;a: 2", "X: 3", "x-a: 4", "x;a: 5", "x;A;c: 6"),
+    entry("x;c;a: 2", "X;a;c;A: 2"),
 ]
 NAMES = [
-    *(added(b"t" * length + b"=v,dc=com") for length in around(MOST_OF_A_DESCRIPTION)),
-    *(added(b"cn=" + b"z" * (length - 3) + b",dc=com") for length in around(MOST_OF_AN_RDN)),
-    *(added(b"cn=" + b"\\c3\\bc" * pairs + b"zz,dc=com") for pairs in (681, 682)),
-    *(added(b"cn=a," * rdns + b"dc=com") for rdns in around(63)),
-    added(b"cn=a," * 65 + b"dc="),
-    *(
-        added(name + b",dc=com")
-        for name in (
-            *(b"uidNumber=00", b"dc=\\c3", b"dc=", b"cn=", b"x=", b"userPassword=\\00\\ff", b"member=x", b"cn=a+commonName=b", b"cn=a+sn=b+uid=c"),
-            *(b" cn = a ", b"cn=a\\ ", b"cn=a\\  ", b"cn=\\ a", b"cn=\\#a", b"cn=#a", b"cn=a#", b"cn=a=b = c", b"cn=a;b", b"cn=a\\x", b"cn=\\c", b"cn=\"a\""),
-        )
+    *(added(f"{'t' * length}=v,dc=com") for length in around(MOST_OF_A_DESCRIPTION)),
+    *(added(f"cn={'z' * (length - 3)},dc=com") for length in around(MOST_OF_AN_RDN)),
+    *(added("cn=" + "\\c3\\bc" * pairs + "zz,dc=com") for pairs in (681, 682)),
+    *(added("cn=a," * rdns + "dc=com") for rdns in around(63)),
+    added("cn=a," * 65 + "dc="),
+    *each(
+        r"""
+uidNumber=00
+dc=\c3
+dc=
+cn=
+x=
+userPassword=\00\ff
+member=x
+cn=a+commonName=b
+cn=a+sn=b+uid=c
+ cn = a 
+cn=a\ 
+cn=a\  
+cn=\ a
+cn=\#a
+cn=#a
+cn=a#
+cn=a=b = c
+cn=a;b
+cn=a\x
+cn=\c
+cn="a"
+""",
+        "dn: ",
+        ",dc=com|changetype: add|",
     ),
-    b"".join(b"dn:\nchangetype: %s\n\n" % rest for rest in (b"delete", b"add\nx: y", b"modify", b"modrdn\nnewrdn: cn=a\ndeleteoldrdn: 1")),
+    *each("delete\nadd|x: y\nmodify\nmodrdn|newrdn: cn=a|deleteoldrdn: 1", "dn:|changetype: ", "|"),
 ]
-VALUES = [
-    entry(b"telephoneNumber: +1 555", b"telephoneNumber: +1-555"),
-    entry(b"member: cn=z", b"member: cn=a,cn=b", b"member:", b"member: cn=b", b"member: cn=b+sn=c", b"member: cn=b\\20"),
-    entry(b"seeAlso: cn=b+sn=a", b"seeAlso: SN=A + cn=B"),
-    *(entry(b"owner: " + value) for value in (b"x", b"member=x", b"cn=a+cn=b", b"cn=a,")),
-    entry(b"homeDirectory:  a  b ", b"loginShell:: IGEg", b"mail:", b"mail:  "),
-    *(entry(line) for line in (b"objectClass: a b", b"objectClass:", b"uidNumber: -0", b"uidNumber: -7", b"uidNumber: +7", b"uidNumber:", b"cn:", b"mail:: w7w=")),
-    entry(b"c: de", b"c;x: fr"),
-    entry(b"c: de", b"c: DE"),
-]
+VALUES = each(
+    """
+telephoneNumber: +1 555|telephoneNumber: +1-555
+member: cn=z|member: cn=a,cn=b|member:|member: cn=b|member: cn=b+sn=c|member: cn=b\\20
+seeAlso: cn=b+sn=a|seeAlso: SN=A + cn=B
+owner: x
+owner: member=x
+owner: cn=a+cn=b
+owner: cn=a,
+homeDirectory:  a  b |loginShell:: IGEg|mail:|mail: 
+mail:|mail:  |mail:: IA==
+objectClass: a b
+objectClass:
+uidNumber: -0
+uidNumber: -7
+uidNumber: +7
+uidNumber:
+cn:
+mail:: w7w=
+c: de|c;x: fr
+c: de|c: DE
+""",
+    ENTRY,
+    "|",
+)
 SAME = ["\u0130 i\u0307", "\ufb01 fi", "\u1e9e ss", "\u03c2 \u03a3", "\u212b \u00e5", "\u0345 \u03b9", "\u2460 1", "\uff21 a", "\u1fb3 \u03b1\u03b9"]
 SAME += ["\u0958 \u0915\u093c", "\u2126 \u03c9", "\U00010400 \U00010428", "\u0149 \u02bcn", "a\u0308\u0323 a\u0323\u0308", "\uac00 \u1100\u1161"]
-SCRIPTS = [entry(*(b"sn: " + value.encode() for value in pair.split())) for pair in SAME]
-SCRIPTS += [entry(b"sn: " + space.encode() + b"a" + space.encode(), b"sn: a") for space in ("\u00a0", "\u3000", "\u2003", "\u200b", "\u00ad", "\t")]
-SCRIPTS += [entry(b"telephoneNumber: 1" + sign.encode() + b"2", b"telephoneNumber: 12") for sign in ("\u2010", "\u2011", "\u2212", "\ufe63", "\u00a0")]
-SCRIPTS += [entry(b"sn: a" + data) for data in (b"\xc3", b"\xc0\x80", b"\xed\xa0\x80", b"\xf4\x90\x80\x80", b"\xe2\x82", b"\xff")]
-VERSIONS = [b"\n \nversion: 1\n", b" version: 1\n", b"# a\n b\n\nVERSION:1\n" + entry(), b"version:: MQ==\n", b"version: 1 \n", b"vers\n ion: 1\n\nversion: 1\n"]
-VERSIONS += [b"\r\n\r\nversion: 1\r\r\n", b"version", b"version:\n", b"version:<1\n", b"version: 1\n" + entry(), entry() + b"version: 1\n"]
+SCRIPTS = [
+    *(entry(*(f"sn: {value}" for value in pair.split())) for pair in SAME),
+    *(entry(f"sn: {space}a{space}", "sn: a") for space in "\u00a0\u3000\u2003\u200b\u00ad\t"),
+    *(entry(f"telephoneNumber: 1{sign}2", "telephoneNumber: 12") for sign in "\u2010\u2011\u2212\ufe63\u00a0"),
+    *(entry("sn: a\udc80").replace(b"\x80", data) for data in (b"\xc3", b"\xc0\x80", b"\xed\xa0\x80", b"\xf4\x90\x80\x80", b"\xe2\x82", b"\xff")),
+]
+VERSIONS = each(
+    """
+| |version: 1|
+ version: 1|
+# a| b||VERSION:1|dn: cn=a,dc=com|changetype: add|
+version:: MQ==|
+version: 1 |
+vers| ion: 1||version: 1|
+\r|\r|version: 1\r\r|
+version
+version:|
+version:<1|
+version: 1|dn: cn=a,dc=com|changetype: add|
+dn: cn=a,dc=com|changetype: add||version: 1|
+"""
+)
 LINES = [
-    *(b":\n", b"dn:: !\n", b"dn:: Y249YQ\n", b"dn:: Y249YR==\n", b"dn::Y249YQ== \n", b"dn:<x\n", b"dn: cn=a\0\n", b"cn: a\n", b"\n\n#\n", b"-\n"),
-    *(b"dn: cn=e,dc=com\n" + rest for rest in (b"CONTROL: x\n", b"control:< x\n", b"x: y\ncontrol: z\n", b"changetype: add\nchangetype: add\n", b"changetype: increment\n")),
-    *(entry(line) for line in (b"x: a\rb", b"x: a\r\r", b"x: a\r", b"x:: YQ=\r\n =", b"x::", b"x::  ", b"x", b": y", b" x: y", b"x:< file:///a")),
-    entry().replace(b"add", b"ADD"),
-    entry().replace(b": add", b":: YWRk"),
-    *(changed(b"delete", line) for line in (b"x", b"x:< y", b"x: y", b"-")),
+    *each(":\ndn:: !\ndn:: Y249YQ\ndn:: Y249YR==\ndn::Y249YQ== \ndn:<x\ndn: cn=a\0\ncn: a\n||#\n-", end="|"),
+    *each("CONTROL: x\ncontrol:< x\nx: y|control: z\nchangetype: add|changetype: add\nchangetype: increment\nchangetype:: QURE", "dn: cn=e,dc=com|", "|"),
+    *each("x: a\rb\nx: a\r\r\nx: a\r\nx:: YQ=\r| =\nx::\nx::  \nx\n: y\n x: y\nx:< file:///a", ENTRY, "|"),
+    *each("x\nx:< y\nx: y\n-", "dn: cn=e,dc=com|changetype: DELETE|", "|"),
 ]
-MODIFIES = [
-    changed(b"modify", *lines)
-    for lines in (
-        *([b"add: x", b"-", b"-"], [b"-"], [b"increment: x", b"x: 1", b"-"], [b"add: x", b"x: 1", b"- "], [b"add:: eA==", b"X: 1", b"-", b"REPLACE: x", b"x:2"]),
-        *([b"add: cn;x", b"cn: 1"], [b"add: cn", b"control: 1"], [b"add: dn"], [b"add: 1"], [b"add: cn", b"commonName: b"], [b"add: cn", b"2.5.4.3: b", b"-"], []),
-    )
-]
-RENAMES = [
-    changed(*lines)
-    for lines in (
-        *([b"modrdn"], [b"modrdn", b"newrdn: cn=a"], [b"modrdn", b"deleteoldrdn: 1", b"newrdn: cn=a"], [b"moddn", b"newrdn: cn=a", b"deleteoldrdn: 2"]),
-        *([b"modrdn", b"newrdn: " + rdn, b"deleteoldrdn: 1"] for rdn in (b"cn=a+cn=b", b"cn=a,cn=b", b"", b"uidNumber=x", b"cn=" + b"z" * 4094)),
-        *([b"modrdn", b"newrdn:: Y249YQ==", b"deleteoldrdn:: MA==", b"newsuperior: " + name] for name in (b"", b"x", b"dc=com", b"cn=e,dc=com", b"dc=org")),
-        [b"modrdn", b"newrdn: cn=a", b"deleteoldrdn: 1", b"newsuperior: dc=com", b"x: y"],
-    )
-]
-THERE = [entry() + text for text in MODIFIES + RENAMES]
+MODIFIES = each(
+    """
+modify
+modify|add: x|-|-
+modify|-
+modify|increment: x|x: 1|-
+modify|add: x|x: 1|- 
+modify|add:: eA==|X: 1|-|REPLACE: x|x:2
+modify|add: cn;x|cn: 1
+modify|add: cn|control: 1
+modify|add: dn
+modify|add: 1
+modify|add: cn|commonName: b
+modify|add: cn|2.5.4.3: b|-
+""",
+    "dn: cn=e,dc=com|changetype: ",
+    "|",
+)
+RENAMES = each(
+    f"""
+modrdn
+modrdn|newrdn: cn=a
+modrdn|deleteoldrdn: 1|newrdn: cn=a
+moddn|newrdn: cn=a|deleteoldrdn: 2
+modrdn|newrdn: cn=a+cn=b|deleteoldrdn: 1
+modrdn|newrdn: cn=a,cn=b|deleteoldrdn: 1
+modrdn|newrdn:|deleteoldrdn: 1
+modrdn|newrdn: uidNumber=x|deleteoldrdn: 1
+modrdn|newrdn: cn={'z' * (MOST_OF_AN_RDN - 2)}|deleteoldrdn: 1
+modrdn|newrdn:: Y249YQ==|deleteoldrdn:: MA==|newsuperior:
+modrdn|newrdn: cn=E|deleteoldrdn: 0|newsuperior: x
+modrdn|newrdn: cn=E+sn=x|deleteoldrdn: 0|newsuperior: DC=com
+modrdn|newrdn: cn=a|deleteoldrdn: 1|newsuperior: cn=e,dc=com
+modrdn|newrdn: cn=a|deleteoldrdn: 1|newsuperior: dc=org
+modrdn|newrdn: cn=a|deleteoldrdn: 1|newsuperior: dc=com|x: y
+""",
+    "dn: cn=e,dc=com|changetype: ",
+    "|",
+)
 CHANGES = {
     "descriptions": DESCRIPTIONS,
     "names": NAMES,
@@ -109,39 +189,144 @@ CHANGES = {
     "lines": LINES,
     "modifies": MODIFIES,
     "renames": RENAMES,
-    "modifies and renames of an entry that is there": THERE,
+    "modifies and renames of an entry that is there": [entry() + text for text in MODIFIES + RENAMES],
 }
 
-WHATS = [b"*", b"* *", b"by", b"", b"dn=dc=com", b"dn=dc=com dn=dc=com", b"dn.foo=dc=com", b"dn=x", b'"dn=dc=com"', b'dn="dc=com"', b"attrs=", b"attrs=cn,"]
-WHATS += [b"attrs=ENTRY,Children,@x", b"attrs=!x", b"attr=cn", b"filter=", b"filter=dc=c*", b"filter=(&(dc=c*)(|(dc=c*m)(!(dc~=Com))))", b"filter=(dc=\\63om)"]
-WHATS += [b"filter=(dc=\\\\63om)", b"filter=(dc>=com)", b"filter=(dc=*\0)", b"filter=(dc=**)", b"filter=(dc~=c*)", b"filter=(dc=com))", b"dn.base=", b"dn.children="]
-WHATS += [b"dn.one=", b"dn.sub=", b"dn.exact=dc=com,dc=com attrs=cn filter=(x=*)", b"dn.regex=.*", b"val=x", b"dn", b"attrs=cn;x,1.2 filter=(cn=*)"]
-WHOS = [b"", b"by", b"read", b"users users anonymous", b"*=x", b"set=x", b"self=x", b"group=dc=com", b"group/x/cn=dc=com", b"group/x/member.exact=dc=com"]
-WHOS += [b"group.exact=dc=com", b"group/1x=dc=com", b"group/x/y/z=dc=com", b"dnattr=cn", b"dnattr=1", b"dnattr=member;x", b"dn=", b"dn.sub=", b"dn=dc=com", b"self"]
-ACCESS = [b"=RsC", b"=", b"=0r", b"+0 continue stop", b"read write", b"none break", b"level{1}", b"=w continue", b"self read", b"+azd", b"-0", b"WRITE Stop"]
-LINES_OF_RULES = [
-    *(b"access to " + what + b" by * read" for what in WHATS),
-    *(b"access to * by " + who + b" read" for who in WHOS),
-    *(b"access to * by * " + access for access in ACCESS),
-    *(b"access to * by * break\naccess to " + what + b" by users read" for what in WHATS[:6]),
-    *(b"access", b"access to", b"access to *", b"access to * by", b"access by * read", b"access to * by * read by", b"ACCESS TO * BY * READ STOP", b'access to * by "*" re"ad"'),
-    *(b" by * read", b"\n by * read", b"#x\n access to bad", b"access to *\n\tby * read", b"access to *\n# comment\n by * read", b"\t\n access to * by * write", b"\r\naccess to * by * read\r"),
+WHATS = r"""
+*
+* *
+by
+dn=dc=com
+dn=dc=com dn=dc=com
+dn.foo=dc=com
+dn=x
+"dn=dc=com"
+dn="dc=com"
+attrs=
+attrs=cn,
+attrs=ENTRY,Children,@x
+attrs=!x
+attr=cn
+attrs=cn;x,1.2 filter=(cn=*)
+filter=
+filter=dc=c*
+filter=(&(dc=c*)(!(dc~=Com)))
+filter=(dc=\63om)
+filter=(dc=\\63om)
+filter=(dc>=com)
+filter=(dc=**)
+filter=(dc~=c*)
+filter=(dc=com))
+dn.base=
+dn.children=
+dn.one=
+dn.sub=
+dn.exact=dc=com,dc=com attrs=cn filter=(x=*)
+dn.regex=.*
+val=x
+dn
+"""
+WHOS = """
+by
+read
+users users anonymous
+*=x
+set=x
+self=x
+group=dc=com
+group/x/cn=dc=com
+group/x/member.exact=dc=com
+group.exact=dc=com
+group/1x=dc=com
+group/x/y/z=dc=com
+dnattr=cn
+dnattr=1
+dnattr=member;x
+dn=
+dn.sub=
+dn=dc=com
+self
+"""
+ACCESS = """
+=RsC
+=
+=0r
++0 continue stop
+read write
+none break
+level{1}
+=w continue
+self read
++azd
+-0
+WRITE Stop
+"""
+RULES = """
+access
+access to
+access to *
+access to * by
+access to by * read
+access by * read
+access to * by * read by
+ACCESS TO * BY * READ STOP
+access to * by "*" re"ad"
+ by * read
+| by * read
+#x| access to bad
+access to *|\tby * read
+access to *|# comment| by * read
+\t| access to * by * write
+\r|access to * by * read\r
+"""
+DIRECTIVES = r"""
+suffix dc=com
+suffix dc=org x
+rootdn
+rootdn x
+rootdn ""
+rootdn dc=com|rootdn dc=com
+rootdn dc=com dc=com
+database
+database CONFIG|suffix x|suffix y
+database mdb
+database monitor|access
+include "x
+include x\
+access to * by * read "
+x "a b"c\"d
+"""
+WHOLE = """
+suffix dc=com|
+rootdn dc=com|
+database config|
+database mdb|
+database "a
+database mdb|suffix|
+database mdb|suffix x y|
+database monitor|database mdb|suffix dc=com|
+database mdb|suffix dc=org|
+database mdb|suffix ""|
+database mdb\r|suffix dc=com\r|
+"database" mdb|SUFFIX "DC=com"|
+"""
+NESTED = [
+    lines(f"{HEAD}access to filter={'(!' * (levels - 1)}(cn=a){end * (levels - 1)} by * read|") for levels in around(MOST_LEVELS) for end in (")", "")
 ]
-DIRECTIVES = [b"suffix dc=com", b"suffix dc=org x", b"rootdn", b"rootdn x", b'rootdn ""', b"rootdn dc=com\nrootdn dc=com", b"rootdn dc=com dc=com", b"database"]
-DIRECTIVES += [b"database CONFIG\nsuffix x\nsuffix y", b"database mdb", b'include "x', b"include x\\", b'access to * by * read "', b'x "a b"c\\"d', b"database monitor\naccess"]
-WHOLE = [b"", b"\n", b"suffix dc=com\n", b"rootdn dc=com\n", b"database config\n", b"database mdb\n", b'database "a', b"database mdb\nsuffix\n", b"database mdb\nsuffix x y\n"]
-WHOLE += [b"database monitor\n" + HEAD, HEAD.replace(b"dc=com", b"dc=org"), HEAD.replace(b"dc=com", b'""'), HEAD.replace(b"\n", b"\r\n"), b'"database" mdb\nSUFFIX "DC=com"\n']
-NESTED = [b"access to filter=" + b"(!" * (levels - 1) + b"(cn=a)" + end * (levels - 1) + b" by * read" for levels in around(MOST_LEVELS) for end in (b")", b"")]
+EITHER = lines(HEAD) + b"access to filter=(|(dc=a)(&(dc=*)(|(dc~=b)(dc=c*m)))) by * read\n"
 CONFIGS = {
-    "rules": [HEAD + line + b"\n" for line in LINES_OF_RULES],
-    "directives": [HEAD + line + b"\n" for line in DIRECTIVES],
-    "whole configurations": WHOLE,
-    "filters in filters": [HEAD + line + b"\n" for line in NESTED],
+    "what rules are for": each_rule(WHATS, "access to ", " by * read"),
+    "what two rules are for": each_rule(WHATS, "access to * by * break|access to ", " by users read"),
+    "whom rules are for": each_rule(WHOS, "access to * by ", " read"),
+    "what rules give": each_rule(ACCESS, "access to * by * "),
+    "rules": each_rule(RULES),
+    "directives": each_rule(DIRECTIVES),
+    "whole configurations": [b"", b"\n", *each(WHOLE)],
+    "filters in filters": [*NESTED, EITHER],
 }
 QUESTIONS = [Question("dc=com", None, ("entry", "dc", "children")), Question("dc=com", "dc=com", ("dc/read", "x", "children/none"), is_verbose=True)]
-ASKED = [("dc=com", "", ()), ("", "", ()), ("x", None, ()), ("dc=com", "x", ("y",)), ("dc=org", None, ()), ("dc=com,dc=com", None, ())]
-ASKED += [("dc=com", "cn=\u00fc\\,x+SN=a", ("a", "1"))]
-ASKED += [("dc=com", None, words) for words in (("",), ("cn/",), ("/read",), ("cn/read/x",), ("cn:/read",), ("cn/READ", "CN;X/Auth", "ENTRY", "Children/None:x"), ("dn",))]
+ASKED = [("dc=com", ""), ("", ""), ("x", None), ("dc=com", "x", "y"), ("dc=org", None), ("dc=com,dc=com", None), ("dc=com", "cn=\u00fc\\,x+SN=a", "a", "1")]
+ASKED += [("dc=com", None, word) for word in ("", "cn/", "/read", "cn/read/x", "cn:/read", "cn/READ", "CN;X/Auth", "ENTRY", "Children/None:x", "dn")]
 
 
 def check_changes(place, texts):
@@ -172,9 +357,9 @@ def check_configs(place, texts):
 
 
 def check_questions(place):
-    for base, requester, words in ASKED:
+    for base, requester, *words in ASKED:
         for is_fake in (False, True):
-            check_question(place, HEAD, Question(base, requester, words, is_fake, is_verbose=True))
+            check_question(place, lines(HEAD), Question(base, requester, words, is_fake, is_verbose=True))
     return f"{2 * len(ASKED)} questions"
 
 
