@@ -314,6 +314,93 @@ NESTED = [
     lines(f"{HEAD}access to filter={'(!' * (levels - 1)}(cn=a){end * (levels - 1)} by * read|") for levels in around(MOST_LEVELS) for end in (")", "")
 ]
 EITHER = lines(HEAD) + b"access to filter=(|(dc=a)(&(dc=*)(|(dc~=b)(dc=c*m)))) by * read\n"
+FILTERS = r"""
+(cn=foo  BAR)
+(cn= foo bar )
+(cn=f*b*r)
+(cn=foo *)
+(cn=foo*bar)
+(cn=* bar)
+(cn=*o  b*)
+(cn=*o b*r)
+(cn=  f*r  )
+(cn=*ar*a*)
+(cn=b*)
+(cn=*\20*)
+(cn=*\ff*)
+(cn=*\c3\bc*)
+(cn;lang-en=x)
+(cn;lang-de=*)
+(cn;lang-en;lang-de=y)
+(2.5.4.3=foo bar)
+(sn=STRASSE)
+(sn=stra*SSE)
+(sn=*\c3\9f*)
+(sn=*\1e*)
+(telephoneNumber=+1 55-5)
+(telephoneNumber=*1*5-5)
+(telephoneNumber=-*5)
+(mail=A@B*)
+(mail=*@b.c )
+(mail=*\c3*)
+(homeDirectory=/A)
+(homeDirectory=/*A)
+(homeDirectory=/a*)
+(uidNumber>=9)
+(uidNumber>=10)
+(uidNumber<=9)
+(uidNumber>=-99999999999999999999)
+(uidNumber<=99999999999999999999)
+(uidNumber>=010)
+(uidNumber=1*)
+(uidNumber=10)
+(uidNumber~=10)
+(note=A B)
+(note=a  b)
+(note=*)
+(note=a*)
+(note>=a)
+(member=CN=K , dc=com)
+(member=cn=k)
+(member=x)
+(member=cn=*)
+(member=)
+(objectClass=PERSON)
+(objectClass=p*)
+(objectClass=)
+(cn=)
+(nothing=)
+(nothing=*)
+(!(nothing=*))
+(!(uidNumber=x))
+(&(uidNumber=x)(cn=foo bar))
+(&(uidNumber=x)(cn=none))
+(!(&(uidNumber=x)(cn=none)))
+(!(&))
+(cn=\2a)
+(cn=a\)
+(cn=a\4)
+(cn=a\zz)
+(cn:dn:=a)
+( cn=a)
+(cn =a)
+(cn)
+(=a)
+()
+((cn=a))
+(&cn=a)
+(!(cn=a)(cn=b))
+(!)
+(dn=a)
+(cn=a)x
+cn=foo bar
+&(cn=*)(sn=*)
+!(cn=*)
+"""
+PERSON = lines(
+    "dn: cn=t,dc=com|cn: Foo   Bar|cn;lang-en: x|cn;lang-de;lang-en: y|sn:: U3RyYcOfZQ==|telephoneNumber: +1 555|mail: a@b.c|homeDirectory: /A|"
+    "uidNumber: 10|note: a  b|member: cn=k,dc=com|objectClass: person|"
+)
 CONFIGS = {
     "what rules are for": each_rule(WHATS, "access to ", " by * read"),
     "what two rules are for": each_rule(WHATS, "access to * by * break|access to ", " by users read"),
@@ -344,9 +431,13 @@ def check_changes(place, texts):
 
 def check_question(place, config, question):
     place.write("copy", COPY)
+    check_answer(place, config, COPY, question)
+
+
+def check_answer(place, config, copy, question):
     place.write("conf", config)
     found = place.run("slapacl", "-f", "conf", "--data", "copy", *question.options())
-    expect(found, access_answer(config, COPY, question), f"{config}, {question}")
+    expect(found, access_answer(config, copy, question), f"{config}, {question}")
 
 
 def check_configs(place, texts):
@@ -354,6 +445,17 @@ def check_configs(place, texts):
         for question in QUESTIONS:
             check_question(place, text, question)
     return f"{len(texts)} texts"
+
+
+def check_filters(place):
+    """Each filter in a rule that is passed over where it doesn't fit, and its opposite."""
+    filters = FILTERS.strip("\n").split("\n")
+    place.write("copy", COPY + PERSON)
+    for text in filters:
+        rules = "".join(f'access to "filter={one}" by * {level} break|' for one, level in ((text, "+w"), (f"(!{text})", "+r")))
+        config = lines(f"{HEAD}{rules}access to * by * +x|")
+        check_answer(place, config, COPY + PERSON, Question("cn=t,dc=com"))
+    return f"{len(filters)} filters"
 
 
 def check_questions(place):
@@ -368,6 +470,7 @@ def main():
     with Place(program) as place:
         pairs = [(name, lambda texts=texts: check_changes(place, texts)) for name, texts in CHANGES.items()]
         pairs += [(name, lambda texts=texts: check_configs(place, texts)) for name, texts in CONFIGS.items()]
+        pairs.append(("filters", lambda: check_filters(place)))
         pairs.append(("questions", lambda: check_questions(place)))
         status = checks.run("forms", pairs)
     sys.exit(status)
