@@ -373,7 +373,7 @@ def main():
     args = parser.parse_args()
     args.divided_by = args.divided_by or (100 if args.instructions else 1)
     chosen = [family for family in FAMILIES if args.only in family.name()]
-    print("| Family | Larger text | CPU of it | Exponent | Peak memory of both |\n|---|---|---|---|---|", flush=True)
+    print("| Family | Larger text | Its cost | Exponent | Peak memory of both |\n|---|---|---|---|---|", flush=True)
     with tempfile.TemporaryDirectory() as folder:
         measure = Measure(args, folder)
         answers = [measure.family(family) for family in chosen]

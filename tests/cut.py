@@ -1,5 +1,5 @@
 #!/usr/bin/env python3
-"""Runs slapkit on texts that are cut after each of their bytes, as by a transfer that broke off.
+"""Runs slapkit on texts that are cut after each of their bytes (one that is long, after some), as by a transfer that broke off.
 
 usage: cut.py PROGRAM [WORD]
 
