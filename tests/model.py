@@ -1,13 +1,10 @@
 """A model of a directory and of the update operations of LDAP (RFC 4511, sections 4.6 to 4.9), each with the changes that
-take it back: what slapkit must do, in another language and another form.
-
-A name is a list of RDNs, leaf first; an RDN is a list of pairs of a type, as spelled, and a value. A key is what names are
-compared by: of an RDN the sorted pairs of a type and a value's key, of a name the keys of its RDNs, root first.
+take it back: what slapkit must do, in another language and another form. names.py says what names, values and keys are.
 """
 import dataclasses
-import re
-import unicodedata
 
+import names
+from names import description_key, is_single, name_key, printed_name, rdn_key
 from texts import block, line
 
 CODES = {
@@ -23,7 +20,6 @@ CODES = {
     67: "67 notAllowedOnRDN",
     68: "68 entryAlreadyExists",
 }
-MOST_RDNS = 64
 
 
 class Refused(Exception):
@@ -34,66 +30,11 @@ class Refused(Exception):
         return self.args[0]
 
 
-# ---- types and values
-
-# each type: its spellings
-TYPES = {
-    "cn": ["cn", "CN", "commonName"],
-    "cn;lang-en": ["cn;lang-en", "CommonName;LANG-EN"],
-    "dc": ["dc", "DC", "domainComponent"],
-    "description": ["description", "Description", "2.5.4.13"],
-    "note": ["note", "NOTE"],
-    "sn": ["sn", "surname"],
-    "uidnumber": ["uidNumber", "UIDNUMBER"],
-}
-SINGLE = ("dc", "uidnumber")
-TYPE_OF = {spelling.lower(): kind for kind, spellings in TYPES.items() for spelling in spellings}
-
-
-def type_of(spelling):
-    return TYPE_OF[spelling.lower()]
-
-
 def value_key(kind, value):
-    """What two equal values of a type have in common."""
-    if kind == "uidnumber":
-        if not re.fullmatch("0|-?[1-9][0-9]*", value):
-            raise Refused(21)
-        return value
-    if kind == "note":
-        return value
-    if kind == "dc" and not value.isascii():
-        raise Refused(21)
-    return " ".join(filter(None, unicodedata.normalize("NFKC", value.casefold()).split(" ")))
-
-
-def rdn_key(rdn):
-    return tuple(sorted((type_of(kind), value_key(type_of(kind), value)) for kind, value in rdn))
-
-
-def name_key(name):
-    return tuple(rdn_key(rdn) for rdn in reversed(name))
-
-
-# ---- the texts
-
-
-def printed_value(value):
-    data = value.encode()
-    last = len(data) - 1
-    text = ""
-    for at, byte in enumerate(data):
-        is_escaped = not 32 <= byte <= 126 or byte in b'"+,;<>\\' or byte == 32 and at in (0, last) or byte == 35 and at == 0
-        text += f"\\{byte:02X}" if is_escaped else chr(byte)
-    return text
-
-
-def printed_rdn(rdn):
-    return "+".join(f"{kind}={printed_value(value)}" for kind, value in rdn)
-
-
-def printed_name(name):
-    return ",".join(map(printed_rdn, name))
+    try:
+        return names.value_key(kind, value)
+    except names.NoKey:
+        raise Refused(21) from None
 
 
 # ---- changes
@@ -138,17 +79,17 @@ class Rename:
     def text(self, printed):
         lines = [("dn", printed(self.dn)), ("changetype", "modrdn"), ("newrdn", printed([self.newrdn]))]
         lines.append(("deleteoldrdn", "1" if self.delete_old else "0"))
-        return block(*lines, *([("newsuperior", printed(self.superior))] if self.superior else []))
+        return block(*lines, *([] if self.superior is None else [("newsuperior", printed(self.superior))]))
 
 
-# ---- attributes: a map from types to a spelling and a map from keys of values to values
+# ---- attributes: a map from keys of descriptions to a spelling and a map from keys of values to values
 
 
 def with_missing(attributes, rdn):
     """The attributes with those values of an RDN that are not there."""
     attributes = dict(attributes)
     for spelling, value in rdn:
-        kind = type_of(spelling)
+        kind = description_key(spelling)
         spelled, values = attributes.get(kind, (spelling, {}))
         attributes[kind] = (spelled, {value_key(kind, value): value} | values)
     return attributes
@@ -171,7 +112,7 @@ def renamed_attributes(attributes, old, rdn, delete_old):
 
 
 def check_single(attributes):
-    if any(len(attributes[kind][1]) > 1 for kind in SINGLE if kind in attributes):
+    if any(len(values) > 1 for kind, (_, values) in attributes.items() if is_single(kind)):
         raise Refused(19)
 
 
@@ -180,12 +121,17 @@ def has_value(attributes, pair):
 
 
 def in_order(values):
-    return [values[key] for key in sorted(values, key=str.encode)]
+    return [values[key] for key in sorted(values, key=names.order)]
+
+
+def in_order_of_keys(kinds):
+    """Keys of descriptions: by their types, then by their options."""
+    return sorted(kinds, key=lambda kind: kind.split(";"))
 
 
 def lines_of(attributes):
     """All values as lines, in the order of their keys."""
-    return [(attributes[kind][0], value) for kind in sorted(attributes) for value in in_order(attributes[kind][1])]
+    return [(attributes[kind][0], value) for kind in in_order_of_keys(attributes) for value in in_order(attributes[kind][1])]
 
 
 def slot_after(slot, op, spelling, values):
@@ -196,7 +142,7 @@ def slot_after(slot, op, spelling, values):
         if op == "delete" and slot is None:
             raise Refused(16)
         return None
-    keyed = [(value_key(type_of(spelling), value), value) for value in values]
+    keyed = [(value_key(description_key(spelling), value), value) for value in values]
     keys = [key for key, _ in keyed]
     twice = len(set(keys)) < len(keys)
     had = slot[1] if slot else {}
@@ -215,7 +161,7 @@ def slot_after(slot, op, spelling, values):
 def difference(old, new):
     """The modifications that lead from attributes to others, type by type, in the order of their keys."""
     mods = []
-    for kind in sorted({*old, *new}):
+    for kind in in_order_of_keys({*old, *new}):
         a, b = old.get(kind), new.get(kind)
         if not b:
             mods.append(("delete", a[0], []))
@@ -243,23 +189,23 @@ class Entry:
 
 
 class Directory:
-    """A directory: a map from keys to entries, of which the first is the suffix's."""
+    """A directory: a map from keys to entries. The name of the suffix's entry has RDNs above its own."""
 
     def __init__(self, suffix):
-        self.suffix, self.entries = suffix, {}
+        self.suffix, self.entries, self.above_suffix = suffix, {}, []
 
     def copy(self):
         other = Directory(self.suffix)
-        other.entries = dict(self.entries)
+        other.entries, other.above_suffix = dict(self.entries), self.above_suffix
         return other
 
     def name(self, key):
-        """The name of an entry as spelled: its own RDN, its parent's, and so on up to the suffix's."""
-        return [self.entries[key[:depth]].own for depth in range(len(key), 0, -1)]
+        """The name of an entry as spelled: its own RDN, its parent's, and so on up to the suffix's, and those above it."""
+        return [self.entries[key[:depth]].own for depth in range(len(key), len(self.suffix) - 1, -1)] + self.above_suffix
 
     def text(self):
         """The canonical text: the entries in the order of their keys."""
-        keys = sorted(self.entries, key=lambda key: [[(kind, value.encode()) for kind, value in rdn] for rdn in key])
+        keys = sorted(self.entries, key=names.order)
         return "".join(block(("dn", printed_name(self.name(key))), *lines_of(self.entries[key].attributes)) for key in keys)
 
     def entry(self, key):
@@ -281,19 +227,29 @@ class Directory:
                 return self.rename(key, change)
 
     def add(self, key, change):
-        if key[:1] != self.suffix:
+        self.check_place(key)
+        if key != self.suffix:
+            self.entry(key[:-1])
+        self.put(key, change.dn, change.lines)
+        return [Delete(self.name(key))]
+
+    def check_place(self, key):
+        """Passes where an entry may come to this place, if its parent is there."""
+        if key[: len(self.suffix)] != self.suffix:
             raise Refused(32)
         if key in self.entries:
             raise Refused(68)
-        if key != self.suffix:
-            self.entry(key[:-1])
-        keyed = [(type_of(kind), value_key(type_of(kind), value)) for kind, value in change.lines]
+
+    def put(self, key, name, lines):
+        """Puts an entry to its place, with the values of its own RDN and those of the lines."""
+        keyed = [(description_key(kind), value_key(description_key(kind), value)) for kind, value in lines]
         if len(set(keyed)) < len(keyed):
             raise Refused(20)
-        attributes = with_missing(with_missing({}, change.lines), change.dn[0])
+        attributes = with_missing(with_missing({}, lines), name[0])
         check_single(attributes)
-        self.entries[key] = Entry(change.dn[0], attributes)
-        return [Delete(self.name(key))]
+        self.entries[key] = Entry(name[0], attributes)
+        if key == self.suffix:
+            self.above_suffix = name[1:]
 
     def delete(self, key):
         entry = self.entry(key)
@@ -307,9 +263,9 @@ class Directory:
         entry = self.entry(key)
         attributes = dict(entry.attributes)
         for op, spelling, values in mods:
-            slot = slot_after(attributes.pop(type_of(spelling), None), op, spelling, values)
+            slot = slot_after(attributes.pop(description_key(spelling), None), op, spelling, values)
             if slot:
-                attributes[type_of(spelling)] = slot
+                attributes[description_key(spelling)] = slot
         if not all(has_value(attributes, pair) for pair in key[-1]):
             raise Refused(67)
         check_single(attributes)
@@ -321,7 +277,7 @@ class Directory:
         entry = self.entry(key)
         if key == self.suffix:
             raise Refused(53)
-        superior = name_key(change.superior) if change.superior else key[:-1]
+        superior = key[:-1] if change.superior is None else name_key(change.superior)
         if superior[: len(key)] == key:
             raise Refused(53)
         self.entry(superior)
@@ -329,7 +285,7 @@ class Directory:
         subtree = [other for other in self.entries if other[: len(key)] == key]
         if place in self.entries and place != key:
             raise Refused(68)
-        if len(place) + max(map(len, subtree)) - len(key) > MOST_RDNS:
+        if len(place) + max(map(len, subtree)) - len(key) > names.MOST_RDNS:
             raise Refused(11)
         attributes = renamed_attributes(entry.attributes, key[-1], change.newrdn, change.delete_old)
         check_single(attributes)

@@ -14,8 +14,10 @@ import tempfile
 
 import checks
 import model
+import names
 from checks import expect
-from model import CODES, MOST_RDNS, TYPES, Add, Delete, Directory, Entry, Modify, Refused, Rename
+from model import CODES, Add, Delete, Directory, Entry, Modify, Refused, Rename
+from names import MOST_RDNS
 from texts import NOTHING, same
 
 RUNS = 12
@@ -23,6 +25,16 @@ ENTRIES = 14
 CHANGES = 200
 
 SUFFIX = [("dc", "com")]
+# each type: its spellings
+TYPES = {
+    "cn": ["cn", "CN", "commonName"],
+    "cn;lang-en": ["cn;lang-en", "CommonName;LANG-EN"],
+    "dc": ["dc", "DC", "domainComponent"],
+    "description": ["description", "Description", "2.5.4.13"],
+    "note": ["note", "NOTE"],
+    "sn": ["sn", "surname"],
+    "uidnumber": ["uidNumber", "UIDNUMBER"],
+}
 # values with signs that a name escapes, spaces at their ends, letters of other scripts, and the same ones spelled otherwise
 TEXTS = ["a", "A", "b", "B", "c", "d", "D", " e", "F  f", "f F ", "g,h", "G,H", "i+j", "#k", 'l"l', "m\\m", "<n;n>", "o=o", "\u00fc", "\u00dc", "stra\u00dfe"]
 NUMBERS = ["1", "2", "3"]
@@ -41,7 +53,7 @@ def other_value(rng, kind, value):
 
 
 def other_pair(rng, pair):
-    kind = model.type_of(pair[0])
+    kind = names.description_key(pair[0])
     return rng.choice(TYPES[kind]), other_value(rng, kind, pair[1])
 
 
@@ -125,7 +137,7 @@ def new_rdn(rng, entry):
         return [other_pair(rng, rng.choice(there))]
     rdn = random_rdn(rng)
     if form == "more":
-        own = {model.type_of(kind): (kind, value) for kind, value in rdn + other_rdn(rng, entry.own)}
+        own = {names.description_key(kind): (kind, value) for kind, value in rdn + other_rdn(rng, entry.own)}
         return list(own.values())
     return rdn
 
@@ -144,7 +156,7 @@ def name_in(rng, directory, keys):
 def random_change(rng, directory):
     keys = list(directory.entries)
     name = name_in(rng, directory, keys)
-    entry = directory.entries.get(model.name_key(name))
+    entry = directory.entries.get(names.name_key(name))
     op = rng.choice(["add", "add", "delete", "modify", "modify", "rename", "rename", "rename"])
     if op == "add":
         rdn = random_rdn(rng)
@@ -165,7 +177,7 @@ def put(rng, directory, parent):
     """Puts an entry below this one, and returns its key."""
     while True:
         rdn = random_rdn(rng)
-        key = (*parent, model.rdn_key(rdn))
+        key = (*parent, names.rdn_key(rdn))
         try:
             directory.add(key, Add([rdn, *directory.name(parent)], random_lines(rng, rdn)))
             return key
@@ -173,16 +185,16 @@ def put(rng, directory, parent):
             continue
 
 
-def random_directory(rng, depth):
+def random_directory(rng, depth, entries=ENTRIES):
     """A directory of entries below each other, some of them in two chains of this depth."""
-    suffix = model.name_key([SUFFIX])
+    suffix = names.name_key([SUFFIX])
     directory = Directory(suffix)
     directory.entries[suffix] = Entry(SUFFIX, {"dc": ("dc", {"com": "com"})})
     for _ in range(2):
         parent = suffix
         for _ in range(depth):
             parent = put(rng, directory, parent)
-    for _ in range(ENTRIES):
+    for _ in range(entries):
         put(rng, directory, rng.choice([key for key in directory.entries if len(key) < MOST_RDNS]))
     return directory
 
@@ -198,7 +210,7 @@ def run(program, folder, copy, changes, new, undo):
 
 
 def undo_text(groups):
-    return NOTHING + "".join(change.text(model.printed_name) for group in reversed(groups) for change in group)
+    return NOTHING + "".join(change.text(names.printed_name) for group in reversed(groups) for change in group)
 
 
 class Planned:
@@ -227,7 +239,7 @@ def back_and_forth(program, place, directory, planned, copy):
     back = Planned()
     for group in reversed(planned.groups):
         for change in group:
-            back.make(directory, change, model.printed_name)
+            back.make(directory, change, names.printed_name)
     same(directory.text(), copy, "the model's copy again")
     expect(back.refused, [], "refused by the model on the way back")
     expect(run(program, place, "new", "undo", "back", "redo"), back.answer(), "the undo run")
@@ -265,4 +277,5 @@ def main():
     sys.exit(checks.run("operations", runs))
 
 
-main()
+if __name__ == "__main__":
+    main()

@@ -212,6 +212,32 @@ def a_value_of_1048576_bytes(program):
     try_run(program, ROOT, added(name, ("description", "x" * 1_048_577)), Wanted(1, report, ROOT, NOTHING, ROOT))
 
 
+def a_line_of_2097152_bytes(program):
+    """A comment, or a line whose value is past its limit: as it is, with CR LF, and folded."""
+    limit = 2_097_152
+    forms = (lambda line: f"{line}\n", lambda line: f"{line}\r\n", lambda line: line[:70] + "\n " + line[70:] + "\n")
+    begin = "dn: cn=a,dc=com\nchangetype: add\nsn: "
+    for form in forms:
+        comment, value = form("#" + "x" * (limit - 1)), form("sn: " + "x" * (limit - 4))
+        wanted = Wanted(0, "accepted 1, refused 0\n", ROOT + block(("dn", "cn=a,dc=com"), ("cn", "a"), ("sn", "b")), NOTHING + deleted("cn=a,dc=com"), ROOT)
+        try_run(program, ROOT, f"{comment}{begin}b\n", wanted)
+        report = "line 1: refused, L8 ValueTooLong\naccepted 0, refused 1\n"
+        try_run(program, ROOT, begin.replace("sn: ", "") + value, Wanted(1, report, ROOT, NOTHING, ROOT))
+        for line in (comment, value):
+            expect_too_long(program, line.replace("xx", "xxx", 1))
+
+
+def expect_too_long(program, changes):
+    with tempfile.TemporaryDirectory() as name:
+        folder = pathlib.Path(name)
+        folder.joinpath("copy").write_text(ROOT)
+        folder.joinpath("changes").write_text(changes)
+        words = [program, "slapmodify", "-b", "dc=com", "--data", "copy", "-l", "changes", "--out", "new", "--undo", "undo", "-c"]
+        ended = subprocess.run(words, cwd=folder, stdin=subprocess.DEVNULL, capture_output=True, text=True, timeout=120)
+        expect((ended.returncode, ended.stdout, ended.stderr), (1, "", "slapkit: changes: L10 LineTooLong\n"))
+        expect(sorted(path.name for path in folder.iterdir()), ["changes", "copy"], "files")
+
+
 TRIALS = [
     an_entry_of_2000_lines,
     a_name_of_64_rdns,
@@ -219,6 +245,7 @@ TRIALS = [
     a_move_of_10000_entries,
     refused_records_10000,
     a_value_of_1048576_bytes,
+    a_line_of_2097152_bytes,
     a_copy_of_20_mb,
 ]
 

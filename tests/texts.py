@@ -2,15 +2,22 @@
 import base64
 
 from checks import Wrong
+from names import as_bytes
 
 # the undo file of a run that changed nothing, and the beginning of every other one
 NOTHING = "version: 1\n\n"
 
 
+def is_plain(value):
+    return value.isascii() and not set(value) & set("\0\r\n") and not value.startswith((" ", ":", "<")) and not value.endswith(" ")
+
+
 def line(name, value):
     """A line of LDIF: in base64 where the value is not plain, folded after 76 bytes, and then after each 75."""
-    is_plain = value.isascii() and value.isprintable() and value[0] not in " :<" and value[-1] != " "
-    text = f"{name}: {value}" if is_plain else f"{name}:: {base64.b64encode(value.encode()).decode()}"
+    if is_plain(value):
+        text = f"{name}: {value}" if value else f"{name}:"
+    else:
+        text = f"{name}:: {base64.b64encode(as_bytes(value)).decode()}"
     rest = [text[at : at + 75] for at in range(76, len(text), 75)]
     return "\n ".join([text[:76], *rest]) + "\n"
 

@@ -15,6 +15,8 @@ SCRIPTS = (
     "power.py",
     "size.py",
     "operations.py",
+    "cut.py",
+    "forms.py",
     "terminal.py",
     "memory_answers.py",
     "frequent_types.py",

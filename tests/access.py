@@ -1,0 +1,596 @@
+"""Who may do what by a slapd.conf: what `slapkit slapacl` must answer, by slapd.access(5), slapd.conf(5), RFC 4511 and RFC 4515.
+
+The rules are read from whole lines here and asked one after the other.
+"""
+import dataclasses
+import enum
+import re
+
+import answers
+import names
+from answers import Fault
+from names import NameFault, NoKey, Rule, as_bytes, as_text, description_key
+
+BAD_DIRECTIVE, UNSUPPORTED, BAD_FILTER, BAD_NAME = "C1 BadDirective", "C2 Unsupported", "C3 BadFilter", "C4 Name"
+SECOND_DATABASE, SECOND_SUFFIX, GLOBAL_ACCESS = "C5 SecondDatabase", "C6 SecondSuffix", "C7 GlobalAccess"
+FILTER_TOO_DEEP, NO_SUFFIX, CONFIG_TOO_LONG = "C8 FilterTooDeep", "C10 NoSuffix", "C11 ConfigTooLong"
+MOST_BYTES_OF_A_CONFIGURATION = 16_777_216
+MOST_LEVELS = 64
+
+LEVELS = {"none": "", "disclose": "d", "auth": "xd", "compare": "cxd", "search": "scxd", "read": "rscxd"}
+LEVELS |= {"add": "arscxd", "delete": "zrscxd", "write": "azrscxd", "manage": "mazrscxd"}
+OWN = {"none": "", "disclose": "d", "auth": "x", "compare": "c", "search": "s", "read": "r", "add": "a", "delete": "z", "write": "az", "manage": "m"}
+ALL = "mazrscxd"
+
+
+class Refused(Exception):
+    """A line of a configuration, or a filter, is refused, and why."""
+
+
+# ---- filters: functions from an entry's attributes to true, false or None, which is Undefined
+
+
+def covers(kind, other):
+    """Whether a description's attribute is meant by another one too: of the same type, with its options at least."""
+    (first, *options), (second, *others) = kind.split(";"), other.split(";")
+    return first == second and set(options) <= set(others)
+
+
+def covered(kind, attributes):
+    """The sets of values, by their keys, that an entry has under the descriptions that one covers."""
+    return [values for other, (_, values) in attributes.items() if covers(kind, other)]
+
+
+def has_value(kind, attributes, key):
+    return any(key in values for values in covered(kind, attributes))
+
+
+def equality(kind, value):
+    try:
+        key = names.value_key(kind, value)
+    except NoKey:
+        return lambda _: None
+    return lambda attributes: has_value(kind, attributes, key)
+
+
+def comparison(kind, value, is_least):
+    try:
+        wanted = int(names.value_key(kind, value)) if names.rule_of(kind) is Rule.INTEGER else None
+    except NoKey:
+        wanted = None
+    if wanted is None:
+        return lambda _: None
+    fits = (lambda key: int(key) >= wanted) if is_least else (lambda key: int(key) <= wanted)
+    return lambda attributes: any(fits(key) for values in covered(kind, attributes) for key in values)
+
+
+def folded_piece(rule, piece, is_first, is_last):
+    if rule in (Rule.IA5_CASE_IGNORE, Rule.IA5_CASE_EXACT):
+        piece = names.ia5(piece)
+        piece = piece.lower() if rule is Rule.IA5_CASE_IGNORE else piece
+    else:
+        piece = names.folded(piece)
+    if rule is Rule.TELEPHONE:
+        return piece.replace(" ", "").replace("-", "")
+    piece = re.sub(" +", " ", piece)
+    piece = piece.lstrip(" ") if is_first else piece
+    return piece.rstrip(" ") if is_last else piece
+
+
+def substrings(kind, pieces):
+    rule = names.rule_of(kind)
+    if rule not in (Rule.CASE_IGNORE, Rule.TELEPHONE, Rule.IA5_CASE_IGNORE, Rule.IA5_CASE_EXACT):
+        return lambda _: None
+    last = len(pieces) - 1
+    try:
+        folded = [folded_piece(rule, piece, at == 0, at == last) for at, piece in enumerate(pieces) if piece]
+    except NoKey:
+        return lambda _: None
+    # where the first or the last piece is empty, any text may stand there
+    parts = [*([] if pieces[0] else [""]), *map(re.escape, folded), *([] if pieces[-1] else [""])]
+    fits = re.compile(".*".join(parts), re.S).fullmatch
+    return lambda attributes: any(fits(key) for values in covered(kind, attributes) for key in values)
+
+
+def conjunction(filters):
+    def truth(attributes):
+        found = [one(attributes) for one in filters]
+        return False if False in found else None if None in found else True
+
+    return truth
+
+
+def disjunction(filters):
+    def truth(attributes):
+        found = [one(attributes) for one in filters]
+        return True if True in found else None if None in found else False
+
+    return truth
+
+
+def negation(filters):
+    def truth(attributes):
+        found = filters[0](attributes)
+        return None if found is None else not found
+
+    return truth
+
+
+TEST = re.compile(rb"([A-Za-z0-9.;-]*)(=|~=|>=|<=)([^()\0]*)")
+PIECE = re.compile(rb"(?:[^\\]|\\[0-9A-Fa-f]{2})*")
+
+
+class FilterReader:
+    """Reads a filter from left to right."""
+
+    def __init__(self, text):
+        self.text, self.at = text if text.startswith(b"(") else b"(" + text + b")", 0
+
+    def whole(self):
+        found = self.filter(1)
+        if self.at != len(self.text):
+            raise Refused(BAD_FILTER)
+        return found
+
+    def next_is(self, sign):
+        return self.text[self.at : self.at + 1] == sign
+
+    def take(self, sign):
+        if not self.next_is(sign):
+            raise Refused(BAD_FILTER)
+        self.at += 1
+
+    def filter(self, level):
+        self.take(b"(")
+        if level > MOST_LEVELS:
+            raise Refused(FILTER_TOO_DEEP)
+        found = self.filters(level) if self.text[self.at : self.at + 1] in (b"&", b"|", b"!") else self.test()
+        self.take(b")")
+        return found
+
+    def filters(self, level):
+        sign = self.text[self.at : self.at + 1]
+        self.at += 1
+        found = []
+        while self.next_is(b"(") and (sign != b"!" or not found):
+            found.append(self.filter(level + 1))
+        if sign == b"!" and not found:
+            raise Refused(BAD_FILTER)
+        return {b"&": conjunction, b"|": disjunction, b"!": negation}[sign](found)
+
+    def test(self):
+        found = TEST.match(self.text, self.at)
+        if not found:
+            raise Refused(BAD_FILTER)
+        self.at = found.end()
+        try:
+            kind = description_key(as_text(found[1]))
+        except NameFault:
+            raise Refused(BAD_FILTER) from None
+        pieces = [unescaped(piece) for piece in found[3].split(b"*")]
+        if len(pieces) == 1:
+            value = pieces[0]
+            return equality(kind, value) if found[2] in (b"=", b"~=") else comparison(kind, value, found[2] == b">=")
+        if found[2] != b"=":
+            raise Refused(BAD_FILTER)
+        if not any(pieces):
+            return lambda attributes: bool(covered(kind, attributes))
+        return substrings(kind, pieces)
+
+
+def unescaped(piece):
+    if not PIECE.fullmatch(piece):
+        raise Refused(BAD_FILTER)
+    return as_text(re.sub(rb"\\(..)", lambda pair: bytes([int(pair[1], 16)]), piece))
+
+
+# ---- the lines of a configuration
+
+
+def logical_lines(data):
+    """The number and the text of each line, unfolded, without comments and lines of white space alone."""
+    folded = []
+    for number, line in enumerate(data.removesuffix(b"\n").split(b"\n") if data else [], 1):
+        line = line.removesuffix(b"\r")
+        if line[:1] in (b" ", b"\t") and folded:
+            folded[-1][1].append(line)
+        else:
+            folded.append((number, [line]))
+    joined = [(number, b"".join(parts)) for number, parts in folded]
+    return [(number, line) for number, line in joined if not line.startswith(b"#") and line.strip(b" \t")]
+
+
+def arguments(line):
+    """Yields the arguments of a line. One that is open at the line's end is a fault, once it is asked for."""
+    at = 0
+    while True:
+        while line[at : at + 1] in (b" ", b"\t"):
+            at += 1
+        if at == len(line):
+            return
+        word, is_quoted = bytearray(), False
+        while at < len(line) and (is_quoted or line[at] not in b" \t"):
+            if line[at] == 0x22:
+                is_quoted = not is_quoted
+            else:
+                at += line[at] == 0x5C
+                if at == len(line):
+                    raise Refused(BAD_DIRECTIVE)
+                word.append(line[at])
+            at += 1
+        if is_quoted:
+            raise Refused(BAD_DIRECTIVE)
+        yield as_text(bytes(word))
+
+
+@dataclasses.dataclass
+class Clause:
+    who: list
+    edit: tuple
+    control: str
+
+
+@dataclasses.dataclass
+class Directive:
+    what: list
+    clauses: list
+
+
+@dataclasses.dataclass
+class Config:
+    suffix: tuple | None = None
+    rootdn: tuple | None = None
+    has_rootdn: bool = False
+    has_database: bool = False
+    is_passed_over: bool = False
+    directives: list = dataclasses.field(default_factory=list)
+
+    def read_line(self, line):
+        words = arguments(line)
+        keyword = next(words).lower()
+        if keyword == "database":
+            self.read_database(words)
+        elif not self.is_passed_over and keyword in ("suffix", "rootdn", "access"):
+            {"suffix": self.read_suffix, "rootdn": self.read_rootdn, "access": self.read_access}[keyword](words)
+        for _ in words:
+            pass
+
+    def read_database(self, words):
+        name = argument(words).lower()
+        self.is_passed_over = name in ("config", "monitor")
+        if not self.is_passed_over and self.has_database:
+            raise Refused(SECOND_DATABASE)
+        self.has_database |= not self.is_passed_over
+
+    def read_suffix(self, words):
+        if not self.has_database:
+            raise Refused(BAD_DIRECTIVE)
+        if self.suffix is not None:
+            raise Refused(SECOND_SUFFIX)
+        self.suffix = legal_name(argument(words))
+        if not self.suffix:
+            raise Refused(BAD_NAME)
+        if next(words, None) is not None:
+            raise Refused(SECOND_SUFFIX)
+
+    def read_rootdn(self, words):
+        if not self.has_database or self.has_rootdn:
+            raise Refused(BAD_DIRECTIVE)
+        self.rootdn, self.has_rootdn = legal_name(argument(words)) or None, True
+        if next(words, None) is not None:
+            raise Refused(BAD_DIRECTIVE)
+
+    def read_access(self, words):
+        if not self.has_database:
+            raise Refused(GLOBAL_ACCESS)
+        self.directives.append(directive_of(words))
+
+
+def argument(words):
+    word = next(words, None)
+    if word is None:
+        raise Refused(BAD_DIRECTIVE)
+    return word
+
+
+def legal_name(text):
+    try:
+        return names.checked_name_key(names.read_name(as_bytes(text)))
+    except NameFault:
+        raise Refused(BAD_NAME) from None
+
+
+def legal_description(text):
+    try:
+        return description_key(text)
+    except NameFault:
+        raise Refused(BAD_NAME) from None
+
+
+def read_config(data):
+    """The configuration of a text, or its first fault, which is told with its line."""
+    if len(data) > MOST_BYTES_OF_A_CONFIGURATION:
+        raise Fault(f"config, line 0: {CONFIG_TOO_LONG}")
+    config = Config()
+    for number, line in logical_lines(data):
+        try:
+            config.read_line(line)
+        except Refused as refused:
+            raise Fault(f"config, line {number}: {refused}") from None
+    if config.suffix is None:
+        raise Fault(f"config, line 0: {NO_SUFFIX}")
+    return config
+
+
+# ---- rules
+
+
+class Asked(enum.Enum):
+    ENTRY = "entry"
+    CHILDREN = "children"
+
+
+@dataclasses.dataclass
+class Request:
+    """Who asks for what of which entry. The attributes are none where the entry is not looked up."""
+
+    requester: tuple | None
+    target: tuple
+    attributes: dict
+    asked: str | Asked
+    directory: answers.Directory
+
+
+IN_STYLE = {
+    "base": lambda key, name: key == name,
+    "one": lambda key, name: key[:-1] == name and key != (),
+    "subtree": lambda key, name: key[: len(name)] == name,
+    "children": lambda key, name: key[: len(name)] == name and key != name,
+}
+STYLES = {"": "base", ".base": "base", ".exact": "base", ".one": "one", ".onelevel": "one"}
+STYLES |= {".sub": "subtree", ".subtree": "subtree", ".children": "children"}
+
+
+def style_test(form, value):
+    """What a form such as `dn.children` with a name asks of a key."""
+    if form[2:] not in STYLES:
+        raise Refused(UNSUPPORTED)
+    name, fits = legal_name(value), IN_STYLE[STYLES[form[2:]]]
+    return lambda key: fits(key, name)
+
+
+def asked_of(text):
+    return Asked(text.lower()) if text.lower() in ("entry", "children") else legal_description(text)
+
+
+def list_test(value):
+    listed = [asked_of(text) for text in value.split(",")]
+
+    def fits(request):
+        if isinstance(request.asked, Asked):
+            return request.asked in listed
+        return any(not isinstance(one, Asked) and covers(one, request.asked) for one in listed)
+
+    return fits
+
+
+def what_of(word):
+    """The form of a what, and what it asks of a request."""
+    if word == "*":
+        return "*", lambda _: True
+    form, equals, value = word.partition("=")
+    form = form.lower()
+    if not equals:
+        raise Refused(UNSUPPORTED)
+    if form == "dn" or form.startswith("dn."):
+        test = style_test(form, value)
+        return "dn", lambda request: test(request.target)
+    if form == "filter":
+        truth = FilterReader(as_bytes(value)).whole()
+        return "filter", lambda request: truth(request.attributes) is True
+    if form == "attrs":
+        return "attrs", list_test(value)
+    raise Refused(UNSUPPORTED)
+
+
+def name_rule(text):
+    kind = legal_description(text)
+    if names.rule_of(kind) is not Rule.NAME:
+        raise Refused(UNSUPPORTED)
+    return kind
+
+
+def group_of(form, value):
+    kinds = form.removesuffix(".exact").split("/")
+    if len(kinds) > 3:
+        raise Refused(UNSUPPORTED)
+    of_class = (kinds[1] if len(kinds) > 1 else "groupOfNames").lower()
+    if not names.is_type(of_class):
+        raise Refused(BAD_NAME)
+    kind = name_rule(kinds[2]) if len(kinds) > 2 else "member"
+    name = legal_name(value)
+
+    def holds(request):
+        group = request.directory.entries.get(name)
+        if group is None or request.requester is None:
+            return False
+        _, classes = group.attributes.get("objectclass", ("", {}))
+        return of_class in classes and has_value(kind, group.attributes, request.requester)
+
+    return holds
+
+
+WHO_WORDS = {
+    "*": lambda _: True,
+    "anonymous": lambda request: request.requester is None,
+    "users": lambda request: request.requester is not None,
+    "self": lambda request: request.requester == request.target,
+}
+
+
+def who_of(word):
+    """What a who asks of a request; none where the word is no who."""
+    if word.lower() in WHO_WORDS:
+        return WHO_WORDS[word.lower()]
+    form, equals, value = word.partition("=")
+    kept, form = form, form.lower()
+    if not equals:
+        return None
+    if form == "dn" or form.startswith("dn."):
+        test = style_test(form, value)
+        return lambda request: request.requester is not None and test(request.requester)
+    if form == "dnattr":
+        kind = name_rule(value)
+        return lambda request: request.requester is not None and has_value(kind, request.attributes, request.requester)
+    if form in ("group", "group.exact") or form.startswith("group/"):
+        return group_of(kept if not form.endswith(".exact") else kept[: -len(".exact")], value)
+    return None
+
+
+def edit_of(word):
+    """The sign and the privileges of an access; none where the word is no access."""
+    word = word.lower()
+    if word in LEVELS:
+        return "=", LEVELS[word]
+    found = re.fullmatch("([=+-])(0|[mwazrscxd]+)", word)
+    return (found[1], found[2].replace("w", "az").replace("0", "")) if found else None
+
+
+CONTROLS = ("stop", "continue", "break")
+
+
+def directive_of(words):
+    if argument(words).lower() != "to":
+        raise Refused(BAD_DIRECTIVE)
+    what, word = {}, argument(words)
+    if word.lower() == "by":
+        raise Refused(UNSUPPORTED)
+    while word.lower() != "by":
+        form, test = what_of(word)
+        if form in what and form != "*":
+            raise Refused(BAD_DIRECTIVE)
+        what[form] = test
+        word = argument(words)
+    clauses = []
+    while word is not None:
+        clause, word = clause_of(words)
+        clauses.append(clause)
+    return Directive(list(what.values()), clauses)
+
+
+def clause_of(words):
+    """A clause after its `by`, and the word after it, which is the next `by`, or none."""
+    first = who_of(argument(words))
+    if first is None:
+        raise Refused(UNSUPPORTED)
+    clause, word = Clause([first], ("+", ""), "stop"), next(words, None)
+    while word is not None and (who := who_of(word)) is not None:
+        clause.who.append(who)
+        word = next(words, None)
+    if word is not None and (edit := edit_of(word)) is not None:
+        clause.edit, word = edit, next(words, None)
+    if word is not None and word.lower() in CONTROLS:
+        clause.control, word = word.lower(), next(words, None)
+    if word is not None and word.lower() != "by":
+        raise Refused(UNSUPPORTED)
+    return clause, word
+
+
+def edited(privileges, edit):
+    sign, letters = edit
+    if sign == "=":
+        return set(letters)
+    return privileges | set(letters) if sign == "+" else privileges - set(letters)
+
+
+def privileges_of(config, request):
+    """The privileges that a requester has, by the rules in their order. Where clauses or rules run out, nothing is granted."""
+    if request.requester is not None and request.requester == config.rootdn:
+        return set(ALL)
+    if not config.directives:
+        return set(LEVELS["read"])
+    privileges = set()
+    for directive in config.directives:
+        if not all(test(request) for test in directive.what):
+            continue
+        control = "continue"
+        for clause in directive.clauses:
+            if control == "continue" and all(test(request) for test in clause.who):
+                privileges, control = edited(privileges, clause.edit), clause.control
+        if control == "continue":
+            return set()
+        if control == "stop":
+            return privileges
+    return set()
+
+
+def shown(privileges):
+    letters = "w" if {"a", "z"} <= privileges else "".join(letter for letter in "az" if letter in privileges)
+    text = ("m" if "m" in privileges else "") + letters + "".join(letter for letter in "rscxd" if letter in privileges)
+    return f"={text or 0}"
+
+
+# ---- a question
+
+
+@dataclasses.dataclass
+class Question:
+    base: str
+    requester: str | None = None
+    words: tuple = ()
+    is_fake: bool = False
+    is_verbose: bool = False
+
+    def options(self):
+        flags = [*(["-u"] if self.is_fake else []), *(["-v"] if self.is_verbose else [])]
+        return ["-b", self.base, *([] if self.requester is None else ["-D", self.requester]), *flags, "--", *self.words]
+
+
+def name_asked(text, what):
+    try:
+        name = names.read_name(as_bytes(text))
+        return name, names.checked_name_key(name)
+    except NameFault:
+        raise Fault(f"bad question: {what}") from None
+
+
+def word_asked(number, word):
+    text, slash, level = word.partition(":")[0].partition("/")
+    try:
+        asked = asked_of(text)
+    except Refused:
+        raise Fault(f"bad question: word {number}") from None
+    if slash and level.lower() not in LEVELS:
+        raise Fault(f"bad question: word {number}")
+    return asked, text, level if slash else None
+
+
+def told(config, request, text, level):
+    held = privileges_of(config, request)
+    if level is None:
+        return f"{text}: {shown(held)}\n"
+    return f"{text}/{level}: {'ALLOWED' if set(OWN[level.lower()]) <= held else 'DENIED'}\n"
+
+
+def report_of(data, copy, question):
+    config = read_config(data)
+    _, target = name_asked(question.base, "base")
+    name, requester = name_asked(question.requester or "", "authcDN")
+    words = [word_asked(number, word) for number, word in enumerate(question.words or ("entry",), 1)]
+    directory = answers.directory_of(config.suffix, copy)
+    entry = directory.entries.get(target)
+    if target[: len(config.suffix)] != config.suffix or entry is None and not question.is_fake:
+        raise Fault("no such entry")
+    attributes = {} if question.is_fake else entry.attributes
+    report = f"authcDN: {names.printed_name(name) or 'anonymous'}\n" if question.is_verbose else ""
+    for asked, text, level in words:
+        report += told(config, Request(requester or None, target, attributes, asked, directory), text, level)
+    return report
+
+
+def access_answer(config, copy, question):
+    """The exit status, and what goes to standard output and to standard error."""
+    try:
+        return 0, report_of(config, copy, question), ""
+    except Fault as fault:
+        return 1, "", f"slapkit: {fault}\n"

@@ -1,0 +1,168 @@
+"""Short texts that are tried in many ways: copies with changes, and configurations with questions."""
+import dataclasses
+
+from access import Question
+
+ROOT = "dn: dc=com|dc: com||"
+
+
+def lines(text):
+    """A text in which `|` stands for the end of a line."""
+    return text.replace("|", "\n").encode()
+
+
+# ---- changes of a copy
+
+
+@dataclasses.dataclass
+class Texts:
+    """A copy and changes of it, whole."""
+
+    copy: bytes
+    changes: bytes
+    suffix: str = "dc=com"
+    # after each so many bytes the changes are cut, and the copy
+    steps: tuple[int, int] = (1, 1)
+
+
+def entry(name, *more):
+    return "|".join([f"dn: {name}", *more, "|"])
+
+
+def rename(name, rdn, *more):
+    return "|".join([f"dn: {name}", "changetype: modrdn", f"newrdn: {rdn}", "deleteoldrdn: 1", *more, "|"])
+
+
+def deep_name(rdns):
+    return ",".join([*["ou=n"] * (rdns - 1), "dc=com"])
+
+
+PERSON = ROOT + entry("cn=e,dc=com", "cn: e", "description: foo")
+UNITS = "ou=Team,ou=A,dc=com"
+NESTED = ROOT + entry("cn=p,dc=com", "cn: p") + entry("cn=q,cn=p,dc=com", "cn: q") + entry("cn=r,dc=com", "cn: r")
+THREE_MOVES = [
+    rename("cn=p,dc=com", "cn=r", "newsuperior: cn=q,cn=p,dc=com"),
+    rename("cn=p,dc=com", "cn=r", "newsuperior: cn=none,dc=com"),
+    rename("cn=p,dc=com", "cn=r"),
+]
+STAFF = entry("cn=t,dc=com", "cn: t", "manager: cn=m,dc=com") + entry("cn=g,dc=com", "cn: g", "objectClass: groupOfNames", "member: cn=k,dc=com")
+FOLDED = "# folded|  comment|dn: cn=e,dc=com|changetype: modify|add: description|description: two|  words |"
+
+TEXTS = {
+    "the suffix's entry is added to an empty copy": Texts(
+        b"", lines("dn: DC=Example, dc=com|changetype: add|objectClass: domain|"), "dc=Example,dc=com"
+    ),
+    "a unit is added": Texts(lines(ROOT), lines("dn: ou=people,DC=COM|changetype: add|description: staff|")),
+    "an entry with values in base64 is deleted": Texts(
+        lines(ROOT + entry("cn=a,dc=com", "cn: a", "description:: IGxlYWQ=", "note:", "userPassword:: AP8=")),
+        lines("dn: cn=a,dc=com|changetype: delete|"),
+    ),
+    "a value is spelled otherwise": Texts(
+        lines(PERSON),
+        lines("dn: cn=e,dc=com|changetype: modify|delete: description|description: FOO|-|add: description|description: Foo|-|"),
+    ),
+    "the third modification is refused": Texts(
+        lines(PERSON), lines("dn: cn=e,dc=com|changetype: modify|replace: title|title: x|-|delete: description|-|delete: sn|-|")
+    ),
+    "three records are refused": Texts(
+        lines(PERSON),
+        lines(
+            "dn: cn=e,dc=com|changetype: modify|add: title|-||dn: cn=e,dc=com|changetype: modify|delete: cn|-||dn: dc=com|changetype: delete|"
+        ),
+    ),
+    "a rename of a single value": Texts(
+        lines(ROOT + entry("dc=a,dc=com", "dc: a")),
+        lines("dn: dc=a,dc=com|changetype: modrdn|newrdn: dc=b|deleteoldrdn: 0||" + rename("dc=a,dc=com", "dc=b")),
+    ),
+    "a rename to a value that is there": Texts(
+        lines(ROOT + entry("cn=x,dc=com", "cn: x", "sn: Z")), lines(rename("cn=x,dc=com", "cn=y+sn=z"))
+    ),
+    "a subtree is moved": Texts(
+        lines(
+            ROOT
+            + "".join(entry(name, f"{name[:2]}: {name.split(',')[0][3:]}") for name in ("ou=A,dc=com", "ou=B,dc=com", UNITS, f"cn=Kim,{UNITS}"))
+            + entry(f"cn=desk,cn=Kim,{UNITS}", "cn: desk")
+        ),
+        lines(rename("ou=team,ou=a,dc=com", "ou=Team", "newsuperior: ou=b,dc=com")),
+    ),
+    "two names are exchanged": Texts(
+        lines(ROOT + entry("cn=a,dc=com", "cn: a") + entry("cn=b,dc=com", "cn: b")),
+        lines("".join(rename(f"cn={old},dc=com", f"cn={new}") for old, new in ("at", "ba", "tb"))),
+    ),
+    "three moves are refused": Texts(lines(NESTED), lines("".join(THREE_MOVES))),
+    "a replace by another spelling": Texts(
+        lines(ROOT + entry("cn=a,dc=com", "cn: a")),
+        lines("dn: cn=a,dc=com|changetype: modify|replace: commonName|commonName: a|commonName: b|-|"),
+    ),
+    "names of 64 and 65 RDNs": Texts(
+        lines(ROOT + "".join(entry(deep_name(rdns), "ou: n") for rdns in range(2, 64)) + entry("ou=m,dc=com") + entry("cn=a,ou=m,dc=com")),
+        lines(
+            "".join(rename("ou=m,dc=com", "ou=m", f"newsuperior: {deep_name(rdns)}") for rdns in (63, 62))
+            + "".join(f"dn: {deep_name(rdns)}|changetype: add||" for rdns in (64, 65))
+        ),
+        steps=(17, 211),
+    ),
+    "a manager is replaced": Texts(
+        lines(ROOT + STAFF), lines("dn: cn=t,dc=com|changetype: modify|replace: manager|manager: cn=k,dc=com|-|")
+    ),
+    "the second value is cut": Texts(
+        lines(ROOT), lines("dn: cn=e,dc=com|changetype: add|note: x||dn: cn=f,dc=com|changetype: add|note:: AAE|")
+    ),
+    "lines end in CR LF, and are folded": Texts(
+        lines(ROOT + entry("cn=e,dc=com", "cn: e", "note: x")).replace(b"\n", b"\r\n"), lines(FOLDED).replace(b"\n", b"\r\n")
+    ),
+    "a version, controls, URLs and values in other scripts": Texts(
+        lines("version: 1||" + ROOT + entry("cn=J\u00fcrgen,dc=com", "sn:: TcO8bGxlcg==", "uidNumber: 7")),
+        lines(
+            "# change|version: 1|dn:: Y249SsO8cmdlbixkYz1jb20=|changetype:: bW9kaWZ5|add:: c24=|sn;lang-en: M\u00fc|-|delete: uidnumber|"
+            "uidNumber: 7|-||dn: cn=a,dc=com|control: 1.2.3 true|changetype: delete||dn: cn=a,dc=com|changetype: add|photo:< file:///a|"
+        ),
+    ),
+}
+
+
+# ---- configurations
+
+
+@dataclasses.dataclass
+class Rules:
+    """A configuration, and questions by it about a copy."""
+
+    config: bytes
+    questions: list
+    copy: bytes = lines(ROOT)
+
+
+HEAD = "database mdb|suffix dc=com|"
+USER = "cn=u,dc=com"
+OF_ROOT = [Question("dc=com"), Question("dc=com", USER, is_verbose=True)]
+
+RULES = {
+    "a clause that goes on": Rules(lines(HEAD + "access to *|  by * =cs continue|  by users +r|"), OF_ROOT),
+    "a clause that goes on with the next rule": Rules(lines(HEAD + "access to * by * read break|"), OF_ROOT),
+    "no rule, and a rootdn": Rules(lines(HEAD + f"rootdn {USER}|"), OF_ROOT),
+    "self, dnattr and a group": Rules(
+        lines(HEAD + 'access to attrs=telephoneNumber|  by self write|  by dnattr=manager read|  by group="cn=g,dc=com" search|'),
+        [Question("cn=t,dc=com", name, ("telephoneNumber",)) for name in ("cn=t,dc=com", "cn=m,dc=com", "cn=k,dc=com", None)],
+        lines(ROOT + STAFF),
+    ),
+    "words with levels, and an entry that is not there": Rules(
+        lines(HEAD + "access to * by users read|"),
+        [Question("dc=com", USER, ("cn/write:foo", "cn/read")), Question("cn=no,dc=com"), Question("cn=no,dc=com", USER, is_fake=True)],
+    ),
+    "styles and filters": Rules(
+        lines(
+            f'# rules|include /etc/x|{HEAD}access to dn.children="dc=com" filter=(&(objectClass=groupOf*)(!(member=cn=m,dc=com))) attrs=cn,entry|'
+            "  by dn.onelevel=dc=com =wrx|\tby group/groupOfNames/member.exact=cn=g,dc=com +cs break|access to dn.sub=dc=com by anonymous auth|"
+        ),
+        [Question("cn=g,dc=com", USER), Question("cn=g,dc=com", "cn=k,dc=com", ("cn", "member", "entry/read"))],
+        lines(ROOT + STAFF),
+    ),
+    "a rule before the database": Rules(lines("access to * by * read|"), OF_ROOT[:1]),
+    "a form that is not read": Rules(lines(HEAD + "access to * by peername.ip=127.0.0.1 read|"), OF_ROOT[:1]),
+    "an open filter": Rules(lines(HEAD + "access to filter=(cn=a by * read|"), OF_ROOT[:1]),
+    "a second database, and a part that is passed over": Rules(
+        lines(HEAD + "database monitor|access to nothing|database mdb|"), OF_ROOT[:1]
+    ),
+    "quotes and backslashes": Rules(lines('database "mdb"|suffix "dc=co\\m"|rootdn "cn=\\\\41,dc=com"|access to * by * read|'), OF_ROOT[:1]),
+}

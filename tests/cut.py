@@ -1,0 +1,140 @@
+#!/usr/bin/env python3
+"""Runs slapkit on texts that are cut after each of their bytes (one that is long, after some), as by a transfer that broke off.
+
+usage: cut.py PROGRAM [WORD]
+
+With a word, only the texts whose names have it.
+
+Each run must end by itself, with status 0 or 1 and at most one line on standard error. And it must answer what the definitions say of the
+texts as they are then: a run of slapmodify by answers.py, which reads LDIF and makes the changes in another language (the report, both
+files, or the fault with its line), a question by access.py, which reads rules in another language (the report, or the fault with its line).
+
+Last, a line without end comes through a pipe: slapkit may take no more than 8,192 bytes after the limit of a line.
+"""
+import dataclasses
+import fcntl
+import os
+import pathlib
+import subprocess
+import sys
+import termios
+import time
+
+import checks
+from access import access_answer
+from answers import Answer, answer
+from cases import ROOT, RULES, TEXTS, lines
+from checks import Wrong, expect
+from ldif import MOST_BYTES_OF_A_LINE
+from runs import SECONDS, Place
+
+PIECE = 8192
+
+
+def cuts(text, step=1):
+    return range(0, len(text) + 1, step)
+
+
+# ---- changes of a copy
+
+
+def left_by(place, texts, *options):
+    """What a run leaves, with all files."""
+    words = ["slapmodify", "-b", texts.suffix, "--data", "copy", "-l", "changes", "--out", "new", "--undo", "undo", *options]
+    ended = place.run(*words)
+    files = [place.read(name) for name in ("new", "undo")]
+    place.remove("new", "undo")
+    return Answer(*ended, *(None if data is None else data.decode(errors="surrogateescape") for data in files))
+
+
+def check_run(place, texts, what):
+    """Runs changes on a copy, and where one refused record makes a difference also without going on after it."""
+    place.write("copy", texts.copy)
+    place.write("changes", texts.changes)
+    text = texts.suffix.encode(), texts.copy, texts.changes
+    wanted = answer(*text, goes_on=True, is_verbose=True)
+    expect(left_by(place, texts, "-v", "-c"), wanted, f"{what}, -c")
+    if wanted.status and (other := answer(*text, goes_on=False, is_verbose=True)) != wanted:
+        expect(left_by(place, texts, "-v"), other, what)
+
+
+def cut_after_each_byte(program, texts):
+    with Place(program) as place:
+        for at in cuts(texts.changes, texts.steps[0]):
+            check_run(place, dataclasses.replace(texts, changes=texts.changes[:at]), f"the changes cut after byte {at}")
+        for at in cuts(texts.copy, texts.steps[1]):
+            check_run(place, dataclasses.replace(texts, copy=texts.copy[:at]), f"the copy cut after byte {at}")
+    return f"{len(texts.changes)} and {len(texts.copy)} bytes"
+
+
+# ---- configurations
+
+
+def check_question(place, config, copy, question, what):
+    place.write("conf", config)
+    place.write("copy", copy)
+    words = ["slapacl", "-f", "conf", "--data", "copy", *question.options()]
+    expect(place.run(*words), access_answer(config, copy, question), f"{what}, {question}")
+
+
+def question_cut_after_each_byte(program, rules):
+    with Place(program) as place:
+        for at in cuts(rules.config):
+            for question in rules.questions:
+                check_question(place, rules.config[:at], rules.copy, question, f"the configuration cut after byte {at}")
+        for at in cuts(rules.copy):
+            check_question(place, rules.config, rules.copy[:at], rules.questions[-1], f"the copy cut after byte {at}")
+    return f"{len(rules.config)} and {len(rules.copy)} bytes"
+
+
+# ---- a line without end
+
+
+def taken_of(program, begin):
+    """How much of these changes the program takes, whose last line never ends, and what it says."""
+    with Place(program) as place:
+        place.write("copy", lines(ROOT))
+        reading, writing = os.pipe()
+        os.set_blocking(writing, False)
+        words = [place.program, "slapmodify", "-b", "dc=com", "--data", "copy", "-u"]
+        with subprocess.Popen(words, stdin=reading, stdout=subprocess.PIPE, stderr=subprocess.PIPE) as run:
+            given, left = 0, begin
+            ends_by = time.monotonic() + SECONDS
+            while run.poll() is None:
+                if time.monotonic() > ends_by:
+                    run.kill()
+                    raise Wrong(f"no end within {SECONDS} s")
+                try:
+                    sent = os.write(writing, left or b"a" * PIECE)
+                    given, left = given + sent, left[sent:]
+                except BlockingIOError:
+                    time.sleep(0.001)
+            not_taken = int.from_bytes(fcntl.ioctl(reading, termios.FIONREAD, bytes(4)), sys.byteorder)
+            os.close(reading)
+            os.close(writing)
+            return given - not_taken, (run.returncode, run.stdout.read(), run.stderr.read())
+
+
+def a_line_without_end(program):
+    told = []
+    for before in (b"", b"dn: dc=a,dc=com\nchangetype: add\n\n"):
+        for begin in (b"description: ", b"#"):
+            taken, ended = taken_of(program, before + begin)
+            expect(ended, (1, b"", b"slapkit: changes: L10 LineTooLong\n"))
+            after = taken - len(before) - MOST_BYTES_OF_A_LINE
+            if not 0 < after <= PIECE:
+                raise Wrong(f"{after} bytes taken after the limit of a line")
+            told.append(after)
+    return f"{max(told)} bytes taken after the limit"
+
+
+def main():
+    program = str(pathlib.Path(sys.argv[1]).resolve())
+    pairs = [(name, lambda texts=texts: cut_after_each_byte(program, texts)) for name, texts in TEXTS.items()]
+    pairs += [(name, lambda rules=rules: question_cut_after_each_byte(program, rules)) for name, rules in RULES.items()]
+    pairs.append(("a line without end", lambda: a_line_without_end(program)))
+    wanted = sys.argv[2] if len(sys.argv) > 2 else ""
+    sys.exit(checks.run("cut", [pair for pair in pairs if wanted in pair[0]]))
+
+
+main()

@@ -1,0 +1,398 @@
+#!/usr/bin/env python3
+"""Runs slapkit on copies, changes and configurations that were changed at random.
+
+usage: fuzz.py PROGRAM [--seed S] [--runs N] [--minutes M] [--jobs J] [--failures FOLDER]
+
+Each case begins with texts that are right, or with the random directories of operations.py, and changes bytes, lines, words, records,
+folds, base64, names, options and characters of them. Then
+
+- each run ends by itself with status 0 or 1 and at most one line on standard error, and a fault leaves no file;
+- the report, the new copy and the undo file, or the fault, are those of answers.py; what a requester may do is what access.py says;
+- the undo file, run on the new copy, is accepted whole and gives the first copy's canonical text, byte for byte, and its own undo file
+  gives the new copy again;
+- questions are answered before the run as after it was taken back.
+
+The same seed gives the same cases, whatever the number of jobs. A case that fails is told with its number, and its texts are kept.
+"""
+import argparse
+import base64
+import collections
+import dataclasses
+import multiprocessing
+import pathlib
+import random
+import re
+import sys
+import time
+import traceback
+
+import names
+import operations
+from access import Question, access_answer
+from answers import answer
+from cases import RULES, TEXTS
+from checks import Wrong, expect
+from names import UnknownCharacter
+from runs import Place
+from texts import NOTHING
+
+ROOT = pathlib.Path(__file__).resolve().parent.parent
+CASES_AT_A_TIME = 50
+
+
+# ---- texts to begin with
+
+
+@dataclasses.dataclass
+class Case:
+    """The texts of a case, and a question."""
+
+    suffix: str
+    copy: bytes
+    changes: bytes
+    config: bytes
+    question: Question
+    goes_on: bool = True
+
+
+def example():
+    copy, changes, config = ((ROOT / "examples" / name).read_bytes() for name in ("company.ldif", "changes.ldif", "slapd.conf"))
+    return "dc=example,dc=com", copy, changes, config
+
+
+FIXED = [example()] + [(texts.suffix, texts.copy, texts.changes, None) for texts in TEXTS.values() if len(texts.copy) < 4096]
+CONFIGS = [rules.config for rules in RULES.values()]
+CONFIG_OF_ALL_PARTS = b"""database mdb
+suffix dc=com
+rootdn "cn=root,dc=com"
+access to dn.one="dc=com" filter=(|(cn=a*)(&(sn=*)(!(uidNumber>=2)))(description~=f f)) attrs=cn,description;lang-en,entry
+  by self =w continue
+  by users +rsc break
+access to dn.children=cn=a,dc=com attrs=children,note
+  by dn.base="cn=a,dc=com" write
+  by dn.sub=cn=b,dc=com dnattr=manager add
+  by group/groupOfNames/member=cn=g,dc=com manage
+  by anonymous auth
+access to * by users -d continue by * +xd
+"""
+
+
+def random_texts(rng):
+    """A random directory with changes of it."""
+    directory = operations.random_directory(rng, rng.choice([0, 0, 0, 3]), rng.choice([2, 5, 9]))
+    copy, planned, printed = directory.text(), operations.Planned(), operations.freely_printed(rng)
+    for _ in range(rng.choice([1, 3, 6, 12])):
+        if not directory.entries:
+            break
+        planned.make(directory, operations.random_change(rng, directory), printed)
+    return "dc=com", copy.encode(), planned.text.encode(), None
+
+
+# ---- what is changed
+
+WORDS = """dn changetype control version add delete modify modrdn moddn replace newrdn deleteoldrdn newsuperior increment cn sn dc ou uid c st
+    description note title member manager owner seeAlso objectClass uidNumber gidNumber telephoneNumber userPassword displayName mail
+    homeDirectory commonName 2.5.4.3 2.5.4.13 0.9.2342.19200300.100.1.25 1.2.3 groupOfNames com a A b none 0 1 2 007 -1 -
+    access to by stop continue break read write auth search compare disclose manage users anonymous self dnattr group filter attrs suffix
+    rootdn database monitor config dn.base dn.one dn.children dn.sub dn.regex entry children * =wx +r -s =0 (cn=a) (&) (!(cn=*)) (cn>=1)"""
+WORDS = [word.encode() for word in WORDS.split()]
+SIGNS = [sign.encode() for sign in list('\0\t\r\n "#+,;<=>\\:-*()&|!/.@') + ["\n ", "\n\n", "\r\n", ": ", ":: ", ":< ", "\n-\n", "\\20", "\\5c", "\\,", "  "]]
+CHARACTERS = [
+    char.encode()
+    for char in "\u00df\u0130\u0131\ufb01\u0345\u03a3\u03c2\u1e9e\u00a0\u3000\u2003\u200b\u00ad\u0308\u212b\u00c5\uff21\u2460\u00bd\ufdfa\uac00\u1100\U0001f600\U00010400\u2010\ufeff"
+] + [b"\xff", b"\xc3", b"\xc0\xaf", b"\xed\xa0\x80", b"\xf4\x90\x80\x80", b"\xe2\x82"]
+OPTIONS = [b";lang-en", b";lang-de;x-1", b";LANG-EN", b";binary", b";", b";;", b";range=0-1", b";-"]
+
+
+def place_of(rng, pattern, data):
+    """A random place in a text that a pattern fits."""
+    found = list(re.finditer(pattern, data, re.S))
+    return rng.choice(found).span() if found else (len(data), len(data))
+
+
+def with_bytes(rng, data):
+    at = rng.randrange(len(data) + 1)
+    until = min(len(data), at + rng.choice([0, 0, 1, 1, 2, 8]))
+    new = rng.choice([b"", rng.choice(SIGNS), rng.randbytes(rng.choice([1, 1, 2])), data[until : until + 4] * 2])
+    return data[:at] + new + data[until:]
+
+
+def with_character(rng, data):
+    start, _ = place_of(rng, rb"[\w=: ]", data)
+    return data[: start + 1] + rng.choice(CHARACTERS) + data[start + 1 :]
+
+
+def with_word(rng, data):
+    """A word becomes another one, of the text or of the language."""
+    start, end = place_of(rng, rb"[\w.*-]+", data)
+    others = place_of(rng, rb"[\w.*-]+", data)
+    return data[:start] + rng.choice([rng.choice(WORDS), data[slice(*others)]]) + data[end:]
+
+
+def with_lines(rng, data):
+    lines = data.splitlines(keepends=True)
+    if not lines:
+        return rng.choice(WORDS) + b": " + rng.choice(WORDS) + b"\n"
+    a, b = rng.randrange(len(lines)), rng.randrange(len(lines))
+    match rng.randrange(6):
+        case 0:
+            del lines[a]
+        case 1:
+            lines.insert(b, lines[a])
+        case 2:
+            lines[a], lines[b] = lines[b], lines[a]
+        case 3:
+            lines.insert(a, rng.choice([b"\n", b"-\n", b"# a comment\n", b" \n", b"\r\n", b"version: 1\n"]))
+        case 4:
+            lines.insert(a, rng.choice(WORDS) + b": " + rng.choice(WORDS) + b"\n")
+        case 5:
+            return data.replace(b"\n", b"\r\n")
+    return b"".join(lines)
+
+
+def with_records(rng, data, others):
+    """Records go, come twice, come from other texts, or come in another order."""
+    records = re.split(rb"\n\n+", data)
+    at = rng.randrange(len(records))
+    match rng.randrange(4):
+        case 0:
+            del records[at]
+        case 1:
+            records.insert(rng.randrange(len(records) + 1), records[at])
+        case 2:
+            records.insert(at, rng.choice(re.split(rb"\n\n+", rng.choice(others))))
+        case 3:
+            rng.shuffle(records)
+    return b"\n\n".join(records)
+
+
+def spliced(rng, data, others):
+    other = rng.choice(others)
+    return data[: rng.randrange(len(data) + 1)] + other[rng.randrange(len(other) + 1) :]
+
+
+def folded(rng, data):
+    at = rng.randrange(len(data) + 1)
+    return data[:at] + b"\n " + data[at:] if rng.random() < 0.7 else data.replace(b"\n ", b"", 1)
+
+
+def in_base64(rng, data):
+    """A value comes in base64; or what base64 stands for is changed."""
+    start, end = place_of(rng, rb"(?<=[a-z]: )[^\n]+", data)
+    value = data[start:end].strip(b"\r")
+    if rng.random() < 0.3:
+        value = with_bytes(rng, value)
+    text = base64.b64encode(value)
+    if rng.random() < 0.1:
+        text = with_bytes(rng, text)
+    return data[: max(0, start - 1)] + b": " + text + data[end:]
+
+
+def with_long_name(rng, data):
+    """Names become long: of many RDNs, of many pairs, or with a long value."""
+    start, _ = place_of(rng, rb"[a-z]+=(?=\w)", data)
+    long = [b"cn=x," * rng.choice([1, 5, 62, 63, 64]), b"sn=y+", b"cn=" + b"z" * rng.choice([60, 4092, 4093, 4094]) + b",", b"cn=" + b"\\c3\\bc" * 60 + b","]
+    return data[:start] + rng.choice(long) + data[start:]
+
+
+def with_option(rng, data):
+    _, end = place_of(rng, rb"(?:^|\n|, ?|=|: )[A-Za-z0-9.]+(?=[:,=\n])", data)
+    return data[:end] + rng.choice(OPTIONS) + data[end:]
+
+
+def with_case(rng, data):
+    start, end = place_of(rng, rb"\w+", data)
+    return data[:start] + data[start:end].swapcase() + data[end:]
+
+
+def with_spaces(rng, data):
+    start, end = place_of(rng, rb"[=,+: ]", data)
+    return data[:start] + rng.choice([b" " + data[start:end], data[start:end] + b" ", b"  " + data[start:end] + b"  "]) + data[end:]
+
+
+CHANGES_OF_ONE_TEXT = [with_bytes, with_character, with_word, with_word, with_lines, with_lines, folded, in_base64, with_long_name]
+CHANGES_OF_ONE_TEXT += [with_option, with_case, with_spaces]
+CHANGES_OF_TWO_TEXTS = [with_records, with_records, with_records, spliced]
+
+
+def changed(rng, data, others):
+    """A text after some changes; the most often a few."""
+    for _ in range(rng.choice([1, 1, 1, 2, 2, 3, 5, 8])):
+        if others and rng.random() < 0.3:
+            data = rng.choice(CHANGES_OF_TWO_TEXTS)(rng, data, others)
+        else:
+            data = rng.choice(CHANGES_OF_ONE_TEXT)(rng, data)
+    return data
+
+
+def random_question(rng, suffix, copy):
+    # what begins with a hyphen is no value of an option
+    found = re.findall(rb"^dn: (?!-)([ -~]+)$", copy, re.M)
+    known = [name.decode() for name in found] + [suffix, f"cn=a,{suffix}", f"cn=none,{suffix}", f"cn=root,{suffix}"]
+    words = ["entry", "children", "cn", "sn/read", "description/write", "description;lang-en", "mail/add", "note", "member/disclose", "Entry/none"]
+    requester = rng.choice([None, "", *known]) if rng.random() < 0.8 else rng.choice(known)
+    return Question(rng.choice(known), requester, tuple(rng.sample(words, rng.randrange(4))), rng.random() < 0.3, rng.random() < 0.5)
+
+
+def random_case(rng):
+    suffix, copy, changes, config = random_texts(rng) if rng.random() < 0.5 else rng.choice(FIXED)
+    if config is None:
+        config = rng.choice([CONFIG_OF_ALL_PARTS, *CONFIGS]).replace(b"dc=com", suffix.encode())
+    others = [text for texts in FIXED for text in texts[1:3] if text]
+    if rng.random() < 0.8:
+        changes = changed(rng, changes, [*others, changes])
+    if rng.random() < 0.3:
+        copy = changed(rng, copy, [*others, copy])
+    if rng.random() < 0.5:
+        config = changed(rng, config, [])
+    return Case(suffix, copy, changes, config, random_question(rng, suffix, copy), rng.random() < 0.8)
+
+
+# ---- a case
+
+
+class Trial:
+    """Cases, one after the other, in a folder of their own."""
+
+    def __init__(self, place):
+        self.place, self.told, self.runs = place, collections.Counter(), 0
+
+    def run(self, *words):
+        self.runs += 1
+        return self.place.run(*words)
+
+    def modify(self, case, copy, changes, new, undo, *options):
+        words = ["slapmodify", "-b", case.suffix, "--data", copy, "-l", changes, "--out", new, "--undo", undo]
+        return self.run(*words, *options)
+
+    def text(self, name):
+        data = self.place.read(name)
+        return None if data is None else names.as_text(data)
+
+    def ask(self, case, copy):
+        return self.run("slapacl", "-f", "conf", "--data", copy, *case.question.options())
+
+    def case(self, case):
+        self.place.remove(*FILES)
+        given = {"copy": case.copy, "changes": case.changes, "conf": case.config, "none": b""}
+        for name, data in given.items():
+            self.place.write(name, data)
+        ended = self.modify(case, "copy", "changes", "new", "undo", "-v", *(["-c"] if case.goes_on else []))
+        found = (*ended, self.text("new"), self.text("undo"))
+        expect(self.place.names() - given.keys(), set() if ended[2] else {"new", "undo"}, "files made")
+        self.count(ended)
+        self.expect_answer(found, case)
+        if not ended[2]:
+            self.expect_way_back(case)
+        self.expect_access(case, "copy" if ended[2] else "back")
+
+    def expect_answer(self, found, case):
+        try:
+            wanted = dataclasses.astuple(answer(case.suffix.encode(), case.copy, case.changes, case.goes_on, True))
+        except UnknownCharacter:
+            self.told["not compared: a character that Python does not know"] += 1
+            return
+        for what, one, other in zip(("status", "the report", "standard error", "the new copy", "the undo file"), found, wanted):
+            expect(one, other, what)
+
+    def expect_way_back(self, case):
+        """The undo run, and the run forth again."""
+        empty = self.modify(case, "copy", "none", "canonical", "nothing")
+        expect((*empty, self.text("nothing")), (0, "accepted 0, refused 0\n", "", NOTHING), "a run without changes")
+        count = len(re.findall(r"^changetype: ", self.text("undo"), re.M))
+        expect(self.modify(case, "new", "undo", "back", "redo"), (0, f"accepted {count}, refused 0\n", ""), "the undo run")
+        expect(self.text("back"), self.text("canonical"), "the copy again")
+        if count:
+            status, _, message = self.modify(case, "back", "redo", "forth", "undo2", "-c")
+            expect((status, message), (0, ""), "the run forth")
+            expect(self.text("forth"), self.text("new"), "the new copy again")
+
+    def expect_access(self, case, other):
+        """A question, by the copy and by what came back."""
+        found = self.ask(case, "copy")
+        if other != "copy" and found[0] == 0:
+            expect(self.ask(case, other), found, "the question about the copy that came back")
+        self.told[f"question: {re.sub('[0-9]+:', 'N:', found[2][9:-1]) if found[2] else 'answered'}"] += 1
+        try:
+            expect(found, access_answer(case.config, case.copy, case.question), "the question")
+        except UnknownCharacter:
+            self.told["not compared: a character that Python does not know"] += 1
+
+    def count(self, ended):
+        """Counts what a run of changes came to."""
+        status, report, message = ended
+        if message:
+            self.told[f"run: {re.sub('[0-9]+:', 'N:', message[9:-1])}"] += 1
+            return
+        self.told["run: files written"] += 1
+        for line in report.splitlines()[:-1]:
+            self.told[f"record: {line.split(': ', 1)[1]}"] += 1
+
+
+FILES = ("new", "undo", "canonical", "nothing", "back", "redo", "forth", "undo2")
+
+
+def keep(folder, number, case):
+    """Keeps the texts of a case that failed."""
+    place = folder / number
+    place.mkdir(parents=True, exist_ok=True)
+    for name, data in (("copy", case.copy), ("changes", case.changes), ("conf", case.config)):
+        (place / name).write_bytes(data)
+    (place / "case").write_text(f"-b {case.suffix} {'-c' if case.goes_on else ''}\n{case.question.options()}\n")
+
+
+def try_cases(task):
+    """Tries some cases: how many runs there were, what they came to, and which failed."""
+    program, seed, numbers, failures = task
+    failed = []
+    with Place(program) as place:
+        trial = Trial(place)
+        for number in numbers:
+            case = random_case(random.Random(f"{seed} {number}"))
+            try:
+                trial.case(case)
+            except Wrong as wrong:
+                failed.append(f"case {number} of seed {seed}: {wrong}")
+            except Exception:
+                failed.append(f"case {number} of seed {seed}: {traceback.format_exc()}")
+            else:
+                continue
+            keep(failures, f"{seed}-{number}", case)
+        return trial.runs, len(numbers), trial.told, failed
+
+
+def tasks_of(args):
+    """Enough of them, as each case takes two runs at least."""
+    for first in range(0, args.runs // 2 + 1, CASES_AT_A_TIME):
+        yield args.program, args.seed, range(first, first + CASES_AT_A_TIME), args.failures
+
+
+def main():
+    parser = argparse.ArgumentParser(description=__doc__, formatter_class=argparse.RawDescriptionHelpFormatter)
+    parser.add_argument("program")
+    parser.add_argument("--seed", type=int, default=1)
+    parser.add_argument("--runs", type=int, default=10_000, help="of the program, at least")
+    parser.add_argument("--minutes", type=float, default=1e6, help="after which it ends, too")
+    parser.add_argument("--jobs", type=int, default=1)
+    parser.add_argument("--failures", type=pathlib.Path, default=pathlib.Path("fuzz-failures").absolute())
+    args = parser.parse_args()
+    args.program = str(pathlib.Path(args.program).resolve())
+    runs = cases = failures = 0
+    ends_by = time.monotonic() + 60 * args.minutes
+    told = collections.Counter()
+    with multiprocessing.Pool(args.jobs) as pool:
+        for more_runs, more_cases, more_told, failed in pool.imap(try_cases, tasks_of(args)):
+            runs, cases, failures, told = runs + more_runs, cases + more_cases, failures + len(failed), told + more_told
+            for text in failed:
+                print(f"FAILED, {text}", flush=True)
+            if cases % (20 * CASES_AT_A_TIME) == 0:
+                print(f"fuzz: {runs} runs in {cases} cases until now", file=sys.stderr, flush=True)
+            if runs >= args.runs or time.monotonic() > ends_by:
+                break
+    for what, count in sorted(told.items()):
+        print(f"{count:9} {what}")
+    print(f"fuzz: {runs} runs of the program in {cases} cases of seed {args.seed}, {failures} failed", flush=True)
+    sys.exit(1 if failures else 0)
+
+
+main()

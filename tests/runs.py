@@ -1,0 +1,73 @@
+"""Runs the program many times: on short texts, in a folder in memory."""
+import os
+import pathlib
+import signal
+import tempfile
+
+from checks import Wrong
+
+SECONDS = 10
+MEMORY = "/dev/shm"
+REPORT, MESSAGE = ".report", ".message"
+
+
+class Place:
+    """A folder of texts, in which the program runs. The process works in that folder while it is open."""
+
+    def __init__(self, program):
+        self.program = str(pathlib.Path(program).resolve())
+
+    def __enter__(self):
+        self.folder = tempfile.TemporaryDirectory(dir=MEMORY if os.path.isdir(MEMORY) else None)
+        self.came_from = os.getcwd()
+        os.chdir(self.folder.name)
+        signal.signal(signal.SIGALRM, too_long)
+        return self
+
+    def __exit__(self, *_):
+        os.chdir(self.came_from)
+        self.folder.cleanup()
+
+    def write(self, name, data):
+        with open(name, "wb") as file:
+            file.write(data)
+
+    def read(self, name):
+        """What a file has, if it is there."""
+        try:
+            with open(name, "rb") as file:
+                return file.read()
+        except FileNotFoundError:
+            return None
+
+    def names(self):
+        """The files of the folder, but for those of the streams."""
+        return {name for name in os.listdir() if name not in (REPORT, MESSAGE)}
+
+    def remove(self, *names):
+        for name in names:
+            pathlib.Path(name).unlink(missing_ok=True)
+
+    def run(self, *words):
+        """The exit status, and what went to standard output and to standard error. The program ends by itself, soon, and with one line at most."""
+        flags = os.O_WRONLY | os.O_CREAT | os.O_TRUNC
+        streams = [(os.POSIX_SPAWN_OPEN, 0, "/dev/null", os.O_RDONLY, 0)]
+        streams += [(os.POSIX_SPAWN_OPEN, stream, name, flags, 0o600) for stream, name in ((1, REPORT), (2, MESSAGE))]
+        child = os.posix_spawn(self.program, [self.program, *words], os.environ, file_actions=streams)
+        signal.setitimer(signal.ITIMER_REAL, SECONDS)
+        try:
+            _, status = os.waitpid(child, 0)
+        except TimeoutError:
+            os.kill(child, signal.SIGKILL)
+            os.waitpid(child, 0)
+            raise Wrong(f"no end within {SECONDS} s: {words}") from None
+        finally:
+            signal.setitimer(signal.ITIMER_REAL, 0)
+        status, report, message = os.waitstatus_to_exitcode(status), self.read(REPORT), self.read(MESSAGE)
+        if status not in (0, 1) or message.count(b"\n") > 1:
+            raise Wrong(f"status {status}, standard error: {message!r}")
+        return status, report.decode(), message.decode()
+
+
+def too_long(*_):
+    raise TimeoutError
