@@ -67,7 +67,9 @@ def killed_at_moments(trial, kills):
 def ended_by_signals(trial):
     words = [word for word in COMMAND if word not in ("-l", "changes")]
     for number in (signal.SIGINT, signal.SIGTERM, signal.SIGHUP):
-        with trial.start(words, stdin=subprocess.PIPE) as run:
+        # (a run in the background may have it ignored)
+        meant = lambda: signal.signal(number, signal.SIG_DFL)
+        with trial.start(words, stdin=subprocess.PIPE, preexec_fn=meant) as run:
             wait_for(lambda: len(trial.left()) == 2)
             run.send_signal(number)
             told, said = run.communicate(timeout=120)
