@@ -7,7 +7,7 @@ ROOT = "dn: dc=com|dc: com||"
 
 
 def lines(text):
-    """A text in which `|` stands for the end of a line."""
+    """A text in which `|` ends a line."""
     return text.replace("|", "\n").encode()
 
 

@@ -36,7 +36,7 @@ def around(limit):
 
 
 def each(texts, begin="", end=""):
-    """The texts of some lines, each with something before and after it. In them `|` stands for the end of a line."""
+    """The texts of some lines, each with something before and after it. In them `|` ends a line."""
     return [lines(f"{begin}{text}{end}") for text in texts.strip("\n").split("\n")]
 
 

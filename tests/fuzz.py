@@ -177,7 +177,7 @@ def folded(rng, data):
 
 
 def in_base64(rng, data):
-    """A value comes in base64; or what base64 stands for is changed."""
+    """A value comes in base64; or what it encodes is changed."""
     start, end = place_of(rng, rb"(?<=[a-z]: )[^\n]+", data)
     value = data[start:end].strip(b"\r")
     if rng.random() < 0.3:

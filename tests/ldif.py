@@ -112,7 +112,7 @@ def pair_of(line):
 
 
 def decoded(text):
-    """The bytes that a base64 text stands for: of RFC 4648, with its padding, and with no unused bits."""
+    """The bytes that a base64 text encodes: of RFC 4648, with its padding, and with no unused bits."""
     try:
         value = base64.b64decode(text, validate=True)
     except binascii.Error:
