@@ -374,23 +374,33 @@ def list_test(value):
     return fits
 
 
-def what_of(word):
-    """The form of a what, and what it asks of a request."""
+def form_of(name):
+    """The form of a what, by its name."""
+    if name in ("filter", "attrs"):
+        return name
+    if name[:2] == "dn" and name[2:] in STYLES:
+        return "dn"
+    raise Refused(UNSUPPORTED)
+
+
+def what_of(word, seen):
+    """The form of a what, and what it asks of a request. A form that was seen is a fault before its value is read."""
     if word == "*":
         return "*", lambda _: True
-    form, equals, value = word.partition("=")
-    form = form.lower()
+    name, equals, value = word.partition("=")
+    name = name.lower()
     if not equals:
         raise Refused(UNSUPPORTED)
-    if form == "dn" or form.startswith("dn."):
-        test = style_test(form, value)
-        return "dn", lambda request: test(request.target)
+    form = form_of(name)
+    if form in seen:
+        raise Refused(BAD_DIRECTIVE)
+    if form == "dn":
+        test = style_test(name, value)
+        return form, lambda request: test(request.target)
     if form == "filter":
         truth = FilterReader(as_bytes(value)).whole()
-        return "filter", lambda request: truth(request.attributes) is True
-    if form == "attrs":
-        return "attrs", list_test(value)
-    raise Refused(UNSUPPORTED)
+        return form, lambda request: truth(request.attributes) is True
+    return form, list_test(value)
 
 
 def name_rule(text):
@@ -466,9 +476,7 @@ def directive_of(words):
     if word.lower() == "by":
         raise Refused(UNSUPPORTED)
     while word.lower() != "by":
-        form, test = what_of(word)
-        if form in what and form != "*":
-            raise Refused(BAD_DIRECTIVE)
+        form, test = what_of(word, what)
         what[form] = test
         word = argument(words)
     clauses = []

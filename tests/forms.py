@@ -222,6 +222,10 @@ dn.children=
 dn.one=
 dn.sub=
 dn.exact=dc=com,dc=com attrs=cn filter=(x=*)
+dn=dc=com dn.children=en
+filter=(dc=*) filter=(
+attrs=cn attrs=!x
+dn=dc=com dn.regex=en
 dn.regex=.*
 val=x
 dn
