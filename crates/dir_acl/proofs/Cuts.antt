@@ -2,10 +2,12 @@
 use Rattle.std.proofs.Common.{◌≡◌, ℕ, zero, suc, ◌+◌, ◌-◌, ◌≤◌, ◌<◌, Bool, true, false, cond, List, [], ◌∷◌, ◌++◌, length, take, drop, get_or, Option, Some, None, refl, sym, ap, ◌∙◌}
 use Rattle.std.specs.Prelude.{◌&&◌, ◌||◌, nat_eq}
 use Rattle.std.specs.List.{list_any, starts_with, ends_with}
-use Rattle.std.proofs.Common.{Decides}
+use Rattle.std.proofs.Common.{arith, Decides, length-append}
 use Rattle.std.proofs.lemmas.Bool.Decides.{Decides-eqb}
-use Rattle.std.proofs.lemmas.List.{drop_all, drop_at, drop_more}
+use Rattle.std.proofs.lemmas.List.{drop_all, drop_at, drop_more, take_at}
 use Rattle.std.proofs.lemmas.Slice.Eq.{starts_is, ends_is}
+use Rattle.memchr.specs.Find.{Nowhere, OccursAt}
+use Rattle.memchr.proofs.lemmas.MatchLemmas.{OccursAt-from_part, OccursAt-part, OccursAt-split}
 use Rattle.dir_names.specs.Orders.{bytes_eq, bytes_eq_decides}
 use Rattle.dir_acl.specs.declared.filter.Pieces.{Pieces}
 use Rattle.dir_acl.specs.Inside.FirstPiece.{after_piece}
@@ -165,14 +167,55 @@ middles_end ms last rest i past = ap (λ l. has_middles l last rest) (drop_all i
 
 -- ---- the place of a piece
 
-pub here_after : (piece text : List ℕ) → starts_with nat_eq text piece ≡ true → after_piece piece text ≡ Some (drop (length piece) text)
+here_after : (piece text : List ℕ) → starts_with nat_eq text piece ≡ true → after_piece piece text ≡ Some (drop (length piece) text)
 here_after piece [] e = ap (λ t. cond t (Some (drop (length piece) [])) None) e
 here_after piece (b ∷ bs) e = ap (λ t. cond t (Some (drop (length piece) (b ∷ bs))) (after_piece piece bs)) e
 
-pub later_after : (piece : List ℕ) (b : ℕ) (bs : List ℕ) → starts_with nat_eq (b ∷ bs) piece ≡ false → after_piece piece (b ∷ bs) ≡ after_piece piece bs
+later_after : (piece : List ℕ) (b : ℕ) (bs : List ℕ) → starts_with nat_eq (b ∷ bs) piece ≡ false → after_piece piece (b ∷ bs) ≡ after_piece piece bs
 later_after piece b bs e = ap (λ t. cond t (Some (drop (length piece) (b ∷ bs))) (after_piece piece bs)) e
 
-pub nowhere_after : (piece text : List ℕ) → text ≡ [] → starts_with nat_eq text piece ≡ false → after_piece piece text ≡ None
-nowhere_after piece text n e = ap (after_piece piece) n ∙ ap (λ t. cond t (Some (drop (length piece) [])) None) (sym (ap (λ t. starts_with nat_eq t piece) n) ∙ e)
+-- a text that begins with the piece has it at its first place, and the other way
+occurs_here : (piece text : List ℕ) → starts_with nat_eq text piece ≡ true → OccursAt text piece 0
+occurs_here piece text e =
+    let split = starts_so text piece e in
+    OccursAt-from_part text piece 0 (omega (arith, ap length split, length-append piece (drop (length piece) text))) (ap (take (length piece)) split ∙ take_at piece (drop (length piece) text) (length piece) refl)
 
-pub ruleset piece_steps = (here_after, later_after, nowhere_after)
+begins_there : (piece text : List ℕ) → OccursAt text piece 0 → starts_with nat_eq text piece ≡ true
+begins_there piece text occurs = (starts_is nat_eq_decides text piece (starts_with nat_eq text piece) refl).1 (drop (0 + length piece) text) (OccursAt-split text piece 0 occurs)
+
+-- a place in a text is one place further on with one byte before the text
+place_after_byte : (piece : List ℕ) (b : ℕ) (bs : List ℕ) (k : ℕ) → OccursAt bs piece k → OccursAt (b ∷ bs) piece (suc k)
+place_after_byte piece b bs k occurs = OccursAt-from_part (b ∷ bs) piece (suc k) (omega (arith, occurs.fits)) (OccursAt-part bs piece k occurs)
+
+place_without_byte : (piece : List ℕ) (b : ℕ) (bs : List ℕ) (k : ℕ) → OccursAt (b ∷ bs) piece (suc k) → OccursAt bs piece k
+place_without_byte piece b bs k occurs = OccursAt-from_part bs piece k (omega (arith, occurs.fits)) (OccursAt-part (b ∷ bs) piece (suc k) occurs)
+
+nowhere_without_byte : (piece : List ℕ) (b : ℕ) (bs : List ℕ) (m n : ℕ) → n + 1 ≤ m → Nowhere (OccursAt (b ∷ bs) piece) 0 m → Nowhere (OccursAt bs piece) 0 n
+nowhere_without_byte piece b bs m n within none k low high occurs = none (suc k) (omega arith) (omega arith) (place_after_byte piece b bs k occurs)
+
+-- what follows the piece at the first place where it occurs
+pub after_first : (piece text : List ℕ) (k : ℕ) → Nowhere (OccursAt text piece) 0 k → OccursAt text piece k → after_piece piece text ≡ Some (drop (k + length piece) text)
+after_first piece text zero none occurs =
+    let same : length piece ≡ 0 + length piece = omega arith in
+    here_after piece text (begins_there piece text occurs) ∙ ap (λ n. Some (drop n text)) same
+after_first piece [] (suc k) none occurs = absurd (omega (arith, occurs.fits))
+after_first piece (b ∷ bs) (suc k) none occurs =
+    by (after_first piece bs k (nowhere_without_byte piece b bs (suc k) k (omega arith) none) (place_without_byte piece b bs k occurs)) (starts_with nat_eq (b ∷ bs) piece) refl
+  where
+    by : after_piece piece bs ≡ Some (drop (k + length piece) bs) → (s : Bool) → starts_with nat_eq (b ∷ bs) piece ≡ s → after_piece piece (b ∷ bs) ≡ Some (drop (suc k + length piece) (b ∷ bs))
+    by rest true w = absurd (none 0 (omega arith) (omega arith) (occurs_here piece (b ∷ bs) w))
+    by rest false w =
+        let further : suc (k + length piece) ≡ suc k + length piece = omega arith in
+        later_after piece b bs w ∙ rest ∙ ap (λ n. Some (drop n (b ∷ bs))) further
+
+pub after_none : (piece text : List ℕ) → Nowhere (OccursAt text piece) 0 (length text + 1) → after_piece piece text ≡ None
+after_none piece [] none = by (starts_with nat_eq [] piece) refl
+  where
+    by : (s : Bool) → starts_with nat_eq [] piece ≡ s → after_piece piece [] ≡ None
+    by true w = absurd (none 0 (omega arith) (omega arith) (occurs_here piece [] w))
+    by false w = ap (λ t. cond t (Some (drop (length piece) [])) None) w
+after_none piece (b ∷ bs) none = by (after_none piece bs (nowhere_without_byte piece b bs (length (b ∷ bs) + 1) (length bs + 1) (omega arith) none)) (starts_with nat_eq (b ∷ bs) piece) refl
+  where
+    by : after_piece piece bs ≡ None → (s : Bool) → starts_with nat_eq (b ∷ bs) piece ≡ s → after_piece piece (b ∷ bs) ≡ None
+    by rest true w = absurd (none 0 (omega arith) (omega arith) (occurs_here piece (b ∷ bs) w))
+    by rest false w = later_after piece b bs w ∙ rest

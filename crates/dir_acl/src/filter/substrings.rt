@@ -6,6 +6,7 @@ ghost use Rattle.dir_acl.specs.Substrings.{has_middles, has_pieces};
 
 use crate::Pieces;
 use dir_names::Bytes;
+use memchr::memmem;
 
 /// Whether a text has the pieces. Each middle piece is taken where it comes first, which leaves the most to the
 /// others.
@@ -33,19 +34,10 @@ fn has_middles(middle: &[Bytes], last: &[u8], text: &[u8]) -> bool
     rest.ends_with(last)
 }
 
-/// What follows a piece where it comes first.
-#[tactic(auto, using(crate::proofs::Cuts::piece_steps))]
+/// What follows a piece where it comes first. The time is the text's length and the piece's, not their product.
 fn after_piece<'t>(piece: &[u8], text: &'t [u8]) -> Option<&'t [u8]>
     ensures { option_copied result ≡ after_piece piece.now text.now }
 {
-    let mut rest = text;
-    loop {
-        if rest.starts_with(piece) {
-            return Some(rest.split_at(piece.len()).1);
-        }
-        match rest.split_first() {
-            Some((_, more)) => rest = more,
-            None => return None,
-        }
-    }
+    let at = memmem::find(text, piece)?;
+    Some(text.split_at(at + piece.len()).1)
 }
