@@ -1,5 +1,5 @@
 #!/usr/bin/env python3
-"""Compares the manual pages and the completions of the tools with the program's own options, and slapmodify's causes with the README's.
+"""Compares the manual pages and the completions of the tools with the program's own options, and their codes with those of docs/CODES.md.
 
 usage: manual.py PROGRAM
 """
@@ -53,13 +53,14 @@ def text_of(completion):
     return (ROOT / "share/completions" / completion).read_text()
 
 
-def the_manual_page_has_the_causes(_):
-    readme = (ROOT / "README.md").read_text()
-    causes = set(re.findall(r"\b((?:\d+ [a-z]+[A-Z]\w*)|(?:[LN]\d+ [A-Z]\w+))", readme))
-    page = page_of("slapmodify")
-    expect(sorted(cause for cause in causes if cause not in page), [], "causes that the page lacks")
+def the_manual_pages_have_the_codes(_):
+    """The codes of docs/CODES.md: those of a slapd.conf are on slapacl's page, all others on slapmodify's."""
+    codes = set(re.findall(r"\b((?:\d+ [a-z]+[A-Z]\w*)|(?:[LNC]\d+ [A-Z]\w+))", (ROOT / "docs/CODES.md").read_text()))
+    of_configurations = {code for code in codes if code.startswith("C")}
+    for tool, those in [("slapmodify", codes - of_configurations), ("slapacl", of_configurations)]:
+        expect(sorted(code for code in those if code not in page_of(tool)), [], f"codes that the page of {tool} lacks")
 
 
-CHECKS = [the_manual_pages_have_the_options, the_completions_have_the_options, the_manual_page_has_the_causes]
+CHECKS = [the_manual_pages_have_the_options, the_completions_have_the_options, the_manual_pages_have_the_codes]
 
 sys.exit(checks.run("manual", [(check.__name__.replace("_", " "), lambda check=check: check(sys.argv[1])) for check in CHECKS]))

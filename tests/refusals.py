@@ -5,7 +5,7 @@ usage: refusals.py PROGRAM
 
 The program makes the changes of examples/ on the copy there, and answers a question about it, once for each call that is
 refused: that call alone, or it and all after it. A shared object, made by cc and preloaded, refuses the call. Each run must
-end with the fault that README names, and leave no file; where files can't be removed, none that is cut under the name
+end with the fault that docs/CODES.md names, and leave no file; where files can't be removed, none that is cut under the name
 that it was to have, and no new copy without its undo file.
 """
 import dataclasses
