@@ -254,7 +254,7 @@ FAMILIES = [
     Family(wide_filters, "bytes", MOST_OF_A_CONFIGURATION),
     Family(plain_rules, "bytes", MOST_OF_A_CONFIGURATION),
     Family(one_rule, "bytes", MOST_OF_A_CONFIGURATION),
-    Family(pieces_of_a_long_value, "bytes", 262_144),
+    Family(pieces_of_a_long_value, "bytes", 1_000_000),
 ]
 
 

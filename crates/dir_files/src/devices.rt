@@ -1,12 +1,11 @@
-//! Devices: over the system's files and standard streams, and in memory.
+//! Devices over the system's files and standard streams.
 
-ghost use Rattle.std.specs.Prelude.{◌≡◌, ◌<◌, ◌≤◌, ⊤, IfOk, None, Some, length};
+ghost use Rattle.std.specs.Prelude.{◌≡◌, ◌<◌, ◌≤◌, ⊤, IfOk, None, length};
 ghost use Rattle.std.specs.Io.{ReadsAtMost, WritesAtMost};
 ghost use Rattle.std.specs.Io.KnownBytes.{WriteAppends};
 ghost use Rattle.dir_ldif.specs.Device.{Counts};
 
 use dir_ldif::{DeviceFault, Sink, Source};
-use std::alloc::Global;
 use std::io::{self, ErrorKind, Read, Write};
 
 /// A source over a reader. A read that a signal interrupts is made again.
@@ -17,7 +16,9 @@ pub struct PatientReader<R> {
 }
 
 impl<R: Read> PatientReader<R> {
-    pub fn new(inner: R) -> PatientReader<R> {
+    pub fn new(inner: R) -> PatientReader<R>
+        ensures { ⟦<PatientReader<R> as Source>⟧.failures result ≡ 0 }
+    {
         PatientReader { inner, failures: 0 }
     }
 }
@@ -52,7 +53,9 @@ pub struct PatientWriter<W> {
 }
 
 impl<W: Write> PatientWriter<W> {
-    pub fn new(inner: W) -> PatientWriter<W> {
+    pub fn new(inner: W) -> PatientWriter<W>
+        ensures { ⟦<PatientWriter<W> as Sink>⟧.failures result ≡ 0 }
+    {
         PatientWriter { inner, failures: 0 }
     }
 
@@ -137,57 +140,4 @@ pub fn write_at_most<W: Sink>(sink: &mut W, bytes: &[u8], most: usize) -> Result
 {
     let n = most.min(bytes.len());
     sink.write(&bytes[..n])
-}
-
-/// A sink that keeps what it takes. It fails only where memory runs out.
-#[derive(Drop)]
-pub struct Buffer {
-    bytes: Vec<u8>,
-    failures: u64,
-}
-
-impl Buffer {
-    ghost use Rattle.std.specs.Prelude.{◌≡◌, [], Some};
-
-    pub fn new(alloc: Global) -> Buffer
-        ensures { ⟦<Buffer as Sink>⟧.taken result ≡ Some [] }
-    {
-        Buffer {
-            bytes: Vec::new(alloc),
-            failures: 0,
-        }
-    }
-
-    /// What was taken.
-    pub fn as_slice(&self) -> &[u8]
-        ensures { ⟦<Buffer as Sink>⟧.taken self.now ≡ Some result.now }
-    {
-        self.bytes.as_slice()
-    }
-}
-
-impl Sink for Buffer {
-    ghost use Rattle.std.specs.Prelude.{⊤, Some};
-
-    ghost taken = { λ b. Some b.bytes.items };
-
-    ghost failures = { λ b. b.failures };
-
-    ghost may_stall = { λ _. ⊥ };
-
-    ghost is_flushed = { λ _. ⊤ };
-
-    fn write(&mut self, bytes: &[u8]) -> Result<usize, DeviceFault> {
-        match self.bytes.extend_from_slice(bytes) {
-            Ok(()) => Ok(bytes.len()),
-            Err(_) => {
-                self.failures = self.failures.saturating_add(1);
-                Err(DeviceFault)
-            }
-        }
-    }
-
-    fn flush(&mut self) -> Result<(), DeviceFault> {
-        Ok(())
-    }
 }

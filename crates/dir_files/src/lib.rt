@@ -12,7 +12,6 @@ pub mod slapmodify;
 mod system;
 mod words;
 
-pub use devices::Buffer;
 pub use fault::Fault;
 pub use files::{FileSystem, Opened, Refusal};
 pub use progress::{Amount, Doing, Progress, ProgressLine};

@@ -1,7 +1,9 @@
 //! The greatest size of a file that the system lets this process write (`RLIMIT_FSIZE` of getrlimit(2)). A write past it
 //! would end the program by a signal, so no such write is made.
 
-ghost use Rattle.std.specs.Prelude.{⊤};
+ghost use Rattle.std.specs.Prelude.{◌≡◌, ◌+◌, ◌≤◌, ⊤, IfOk, OnErr, length};
+ghost use Rattle.std.specs.Io.KnownBytes.{WriteAppends};
+ghost use Rattle.dir_ldif.specs.Device.{Counts};
 
 use crate::devices::{PatientReader, write_at_most};
 use dir_ldif::{DeviceFault, Sink, Source};
@@ -39,12 +41,33 @@ pub struct LimitedWriter<W> {
 }
 
 impl<W: Sink> LimitedWriter<W> {
-    pub fn new(inner: W, limit: u64) -> LimitedWriter<W> {
+    pub fn new(inner: W, limit: u64) -> LimitedWriter<W>
+        ensures taken { ⟦<LimitedWriter<W> as Sink>⟧.taken result ≡ W.taken inner }
+        ensures failures { ⟦<LimitedWriter<W> as Sink>⟧.failures result ≡ W.failures inner }
+        ensures room { result.room ≡ limit }
+    {
         LimitedWriter { inner, room: limit }
     }
 
-    pub fn inner(&self) -> &W {
+    pub fn inner(&self) -> &W
+        ensures taken { W.taken result.now ≡ ⟦<LimitedWriter<W> as Sink>⟧.taken self.now }
+        ensures failures { W.failures result.now ≡ ⟦<LimitedWriter<W> as Sink>⟧.failures self.now }
+    {
         &self.inner
+    }
+
+    /// Writes a text's first bytes, no more than there is room for.
+    fn write_within(&mut self, bytes: &[u8]) -> Result<usize, DeviceFault>
+        ensures bound { IfOk result (λ n. (n ≤ length bytes.now) × (n ≤ self.old.room)) }
+        ensures room { IfOk result (λ n. self.new.room + n ≡ self.old.room) }
+        ensures kept { OnErr result (self.new.room ≡ self.old.room) }
+        ensures bytes { WriteAppends (W.taken self.old.inner) (W.taken self.new.inner) result bytes.now }
+        ensures count { Counts result (W.failures self.old.inner) (W.failures self.new.inner) }
+    {
+        let most = usize::try_from(self.room).unwrap_or(usize::MAX);
+        let n = write_at_most(&mut self.inner, bytes, most)?;
+        self.room -= n as u64;
+        Ok(n)
     }
 }
 
@@ -58,10 +81,7 @@ impl<W: Sink> Sink for LimitedWriter<W> {
     ghost is_flushed = { λ s. W.is_flushed s.inner };
 
     fn write(&mut self, bytes: &[u8]) -> Result<usize, DeviceFault> {
-        let most = usize::try_from(self.room).unwrap_or(usize::MAX);
-        let n = write_at_most(&mut self.inner, bytes, most)?;
-        self.room = self.room.saturating_sub(n as u64);
-        Ok(n)
+        self.write_within(bytes)
     }
 
     fn flush(&mut self) -> Result<(), DeviceFault> {

@@ -160,7 +160,9 @@ pub struct Progress<'a> {
 
 impl<'a> Progress<'a> {
     /// A file is synced.
-    pub fn syncing(path: &'a str) -> Progress<'a> {
+    pub fn syncing(path: &'a str) -> Progress<'a>
+        ensures { result ≡ record { doing = Doing.Syncing; path = path; amount = record { done = 0; size = None } } }
+    {
         Progress {
             doing: Doing::Syncing,
             path,
@@ -293,7 +295,10 @@ impl<'a, S: Source> TellingReader<'a, S> {
         alloc: Global,
         path: &str,
         size: Option<u64>,
-    ) -> TellingReader<'a, S> {
+    ) -> TellingReader<'a, S>
+        ensures left { ⟦<TellingReader<'a, S> as Source>⟧.left result ≡ S.left inner }
+        ensures failures { ⟦<TellingReader<'a, S> as Source>⟧.failures result ≡ S.failures inner }
+    {
         let told = match Gauge::new(line, alloc, path, size) {
             Some(gauge) => Told::Progress(gauge),
             None => Told::Nothing,
@@ -302,7 +307,10 @@ impl<'a, S: Source> TellingReader<'a, S> {
     }
 
     /// Changes that are typed. They are asked for once, before the first is read.
-    pub fn typed(inner: S, line: &'a ProgressLine) -> TellingReader<'a, S> {
+    pub fn typed(inner: S, line: &'a ProgressLine) -> TellingReader<'a, S>
+        ensures left { ⟦<TellingReader<'a, S> as Source>⟧.left result ≡ S.left inner }
+        ensures failures { ⟦<TellingReader<'a, S> as Source>⟧.failures result ≡ S.failures inner }
+    {
         TellingReader {
             inner,
             told: Told::Request(line),
@@ -345,14 +353,20 @@ impl<'a, W: Sink> TellingWriter<'a, W> {
         line: &'a ProgressLine,
         alloc: Global,
         path: &str,
-    ) -> TellingWriter<'a, W> {
+    ) -> TellingWriter<'a, W>
+        ensures taken { ⟦<TellingWriter<'a, W> as Sink>⟧.taken result ≡ W.taken inner }
+        ensures failures { ⟦<TellingWriter<'a, W> as Sink>⟧.failures result ≡ W.failures inner }
+    {
         TellingWriter {
             inner,
             gauge: Gauge::new(line, alloc, path, None),
         }
     }
 
-    pub fn inner(&self) -> &W {
+    pub fn inner(&self) -> &W
+        ensures taken { W.taken result.now ≡ ⟦<TellingWriter<'a, W> as Sink>⟧.taken self.now }
+        ensures failures { W.failures result.now ≡ ⟦<TellingWriter<'a, W> as Sink>⟧.failures self.now }
+    {
         &self.inner
     }
 }

@@ -6,14 +6,13 @@ ghost use Rattle.dir_tools.specs.Writing.{WroteReport};
 ghost use Rattle.dir_files.specs.AccessRuns.{AllAccessCalls, Asks, NamesItsFile, RefusesSameFile, access_terms_of, asked_for, first_repeated_file};
 ghost use Rattle.dir_files.specs.Runs.{Made};
 
-use crate::devices::Buffer;
 use crate::fault::Fault;
 use crate::files::FileSystem;
 use crate::slapmodify::{not_opened, not_reported, run_fault};
 use crate::words::AccessWords;
 use dir_ldif::{Sink, Source};
 use dir_names::{Bytes, Memory, Schema, Texts};
-use dir_tools::{Question, ToolFault, run_acl};
+use dir_tools::{Buffer, Question, ToolFault, run_acl};
 use std::alloc::Global;
 
 /// Runs `slapacl` on the files that the words name.

@@ -10,13 +10,12 @@ ghost use Rattle.dir_files.specs.Faults.{IsNotCreated, IsNotOpened, IsNotReporte
 ghost use Rattle.dir_files.specs.Paths.{IsWriteFaultOf, NamesItsPath, RefusesSamePath, first_repeated, outputs_of};
 ghost use Rattle.dir_files.specs.Runs.{AllCalls, Made, Publishes, RunsOver, Syncs, WritesAll, WritesOutputs, WritesReport, changes_text, terms_of, sources_of};
 
-use crate::devices::Buffer;
 use crate::fault::Fault;
 use crate::files::{FileSystem, Refusal};
 use crate::words::{ModifyWords, OutputPaths};
 use dir_ldif::{Sink, Source, Writer};
 use dir_names::Schema;
-use dir_tools::{Output, Summary, ToolFault, run_modify};
+use dir_tools::{Buffer, Output, Summary, ToolFault, run_modify};
 use std::alloc::Global;
 use std::io;
 

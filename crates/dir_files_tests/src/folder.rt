@@ -4,8 +4,9 @@ ghost use Rattle.std.specs.Prelude.{◌≡◌, IfOk, string_bytes};
 ghost use Rattle.dir_files.specs.Files.{refusal_of};
 ghost use Rattle.dir_files_tests.specs.Folder.{folder_mode};
 
-use dir_files::{Buffer, FileSystem, Opened, Refusal};
+use dir_files::{FileSystem, Opened, Refusal};
 use dir_ldif::Script;
+use dir_tools::Buffer;
 use std::alloc::{AllocError, Global};
 
 /// A call of a folder.

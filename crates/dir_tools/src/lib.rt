@@ -7,6 +7,7 @@ mod canonical;
 mod copy;
 mod fault;
 mod laws;
+mod memory;
 mod modify;
 mod report;
 mod round_trip;
@@ -21,6 +22,7 @@ pub use laws::{
     access_is_as_before, canonical_texts_read_back, copies_are_sound, groups_are_undos, headline,
     runs_accept_changes, written_runs_are_taken_back,
 };
+pub use memory::Buffer;
 pub use modify::run_modify;
 pub use round_trip::{RoundTrip, run_there_and_back};
 pub use run::{ModifyOptions, Summary};

@@ -6,9 +6,9 @@ ghost use Rattle.dir_tools.specs.Headline.{canonical_copy_of, terms};
 ghost use Rattle.dir_tools.specs.Inside.RunInMemory.{IsRunInMemory};
 ghost use Rattle.dir_tools.specs.RoundTrip.{IsFaultThere, IsRoundTrip, IsRoundTripFault};
 
+use crate::memory::{Buffer, Text};
 use crate::run::{ModifyOptions, Summary};
 use crate::{ToolFault, access_is_as_before, headline, run_modify};
-use dir_ldif::{DeviceFault, Sink, Source};
 use dir_names::Schema;
 use std::alloc::Global;
 
@@ -87,8 +87,8 @@ fn run_in_memory(
     ensures ok { IfOk result (IsRunInMemory (terms schema.now suffix.now options) copy.now changes.now) }
     ensures fault { IfErr result (IsFaultThere (terms schema.now suffix.now options) copy.now changes.now) }
 {
-    let mut copy = Text { rest: copy };
-    let mut changes = Text { rest: changes };
+    let mut copy = Text::new(copy);
+    let mut changes = Text::new(changes);
     let mut undo = Buffer::new(alloc);
     let mut out = Buffer::new(alloc);
     let mut report = Buffer::new(alloc);
@@ -104,82 +104,10 @@ fn run_in_memory(
         &mut report,
     ) {
         Ok(summary) => Ok(RunInMemory {
-            undo: undo.bytes,
-            out: out.bytes,
+            undo: undo.into_vec(),
+            out: out.into_vec(),
             summary,
         }),
         Err(fault) => Err(fault),
-    }
-}
-
-/// A source over a text in memory, which never fails.
-#[derive(Drop)]
-struct Text<'a> {
-    rest: &'a [u8],
-}
-
-impl Source for Text<'_> {
-    ghost use Rattle.std.specs.Prelude.{⊤, Some};
-
-    ghost left = { λ t. Some t.rest.now };
-
-    ghost failures = { λ _. 0 };
-
-    ghost is_same = { λ _ _. ⊤ };
-
-    ghost same_refl = { λ _. tt };
-
-    ghost same_trans = { λ _ _ _ _ _. tt };
-
-    fn read(&mut self, buffer: &mut [u8]) -> Result<usize, DeviceFault> {
-        let n = buffer.len().min(self.rest.len());
-        let (piece, rest) = self.rest.split_at(n);
-        buffer[..n].copy_from_slice(piece);
-        self.rest = rest;
-        Ok(n)
-    }
-}
-
-/// A sink that keeps in memory what it takes.
-#[derive(Drop)]
-struct Buffer {
-    bytes: Vec<u8>,
-    failures: u64,
-}
-
-impl Buffer {
-    fn new(alloc: Global) -> Buffer
-        ensures { result.bytes.items ≡ [] }
-    {
-        Buffer {
-            bytes: Vec::new(alloc),
-            failures: 0,
-        }
-    }
-}
-
-impl Sink for Buffer {
-    ghost use Rattle.std.specs.Prelude.{⊤, Some};
-
-    ghost taken = { λ b. Some b.bytes.items };
-
-    ghost failures = { λ b. b.failures };
-
-    ghost may_stall = { λ _. ⊥ };
-
-    ghost is_flushed = { λ _. ⊤ };
-
-    fn write(&mut self, bytes: &[u8]) -> Result<usize, DeviceFault> {
-        match self.bytes.extend_from_slice(bytes) {
-            Ok(()) => Ok(bytes.len()),
-            Err(_) => {
-                self.failures = self.failures.saturating_add(1);
-                Err(DeviceFault)
-            }
-        }
-    }
-
-    fn flush(&mut self) -> Result<(), DeviceFault> {
-        Ok(())
     }
 }
