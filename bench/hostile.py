@@ -226,7 +226,7 @@ class Family:
     def largest_here(self, divided_by):
         """The largest size, less where the machine has not the memory for it."""
         largest = self.largest // divided_by
-        return max(FACTOR, min(largest, free_memory() // 2 // self.memory) if self.memory else largest)
+        return max(FACTOR, min(largest, free_memory() * 3 // 4 // self.memory) if self.memory else largest)
 
 
 FAMILIES = [
@@ -235,7 +235,7 @@ FAMILIES = [
     Family(one_modify, "modifications", 100_000),
     Family(one_modify_of_many_values, "values", 100_000),
     Family(one_modify_of_many_descriptions, "descriptions", 20_000),
-    Family(large_values, "values", 4_000, memory=12 * MOST_OF_A_VALUE),
+    Family(large_values, "values", 4_000, memory=5 * MOST_OF_A_VALUE // 2),
     Family(values_with_a_common_prefix, "values", 20_000),
     Family(entries_in_reverse, "entries", 500_000),
     Family(children_before_parents, "entries", 500_000),
