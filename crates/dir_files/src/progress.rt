@@ -348,12 +348,7 @@ pub struct TellingWriter<'a, W> {
 
 impl<'a, W: Sink> TellingWriter<'a, W> {
     /// The text of the file that is made at this path.
-    pub fn new(
-        inner: W,
-        line: &'a ProgressLine,
-        alloc: Global,
-        path: &str,
-    ) -> TellingWriter<'a, W>
+    pub fn new(inner: W, line: &'a ProgressLine, alloc: Global, path: &str) -> TellingWriter<'a, W>
         ensures taken { ⟦<TellingWriter<'a, W> as Sink>⟧.taken result ≡ W.taken inner }
         ensures failures { ⟦<TellingWriter<'a, W> as Sink>⟧.failures result ≡ W.failures inner }
     {
