@@ -161,7 +161,7 @@ pub struct Progress<'a> {
 impl<'a> Progress<'a> {
     /// A file is synced.
     pub fn syncing(path: &'a str) -> Progress<'a>
-        ensures { result ≡ record { doing = Doing.Syncing; path = path; amount = record { done = 0; size = None } } }
+        ensures { result ≡ record { doing = Doing.Syncing; path = path.entry; amount = record { done = 0; size = None } } }
     {
         Progress {
             doing: Doing::Syncing,
