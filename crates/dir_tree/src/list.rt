@@ -183,25 +183,34 @@ fn with_value(
     ensures err { OnErr result.1 (list_values result.0 ≡ list_values kept) }
 {
     match kept {
-        OneOrMany::One(only) => {
-            let Ok(mut values) = Vec::with_capacity(alloc, 2) else {
-                return (OneOrMany::One(only), Err(Memory));
-            };
-            match values.push(only) {
-                Ok(()) => vec_with_value(values, at, value),
-                Err(refused) => (OneOrMany::One(refused.value), Err(Memory)),
-            }
-        }
+        OneOrMany::One(only) => match into_vec(alloc, only) {
+            Ok(values) => vec_with_value(values, at, value),
+            Err(only) => (OneOrMany::One(only), Err(Memory)),
+        },
         OneOrMany::Many(values) => {
             if values.len() < MOST {
                 return vec_with_value(values, at, value);
             }
-            match Pieces::of(alloc, values) {
+            match Pieces::from_vec(alloc, values) {
                 Ok(pieces) => pieces_with_value(alloc, pieces, at, value),
                 Err(values) => (OneOrMany::Many(values), Err(Memory)),
             }
         }
         OneOrMany::InPieces(pieces) => pieces_with_value(alloc, pieces, at, value),
+    }
+}
+
+/// The value in a `Vec`, so that others can be added. If memory runs out, it is given back.
+fn into_vec(alloc: Global, value: StoredValue) -> Result<Vec<StoredValue>, StoredValue>
+    ensures ok { IfOk result (λ values. values.items ≡ value ∷ []) }
+    ensures err { IfErr result (λ back. back ≡ value) }
+{
+    let Ok(mut values) = Vec::with_capacity(alloc, 2) else {
+        return Err(value);
+    };
+    match values.push(value) {
+        Ok(()) => Ok(values),
+        Err(refused) => Err(refused.value),
     }
 }
 

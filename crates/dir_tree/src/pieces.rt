@@ -49,7 +49,10 @@ struct Place {
 
 impl Pieces {
     /// The values of a `Vec`, in one piece. If memory runs out, they are given back.
-    pub(crate) fn of(alloc: Global, values: Vec<StoredValue>) -> Result<Pieces, Vec<StoredValue>>
+    pub(crate) fn from_vec(
+        alloc: Global,
+        values: Vec<StoredValue>,
+    ) -> Result<Pieces, Vec<StoredValue>>
         requires { 0 < length values.items }
         ensures ok { IfOk result (λ list. list ≡ values.items) }
         ensures err { IfErr result (λ back. back ≡ values) }
@@ -116,9 +119,7 @@ impl Pieces {
         ensures ok { OnOk result (self.new ≡ insert self.old at value) }
         ensures err { OnErr result (self.new ≡ self.old) }
     {
-        if self.len == usize::MAX {
-            return Err(Memory);
-        }
+        let len = one_more(self.len)?;
         if at == self.len && is_last_full(self.pieces.as_slice()) {
             push_piece(alloc, &mut self.pieces, value)?;
         } else {
@@ -126,7 +127,7 @@ impl Pieces {
             let place = place_with_room(&mut self.pieces, place)?;
             insert_at(&mut self.pieces, place, value)?;
         }
-        self.len += 1;
+        self.len = len;
         Ok(())
     }
 
@@ -164,6 +165,13 @@ impl Pieces {
             len: self.len,
         })
     }
+}
+
+/// The number after this one. A list of `usize::MAX` values takes no more, since no memory has so many.
+fn one_more(len: usize) -> Result<usize, Memory>
+    ensures { IfOk result (λ n. n ≡ len + 1) }
+{
+    len.checked_add(1).ok_or(Memory)
 }
 
 /// The piece to which the key that is sought belongs, or the number of pieces if all end below it.
