@@ -6,6 +6,7 @@ use Rattle.dir_names.specs.Values.{value_key_cmp}
 use Rattle.dir_names.specs.declared.value.ValueKey.{ValueKey}
 
 module _ {Z : Type 0} where
+  -- the values of one piece
   abbrev pub piece_values : Vec (ValueKey × List ℕ) Z → List (ValueKey × List ℕ)
   piece_values piece = piece.items
 
@@ -39,6 +40,7 @@ module _ {Z : Type 0} where
   abbrev pub EndsBelow : List (Vec (ValueKey × List ℕ) Z) → ℕ → ValueKey → Type 0
   EndsBelow pieces piece key = (d : Vec (ValueKey × List ℕ) Z) (e : ValueKey × List ℕ) → let values = piece_values (slice_index_or pieces piece d) in value_key_cmp (slice_index_or values (length values - 1) e).0 key ≡ Less
 
+  -- the last value of the piece has the key, or is above it
   abbrev pub EndsNotBelow : List (Vec (ValueKey × List ℕ) Z) → ℕ → ValueKey → Type 0
   EndsNotBelow pieces piece key = (d : Vec (ValueKey × List ℕ) Z) (e : ValueKey × List ℕ) → let values = piece_values (slice_index_or pieces piece d) in value_key_cmp (slice_index_or values (length values - 1) e).0 key ≢ Less
 
