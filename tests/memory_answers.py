@@ -11,7 +11,7 @@ answer must come from a refused allocation. These forms hand one on, and pass:
     Err(_) => ..::Memory             where out of memory is the only fault of the call that is matched, by the type or the
                                      contract of every function of its name; so `map_err(|_| ..::Memory)` and `let .. else`
 
-There must be no other place but those in BUFFERED. Tests are left out.
+There must be no other place but those in BUFFERED and COUNTS. Tests are left out.
 """
 import pathlib
 import re
@@ -23,10 +23,13 @@ from checks import Wrong
 ROOT = pathlib.Path(__file__).resolve().parent.parent
 
 # Calls that hand back what could not be put where it was to go, for want of memory alone.
-HANDS_BACK = {"insert", "move_subtree", "push", "into_vec"}
+HANDS_BACK = {"from_vec", "insert", "into_vec", "move_subtree", "push"}
 
 # Functions that answer out of memory for a fault of a sink in memory, which takes all that it is given unless an allocation is refused.
 BUFFERED = {"run_fault"}
+
+# A count of values that has no next number: no memory holds so many.
+COUNTS = {"one_more"}
 
 ANSWER = re.compile(r"\b(?:\w+::)*(?:Memory|AllocError|OutOfMemory)\b")
 
@@ -143,6 +146,8 @@ def places_of(text, only_memory):
             if pattern is not None and ANSWER.search(pattern):
                 continue
             if function in BUFFERED and pattern and pattern.endswith("Write(Output::Report)"):
+                continue
+            if function in COUNTS:
                 continue
             if calls and all(call in only_memory or call in HANDS_BACK for call in calls):
                 continue

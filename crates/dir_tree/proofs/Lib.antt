@@ -3,6 +3,7 @@ pub mod DirLemmas
 pub mod EachEntry
 pub mod Examples
 pub mod Faults
+pub mod FoundInPieces
 pub mod GainedValues
 pub mod KeyPlaces
 pub mod MadeAgain
@@ -14,12 +15,15 @@ pub mod Orderless
 pub mod OwnLines
 pub mod OwnNames
 pub mod OwnValues
+pub mod Pieced
+pub mod PlaceInPieces
 pub mod Relisted
 pub mod RestBelow
 pub mod SortedVecs
 pub mod SoundMade
 pub mod SpelledLemmas
 pub mod SpelledMoves
+pub mod SplitPieces
 pub mod StableSorts
 pub mod TreeChildren
 pub mod TreeDirs

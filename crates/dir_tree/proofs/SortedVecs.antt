@@ -13,7 +13,7 @@ use Rattle.dir_names.specs.Sorted.{rises, place, later}
 use Rattle.dir_names.proofs.Placed.{so, place_from_search, is_sorted-keys, keys_of}
 use Rattle.dir_names.proofs.Maps.{gone_err, gone_ok, got_ok, got_err, put_err, put_ok, sorted_gone, sorted_put_err, sorted_put_ok}
 
-truth : {b : Bool} → T b → b ≡ true
+pub truth : {b : Bool} → T b → b ≡ true
 truth {b} t = elim b as (λ b. T b → b ≡ true) [ true ↦ λ _. refl | _ ↦ λ f. absurd f ] t
 
 module _ {I K X : Type 0} {R : K → K → Ordering} (o : IsTotalOrder R) (pair : I → K × X) where

@@ -2,6 +2,7 @@
 -- A reader of the public contracts needs none of them.
 pub mod Arranged
 pub mod Codes
+pub mod Searches
 pub mod Stored
 pub mod TreeFalls
 pub mod TreeLends
@@ -10,3 +11,4 @@ pub mod TreeOrder
 pub mod TreePlaces
 pub mod Trees
 pub mod ValueLists
+pub mod ValuePieces

@@ -10,6 +10,8 @@ mod laws;
 mod lines;
 mod list;
 mod parts;
+mod pieces;
+mod search;
 mod stored;
 mod tree;
 mod values;

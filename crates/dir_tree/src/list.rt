@@ -1,11 +1,18 @@
-//! The values of an attribute as a list. A single value needs no memory of its own.
+//! The values of an attribute as a list. A single value needs no memory of its own, and a long list is kept in pieces.
 
 ghost use Rattle.std.specs.List.{insert, remove};
-ghost use Rattle.std.specs.Prelude.{◌≡◌, ◌≤◌, ◌<◌, ℕ, List, [], ◌∷◌, IfErr, IfOk, OnErr, OnOk, get_or, length, set};
+ghost use Rattle.std.specs.List.Sorted.{IsSearchInRange};
+ghost use Rattle.std.specs.Prelude.{◌≡◌, ◌≤◌, ◌<◌, ℕ, List, [], ◌∷◌, IfErr, IfOk, IsTrue, OnErr, OnOk, get_or, length, map, set};
+ghost use Rattle.dir_names.specs.Sorted.{place};
+ghost use Rattle.dir_names.specs.Values.{value_key_cmp};
 ghost use Rattle.dir_names.specs.declared.value.ValueKey.{ValueKey};
+ghost use Rattle.dir_tree.specs.Inside.Searches.{sought_key};
+ghost use Rattle.dir_tree.specs.Inside.Stored.{are_rising, value_pair};
 ghost use Rattle.dir_tree.specs.Inside.ValueLists.{list_values};
 
-use crate::stored::{OneOrMany, StoredValue};
+use crate::pieces::{MOST, Pieces};
+use crate::search::{Sought, place_of};
+use crate::stored::{OneOrMany, StoredValue, clones};
 use dir_names::{Bytes, Memory};
 use std::alloc::Global;
 use std::marker::Model;
@@ -44,20 +51,57 @@ impl ValueList {
         }
     }
 
-    pub(crate) fn of(values: Vec<StoredValue>) -> ValueList
-        ensures { result ≡ values.items }
+    pub(crate) fn len(&self) -> usize
+        ensures { result ≡ length self.now }
     {
-        ValueList {
-            kept: OneOrMany::Many(values),
+        match &self.kept {
+            OneOrMany::One(_) => 1,
+            OneOrMany::Many(values) => values.len(),
+            OneOrMany::InPieces(pieces) => pieces.len(),
         }
     }
 
-    pub(crate) fn as_slice(&self) -> &[StoredValue]
-        ensures { result.now ≡ self.now }
+    /// The index of the value with the key that is sought, or the index at which it would be inserted.
+    pub(crate) fn find(&self, sought: &Sought<'_>) -> Result<usize, usize>
+        requires { IsTrue (are_rising self.now) }
+        ensures range { IsSearchInRange result (length self.now) }
+        ensures place { result ≡ place value_key_cmp (sought_key sought.now) (map (λ value. (value_pair value).0) self.now) }
     {
         match &self.kept {
-            OneOrMany::One(value) => slice::from_ref(value),
-            OneOrMany::Many(values) => values.as_slice(),
+            OneOrMany::One(value) => place_of(slice::from_ref(value), sought),
+            OneOrMany::Many(values) => place_of(values.as_slice(), sought),
+            OneOrMany::InPieces(pieces) => pieces.find(sought),
+        }
+    }
+
+    /// The value at an index.
+    pub(crate) fn get(&self, at: usize) -> &StoredValue
+        requires { at < length self.now }
+        ensures { result.now ≡ get_or self.now at result.now }
+    {
+        match &self.kept {
+            OneOrMany::One(value) => value,
+            OneOrMany::Many(values) => &values[at],
+            OneOrMany::InPieces(pieces) => pieces.get(at),
+        }
+    }
+
+    pub(crate) fn iter(&self) -> ListIter<'_>
+        ensures { result ≡ self.now }
+    {
+        match &self.kept {
+            OneOrMany::One(value) => ListIter {
+                first: slice::from_ref(value).iter(),
+                rest: [].iter(),
+            },
+            OneOrMany::Many(values) => ListIter {
+                first: values.iter(),
+                rest: [].iter(),
+            },
+            OneOrMany::InPieces(pieces) => ListIter {
+                first: [].iter(),
+                rest: pieces.as_slice().iter(),
+            },
         }
     }
 
@@ -77,18 +121,9 @@ impl ValueList {
         ensures err { OnErr result (self.new ≡ self.old) }
     {
         let kept = mem::replace(&mut self.kept, OneOrMany::Many(Vec::new(alloc)));
-        match into_vec(alloc, kept) {
-            Ok(mut values) => {
-                let put = values.insert(at, value);
-                self.kept = OneOrMany::Many(values);
-                put?;
-                Ok(())
-            }
-            Err(kept) => {
-                self.kept = kept;
-                Err(Memory)
-            }
-        }
+        let (kept, put) = with_value(alloc, kept, at, value);
+        self.kept = kept;
+        put
     }
 
     /// Gives the value at an index other bytes. The call doesn't allocate.
@@ -99,6 +134,7 @@ impl ValueList {
         match &mut self.kept {
             OneOrMany::One(value) => value.set_bytes(bytes),
             OneOrMany::Many(values) => values[at].set_bytes(bytes),
+            OneOrMany::InPieces(pieces) => pieces.set_bytes(at, bytes),
         }
     }
 
@@ -115,25 +151,133 @@ impl ValueList {
                 self.kept = OneOrMany::Many(values);
                 value
             }
+            OneOrMany::InPieces(mut pieces) => {
+                let value = pieces.remove(at);
+                self.kept = OneOrMany::InPieces(pieces);
+                value
+            }
         }
+    }
+
+    pub(crate) fn try_clone(&self, alloc: Global) -> Result<ValueList, Memory>
+        ensures { IfOk result (λ list. list ≡ self.now) }
+    {
+        let kept = match &self.kept {
+            OneOrMany::One(value) => OneOrMany::One(value.try_clone(alloc)?),
+            OneOrMany::Many(values) => OneOrMany::Many(clones(alloc, values.as_slice())?),
+            OneOrMany::InPieces(pieces) => OneOrMany::InPieces(pieces.try_clone(alloc)?),
+        };
+        Ok(ValueList { kept })
     }
 }
 
-/// The values in a `Vec`, so that others can be added.
-fn into_vec(alloc: Global, kept: OneOrMany) -> Result<Vec<StoredValue>, OneOrMany>
-    ensures ok { IfOk result (λ values. values.items ≡ list_values kept) }
-    ensures err { IfErr result (λ back. back ≡ kept) }
+/// The values with one more, at this index, unless memory runs out: then they are as they were.
+fn with_value(
+    alloc: Global,
+    kept: OneOrMany,
+    at: usize,
+    value: StoredValue,
+) -> (OneOrMany, Result<(), Memory>)
+    requires { at ≤ length (list_values kept) }
+    ensures ok { OnOk result.1 (list_values result.0 ≡ insert (list_values kept) at value) }
+    ensures err { OnErr result.1 (list_values result.0 ≡ list_values kept) }
 {
     match kept {
-        OneOrMany::Many(values) => Ok(values),
-        OneOrMany::One(value) => {
-            let Ok(mut values) = Vec::with_capacity(alloc, 2) else {
-                return Err(OneOrMany::One(value));
-            };
-            match values.push(value) {
-                Ok(()) => Ok(values),
-                Err(refused) => Err(OneOrMany::One(refused.value)),
+        OneOrMany::One(only) => match into_vec(alloc, only) {
+            Ok(values) => vec_with_value(values, at, value),
+            Err(only) => (OneOrMany::One(only), Err(Memory)),
+        },
+        OneOrMany::Many(values) => {
+            if values.len() < MOST {
+                return vec_with_value(values, at, value);
             }
+            match Pieces::from_vec(alloc, values) {
+                Ok(pieces) => pieces_with_value(alloc, pieces, at, value),
+                Err(values) => (OneOrMany::Many(values), Err(Memory)),
+            }
+        }
+        OneOrMany::InPieces(pieces) => pieces_with_value(alloc, pieces, at, value),
+    }
+}
+
+/// The value in a `Vec`, so that others can be added. If memory runs out, it is given back.
+fn into_vec(alloc: Global, value: StoredValue) -> Result<Vec<StoredValue>, StoredValue>
+    ensures ok { IfOk result (λ values. values.items ≡ value ∷ []) }
+    ensures err { IfErr result (λ back. back ≡ value) }
+{
+    let Ok(mut values) = Vec::with_capacity(alloc, 2) else {
+        return Err(value);
+    };
+    match values.push(value) {
+        Ok(()) => Ok(values),
+        Err(refused) => Err(refused.value),
+    }
+}
+
+fn vec_with_value(
+    mut values: Vec<StoredValue>,
+    at: usize,
+    value: StoredValue,
+) -> (OneOrMany, Result<(), Memory>)
+    requires { at ≤ length values.items }
+    ensures ok { OnOk result.1 (list_values result.0 ≡ insert values.items at value) }
+    ensures err { OnErr result.1 (list_values result.0 ≡ values.items) }
+{
+    match values.insert(at, value) {
+        Ok(()) => (OneOrMany::Many(values), Ok(())),
+        Err(_) => (OneOrMany::Many(values), Err(Memory)),
+    }
+}
+
+fn pieces_with_value(
+    alloc: Global,
+    mut pieces: Pieces,
+    at: usize,
+    value: StoredValue,
+) -> (OneOrMany, Result<(), Memory>)
+    requires { at ≤ length pieces }
+    ensures ok { OnOk result.1 (list_values result.0 ≡ insert pieces at value) }
+    ensures err { OnErr result.1 (list_values result.0 ≡ pieces) }
+{
+    let put = pieces.insert(alloc, at, value);
+    (OneOrMany::InPieces(pieces), put)
+}
+
+/// The values of a list, in order.
+#[derive(Drop)]
+pub(crate) struct ListIter<'a> {
+    /// The values of the piece that was begun.
+    first: slice::Iter<'a, StoredValue>,
+    /// The pieces after it.
+    rest: slice::Iter<'a, Vec<StoredValue>>,
+}
+
+impl<'a> Model for ListIter<'a> {
+    ghost use Rattle.std.specs.Prelude.{◌++◌, ℕ, List};
+    ghost use Rattle.std.specs.Slice.Iter.{iter_rest};
+    ghost use Rattle.dir_names.specs.declared.value.ValueKey.{ValueKey};
+    ghost use Rattle.dir_tree.specs.Inside.ValuePieces.{joined};
+
+    ghost Value = { List (ValueKey × List ℕ) };
+
+    ghost view = { λ s. iter_rest s.first ++ joined (iter_rest s.rest) };
+}
+
+impl<'a> Iterator for ListIter<'a> {
+    ghost use Rattle.std.specs.Iterator.{YieldsFirstRef, item_count};
+
+    type Item = &'a StoredValue;
+
+    ghost next_gives = { YieldsFirstRef (λ rest. rest) };
+
+    ghost remaining = { item_count (λ rest. rest) };
+
+    fn next(&mut self) -> Option<&'a StoredValue> {
+        loop {
+            if let Some(value) = self.first.next() {
+                return Some(value);
+            }
+            self.first = self.rest.next()?.iter();
         }
     }
 }

@@ -3,6 +3,7 @@
 ghost use Rattle.std.specs.Prelude.{◌≡◌, IfOk, IsTrue, None, true};
 ghost use Rattle.dir_tree.specs.Inside.Stored.{kept_bytes, has_bytes};
 
+use crate::pieces::Pieces;
 use dir_names::{Bytes, Memory, ValueKey};
 use std::alloc::Global;
 use std::marker::Model;
@@ -19,8 +20,10 @@ pub(crate) struct StoredValue {
 pub(crate) enum OneOrMany {
     /// A single value, without a `Vec`.
     One(StoredValue),
-    /// Any number of them.
+    /// A number of them in one `Vec`.
     Many(Vec<StoredValue>),
+    /// So many that an insertion into one `Vec` would move too many.
+    InPieces(Pieces),
 }
 
 impl Model for StoredValue {
@@ -109,4 +112,15 @@ fn are_key_bytes(key: &ValueKey, bytes: &Bytes) -> bool
         ValueKey::Text(text) => text == bytes,
         ValueKey::Name(_) => false,
     }
+}
+
+/// The same values in memory of their own.
+pub(crate) fn clones(alloc: Global, values: &[StoredValue]) -> Result<Vec<StoredValue>, Memory>
+    ensures { IfOk result (λ copy. copy.items ≡ values.now) }
+{
+    let mut copy = Vec::with_capacity(alloc, values.len())?;
+    for value in values {
+        copy.push(value.try_clone(alloc)?)?;
+    }
+    Ok(copy)
 }

@@ -1,22 +1,17 @@
 //! The values of an attribute, as an ordered map from their keys to their bytes.
 
-ghost use Rattle.std.specs.Prelude.{◌≡◌, ◌==◌, IfErr, IfOk, IsTrue, OnErr, OnOk, cond, false, length, map, option_copied};
+ghost use Rattle.std.specs.Prelude.{◌≡◌, ◌==◌, IfErr, IfOk, OnErr, OnOk, cond, false, option_copied};
 ghost use Rattle.std.specs.FinMap as fin;
-ghost use Rattle.std.specs.List.Sorted.{IsSearchInRange};
-ghost use Rattle.dir_names.specs.Sorted.{place};
-ghost use Rattle.dir_names.specs.Values.{value_key_cmp};
 ghost use Rattle.dir_names.specs.declared.value.ValueKey.TheVariants.{Name, Text};
-ghost use Rattle.dir_tree.specs.Inside.Stored.{value_pair, are_rising};
 ghost use Rattle.dir_tree.specs.NewEntry.{IsTwiceFaultOf};
 
 use crate::EntryFault;
-use crate::list::ValueList;
+use crate::list::{ListIter, ValueList};
+use crate::search::Sought;
 use crate::stored::StoredValue;
 use dir_names::{Bytes, DnKey, Memory, ValueKey};
 use std::alloc::Global;
-use std::cmp::Ordering;
 use std::marker::Model;
-use std::slice;
 
 /// The values of an attribute: an ordered map from value keys to stored bytes.
 #[derive(Debug, Drop)]
@@ -61,7 +56,7 @@ impl ValueMap {
     pub fn len(&self) -> usize
         ensures { result ≡ fin.len self.now }
     {
-        self.items.as_slice().len()
+        self.items.len()
     }
 
     pub fn is_empty(&self) -> bool
@@ -74,8 +69,8 @@ impl ValueMap {
     pub fn get(&self, key: &ValueKey) -> Option<&Bytes>
         ensures { option_copied result ≡ fin.get self.now key.now }
     {
-        match place_of(self.items.as_slice(), key) {
-            Ok(at) => Some(self.items.as_slice()[at].bytes()),
+        match self.items.find(&Sought::ByKey(key)) {
+            Ok(at) => Some(self.items.get(at).bytes()),
             Err(_) => None,
         }
     }
@@ -83,21 +78,21 @@ impl ValueMap {
     pub fn contains_key(&self, key: &ValueKey) -> bool
         ensures { result ≡ fin.contains_key self.now key.now }
     {
-        place_of(self.items.as_slice(), key).is_ok()
+        self.items.find(&Sought::ByKey(key)).is_ok()
     }
 
     /// Whether there is a value with this text as its key.
     pub(crate) fn has_text(&self, text: &[u8]) -> bool
         ensures { result ≡ fin.contains_key self.now (Text text.now) }
     {
-        place_of_text(self.items.as_slice(), text).is_ok()
+        self.items.find(&Sought::ByText(text)).is_ok()
     }
 
     /// Whether there is a value with this name as its key.
     pub(crate) fn has_name(&self, name: &DnKey) -> bool
         ensures { result ≡ fin.contains_key self.now (Name name.now) }
     {
-        place_of_name(self.items.as_slice(), name).is_ok()
+        self.items.find(&Sought::ByName(name)).is_ok()
     }
 
     /// Adds a value.
@@ -111,7 +106,7 @@ impl ValueMap {
         ensures err { OnErr result (self.new ≡ self.old) }
         ensures fault { IfErr result (λ e. IsTwiceFaultOf e (fin.contains_key self.old key)) }
     {
-        match place_of(self.items.as_slice(), &key) {
+        match self.items.find(&Sought::ByKey(&key)) {
             Ok(_) => Err(EntryFault::Twice),
             Err(at) => {
                 self.items.insert(alloc, at, StoredValue::new(key, bytes))?;
@@ -124,7 +119,7 @@ impl ValueMap {
     pub fn set(&mut self, key: &ValueKey, bytes: Bytes)
         ensures { self.new ≡ cond (fin.contains_key self.old key.now) (fin.insert self.old key.now bytes) self.old }
     {
-        if let Ok(at) = place_of(self.items.as_slice(), key) {
+        if let Ok(at) = self.items.find(&Sought::ByKey(key)) {
             self.items.set_bytes(at, bytes);
         }
     }
@@ -134,7 +129,7 @@ impl ValueMap {
         ensures value { result ≡ fin.get self.old key.now }
         ensures rest { self.new ≡ fin.remove self.old key.now }
     {
-        match place_of(self.items.as_slice(), key) {
+        match self.items.find(&Sought::ByKey(key)) {
             Ok(at) => Some(self.items.remove(alloc, at).into_bytes()),
             Err(_) => None,
         }
@@ -145,84 +140,32 @@ impl ValueMap {
         ensures { result ≡ fin.entries self.now }
     {
         Values {
-            rest: self.items.as_slice().iter(),
+            rest: self.items.iter(),
         }
     }
 
     pub fn try_clone(&self, alloc: Global) -> Result<ValueMap, Memory>
         ensures { IfOk result (λ m. m ≡ self.now) }
     {
-        let mut items = Vec::with_capacity(alloc, self.len())?;
-        for value in self.items.as_slice() {
-            items.push(value.try_clone(alloc)?)?;
-        }
         Ok(ValueMap {
-            items: ValueList::of(items),
+            items: self.items.try_clone(alloc)?,
         })
-    }
-}
-
-/// The index of the value with this key, or the index at which it would be inserted.
-fn place_of(items: &[StoredValue], key: &ValueKey) -> Result<usize, usize>
-    requires { IsTrue (are_rising items.now) }
-    ensures range { IsSearchInRange result (length items.now) }
-    ensures place { result ≡ place value_key_cmp key.now (map (λ value. (value_pair value).0) items.now) }
-{
-    items.binary_search_by(|value| value.key().cmp(key))
-}
-
-/// The index of the value with this text as its key, or the index at which it would be inserted.
-fn place_of_text(items: &[StoredValue], text: &[u8]) -> Result<usize, usize>
-    requires { IsTrue (are_rising items.now) }
-    ensures range { IsSearchInRange result (length items.now) }
-    ensures place { result ≡ place value_key_cmp (Text text.now) (map (λ value. (value_pair value).0) items.now) }
-{
-    items.binary_search_by(|value| cmp_text(value.key(), text))
-}
-
-/// How a key compares to the key that is this text.
-fn cmp_text(key: &ValueKey, text: &[u8]) -> Ordering
-    ensures { result ≡ value_key_cmp key.now (Text text.now) }
-{
-    match key.text() {
-        Some(own) => own.cmp(text),
-        None => Ordering::Greater,
-    }
-}
-
-/// The index of the value with this name as its key, or the index at which it would be inserted.
-fn place_of_name(items: &[StoredValue], name: &DnKey) -> Result<usize, usize>
-    requires { IsTrue (are_rising items.now) }
-    ensures range { IsSearchInRange result (length items.now) }
-    ensures place { result ≡ place value_key_cmp (Name name.now) (map (λ value. (value_pair value).0) items.now) }
-{
-    items.binary_search_by(|value| cmp_name(value.key(), name))
-}
-
-/// How a key compares to the key that is this name.
-fn cmp_name(key: &ValueKey, name: &DnKey) -> Ordering
-    ensures { result ≡ value_key_cmp key.now (Name name.now) }
-{
-    match key.name() {
-        Some(own) => own.cmp_key(name),
-        None => Ordering::Less,
     }
 }
 
 /// The values of an attribute, in order of their keys.
 #[derive(Drop)]
 pub struct Values<'a> {
-    rest: slice::Iter<'a, StoredValue>,
+    rest: ListIter<'a>,
 }
 
 impl<'a> Model for Values<'a> {
     ghost use Rattle.std.specs.Prelude.{ℕ, List};
-    ghost use Rattle.std.specs.Slice.Iter.{iter_rest};
     ghost use Rattle.dir_names.specs.declared.value.ValueKey.{ValueKey};
 
     ghost Value = { List (ValueKey × List ℕ) };
 
-    ghost view = { λ s. iter_rest s.rest };
+    ghost view = { λ s. s.rest };
 }
 
 impl<'a> Iterator for Values<'a> {

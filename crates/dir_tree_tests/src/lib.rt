@@ -15,6 +15,8 @@ mod in_place;
 #[cfg(test)]
 mod levels;
 #[cfg(test)]
+mod long_lists;
+#[cfg(test)]
 mod make;
 #[cfg(test)]
 mod maps;

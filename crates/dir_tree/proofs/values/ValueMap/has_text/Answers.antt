@@ -1,14 +1,10 @@
-use Rattle.std.proofs.Common.{◌≡◌, subst, ap, ◌∙◌, is_some}
+use Rattle.std.proofs.Common.{ap, ◌∙◌, is_some}
 use Rattle.std.specs.FinMap as fin
-use Rattle.dir_names.specs.Sorted.{place}
-use Rattle.dir_names.specs.Values.{value_key_cmp, value_key_cmp_total}
 use Rattle.dir_names.specs.declared.value.ValueKey.TheVariants.{Text}
-use Rattle.dir_tree.specs.Inside.Stored.{value_pair}
-use Rattle.dir_tree.proofs.SortedVecs.{keys_in}
 use Rattle.dir_tree.proofs.KeyPlaces.{told}
 use Rattle.dir_tree.proofs.values.ValueMap.has_text.Goals as goal
 
 pub returns : goal.returns
 returns c =
-    let at : c.place_of_text.result ≡ place value_key_cmp (Text c.args.text.now) (keys_in value_key_cmp_total value_pair c.self.inside.items) = subst (λ xs. c.place_of_text.result ≡ place value_key_cmp (Text c.args.text.now) (keys_in value_key_cmp_total value_pair xs)) c.as_slice.ensures c.place_of_text.ensures.place in
-    c.is_ok.ensures.value ∙ told c.self.inside.items c.self.invariant (Text c.args.text.now) c.place_of_text.result at ∙ ap (λ m. is_some (fin.get m (Text c.args.text.now))) c.self.view_is
+    let at = c.find.ensures.place in
+    c.is_ok.ensures.value ∙ told c.self.inside.items c.self.invariant (Text c.args.text.now) c.find.result at ∙ ap (λ m. is_some (fin.get m (Text c.args.text.now))) c.self.view_is

@@ -7,4 +7,4 @@ use Rattle.dir_tree.proofs.SortedVecs.{entries_in}
 use Rattle.dir_tree.proofs.values.ValueMap.iter.Goals as goal
 
 pub returns : goal.returns
-returns c = c.iter.ensures.rest ∙ c.as_slice.ensures ∙ sym (entries_in value_key_cmp_total value_pair c.self.inside.items c.self.invariant ∙ map-id c.self.inside.items) ∙ ap (λ m. fin.entries m) c.self.view_is
+returns c = c.iter.ensures ∙ sym (entries_in value_key_cmp_total value_pair c.self.inside.items c.self.invariant ∙ map-id c.self.inside.items) ∙ ap (λ m. fin.entries m) c.self.view_is

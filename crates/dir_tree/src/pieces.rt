@@ -1,0 +1,357 @@
+//! A long list of values in pieces, so that an insertion or a removal moves the values of one piece alone.
+
+ghost use Rattle.std.specs.List.{insert, remove};
+ghost use Rattle.std.specs.List.Sorted.{IsSearchInRange};
+ghost use Rattle.std.specs.Prelude.{◌≡◌, ◌+◌, ◌^◌, ◌≤◌, ◌<◌, ◌-◌, ◌∷◌, ◌++◌, ℕ, List, [], IfErr, IfOk, IsTrue, OnErr, OnOk, false, get_or, length, map, set, slice_index_or, take};
+ghost use Rattle.std.specs.Ordering.{is_lt};
+ghost use Rattle.dir_names.specs.Sorted.{place};
+ghost use Rattle.dir_names.specs.Values.{value_key_cmp};
+ghost use Rattle.dir_names.specs.declared.value.ValueKey.{ValueKey};
+ghost use Rattle.dir_tree.specs.Inside.Searches.{sought_key};
+ghost use Rattle.dir_tree.specs.Inside.Stored.{are_rising, value_pair};
+ghost use Rattle.dir_tree.specs.Inside.ValuePieces.{AreFilled, IsInside, IsPieceFor, IsPlace, IsSplitAt, joined};
+
+use crate::search::{Sought, cmp_sought, place_of};
+use crate::stored::{StoredValue, clones};
+use dir_names::{Bytes, Memory};
+use std::alloc::Global;
+use std::marker::Model;
+
+/// How many values one `Vec` has at most. It is the most that an insertion or a removal moves.
+pub(crate) const MOST: usize = 1024;
+
+/// A list of values in pieces, none of which is empty.
+#[derive(Debug, Drop)]
+pub(crate) struct Pieces {
+    pieces: Vec<Vec<StoredValue>>,
+    /// How many values the pieces have together.
+    len: usize,
+}
+
+impl Model for Pieces {
+    ghost use Rattle.std.specs.Prelude.{◌≡◌, ℕ, List, length};
+    ghost use Rattle.dir_names.specs.declared.value.ValueKey.{ValueKey};
+    ghost use Rattle.dir_tree.specs.Inside.ValuePieces.{AreFilled, joined};
+
+    ghost Value = { List (ValueKey × List ℕ) };
+
+    ghost view = { λ list. joined list.pieces.items };
+
+    ghost invariant = { λ list. (list.len ≡ length (joined list.pieces.items)) × AreFilled list.pieces.items };
+}
+
+/// A place in pieces: an index in one of them.
+#[derive(Drop)]
+struct Place {
+    piece: usize,
+    within: usize,
+}
+
+impl Pieces {
+    /// The values of a `Vec`, in one piece. If memory runs out, they are given back.
+    pub(crate) fn from_vec(
+        alloc: Global,
+        values: Vec<StoredValue>,
+    ) -> Result<Pieces, Vec<StoredValue>>
+        requires { 0 < length values.items }
+        ensures ok { IfOk result (λ list. list ≡ values.items) }
+        ensures err { IfErr result (λ back. back ≡ values) }
+    {
+        let len = values.len();
+        let mut pieces = Vec::new(alloc);
+        match pieces.push(values) {
+            Ok(()) => Ok(Pieces { pieces, len }),
+            Err(refused) => Err(refused.value),
+        }
+    }
+
+    pub(crate) fn len(&self) -> usize
+        ensures { result ≡ length self.now }
+    {
+        self.len
+    }
+
+    pub(crate) fn as_slice(&self) -> &[Vec<StoredValue>]
+        ensures { joined result.now ≡ self.now }
+    {
+        self.pieces.as_slice()
+    }
+
+    /// The index of the value with the key that is sought, or the index at which it would be inserted.
+    pub(crate) fn find(&self, sought: &Sought<'_>) -> Result<usize, usize>
+        requires { IsTrue (are_rising self.now) }
+        ensures range { IsSearchInRange result (length self.now) }
+        ensures place { result ≡ place value_key_cmp (sought_key sought.now) (map (λ value. (value_pair value).0) self.now) }
+    {
+        let len = self.len();
+        let piece = piece_for(self.pieces.as_slice(), sought);
+        if piece == self.pieces.len() {
+            return Err(len);
+        }
+        let before = count(&self.pieces.as_slice()[..piece]);
+        match place_of(self.pieces[piece].as_slice(), sought) {
+            Ok(within) => Ok(before + within),
+            Err(within) => Err(before + within),
+        }
+    }
+
+    /// The value at an index.
+    pub(crate) fn get(&self, at: usize) -> &StoredValue
+        requires { at < length self.now }
+        ensures { result.now ≡ get_or self.now at result.now }
+    {
+        let place = place_at(self.pieces.as_slice(), at);
+        &self.pieces[place.piece][place.within]
+    }
+
+    /// Inserts a value at an index.
+    ///
+    /// # Errors
+    ///
+    /// `Memory`. Then the list is as it was.
+    pub(crate) fn insert(
+        &mut self,
+        alloc: Global,
+        at: usize,
+        value: StoredValue,
+    ) -> Result<(), Memory>
+        requires { at ≤ length self.old }
+        ensures ok { OnOk result (self.new ≡ insert self.old at value) }
+        ensures err { OnErr result (self.new ≡ self.old) }
+    {
+        let len = one_more(self.len)?;
+        if at == self.len && is_last_full(self.pieces.as_slice()) {
+            push_piece(alloc, &mut self.pieces, value)?;
+        } else {
+            let place = place_before(self.pieces.as_slice(), at);
+            let place = place_with_room(&mut self.pieces, place)?;
+            insert_at(&mut self.pieces, place, value)?;
+        }
+        self.len = len;
+        Ok(())
+    }
+
+    /// Gives the value at an index other bytes. The call doesn't allocate.
+    pub(crate) fn set_bytes(&mut self, at: usize, bytes: Bytes)
+        requires { at < length self.old }
+        ensures { (value : ValueKey × List ℕ) → self.new ≡ set self.old at ((get_or self.old at value).0, bytes) }
+    {
+        let place = place_at(self.pieces.as_slice(), at);
+        let values = &mut self.pieces[place.piece];
+        values[place.within].set_bytes(bytes);
+    }
+
+    /// Removes the value at an index. The call doesn't allocate.
+    pub(crate) fn remove(&mut self, at: usize) -> StoredValue
+        requires { at < length self.old }
+        ensures value { result ≡ get_or self.old at result }
+        ensures rest { self.new ≡ remove self.old at }
+    {
+        let place = place_at(self.pieces.as_slice(), at);
+        let value = remove_at(&mut self.pieces, place);
+        self.len -= 1;
+        value
+    }
+
+    pub(crate) fn try_clone(&self, alloc: Global) -> Result<Pieces, Memory>
+        ensures { IfOk result (λ list. list ≡ self.now) }
+    {
+        let mut pieces = Vec::with_capacity(alloc, self.pieces.len())?;
+        for piece in self.pieces.as_slice() {
+            pieces.push(clones(alloc, piece.as_slice())?)?;
+        }
+        Ok(Pieces {
+            pieces,
+            len: self.len,
+        })
+    }
+}
+
+/// The number after this one. A list of `usize::MAX` values takes no more, since no memory has so many.
+fn one_more(len: usize) -> Result<usize, Memory>
+    ensures { IfOk result (λ n. n ≡ len + 1) }
+{
+    len.checked_add(1).ok_or(Memory)
+}
+
+/// The piece to which the key that is sought belongs, or the number of pieces if all end below it.
+fn piece_for(pieces: &[Vec<StoredValue>], sought: &Sought<'_>) -> usize
+    requires { AreFilled pieces.now }
+    ensures { IsPieceFor pieces.now (sought_key sought.now) result }
+{
+    let mut low = 0;
+    let mut high = pieces.len();
+    while low < high {
+        let middle = low + (high - low) / 2;
+        if ends_below(pieces[middle].as_slice(), sought) {
+            low = middle + 1;
+        } else {
+            high = middle;
+        }
+    }
+    low
+}
+
+/// Whether the last value of a piece is below the key that is sought.
+fn ends_below(piece: &[StoredValue], sought: &Sought<'_>) -> bool
+    requires { 0 < length piece.now }
+    ensures { (value : ValueKey × List ℕ) → result ≡ is_lt (value_key_cmp (slice_index_or piece.now (length piece.now - 1) value).0 (sought_key sought.now)) }
+{
+    cmp_sought(piece[piece.len() - 1].key(), sought).is_lt()
+}
+
+/// How many values the pieces have together.
+fn count(pieces: &[Vec<StoredValue>]) -> usize
+    requires { length (joined pieces.now) < 2 ^ 64 }
+    ensures { result ≡ length (joined pieces.now) }
+{
+    let mut values = 0;
+    for piece in pieces {
+        values += piece.len();
+    }
+    values
+}
+
+/// The place of the value at an index.
+fn place_at(pieces: &[Vec<StoredValue>], at: usize) -> Place
+    requires { at < length (joined pieces.now) }
+    ensures place { IsPlace pieces.now result.piece result.within at }
+    ensures inside { IsInside pieces.now result.piece result.within }
+{
+    let mut within = at;
+    for (piece, values) in pieces.iter().enumerate() {
+        if within < values.len() {
+            return Place { piece, within };
+        }
+        within -= values.len();
+    }
+    unreachable!()
+}
+
+/// The place at which a value is inserted to have this index: after the value that comes before it.
+fn place_before(pieces: &[Vec<StoredValue>], at: usize) -> Place
+    requires some { 0 < length pieces.now }
+    requires at { at ≤ length (joined pieces.now) }
+    ensures { IsPlace pieces.now result.piece result.within at }
+{
+    if at == 0 {
+        return Place {
+            piece: 0,
+            within: 0,
+        };
+    }
+    let place = place_at(pieces, at - 1);
+    Place {
+        piece: place.piece,
+        within: place.within + 1,
+    }
+}
+
+/// Whether the last piece is full, or there is none.
+fn is_last_full(pieces: &[Vec<StoredValue>]) -> bool
+    ensures { result ≡ false → 0 < length pieces.now }
+{
+    match pieces.last() {
+        Some(piece) => piece.len() >= MOST,
+        None => true,
+    }
+}
+
+/// Adds a piece of one value at the end.
+fn push_piece(
+    alloc: Global,
+    pieces: &mut Vec<Vec<StoredValue>>,
+    value: StoredValue,
+) -> Result<(), Memory>
+    ensures ok { OnOk result (joined pieces.new.items ≡ joined pieces.old.items ++ value ∷ []) }
+    ensures err { OnErr result (joined pieces.new.items ≡ joined pieces.old.items) }
+    ensures filled { AreFilled pieces.old.items → AreFilled pieces.new.items }
+{
+    let mut piece = Vec::new(alloc);
+    piece.push(value)?;
+    pieces.push(piece)?;
+    Ok(())
+}
+
+/// A place for the same index in a piece that isn't full: a full piece is split in two halves.
+///
+/// # Errors
+///
+/// `Memory`.
+fn place_with_room(pieces: &mut Vec<Vec<StoredValue>>, place: Place) -> Result<Place, Memory>
+    requires { place.piece < length pieces.old.items }
+    ensures place { IfOk result (λ to. (at : ℕ) → IsPlace pieces.old.items place.piece place.within at → IsPlace pieces.new.items to.piece to.within at) }
+    ensures joined { joined pieces.new.items ≡ joined pieces.old.items }
+    ensures filled { AreFilled pieces.old.items → AreFilled pieces.new.items }
+{
+    let Place { piece, within } = place;
+    if pieces[piece].len() < MOST {
+        return Ok(Place { piece, within });
+    }
+    let half = pieces[piece].len() / 2;
+    split(pieces, piece, half)?;
+    if within <= half {
+        Ok(Place { piece, within })
+    } else {
+        Ok(Place {
+            piece: piece + 1,
+            within: within - half,
+        })
+    }
+}
+
+/// Splits a piece at an index.
+///
+/// # Errors
+///
+/// `Memory`. Then the pieces are as they were.
+fn split(pieces: &mut Vec<Vec<StoredValue>>, piece: usize, at: usize) -> Result<(), Memory>
+    requires piece { piece < length pieces.old.items }
+    requires at { IsInside pieces.old.items piece at }
+    ensures ok { OnOk result (IsSplitAt pieces.old.items pieces.new.items piece at) }
+    ensures err { OnErr result (pieces.new.items ≡ pieces.old.items) }
+{
+    pieces.reserve(1)?;
+    let values = &mut pieces[piece];
+    let rest = values.split_off(at)?;
+    match pieces.insert(piece + 1, rest) {
+        Ok(()) => Ok(()),
+        Err(_) => unreachable!(),
+    }
+}
+
+/// Inserts a value at a place.
+///
+/// # Errors
+///
+/// `Memory`. Then the values are as they were.
+fn insert_at(
+    pieces: &mut Vec<Vec<StoredValue>>,
+    place: Place,
+    value: StoredValue,
+) -> Result<(), Memory>
+    requires { (at : ℕ) × IsPlace pieces.old.items place.piece place.within at }
+    ensures ok { OnOk result ((at : ℕ) → IsPlace pieces.old.items place.piece place.within at → joined pieces.new.items ≡ insert (joined pieces.old.items) at value) }
+    ensures err { OnErr result (joined pieces.new.items ≡ joined pieces.old.items) }
+    ensures filled { AreFilled pieces.old.items → AreFilled pieces.new.items }
+{
+    let values = &mut pieces[place.piece];
+    values.insert(place.within, value)?;
+    Ok(())
+}
+
+/// Removes the value at a place, and the piece if it becomes empty.
+fn remove_at(pieces: &mut Vec<Vec<StoredValue>>, place: Place) -> StoredValue
+    requires piece { place.piece < length pieces.old.items }
+    requires inside { IsInside pieces.old.items place.piece place.within }
+    ensures value { (at : ℕ) → IsPlace pieces.old.items place.piece place.within at → result ≡ get_or (joined pieces.old.items) at result }
+    ensures rest { (at : ℕ) → IsPlace pieces.old.items place.piece place.within at → joined pieces.new.items ≡ remove (joined pieces.old.items) at }
+    ensures filled { AreFilled pieces.old.items → AreFilled pieces.new.items }
+{
+    let values = &mut pieces[place.piece];
+    let value = values.remove(place.within);
+    if values.is_empty() {
+        let _ = pieces.remove(place.piece);
+    }
+    value
+}
