@@ -78,6 +78,13 @@ def one_modify_of_many_descriptions(n):
     return {"copy": [ROOT], "changes": [b"dn: dc=com\nchangetype: modify\n", *mods]}
 
 
+def one_modify_of_the_descriptions_there(n):
+    """Each description of an entry is deleted, by a modification of its own."""
+    names = [b"description;lang-a%d" % i for i in range(n)]
+    mods = shuffled([b"delete: %s\n-\n" % name for name in names])
+    return {"copy": [b"dn: dc=com\ndc: com\n", *[b"%s: c\n" % name for name in names], b"\n"], "changes": [b"dn: dc=com\nchangetype: modify\n", *mods]}
+
+
 def large_values(n):
     """Values of 1,048,575 bytes, folded after 76."""
     value = b"x" * (MOST_OF_A_VALUE - 1 - len("00000000"))
@@ -235,6 +242,7 @@ FAMILIES = [
     Family(one_modify, "modifications", 100_000),
     Family(one_modify_of_many_values, "values", 100_000),
     Family(one_modify_of_many_descriptions, "descriptions", 20_000),
+    Family(one_modify_of_the_descriptions_there, "descriptions", 20_000),
     Family(large_values, "values", 4_000, memory=5 * MOST_OF_A_VALUE // 2),
     Family(values_with_a_common_prefix, "values", 20_000),
     Family(entries_in_reverse, "entries", 500_000),
