@@ -71,7 +71,7 @@ fn others_exceed(schema: &Schema, entry: &Entry, keys: &[AttrKey]) -> bool
     ensures { result ≡ list_any (λ a. not (is_one_of a.0 keys.now) && (nat_lt 1 (fin.len a.1.values) && single_of schema.now a.0)) (fin.entries entry.now.attributes) }
 {
     for (key, attribute) in entry.attributes() {
-        if !is_one_of(key, keys) && attribute.has_many() && schema.single(key) {
+        if attribute.has_many() && schema.single(key) && !is_one_of(key, keys) {
             return true;
         }
     }

@@ -16,6 +16,10 @@ use dir_names::{AttrKey, Bytes, RdnKey, Schema, ValueKey};
 use dir_tree::{Attribute, AttributeMap, Entry, ValueMap};
 use std::alloc::Global;
 
+/// If modifications name more keys than this, they look at whole attributes: to find those of each key among all of them
+/// would take time that grows with the square of their number.
+const MANY_KEYS: usize = 64;
+
 /// What modifications look at under the keys that they name.
 pub(crate) fn looked_at(
     alloc: Global,
@@ -30,19 +34,20 @@ pub(crate) fn looked_at(
     let mut before = AttributeMap::empty(alloc);
     for key in keys {
         if let Some(attribute) = entry.attribute(key) {
-            before.put(looked_part(alloc, schema, entry.key(), attribute, mods)?)?;
+            before.put(looked_part(alloc, schema, entry.key(), attribute, keys.len(), mods)?)?;
         }
     }
     Ok(before)
 }
 
-/// What modifications look at of an attribute: all of it, unless they only add and delete values in it, its
+/// What modifications of so many keys look at of an attribute: all of it, unless they only add and delete values in it, its
 /// type may have many values and no value of it is in the own RDN.
 fn looked_part(
     alloc: Global,
     schema: &Schema,
     own: &RdnKey,
     attribute: &Attribute,
+    count: usize,
     mods: &[Mod],
 ) -> Result<Attribute, Refusal>
     ensures key { IfOk result (λ part. part.key ≡ attribute.now.key) }
@@ -50,7 +55,7 @@ fn looked_part(
     ensures memory { IfErr result (λ e. e ≡ refusal.Memory) }
 {
     let key = attribute.description().key();
-    if is_free(schema, own, key) && all_name_values(key, mods) {
+    if count <= MANY_KEYS && is_free(schema, own, key) && all_name_values(key, mods) {
         let named = named_values(alloc, schema, key, mods)?;
         if let Some((one, bytes)) = other_value(attribute, &named) {
             return part_with(alloc, attribute, &named, one, bytes);
