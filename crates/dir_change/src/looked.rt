@@ -18,7 +18,7 @@ use std::alloc::Global;
 
 /// If modifications name more keys than this, they look at whole attributes: to find those of each key among all of them
 /// would take time that grows with the square of their number.
-const MANY_KEYS: usize = 64;
+const MANY_KEYS: usize = 1024;
 
 /// What modifications look at under the keys that they name.
 pub(crate) fn looked_at(
