@@ -16,7 +16,7 @@ import tempfile
 
 import checks
 from checks import expect
-from texts import NOTHING, added, block, deleted, renamed, same
+from texts import NOTHING, added, block, deleted, line, renamed, same
 
 ROOT = "dn: dc=com\ndc: com\n\n"
 
@@ -74,6 +74,45 @@ def an_entry_of_2000_lines(program):
     try_run(program, ROOT, added(name, *mixed), wanted)
     wanted = Wanted(0, "accepted 1, refused 0\n", ROOT, NOTHING + added(name, *in_order), ROOT + large)
     try_run(program, block(("dn", name), *mixed) + ROOT, deleted(name), wanted)
+
+
+def modified(name, *modifications):
+    """A modify of modifications, each an operation, a description and values."""
+    lines = [("dn", name), ("changetype", "modify")]
+    parts = "".join(line(op, of) + "".join(line(of, value) for value in values) + "-\n" for op, of, values in modifications)
+    return "".join(line(*pair) for pair in lines) + parts + "\n"
+
+
+def a_group_of_5500_members(program):
+    """One modify adds 2,500 members to 3,000, in no order; another takes 2,000 of these away."""
+    name, chance = "cn=All,dc=com", random.Random(3)
+
+    def group(members):
+        return block(("dn", name), ("cn", "All"), *(("member", member) for member in sorted(members)))
+
+    def mixed(members):
+        return chance.sample(members, len(members))
+
+    first, come = ([f"cn=p{i:05},dc=com" for i in numbers] for numbers in (range(0, 6000, 2), range(1, 5000, 2)))
+    gone = chance.sample(first, 2000)
+    left = set(first) - set(gone) | set(come)
+    copy = ROOT + block(("dn", name), ("cn", "All"), *(("member", member) for member in mixed(first)))
+    changes = modified(name, ("add", "member", mixed(come))) + modified(name, ("delete", "member", mixed(gone)))
+    undo = NOTHING + modified(name, ("add", "member", sorted(gone))) + modified(name, ("delete", "member", sorted(come)))
+    wanted = Wanted(0, "accepted 2, refused 0\n", ROOT + group(left), undo, ROOT + group(first))
+    try_run(program, copy, changes, wanted)
+
+
+def a_modify_of_many_descriptions(program):
+    """Each description of an entry is deleted by a modification of its own, in no order: 1,024 of them, and more."""
+    name, head = "cn=a,dc=com", [("cn", "a")]
+    for count in (1024, 1025, 3000):
+        names = [f"description;lang-a{i:05}" for i in range(count)]
+        pairs = [(of, f"Value {i}") for i, of in enumerate(names)]
+        copy = ROOT + block(("dn", name), *head, *pairs)
+        changes = modified(name, *(("delete", of, []) for of in random.Random(count).sample(names, count)))
+        undo = NOTHING + modified(name, *(("add", of, [value]) for of, value in pairs))
+        try_run(program, copy, changes, Wanted(0, "accepted 1, refused 0\n", ROOT + block(("dn", name), *head), undo, copy))
 
 
 def a_name_of_64_rdns(program):
@@ -240,6 +279,8 @@ def expect_too_long(program, changes):
 
 TRIALS = [
     an_entry_of_2000_lines,
+    a_group_of_5500_members,
+    a_modify_of_many_descriptions,
     a_name_of_64_rdns,
     a_subtree_at_64_rdns,
     a_move_of_10000_entries,
