@@ -1,7 +1,7 @@
 //! The greatest size of a file that the system lets this process write (`RLIMIT_FSIZE` of getrlimit(2)). A write past it
 //! would end the program by a signal, so no such write is made.
 
-ghost use Rattle.std.specs.Prelude.{◌≡◌, ◌+◌, ◌≤◌, ⊤, IfOk, OnErr, length};
+ghost use Rattle.std.specs.Prelude.{◌≡◌, ◌+◌, ◌<◌, ◌≤◌, ◌⊎◌, IfOk, OnErr, length};
 ghost use Rattle.std.specs.Io.KnownBytes.{WriteAppends};
 ghost use Rattle.dir_ldif.specs.Device.{Counts};
 
@@ -63,6 +63,7 @@ impl<W: Sink> LimitedWriter<W> {
         ensures kept { OnErr result (self.new.room ≡ self.old.room) }
         ensures bytes { WriteAppends (W.taken self.old.inner) (W.taken self.new.inner) result bytes.now }
         ensures count { Counts result (W.failures self.old.inner) (W.failures self.new.inner) }
+        ensures stalls { IfOk result (λ n. n ≡ 0 → 0 < length bytes.now → (self.new.room ≡ 0) ⊎ W.may_stall self.new.inner) }
     {
         let most = usize::try_from(self.room).unwrap_or(usize::MAX);
         let n = write_at_most(&mut self.inner, bytes, most)?;
@@ -76,7 +77,7 @@ impl<W: Sink> Sink for LimitedWriter<W> {
 
     ghost failures = { λ s. W.failures s.inner };
 
-    ghost may_stall = { λ _. ⊤ };
+    ghost may_stall = { λ s. (s.room ≡ 0) ⊎ W.may_stall s.inner };
 
     ghost is_flushed = { λ s. W.is_flushed s.inner };
 
