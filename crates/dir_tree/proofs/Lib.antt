@@ -15,6 +15,7 @@ pub mod Orderless
 pub mod OwnLines
 pub mod OwnNames
 pub mod OwnValues
+pub mod PackedLists
 pub mod Pieced
 pub mod PlaceInPieces
 pub mod Relisted

@@ -2,6 +2,9 @@
 -- A reader of the public contracts needs none of them.
 pub mod Arranged
 pub mod Codes
+pub mod Kept
+pub mod Lent
+pub mod Packed
 pub mod Searches
 pub mod Stored
 pub mod TreeFalls

@@ -3,7 +3,7 @@
 ghost use Rattle.std.specs.Prelude.{◌≡◌, ◌&&◌, ◌==◌, IfErr, IfOk, IfSome, IsSome, IsTrue, OnErr, OnOk, Some, [], false, length, map, nat_lt, option_copied};
 ghost use Rattle.std.specs.List.{list_any};
 ghost use Rattle.dir_names.specs.Names.Sound.{is_sound_pair};
-ghost use Rattle.dir_names.specs.declared.value.ValueKey.TheVariants.{Name, Text};
+ghost use Rattle.dir_names.specs.declared.value.ValueKey.TheVariants.{Text};
 ghost use Rattle.dir_names.specs.Table.{single_of};
 ghost use Rattle.std.specs.Option.{option_map};
 ghost use Rattle.std.specs.FinMap as fin;
@@ -11,14 +11,16 @@ ghost use Rattle.std.specs.List.Sorted.{IsSearchInRange};
 ghost use Rattle.dir_names.specs.Orders.{attr_cmp};
 ghost use Rattle.dir_names.specs.Sorted.{place};
 ghost use Rattle.dir_tree.specs.Content.{has_value};
-ghost use Rattle.dir_tree.specs.Inside.Stored.{attribute_pair, attributes_rise};
+ghost use Rattle.dir_tree.specs.Inside.Stored.{attribute_pair, attributes_in, attributes_rise};
 ghost use Rattle.dir_tree.specs.Slots.{spelling_or};
 ghost use Rattle.dir_tree.specs.NewEntry.{IsTwiceFaultOf, exceeds_single_value, pair_line, rdn_lines, with_description, with_line, with_missing_of};
 ghost use Rattle.dir_tree.specs.declared.fault.EntryFault.TheVariants as EntryFault;
 
 use crate::EntryFault;
+use crate::packed::PackedAttributes;
+use crate::search::Sought;
 use crate::values::{ValueMap, Values};
-use dir_names::{AttrKey, Bytes, Description, DnKey, Memory, Rdn, Schema, ValueKey};
+use dir_names::{AttrKey, Bytes, Description, Memory, Rdn, Schema, ValueKey};
 use std::alloc::Global;
 use std::marker::Model;
 use std::{mem, slice};
@@ -108,17 +110,16 @@ impl Attribute {
         self.values.contains_key(key)
     }
 
-    /// Whether there is a value with this name as its key. The search is by the key, and makes none.
-    pub fn has_name(&self, name: &DnKey) -> bool
-        ensures { result ≡ fin.contains_key self.now.stored.values (Name name.now) }
-    {
-        self.values.has_name(name)
-    }
-
     fn has_text(&self, text: &[u8]) -> bool
         ensures { result ≡ fin.contains_key self.now.stored.values (Text text.now) }
     {
-        self.values.has_text(text)
+        self.values.has_sought(&Sought::ByText(text))
+    }
+
+    pub(crate) fn value_map(&self) -> &ValueMap
+        ensures { result.now ≡ self.now.stored.values }
+    {
+        &self.values
     }
 
     /// Adds a value.
@@ -181,6 +182,25 @@ impl AttributeMap {
         AttributeMap {
             items: Vec::new(alloc),
         }
+    }
+
+    /// These attributes in a form that can be changed.
+    pub(crate) fn unpacked(alloc: Global, packed: &PackedAttributes) -> Result<AttributeMap, Memory>
+        requires { IsTrue (attributes_rise packed.now) }
+        ensures { IfOk result (λ m. m ≡ attributes_in packed.now) }
+    {
+        let mut items = Vec::with_capacity(alloc, packed.len())?;
+        for attribute in packed.iter() {
+            items.push(attribute.to_attribute(alloc)?)?;
+        }
+        Ok(AttributeMap { items })
+    }
+
+    pub(crate) fn as_slice(&self) -> &[Attribute]
+        ensures rises { IsTrue (attributes_rise result.now) }
+        ensures map { attributes_in result.now ≡ self.now }
+    {
+        self.items.as_slice()
     }
 
     pub fn get(&self, key: &AttrKey) -> Option<&Attribute>
@@ -353,13 +373,6 @@ impl AttributeMap {
         Ok(())
     }
 
-    /// Gives back the memory that isn't needed.
-    pub(crate) fn shrink(&mut self)
-        ensures { self.new ≡ self.old }
-    {
-        self.items.shrink_to_fit();
-    }
-
     /// Whether the attribute has the value.
     pub(crate) fn has(&self, attr: &AttrKey, value: &ValueKey) -> bool
         ensures { result ≡ has_value self.now attr.now value.now }
@@ -445,6 +458,14 @@ impl<'a> Model for Attributes<'a> {
     ghost coded = { coded_list (coded× attr_code stored_code) };
 
     ghost view = { λ s. map attribute_pair (iter_rest s.rest) };
+}
+
+impl<'a> Attributes<'a> {
+    pub(crate) fn none() -> Attributes<'a>
+        ensures { result ≡ [] }
+    {
+        Attributes { rest: [].iter() }
+    }
 }
 
 impl<'a> Iterator for Attributes<'a> {

@@ -11,9 +11,11 @@ ghost use Rattle.dir_tree.specs.NewEntry.{Makes, new_entry};
 ghost use Rattle.dir_tree.specs.declared.fault.EntryFault.TheVariants as EntryFault;
 
 use crate::EntryFault;
-use crate::attributes::{Attribute, AttributeMap, Attributes};
+use crate::attributes::AttributeMap;
+use crate::kept::{AttributeViews, KeptAttributes};
 use crate::lines::attributes_of;
 use crate::parts::Parts;
+use crate::views::AttributeView;
 use dir_names::{AttrKey, Dn, Lines, Memory, NameFault, Rdn, RdnKey, Schema, ValueKey};
 use std::alloc::Global;
 use std::marker::Model;
@@ -24,7 +26,7 @@ use std::marker::Model;
 pub struct Entry {
     own: Vec<Rdn>,
     key: RdnKey,
-    attributes: AttributeMap,
+    attributes: KeptAttributes,
 }
 
 impl Model for Entry {
@@ -63,14 +65,13 @@ impl Entry {
         let key = leaf_key(alloc, schema, leaf)?;
         let mut attributes = attributes_of(alloc, schema, values)?;
         attributes.add_missing(alloc, schema, leaf)?;
-        attributes.shrink();
         if attributes.exceeds_single_value(schema) {
             return Err(EntryFault::Single);
         }
         Ok(Entry {
             own,
             key,
-            attributes,
+            attributes: KeptAttributes::packed(alloc, attributes),
         })
     }
 
@@ -89,9 +90,9 @@ impl Entry {
     }
 
     /// The attribute with this description key.
-    pub fn attribute(&self, key: &AttrKey) -> Option<&Attribute>
-        ensures value { option_map (λ a. a.now.stored) result ≡ fin.get self.now.attributes key.now }
-        ensures key { IfSome result (λ a. a.now.key ≡ key.now) }
+    pub fn attribute(&self, key: &AttrKey) -> Option<AttributeView<'_>>
+        ensures value { option_map (λ a. a.stored) result ≡ fin.get self.now.attributes key.now }
+        ensures key { IfSome result (λ a. a.key ≡ key.now) }
     {
         self.attributes.get(key)
     }
@@ -111,17 +112,17 @@ impl Entry {
     }
 
     /// The attributes, in order of their keys.
-    pub fn attributes(&self) -> Attributes<'_>
+    pub fn attributes(&self) -> AttributeViews<'_>
         ensures { result ≡ fin.entries self.now.attributes }
     {
         self.attributes.iter()
     }
 
-    /// The attributes as a map, to look them up or to clone them.
-    pub fn attribute_map(&self) -> &AttributeMap
-        ensures { result.now ≡ self.now.attributes }
+    /// The attributes as a map in memory of its own.
+    pub fn to_map(&self, alloc: Global) -> Result<AttributeMap, Memory>
+        ensures { IfOk result (λ map. map ≡ self.now.attributes) }
     {
-        &self.attributes
+        self.attributes.to_map(alloc)
     }
 
     /// The fields of the entry. The call doesn't allocate.
@@ -173,7 +174,7 @@ impl Entry {
         Ok(Entry {
             own,
             key,
-            attributes: self.attributes.try_clone(alloc)?,
+            attributes: KeptAttributes::of(self.attributes.to_map(alloc)?),
         })
     }
 }

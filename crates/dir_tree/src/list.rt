@@ -2,14 +2,16 @@
 
 ghost use Rattle.std.specs.List.{insert, remove};
 ghost use Rattle.std.specs.List.Sorted.{IsSearchInRange};
-ghost use Rattle.std.specs.Prelude.{◌≡◌, ◌≤◌, ◌<◌, ℕ, List, [], ◌∷◌, IfErr, IfOk, IsTrue, OnErr, OnOk, get_or, length, map, set};
+ghost use Rattle.std.specs.Prelude.{◌≡◌, ◌≤◌, ◌<◌, ℕ, List, [], ◌∷◌, ◌++◌, IfErr, IfOk, IsTrue, OnErr, OnOk, get_or, length, map, set};
 ghost use Rattle.dir_names.specs.Sorted.{place};
 ghost use Rattle.dir_names.specs.Values.{value_key_cmp};
 ghost use Rattle.dir_names.specs.declared.value.ValueKey.{ValueKey};
+ghost use Rattle.dir_tree.specs.Inside.Packed.{values_of};
 ghost use Rattle.dir_tree.specs.Inside.Searches.{sought_key};
 ghost use Rattle.dir_tree.specs.Inside.Stored.{are_rising, value_pair};
 ghost use Rattle.dir_tree.specs.Inside.ValueLists.{list_values};
 
+use crate::packed::PackedSlice;
 use crate::pieces::{MOST, Pieces};
 use crate::search::{Sought, place_of};
 use crate::stored::{OneOrMany, StoredValue, clones};
@@ -49,6 +51,31 @@ impl ValueList {
         ValueList {
             kept: OneOrMany::One(value),
         }
+    }
+
+    /// The values in a text, in memory of their own.
+    pub(crate) fn unpacked(alloc: Global, values: PackedSlice<'_>) -> Result<ValueList, Memory>
+        ensures { IfOk result (λ list. list ≡ values_of values.entry) }
+    {
+        let mut list = ValueList::empty(alloc);
+        for (key, bytes) in values.iter() {
+            let value = StoredValue::copy_of(alloc, key, bytes)?;
+            list = list.with_last(alloc, value)?;
+        }
+        Ok(list)
+    }
+
+    /// The list with one value more, at its end.
+    fn with_last(self, alloc: Global, value: StoredValue) -> Result<ValueList, Memory>
+        ensures { IfOk result (λ list. list ≡ self ++ value ∷ []) }
+    {
+        let mut list = self;
+        let end = list.len();
+        if end == 0 {
+            return Ok(ValueList::one(value));
+        }
+        list.insert(alloc, end, value)?;
+        Ok(list)
     }
 
     pub(crate) fn len(&self) -> usize
@@ -261,6 +288,17 @@ impl<'a> Model for ListIter<'a> {
     ghost Value = { List (ValueKey × List ℕ) };
 
     ghost view = { λ s. iter_rest s.first ++ joined (iter_rest s.rest) };
+}
+
+impl<'a> ListIter<'a> {
+    pub(crate) fn none() -> ListIter<'a>
+        ensures { result ≡ [] }
+    {
+        ListIter {
+            first: [].iter(),
+            rest: [].iter(),
+        }
+    }
 }
 
 impl<'a> Iterator for ListIter<'a> {

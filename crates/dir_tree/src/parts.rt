@@ -6,7 +6,7 @@ ghost use Rattle.dir_names.specs.declared.value.ValueKey.TheVariants.{Text};
 ghost use Rattle.dir_tree.specs.ChangedEntry.{changed_entry, content_of};
 ghost use Rattle.dir_tree.specs.Content.{has_value};
 
-use crate::attributes::AttributeMap;
+use crate::kept::KeptAttributes;
 use crate::{Entry, EntryFault};
 use dir_names::{AttrKey, Bytes, Rdn, RdnKey, Schema};
 
@@ -18,7 +18,7 @@ pub struct Parts {
     /// The key of the leaf RDN.
     pub key: RdnKey,
     /// The attributes, under the keys of their descriptions.
-    pub attributes: AttributeMap,
+    pub attributes: KeptAttributes,
 }
 
 impl Parts {
@@ -43,7 +43,7 @@ impl Parts {
 }
 
 /// Whether the attributes have each of these values.
-fn has_each(attributes: &AttributeMap, pairs: &[(AttrKey, Bytes)]) -> bool
+fn has_each(attributes: &KeptAttributes, pairs: &[(AttrKey, Bytes)]) -> bool
     ensures { result ≡ list_all (λ pair. has_value attributes.now pair.0 (Text pair.1)) pairs.now }
 {
     for pair in pairs {

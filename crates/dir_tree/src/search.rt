@@ -5,11 +5,13 @@ ghost use Rattle.std.specs.List.Sorted.{IsSearchInRange};
 ghost use Rattle.dir_names.specs.Sorted.{place};
 ghost use Rattle.dir_names.specs.Values.{value_key_cmp};
 ghost use Rattle.dir_names.specs.declared.value.ValueKey.TheVariants.{Name, Text};
+ghost use Rattle.dir_tree.specs.Lent.{lent_key};
 ghost use Rattle.dir_tree.specs.Inside.Searches.{sought_key};
 ghost use Rattle.dir_tree.specs.Inside.Stored.{are_rising, value_pair};
 
 use crate::stored::StoredValue;
-use dir_names::{DnKey, ValueKey};
+use crate::views::KeyView;
+use dir_names::{DnKey, DnSortKey, ValueKey};
 use std::cmp::Ordering;
 
 /// What a search is for: a key, or the text or the name that is the key.
@@ -33,29 +35,47 @@ pub(crate) fn place_of(items: &[StoredValue], sought: &Sought<'_>) -> Result<usi
 pub(crate) fn cmp_sought(key: &ValueKey, sought: &Sought<'_>) -> Ordering
     ensures { result ≡ value_key_cmp key.now (sought_key sought.now) }
 {
+    cmp_lent(KeyView::of(key), sought)
+}
+
+/// How a key that is lent compares to the one that is sought.
+pub(crate) fn cmp_lent(key: KeyView<'_>, sought: &Sought<'_>) -> Ordering
+    ensures { result ≡ value_key_cmp (lent_key key.entry) (sought_key sought.now) }
+{
     match sought {
-        Sought::ByKey(other) => key.cmp(other),
+        Sought::ByKey(ValueKey::Text(text)) => cmp_text(key, text.as_slice()),
+        Sought::ByKey(ValueKey::Name(name)) => cmp_sort_key(key, name),
         Sought::ByText(text) => cmp_text(key, text),
         Sought::ByName(name) => cmp_name(key, name),
     }
 }
 
 /// How a key compares to the key that is this text.
-fn cmp_text(key: &ValueKey, text: &[u8]) -> Ordering
-    ensures { result ≡ value_key_cmp key.now (Text text.now) }
+fn cmp_text(key: KeyView<'_>, text: &[u8]) -> Ordering
+    ensures { result ≡ value_key_cmp (lent_key key.entry) (Text text.now) }
 {
-    match key.text() {
-        Some(own) => own.cmp(text),
-        None => Ordering::Greater,
+    match key {
+        KeyView::Text(own) => own.cmp(text),
+        KeyView::Name(_) => Ordering::Greater,
     }
 }
 
 /// How a key compares to the key that is this name.
-fn cmp_name(key: &ValueKey, name: &DnKey) -> Ordering
-    ensures { result ≡ value_key_cmp key.now (Name name.now) }
+fn cmp_sort_key(key: KeyView<'_>, name: &DnSortKey) -> Ordering
+    ensures { result ≡ value_key_cmp (lent_key key.entry) (Name name.now) }
 {
-    match key.name() {
-        Some(own) => own.cmp_key(name),
-        None => Ordering::Less,
+    match key {
+        KeyView::Text(_) => Ordering::Less,
+        KeyView::Name(own) => own.cmp(name),
+    }
+}
+
+/// How a key compares to the key that is this name.
+fn cmp_name(key: KeyView<'_>, name: &DnKey) -> Ordering
+    ensures { result ≡ value_key_cmp (lent_key key.entry) (Name name.now) }
+{
+    match key {
+        KeyView::Text(_) => Ordering::Less,
+        KeyView::Name(own) => own.cmp_key(name),
     }
 }

@@ -2,8 +2,10 @@
 
 ghost use Rattle.std.specs.Prelude.{◌≡◌, IfOk, IsTrue, None, true};
 ghost use Rattle.dir_tree.specs.Inside.Stored.{kept_bytes, has_bytes};
+ghost use Rattle.dir_tree.specs.Lent.{lent_key};
 
 use crate::pieces::Pieces;
+use crate::views::KeyView;
 use dir_names::{Bytes, Memory, ValueKey};
 use std::alloc::Global;
 use std::marker::Model;
@@ -49,6 +51,21 @@ impl StoredValue {
                 key,
                 bytes: Some(bytes),
             }
+        }
+    }
+
+    /// The value in memory of its own.
+    pub(crate) fn copy_of(
+        alloc: Global,
+        key: KeyView<'_>,
+        bytes: &[u8],
+    ) -> Result<StoredValue, Memory>
+        ensures { IfOk result (λ value. value ≡ (lent_key key.entry, bytes.now)) }
+    {
+        let key = key.to_key(alloc)?;
+        match Bytes::copy_of(alloc, bytes) {
+            Ok(bytes) => Ok(StoredValue::new(key, bytes)),
+            Err(_) => Err(Memory),
         }
     }
 

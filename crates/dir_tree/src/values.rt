@@ -1,15 +1,18 @@
 //! The values of an attribute, as an ordered map from their keys to their bytes.
 
-ghost use Rattle.std.specs.Prelude.{◌≡◌, ◌==◌, IfErr, IfOk, OnErr, OnOk, cond, false, option_copied};
+ghost use Rattle.std.specs.Prelude.{◌≡◌, ◌==◌, [], IfErr, IfOk, IsTrue, OnErr, OnOk, cond, false, option_copied};
 ghost use Rattle.std.specs.FinMap as fin;
-ghost use Rattle.dir_names.specs.declared.value.ValueKey.TheVariants.{Name, Text};
+ghost use Rattle.dir_tree.specs.Inside.Packed.{values_of};
+ghost use Rattle.dir_tree.specs.Inside.Searches.{sought_key};
+ghost use Rattle.dir_tree.specs.Inside.Stored.{are_rising, values_in};
 ghost use Rattle.dir_tree.specs.NewEntry.{IsTwiceFaultOf};
 
 use crate::EntryFault;
 use crate::list::{ListIter, ValueList};
+use crate::packed::PackedSlice;
 use crate::search::Sought;
 use crate::stored::StoredValue;
-use dir_names::{Bytes, DnKey, Memory, ValueKey};
+use dir_names::{Bytes, Memory, ValueKey};
 use std::alloc::Global;
 use std::marker::Model;
 
@@ -78,21 +81,24 @@ impl ValueMap {
     pub fn contains_key(&self, key: &ValueKey) -> bool
         ensures { result ≡ fin.contains_key self.now key.now }
     {
-        self.items.find(&Sought::ByKey(key)).is_ok()
+        self.has_sought(&Sought::ByKey(key))
     }
 
-    /// Whether there is a value with this text as its key.
-    pub(crate) fn has_text(&self, text: &[u8]) -> bool
-        ensures { result ≡ fin.contains_key self.now (Text text.now) }
+    /// Whether there is a value with the key that is sought.
+    pub(crate) fn has_sought(&self, sought: &Sought<'_>) -> bool
+        ensures { result ≡ fin.contains_key self.now (sought_key sought.now) }
     {
-        self.items.find(&Sought::ByText(text)).is_ok()
+        self.items.find(sought).is_ok()
     }
 
-    /// Whether there is a value with this name as its key.
-    pub(crate) fn has_name(&self, name: &DnKey) -> bool
-        ensures { result ≡ fin.contains_key self.now (Name name.now) }
+    /// The map of values in a text.
+    pub(crate) fn unpacked(alloc: Global, values: PackedSlice<'_>) -> Result<ValueMap, Memory>
+        requires { IsTrue (are_rising (values_of values)) }
+        ensures { IfOk result (λ m. m ≡ values_in (values_of values.entry)) }
     {
-        self.items.find(&Sought::ByName(name)).is_ok()
+        Ok(ValueMap {
+            items: ValueList::unpacked(alloc, values)?,
+        })
     }
 
     /// Adds a value.
@@ -166,6 +172,16 @@ impl<'a> Model for Values<'a> {
     ghost Value = { List (ValueKey × List ℕ) };
 
     ghost view = { λ s. s.rest };
+}
+
+impl<'a> Values<'a> {
+    pub(crate) fn none() -> Values<'a>
+        ensures { result ≡ [] }
+    {
+        Values {
+            rest: ListIter::none(),
+        }
+    }
 }
 
 impl<'a> Iterator for Values<'a> {

@@ -1,0 +1,135 @@
+-- Parts of lists, and values in a text that grows.
+use Rattle.std.proofs.Common.{◌≡◌, ℕ, ◌-◌, ◌<◌, ◌≤◌, List, [], ◌∷◌, ◌++◌, map, length, get_or, take, drop, IsTrue, T, refl, sym, ap, subst, ◌∙◌, ⊎_elim, arith}
+use Rattle.std.specs.declared.cmp.Ordering.{Ordering}
+use Rattle.std.specs.Cmp.{IsTotalOrder}
+use Rattle.std.specs.FinMap as fin
+use Rattle.std.specs.FinMap.{IsAntisymmetric, same_map, get-entries, get-from_sorted, entries_sorted}
+use Rattle.std.specs.List.{All}
+use Rattle.std.proofs.lemmas.List.{drop-map, take-map, drop-append-le, take-append-le, length-drop, length-append, map-append, map-id}
+use Rattle.std.proofs.lemmas.List.Elements.{All-tail, All-cons, All-append}
+use Rattle.std.proofs.lemmas.Bool.{cases_lt}
+use Rattle.std.proofs.Math.Seq.{drop-append_seam, take-length}
+use Rattle.dir_names.specs.declared.value.ValueKey.{ValueKey}
+use Rattle.dir_names.specs.declared.value.ValueKey.TheVariants as value_key
+use Rattle.dir_tree.specs.declared.packed.PackedKey.{PackedKey}
+use Rattle.dir_tree.specs.declared.packed.PackedKey.TheVariants as packed_key
+use Rattle.dir_tree.specs.declared.packed.PackedValue.{PackedValue}
+use Rattle.dir_tree.specs.declared.packed.PackedAttribute.{PackedAttribute}
+use Rattle.dir_tree.specs.Inside.Packed.{IsInside, IsKeyInside, IsPacked, key_in, packed_attribute, packed_value, part_of}
+use Rattle.dir_tree.specs.Content.{Keyed, StoredValues}
+use Rattle.dir_tree.specs.Inside.Stored.{are_rising, value_pair, values_in}
+use Rattle.dir_tree.proofs.SortedVecs.{truth}
+use Rattle.dir_names.specs.Sorted.{rises}
+use Rattle.dir_names.specs.Values.{value_key_cmp, value_key_cmp_total, value_key_cmp_exact}
+use Rattle.dir_names.proofs.Placed.{is_sorted-keys, keys_of}
+
+pub part-map : {A B : Type 0} (f : A → B) (xs : List A) (a b : ℕ) → part_of (map f xs) a b ≡ map f (part_of xs a b)
+part-map f xs a b = ap (take (b - a)) (drop-map f a xs) ∙ take-map f (b - a) (drop a xs)
+
+take_none : {A : Type 0} (n : ℕ) (xs : List A) → n ≡ 0 → take n xs ≡ []
+take_none n xs e = ap (λ k. take k xs) e
+
+-- a part of a list is the same part of a longer one
+pub part-append : {A : Type 0} (xs ys : List A) (a b : ℕ) → b ≤ length xs → part_of (xs ++ ys) a b ≡ part_of xs a b
+part-append xs ys a b h = ⊎_elim outside inside (cases_lt b a)
+  where
+    outside : b < a → part_of (xs ++ ys) a b ≡ part_of xs a b
+    outside above = let none : b - a ≡ 0 = omega arith in take_none (b - a) (drop a (xs ++ ys)) none ∙ sym (take_none (b - a) (drop a xs) none)
+
+    inside : a ≤ b → part_of (xs ++ ys) a b ≡ part_of xs a b
+    inside below =
+        let begins : a ≤ length xs = omega arith in
+        let fits : b - a ≤ length (drop a xs) = omega (arith, length-drop a xs) in
+        ap (take (b - a)) (drop-append-le a xs ys begins) ∙ take-append-le (b - a) (drop a xs) ys fits
+
+-- what is appended to a list is its last part
+pub part-appended : {A : Type 0} (xs ys : List A) (a b : ℕ) → a ≡ length xs → b ≡ length (xs ++ ys) → part_of (xs ++ ys) a b ≡ ys
+part-appended xs ys a b from to =
+    let size : b - a ≡ length ys = omega (arith, from, to, length-append xs ys) in
+    ap (λ n. take (b - a) (drop n (xs ++ ys))) from ∙ ap (take (b - a)) (drop-append_seam xs ys) ∙ ap (λ n. take n ys) size ∙ take-length ys
+
+-- ---- values in a text that grows
+
+key-append : (text more : List ℕ) (start end : ℕ) (key : PackedKey) → end ≤ length text → IsKeyInside text key → key_in (text ++ more) start end key ≡ key_in text start end key
+key-append text more start end packed_key.Same h k = ap value_key.Text (part-append text more start end h)
+key-append text more start end (packed_key.Text to) h k = ap value_key.Text (part-append text more end to k)
+key-append text more start end (packed_key.Name name) h k = refl
+
+pub key-inside : (text more : List ℕ) (key : PackedKey) → IsKeyInside text key → IsKeyInside (text ++ more) key
+key-inside text more packed_key.Same k = tt
+key-inside text more (packed_key.Text to) k = omega (arith, k, length-append text more)
+key-inside text more (packed_key.Name name) k = tt
+
+pub value-append : (text more : List ℕ) (v : PackedValue) → IsInside text v → packed_value (text ++ more) v ≡ packed_value text v
+value-append text more v h = λ i. (key-append text more v.start v.end v.key h.0 h.1 i, part-append text more v.start v.end h.0 i)
+
+pub inside-append : (text more : List ℕ) (v : PackedValue) → IsInside text v → IsInside (text ++ more) v
+inside-append text more v h = (omega (arith, h.0, length-append text more), key-inside text more v.key h.1)
+
+pub values-append : (text more : List ℕ) (vs : List PackedValue) → All (IsInside text) vs → map (packed_value (text ++ more)) vs ≡ map (packed_value text) vs
+values-append text more [] h = refl
+values-append text more (v ∷ vs) h = λ i. value-append text more v (h 0 v (omega (arith, length vs))) i ∷ values-append text more vs (All-tail (IsInside text) v vs h) i
+
+pub all_inside-append : (text more : List ℕ) (vs : List PackedValue) → All (IsInside text) vs → All (IsInside (text ++ more)) vs
+all_inside-append text more vs h = λ k d below. inside-append text more (get_or vs k d) (h k d below)
+
+-- values in a text, and one more in the text that has grown by it
+pub values-push : (text new : List ℕ) (vs : List PackedValue) (v : PackedValue) (value : ValueKey × List ℕ) → ((more : List ℕ) × (new ≡ text ++ more)) → All (IsInside text) vs → packed_value new v ≡ value → map (packed_value new) (vs ++ v ∷ []) ≡ map (packed_value text) vs ++ value ∷ []
+values-push text new vs v value (more, grown) h is =
+    map-append (packed_value new) vs (v ∷ [])
+    ∙ ap (λ t. map (packed_value t) vs ++ packed_value new v ∷ []) grown
+    ∙ ap (λ front. front ++ packed_value new v ∷ []) (values-append text more vs h)
+    ∙ ap (λ last. map (packed_value text) vs ++ last ∷ []) is
+
+pub inside-push : (text new : List ℕ) (vs : List PackedValue) (v : PackedValue) → ((more : List ℕ) × (new ≡ text ++ more)) → All (IsInside text) vs → IsInside new v → All (IsInside new) (vs ++ v ∷ [])
+inside-push text new vs v (more, grown) h last =
+    All-append (IsInside new) vs (v ∷ []) (subst (λ t. All (IsInside t) vs) (sym grown) (all_inside-append text more vs h)) (All-cons (IsInside new) v [] last (λ k d below. absurd (omega (arith, below))))
+
+-- ---- attributes over a list of values that grows
+
+pub attribute-append : (values more : List (ValueKey × List ℕ)) (a : PackedAttribute) → IsPacked values a → packed_attribute (values ++ more) a ≡ packed_attribute values a
+attribute-append values more a h = ap (λ part. record { key = a.description.key; stored = record { spelling = a.description.spelling; values = values_in part } }) (part-append values more a.start a.end h.0)
+
+pub packed-append : (values more : List (ValueKey × List ℕ)) (a : PackedAttribute) → IsPacked values a → IsPacked (values ++ more) a
+packed-append values more a h = (omega (arith, h.0, length-append values more), ap are_rising (part-append values more a.start a.end h.0) ∙ h.1)
+
+pub attributes-append : (values more : List (ValueKey × List ℕ)) (attrs : List PackedAttribute) → All (IsPacked values) attrs → map (packed_attribute (values ++ more)) attrs ≡ map (packed_attribute values) attrs
+attributes-append values more [] h = refl
+attributes-append values more (a ∷ attrs) h = λ i. attribute-append values more a (h 0 a (omega (arith, length attrs))) i ∷ attributes-append values more attrs (All-tail (IsPacked values) a attrs h) i
+
+pub all_packed-append : (values more : List (ValueKey × List ℕ)) (attrs : List PackedAttribute) → All (IsPacked values) attrs → All (IsPacked (values ++ more)) attrs
+all_packed-append values more attrs h = λ k d below. packed-append values more (get_or attrs k d) (h k d below)
+
+-- ---- an attribute more
+
+-- the entries of a map make it again
+pub map_again : {K X : Type 0} {R : K → K → Ordering} → IsTotalOrder R → IsAntisymmetric R → (m : fin.FinMap R X) → fin.from_sorted (fin.entries m) ≡ m
+map_again {R} o exact m = same_map o exact _ _ (λ q. get-from_sorted R (fin.entries m) q (entries_sorted m) ∙ sym (get-entries m q))
+
+keys-entries : (es : List (ValueKey × List ℕ)) → keys_of value_key_cmp es ≡ map (λ value. (value_pair value).0) es
+keys-entries [] = refl
+keys-entries (e ∷ es) = ap (λ ks. e.0 ∷ ks) (keys-entries es)
+
+-- the entries of a map rise
+pub entries_rise : (m : StoredValues) → IsTrue (are_rising (fin.entries m))
+entries_rise m = truth (subst T (is_sorted-keys value_key_cmp (fin.entries m) ∙ ap (rises value_key_cmp) (keys-entries (fin.entries m))) (entries_sorted m))
+
+module _ (old new : List (ValueKey × List ℕ)) (a : PackedAttribute) (x : Keyed) (grown : new ≡ old ++ fin.entries x.stored.values) (from : a.start ≡ length old) (to : a.end ≡ length new) where
+  last : part_of new a.start a.end ≡ fin.entries x.stored.values
+  last = ap (λ values. part_of values a.start a.end) grown ∙ part-appended old (fin.entries x.stored.values) a.start a.end from (to ∙ ap length grown)
+
+  last_values : values_in (part_of new a.start a.end) ≡ x.stored.values
+  last_values = ap values_in last ∙ ap (λ es. fin.from_sorted {R = value_key_cmp} es) (map-id (fin.entries x.stored.values)) ∙ map_again value_key_cmp_total value_key_cmp_exact x.stored.values
+
+  pub attributes-push : (attrs : List PackedAttribute) → All (IsPacked old) attrs → a.description ≡ record { spelling = x.stored.spelling; key = x.key } → map (packed_attribute new) (attrs ++ a ∷ []) ≡ map (packed_attribute old) attrs ++ x ∷ []
+  attributes-push attrs h described =
+      map-append (packed_attribute new) attrs (a ∷ [])
+      ∙ ap (λ values. map (packed_attribute values) attrs ++ packed_attribute new a ∷ []) grown
+      ∙ ap (λ front. front ++ packed_attribute new a ∷ []) (attributes-append old (fin.entries x.stored.values) attrs h)
+      ∙ (λ i. map (packed_attribute old) attrs ++ record { key = (described i).key; stored = record { spelling = (described i).spelling; values = last_values i } } ∷ [])
+
+  pub packed-push : (attrs : List PackedAttribute) → All (IsPacked old) attrs → All (IsPacked new) (attrs ++ a ∷ [])
+  packed-push attrs h =
+      let before : All (IsPacked new) attrs = subst (λ values. All (IsPacked values) attrs) (sym grown) (all_packed-append old (fin.entries x.stored.values) attrs h) in
+      let here : IsPacked new a = (omega (arith, to), ap are_rising last ∙ entries_rise x.stored.values) in
+      All-append (IsPacked new) attrs (a ∷ []) before (All-cons (IsPacked new) a [] here (λ k d below. absurd (omega (arith, below))))

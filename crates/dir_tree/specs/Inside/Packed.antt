@@ -1,0 +1,47 @@
+-- Attributes whose values are kept in one text.
+use Rattle.std.specs.Prelude.{ℕ, ◌-◌, ◌≤◌, List, drop, length, map, take, IsTrue, ⊤}
+use Rattle.dir_names.specs.declared.value.ValueKey.{ValueKey}
+use Rattle.dir_names.specs.declared.value.ValueKey.TheVariants as value_key
+use Rattle.dir_tree.specs.declared.packed.PackedKey.{PackedKey}
+use Rattle.dir_tree.specs.declared.packed.PackedKey.TheVariants as packed_key
+use Rattle.dir_tree.specs.declared.packed.PackedValue.{PackedValue}
+use Rattle.dir_tree.specs.declared.packed.PackedAttribute.{PackedAttribute}
+use Rattle.dir_tree.specs.declared.packed.PackedSlice.{PackedSlice}
+use Rattle.dir_tree.specs.Content.{Keyed}
+use Rattle.dir_tree.specs.Inside.Stored.{are_rising, values_in}
+
+-- the part of a list from one index up to another
+abbrev pub part_of : {A : Type 0} → List A → ℕ → ℕ → List A
+part_of xs start end = take (end - start) (drop start xs)
+
+-- the key of the value between two indices of a text
+abbrev pub key_in : List ℕ → ℕ → ℕ → PackedKey → ValueKey
+key_in text start end packed_key.Same = value_key.Text (part_of text start end)
+key_in text start end (packed_key.Text to) = value_key.Text (part_of text end to)
+key_in text start end (packed_key.Name name) = value_key.Name name
+
+-- a value in a text, with its key
+abbrev pub packed_value : List ℕ → PackedValue → ValueKey × List ℕ
+packed_value text v = (key_in text v.start v.end v.key, part_of text v.start v.end)
+
+-- the values that are lent
+abbrev pub values_of : PackedSlice → List (ValueKey × List ℕ)
+values_of slice = map (packed_value slice.text.now) slice.values.now
+
+-- the end of a key that is kept in a text is inside it
+abbrev pub IsKeyInside : List ℕ → PackedKey → Type 0
+IsKeyInside text packed_key.Same = ⊤
+IsKeyInside text (packed_key.Text to) = to ≤ length text
+IsKeyInside text (packed_key.Name name) = ⊤
+
+-- a value and its key are inside a text
+abbrev pub IsInside : List ℕ → PackedValue → Type 0
+IsInside text v = (v.end ≤ length text) × IsKeyInside text v.key
+
+-- an attribute whose values are some of these
+abbrev pub packed_attribute : List (ValueKey × List ℕ) → PackedAttribute → Keyed
+packed_attribute values a = record { key = a.description.key; stored = record { spelling = a.description.spelling; values = values_in (part_of values a.start a.end) } }
+
+-- its values are among these, and in strictly rising order of their keys
+abbrev pub IsPacked : List (ValueKey × List ℕ) → PackedAttribute → Type 0
+IsPacked values a = (a.end ≤ length values) × IsTrue (are_rising (part_of values a.start a.end))

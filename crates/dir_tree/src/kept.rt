@@ -1,0 +1,201 @@
+//! The attributes of an entry as it keeps them: packed, from when it is made until it is changed.
+
+ghost use Rattle.std.specs.Prelude.{◌≡◌, IfErr, IfOk, IfSome};
+ghost use Rattle.std.specs.Option.{option_map};
+ghost use Rattle.std.specs.FinMap as fin;
+ghost use Rattle.dir_names.specs.declared.value.ValueKey.TheVariants.{Text};
+ghost use Rattle.dir_tree.specs.Content.{has_value};
+ghost use Rattle.dir_tree.specs.NewEntry.{exceeds_single_value};
+
+use crate::attributes::{AttributeMap, Attributes};
+use crate::packed::{PackedAttributes, PackedViews};
+use crate::views::AttributeView;
+use dir_names::{AttrKey, Memory, Schema, ValueKey};
+use std::alloc::Global;
+use std::marker::Model;
+
+/// The form of an entry's attributes.
+#[derive(Debug, Drop)]
+pub(crate) enum Form {
+    /// A form that can be changed.
+    Open(AttributeMap),
+    /// A form that takes little memory.
+    Packed(PackedAttributes),
+}
+
+/// The attributes of an entry: an ordered map from description keys, which can be looked up, and opened to be
+/// changed.
+#[derive(Debug, Drop)]
+pub struct KeptAttributes {
+    form: Form,
+}
+
+impl Model for KeptAttributes {
+    ghost use Rattle.dir_tree.specs.Content.{StoredAttributes};
+    ghost use Rattle.dir_tree.specs.Inside.Codes.{attributes_code};
+    ghost use Rattle.dir_tree.specs.Inside.Kept.{IsInOrder, kept_attributes};
+
+    ghost Value = { StoredAttributes };
+
+    ghost coded = { attributes_code };
+
+    ghost view = { λ kept. kept_attributes kept.form };
+
+    ghost invariant = { λ kept. IsInOrder kept.form };
+}
+
+impl KeptAttributes {
+    /// The attributes of a map, as they are. The call doesn't allocate.
+    pub fn of(map: AttributeMap) -> KeptAttributes
+        ensures { result ≡ map }
+    {
+        KeptAttributes {
+            form: Form::Open(map),
+        }
+    }
+
+    /// The attributes of a map in little memory, unless there is none for that.
+    pub(crate) fn packed(alloc: Global, map: AttributeMap) -> KeptAttributes
+        ensures { result ≡ map }
+    {
+        match PackedAttributes::of(alloc, map.as_slice()) {
+            Ok(packed) => KeptAttributes {
+                form: Form::Packed(packed),
+            },
+            Err(_) => KeptAttributes::of(map),
+        }
+    }
+
+    /// The attributes as a map, to be changed.
+    ///
+    /// # Errors
+    ///
+    /// The attributes, if memory runs out.
+    pub fn open(self, alloc: Global) -> Result<AttributeMap, KeptAttributes>
+        ensures ok { IfOk result (λ map. map ≡ self) }
+        ensures err { IfErr result (λ kept. kept ≡ self) }
+    {
+        match self.form {
+            Form::Open(map) => Ok(map),
+            Form::Packed(packed) => match AttributeMap::unpacked(alloc, &packed) {
+                Ok(map) => Ok(map),
+                Err(_) => Err(KeptAttributes {
+                    form: Form::Packed(packed),
+                }),
+            },
+        }
+    }
+
+    /// The attributes as a map in memory of its own.
+    pub fn to_map(&self, alloc: Global) -> Result<AttributeMap, Memory>
+        ensures { IfOk result (λ map. map ≡ self.now) }
+    {
+        match &self.form {
+            Form::Open(map) => map.try_clone(alloc),
+            Form::Packed(packed) => AttributeMap::unpacked(alloc, packed),
+        }
+    }
+
+    /// The attribute with this description key.
+    pub fn get(&self, key: &AttrKey) -> Option<AttributeView<'_>>
+        ensures value { option_map (λ a. a.stored) result ≡ fin.get self.now key.now }
+        ensures key { IfSome result (λ a. a.key ≡ key.now) }
+    {
+        match &self.form {
+            Form::Open(map) => match map.get(key) {
+                Some(attribute) => Some(AttributeView::of(attribute)),
+                None => None,
+            },
+            Form::Packed(packed) => packed.get(key),
+        }
+    }
+
+    /// The attributes, in order of their keys.
+    pub fn iter(&self) -> AttributeViews<'_>
+        ensures { result ≡ fin.entries self.now }
+    {
+        match &self.form {
+            Form::Open(map) => AttributeViews {
+                open: map.iter(),
+                packed: PackedViews::none(),
+            },
+            Form::Packed(packed) => AttributeViews {
+                open: Attributes::none(),
+                packed: packed.iter(),
+            },
+        }
+    }
+
+    /// Whether the attribute has the value.
+    pub(crate) fn has(&self, attr: &AttrKey, value: &ValueKey) -> bool
+        ensures { result ≡ has_value self.now attr.now value.now }
+    {
+        match self.get(attr) {
+            Some(attribute) => attribute.has(value),
+            None => false,
+        }
+    }
+
+    /// Whether the attribute has the value with this text as its key.
+    pub fn has_text(&self, attr: &AttrKey, text: &[u8]) -> bool
+        ensures { result ≡ has_value self.now attr.now (Text text.now) }
+    {
+        match self.get(attr) {
+            Some(attribute) => attribute.has_text(text),
+            None => false,
+        }
+    }
+
+    /// Whether an attribute of a single type has more than one value.
+    pub fn exceeds_single_value(&self, schema: &Schema) -> bool
+        ensures { result ≡ exceeds_single_value schema.now self.now }
+    {
+        for (key, attribute) in self.iter() {
+            if attribute.has_many() && schema.single(key) {
+                return true;
+            }
+        }
+        false
+    }
+}
+
+/// The attributes of an entry, lent, in order of their keys.
+#[derive(Drop)]
+pub struct AttributeViews<'a> {
+    open: Attributes<'a>,
+    packed: PackedViews<'a>,
+}
+
+impl<'a> Model for AttributeViews<'a> {
+    ghost use Rattle.std.specs.Prelude.{◌++◌, List, map};
+    ghost use Rattle.std.specs.Coded.{coded_list, coded×};
+    ghost use Rattle.dir_names.specs.Attr.{Attr};
+    ghost use Rattle.dir_tree.specs.Content.{Stored};
+    ghost use Rattle.dir_tree.specs.Inside.Codes.{attr_code, stored_code};
+    ghost use Rattle.dir_tree.specs.Inside.Stored.{attribute_pair};
+
+    ghost Value = { List (Attr × Stored) };
+
+    ghost coded = { coded_list (coded× attr_code stored_code) };
+
+    ghost view = { λ s. s.open ++ map attribute_pair s.packed };
+}
+
+impl<'a> Iterator for AttributeViews<'a> {
+    ghost use Rattle.std.specs.Iterator.{YieldsFirstBy, item_count};
+    ghost use Rattle.std.specs.Prelude.{◌≡◌, IfSome};
+
+    type Item = (&'a AttrKey, AttributeView<'a>);
+
+    ghost next_gives = { λ s item t. YieldsFirstBy (λ item. (item.0.now, item.1.stored)) (λ rest. rest) s item t × IfSome item (λ item. item.1.key ≡ item.0.now) };
+
+    ghost remaining = { item_count (λ rest. rest) };
+
+    fn next(&mut self) -> Option<(&'a AttrKey, AttributeView<'a>)> {
+        if let Some((key, attribute)) = self.open.next() {
+            return Some((key, AttributeView::of(attribute)));
+        }
+        let attribute = self.packed.next()?;
+        Some((attribute.description().key(), attribute))
+    }
+}
