@@ -20,6 +20,7 @@ use crate::EntryFault;
 use crate::packed::PackedAttributes;
 use crate::search::Sought;
 use crate::values::{ValueMap, Values};
+use crate::views::KeyView;
 use dir_names::{AttrKey, Bytes, Description, Memory, Rdn, Schema, ValueKey};
 use std::alloc::Global;
 use std::marker::Model;
@@ -113,7 +114,7 @@ impl Attribute {
     fn has_text(&self, text: &[u8]) -> bool
         ensures { result ≡ fin.contains_key self.now.stored.values (Text text.now) }
     {
-        self.values.has_sought(&Sought::ByText(text))
+        self.values.has_sought(&Sought::Key(KeyView::Text(text)))
     }
 
     pub(crate) fn value_map(&self) -> &ValueMap

@@ -4,22 +4,21 @@ ghost use Rattle.std.specs.Prelude.{◌≡◌, IfOk, IsTrue, length, map};
 ghost use Rattle.std.specs.List.Sorted.{IsSearchInRange};
 ghost use Rattle.dir_names.specs.Sorted.{place};
 ghost use Rattle.dir_names.specs.Values.{value_key_cmp};
-ghost use Rattle.dir_names.specs.declared.value.ValueKey.TheVariants.{Name, Text};
+ghost use Rattle.dir_names.specs.declared.value.ValueKey.TheVariants.{Name};
 ghost use Rattle.dir_tree.specs.Lent.{lent_key};
 ghost use Rattle.dir_tree.specs.Inside.Searches.{sought_key};
 ghost use Rattle.dir_tree.specs.Inside.Stored.{are_rising, value_pair};
 
 use crate::stored::StoredValue;
 use crate::views::KeyView;
-use dir_names::{DnKey, DnSortKey, ValueKey};
+use dir_names::{DnKey, ValueKey};
 use std::cmp::Ordering;
 
-/// What a search is for: a key, or the text or the name that is the key.
+/// What a search is for: a key, or the name that is the key.
 #[derive(Drop)]
 pub(crate) enum Sought<'a> {
-    ByKey(&'a ValueKey),
-    ByText(&'a [u8]),
-    ByName(&'a DnKey),
+    Key(KeyView<'a>),
+    Name(&'a DnKey),
 }
 
 /// The index of the value with the key that is sought, or the index at which it would be inserted.
@@ -43,30 +42,19 @@ pub(crate) fn cmp_lent(key: KeyView<'_>, sought: &Sought<'_>) -> Ordering
     ensures { result ≡ value_key_cmp (lent_key key.entry) (sought_key sought.now) }
 {
     match sought {
-        Sought::ByKey(ValueKey::Text(text)) => cmp_text(key, text.as_slice()),
-        Sought::ByKey(ValueKey::Name(name)) => cmp_sort_key(key, name),
-        Sought::ByText(text) => cmp_text(key, text),
-        Sought::ByName(name) => cmp_name(key, name),
+        Sought::Key(other) => cmp_keys(key, *other),
+        Sought::Name(name) => cmp_name(key, name),
     }
 }
 
-/// How a key compares to the key that is this text.
-fn cmp_text(key: KeyView<'_>, text: &[u8]) -> Ordering
-    ensures { result ≡ value_key_cmp (lent_key key.entry) (Text text.now) }
+fn cmp_keys(one: KeyView<'_>, another: KeyView<'_>) -> Ordering
+    ensures { result ≡ value_key_cmp (lent_key one.entry) (lent_key another.entry) }
 {
-    match key {
-        KeyView::Text(own) => own.cmp(text),
-        KeyView::Name(_) => Ordering::Greater,
-    }
-}
-
-/// How a key compares to the key that is this name.
-fn cmp_sort_key(key: KeyView<'_>, name: &DnSortKey) -> Ordering
-    ensures { result ≡ value_key_cmp (lent_key key.entry) (Name name.now) }
-{
-    match key {
-        KeyView::Text(_) => Ordering::Less,
-        KeyView::Name(own) => own.cmp(name),
+    match (one, another) {
+        (KeyView::Text(one), KeyView::Text(another)) => one.cmp(another),
+        (KeyView::Text(_), KeyView::Name(_)) => Ordering::Less,
+        (KeyView::Name(_), KeyView::Text(_)) => Ordering::Greater,
+        (KeyView::Name(one), KeyView::Name(another)) => one.cmp(another),
     }
 }
 

@@ -5,6 +5,7 @@ ghost use Rattle.std.specs.FinMap as fin;
 ghost use Rattle.dir_tree.specs.Inside.Packed.{values_of};
 ghost use Rattle.dir_tree.specs.Inside.Searches.{sought_key};
 ghost use Rattle.dir_tree.specs.Inside.Stored.{are_rising, values_in};
+ghost use Rattle.dir_tree.specs.Lent.{lent_key};
 ghost use Rattle.dir_tree.specs.NewEntry.{IsTwiceFaultOf};
 
 use crate::EntryFault;
@@ -12,6 +13,7 @@ use crate::list::{ListIter, ValueList};
 use crate::packed::PackedSlice;
 use crate::search::Sought;
 use crate::stored::StoredValue;
+use crate::views::KeyView;
 use dir_names::{Bytes, Memory, ValueKey};
 use std::alloc::Global;
 use std::marker::Model;
@@ -72,7 +74,7 @@ impl ValueMap {
     pub fn get(&self, key: &ValueKey) -> Option<&Bytes>
         ensures { option_copied result ≡ fin.get self.now key.now }
     {
-        match self.items.find(&Sought::ByKey(key)) {
+        match self.items.find(&Sought::Key(KeyView::of(key))) {
             Ok(at) => Some(self.items.get(at).bytes()),
             Err(_) => None,
         }
@@ -81,7 +83,14 @@ impl ValueMap {
     pub fn contains_key(&self, key: &ValueKey) -> bool
         ensures { result ≡ fin.contains_key self.now key.now }
     {
-        self.has_sought(&Sought::ByKey(key))
+        self.has_sought(&Sought::Key(KeyView::of(key)))
+    }
+
+    /// Whether there is a value with this key.
+    pub fn has_lent(&self, key: KeyView<'_>) -> bool
+        ensures { result ≡ fin.contains_key self.now (lent_key key.entry) }
+    {
+        self.has_sought(&Sought::Key(key))
     }
 
     /// Whether there is a value with the key that is sought.
@@ -112,7 +121,7 @@ impl ValueMap {
         ensures err { OnErr result (self.new ≡ self.old) }
         ensures fault { IfErr result (λ e. IsTwiceFaultOf e (fin.contains_key self.old key)) }
     {
-        match self.items.find(&Sought::ByKey(&key)) {
+        match self.items.find(&Sought::Key(KeyView::of(&key))) {
             Ok(_) => Err(EntryFault::Twice),
             Err(at) => {
                 self.items.insert(alloc, at, StoredValue::new(key, bytes))?;
@@ -125,7 +134,7 @@ impl ValueMap {
     pub fn set(&mut self, key: &ValueKey, bytes: Bytes)
         ensures { self.new ≡ cond (fin.contains_key self.old key.now) (fin.insert self.old key.now bytes) self.old }
     {
-        if let Ok(at) = self.items.find(&Sought::ByKey(key)) {
+        if let Ok(at) = self.items.find(&Sought::Key(KeyView::of(key))) {
             self.items.set_bytes(at, bytes);
         }
     }
@@ -135,7 +144,7 @@ impl ValueMap {
         ensures value { result ≡ fin.get self.old key.now }
         ensures rest { self.new ≡ fin.remove self.old key.now }
     {
-        match self.items.find(&Sought::ByKey(key)) {
+        match self.items.find(&Sought::Key(KeyView::of(key))) {
             Ok(at) => Some(self.items.remove(alloc, at).into_bytes()),
             Err(_) => None,
         }

@@ -142,7 +142,7 @@ impl<'a> AttributeView<'a> {
                 Some(bytes) => Some(bytes.as_slice()),
                 None => None,
             },
-            LentValues::Packed(values) => match values.find(&Sought::ByKey(key)) {
+            LentValues::Packed(values) => match values.find(&Sought::Key(KeyView::of(key))) {
                 Ok(at) => Some(values.bytes(at)),
                 Err(_) => None,
             },
@@ -153,21 +153,21 @@ impl<'a> AttributeView<'a> {
     pub fn has(&self, key: &ValueKey) -> bool
         ensures { result ≡ fin.contains_key self.now.stored.values key.now }
     {
-        self.has_sought(&Sought::ByKey(key))
+        self.has_sought(&Sought::Key(KeyView::of(key)))
     }
 
     /// Whether there is a value with this name as its key. The search is by the key, and makes none.
     pub fn has_name(&self, name: &DnKey) -> bool
         ensures { result ≡ fin.contains_key self.now.stored.values (Name name.now) }
     {
-        self.has_sought(&Sought::ByName(name))
+        self.has_sought(&Sought::Name(name))
     }
 
     /// Whether there is a value with this text as its key.
     pub(crate) fn has_text(&self, text: &[u8]) -> bool
         ensures { result ≡ fin.contains_key self.now.stored.values (Text text.now) }
     {
-        self.has_sought(&Sought::ByText(text))
+        self.has_sought(&Sought::Key(KeyView::Text(text)))
     }
 
     fn has_sought(&self, sought: &Sought<'_>) -> bool
