@@ -11,7 +11,7 @@ ghost use Rattle.dir_change.specs.Operation.{IsRefused, directory_after_delete};
 use crate::{Refusal, ResultCode, Undo};
 use dir_ldif::{Change, ChangeKind};
 use dir_names::{Bytes, Description, DnKey, Lines};
-use dir_tree::{Attribute, Directory, Entry};
+use dir_tree::{AttributeView, Directory, Entry};
 use std::alloc::Global;
 
 /// Deletes an entry (RFC 4511, section 4.8): 32 where it is missing, 66 where it has a child. An add
@@ -50,7 +50,7 @@ fn all_lines(alloc: Global, entry: &Entry) -> Result<Lines, Refusal>
 {
     let mut lines = Vec::new(alloc);
     for (_, attribute) in entry.attributes() {
-        push_values(alloc, &mut lines, attribute)?;
+        push_values(alloc, &mut lines, &attribute)?;
     }
     Ok(Lines::new(lines))
 }
@@ -59,7 +59,7 @@ fn all_lines(alloc: Global, entry: &Entry) -> Result<Lines, Refusal>
 fn push_values(
     alloc: Global,
     lines: &mut Vec<(Description, Bytes)>,
-    attribute: &Attribute,
+    attribute: &AttributeView<'_>,
 ) -> Result<(), Refusal>
     ensures ok { OnOk result (lines.new.items ≡ lines.old.items ++ attribute_lines (attribute.now.key, attribute.now.stored)) }
     ensures memory { IfErr result (λ e. e ≡ Refusal.Memory) }
@@ -70,7 +70,7 @@ fn push_values(
                 .description()
                 .try_clone(alloc)
                 .map_err(|_| Refusal::Memory)?,
-            bytes.try_clone(alloc).map_err(|_| Refusal::Memory)?,
+            Bytes::copy_of(alloc, bytes).map_err(|_| Refusal::Memory)?,
         ))?;
     }
     Ok(())

@@ -77,7 +77,7 @@ fn grow_values(alloc: Global, values: &mut ValueMap, after: &Attribute) -> Resul
     ensures memory { IfErr result (λ e. e ≡ refusal.Memory) }
 {
     for (key, bytes) in after.values() {
-        add_if_missing(alloc, values, key, bytes)?;
+        add_if_missing(alloc, values, key, bytes.as_slice())?;
     }
     Ok(())
 }
@@ -86,7 +86,7 @@ pub(crate) fn add_if_missing(
     alloc: Global,
     values: &mut ValueMap,
     key: &ValueKey,
-    bytes: &Bytes,
+    bytes: &[u8],
 ) -> Result<(), Refusal>
     ensures ok { OnOk result (values.new ≡ cond (fin.contains_key values.old key.now) values.old (fin.insert values.old key.now bytes.now)) }
     ensures err { OnErr result (values.new ≡ values.old) }
@@ -98,7 +98,7 @@ pub(crate) fn add_if_missing(
     let Ok(key) = key.try_clone(alloc) else {
         return Err(Refusal::Memory);
     };
-    let Ok(bytes) = bytes.try_clone(alloc) else {
+    let Ok(bytes) = Bytes::copy_of(alloc, bytes) else {
         return Err(Refusal::Memory);
     };
     match values.insert(alloc, key, bytes) {

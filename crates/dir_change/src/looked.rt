@@ -6,14 +6,15 @@ ghost use Rattle.std.specs.List.{list_all};
 ghost use Rattle.std.specs.FinMap as fin;
 ghost use Rattle.dir_names.specs.Orders.{attr_eq};
 ghost use Rattle.dir_change.specs.Inside.Looked.{AreLooks, LooksAt, all_name_values, all_named, is_free, names_values, with_each, with_names};
+ghost use Rattle.dir_tree.specs.Lent.{lent_key};
 ghost use Rattle.dir_change.specs.declared.operation.Refusal.TheVariants as refusal;
 
 use crate::Refusal;
 use crate::exchange::add_if_missing;
 use crate::modify::value_key;
 use dir_ldif::{Mod, ModOp};
-use dir_names::{AttrKey, Bytes, RdnKey, Schema, ValueKey};
-use dir_tree::{Attribute, AttributeMap, Entry, ValueMap};
+use dir_names::{AttrKey, RdnKey, Schema};
+use dir_tree::{Attribute, AttributeMap, AttributeView, Entry, KeyView, ValueMap};
 use std::alloc::Global;
 
 /// If modifications name more keys than this, they look at whole attributes: to find those of each key among all of them
@@ -34,7 +35,7 @@ pub(crate) fn looked_at(
     let mut before = AttributeMap::empty(alloc);
     for key in keys {
         if let Some(attribute) = entry.attribute(key) {
-            before.put(looked_part(alloc, schema, entry.key(), attribute, keys.len(), mods)?)?;
+            before.put(looked_part(alloc, schema, entry.key(), &attribute, keys.len(), mods)?)?;
         }
     }
     Ok(before)
@@ -46,7 +47,7 @@ fn looked_part(
     alloc: Global,
     schema: &Schema,
     own: &RdnKey,
-    attribute: &Attribute,
+    attribute: &AttributeView<'_>,
     count: usize,
     mods: &[Mod],
 ) -> Result<Attribute, Refusal>
@@ -61,7 +62,7 @@ fn looked_part(
             return part_with(alloc, attribute, &named, one, bytes);
         }
     }
-    Ok(attribute.try_clone(alloc)?)
+    Ok(attribute.to_attribute(alloc)?)
 }
 
 /// Whether a type may have many values, and the own RDN has none of it.
@@ -122,7 +123,7 @@ fn add_named(alloc: Global, schema: &Schema, m: &Mod, named: &mut ValueMap) -> R
 {
     for value in m.values.as_slice() {
         match value_key(alloc, schema, m.description.key(), value) {
-            Ok(key) => add_if_missing(alloc, named, &key, value)?,
+            Ok(key) => add_if_missing(alloc, named, &key, value.as_slice())?,
             Err(Refusal::Memory) => return Err(Refusal::Memory),
             Err(Refusal::Code(_)) => {}
         }
@@ -131,12 +132,15 @@ fn add_named(alloc: Global, schema: &Schema, m: &Mod, named: &mut ValueMap) -> R
 }
 
 /// A value of the attribute that is not among those named.
-fn other_value<'a>(attribute: &'a Attribute, named: &ValueMap) -> Option<(&'a ValueKey, &'a Bytes)>
-    ensures there { IfSome result (λ one. fin.get attribute.now.stored.values one.0.now ≡ Some one.1.now) }
-    ensures other { IfSome result (λ one. fin.contains_key named.now one.0.now ≡ false) }
+fn other_value<'a>(
+    attribute: &AttributeView<'a>,
+    named: &ValueMap,
+) -> Option<(KeyView<'a>, &'a [u8])>
+    ensures there { IfSome result (λ one. fin.get attribute.now.stored.values (lent_key one.0) ≡ Some one.1.now) }
+    ensures other { IfSome result (λ one. fin.contains_key named.now (lent_key one.0) ≡ false) }
 {
     for (key, bytes) in attribute.values() {
-        if !named.contains_key(key) {
+        if !named.has_lent(key) {
             return Some((key, bytes));
         }
     }
@@ -146,16 +150,16 @@ fn other_value<'a>(attribute: &'a Attribute, named: &ValueMap) -> Option<(&'a Va
 /// The values of the attribute that are named, and this one.
 fn part_with(
     alloc: Global,
-    attribute: &Attribute,
+    attribute: &AttributeView<'_>,
     named: &ValueMap,
-    one: &ValueKey,
-    bytes: &Bytes,
+    one: KeyView<'_>,
+    bytes: &[u8],
 ) -> Result<Attribute, Refusal>
-    ensures ok { IfOk result (λ part. part ≡ record { key = attribute.now.key; stored = record { spelling = attribute.now.stored.spelling; values = with_each attribute.now.stored.values (fin.insert fin.empty one.now bytes.now) (fin.entries named.now) } }) }
+    ensures ok { IfOk result (λ part. part ≡ record { key = attribute.now.key; stored = record { spelling = attribute.now.stored.spelling; values = with_each attribute.now.stored.values (fin.insert fin.empty (lent_key one.entry) bytes.now) (fin.entries named.now) } }) }
     ensures memory { IfErr result (λ e. e ≡ refusal.Memory) }
 {
     let mut values = ValueMap::empty(alloc);
-    add_if_missing(alloc, &mut values, one, bytes)?;
+    add_if_missing(alloc, &mut values, &one.to_key(alloc)?, bytes)?;
     for (key, _) in named.iter() {
         if let Some(bytes) = attribute.get(key) {
             add_if_missing(alloc, &mut values, key, bytes)?;

@@ -7,9 +7,10 @@ ghost use Rattle.dir_ldif.specs.declared.records.ChangeKind.TheVariants as kind;
 ghost use Rattle.dir_ldif.specs.declared.records.ModOp.TheVariants as op;
 ghost use Rattle.dir_tree.specs.Content.{Stored};
 ghost use Rattle.dir_tree.specs.Slots.{slot_of, spelling_or, values_of};
-ghost use Rattle.dir_change.specs.Inside.Planned.{IsPlan};
+ghost use Rattle.dir_change.specs.Inside.Exchanged.{FitAttributes};
+ghost use Rattle.dir_change.specs.Inside.Planned.{AreExchanged, IsPlan};
 ghost use Rattle.dir_change.specs.Inside.ValuesInTurn.{are_new, are_there, without_each};
-ghost use Rattle.dir_change.specs.Modify.{attributes_after, attributes_after_one, entry_after, keyed_value, keyed_values, slot_after, slot_after_op, values_with};
+ghost use Rattle.dir_change.specs.Modify.{attributes_after, attributes_after_one, entry_after, keyed_value, keyed_values, slot_after, slot_after_op, values_with, with_attributes};
 ghost use Rattle.dir_change.specs.Operation.{IsRefused, directory_after_modify};
 ghost use Rattle.dir_change.specs.Refusals.{IsRefusedWith};
 ghost use Rattle.dir_change.specs.Undo.{undo_of};
@@ -23,7 +24,7 @@ use crate::looked::looked_at;
 use crate::{Refusal, ResultCode, Undo};
 use dir_ldif::{Mod, ModOp};
 use dir_names::{AttrKey, Bytes, DnKey, NameFault, Schema, ValueKey};
-use dir_tree::{Attribute, AttributeMap, Directory, Entry, Parts};
+use dir_tree::{Attribute, AttributeMap, Directory, Entry, KeptAttributes, Parts};
 use std::alloc::Global;
 
 /// Modifies an entry (RFC 4511, section 4.6): 32 where it is missing; then the first refusal of a
@@ -51,11 +52,59 @@ pub(crate) fn modify<D: Directory>(
     } = planned(alloc, schema, entry, mods)?;
     let stand_in = stand_in(alloc, entry)?;
     let undo = Undo::modify(alloc, directory.spelled(key)?, back)?;
-    let mut parts = directory.replace(key, stand_in).into_parts();
-    let exchanged = exchange(alloc, &mut parts.attributes, &before, after);
-    let _ = directory.replace(key, Entry::of(parts));
+    let entry = directory.replace(key, stand_in);
+    let (entry, exchanged) = exchanged_entry(alloc, entry, &before, after);
+    let _ = directory.replace(key, entry);
     exchanged?;
     Ok(undo)
+}
+
+/// The entry with a part of its attributes exchanged for another, if memory suffices; else as it was.
+fn exchanged_entry(
+    alloc: Global,
+    entry: Entry,
+    before: &AttributeMap,
+    after: AttributeMap,
+) -> (Entry, Result<(), Refusal>)
+    requires { FitAttributes entry.attributes before.now after }
+    ensures rest { result.0 ≡ with_attributes entry result.0.attributes }
+    ensures ok { OnOk result.1 (AreExchanged entry.attributes before.now after result.0.attributes) }
+    ensures err { OnErr result.1 (result.0 ≡ entry) }
+    ensures memory { IfErr result.1 (λ e. e ≡ refusal.Memory) }
+{
+    let Parts {
+        own,
+        key,
+        attributes,
+    } = entry.into_parts();
+    let (attributes, exchanged) = match attributes.open(alloc) {
+        Ok(map) => exchanged_map(alloc, map, before, after),
+        Err(attributes) => (attributes, Err(Refusal::Memory)),
+    };
+    (
+        Entry::of(Parts {
+            own,
+            key,
+            attributes,
+        }),
+        exchanged,
+    )
+}
+
+/// The attributes with a part of them exchanged for another, if memory suffices; else as they were.
+fn exchanged_map(
+    alloc: Global,
+    mut map: AttributeMap,
+    before: &AttributeMap,
+    after: AttributeMap,
+) -> (KeptAttributes, Result<(), Refusal>)
+    requires { FitAttributes map before.now after }
+    ensures ok { OnOk result.1 (AreExchanged map before.now after result.0) }
+    ensures err { OnErr result.1 (result.0 ≡ map) }
+    ensures memory { IfErr result.1 (λ e. e ≡ refusal.Memory) }
+{
+    let exchanged = exchange(alloc, &mut map, before, after);
+    (KeptAttributes::of(map), exchanged)
 }
 
 /// What a modify is to do to an entry: to exchange some of its attributes, or parts of them, and to tell
@@ -95,7 +144,7 @@ fn stand_in(alloc: Global, entry: &Entry) -> Result<Entry, Refusal>
     Ok(Entry::of(Parts {
         own: Vec::new(alloc),
         key,
-        attributes: AttributeMap::empty(alloc),
+        attributes: KeptAttributes::of(AttributeMap::empty(alloc)),
     }))
 }
 

@@ -24,7 +24,7 @@ use crate::modify::if_any;
 use crate::{Refusal, ResultCode, Undo};
 use dir_ldif::{Change, ChangeKind, Mod};
 use dir_names::{AttrKey, Bytes, Dn, DnKey, NameFault, Rdn, RdnKey, Schema, ValueKey};
-use dir_tree::{Attribute, AttributeMap, Directory, Entry, Parts};
+use dir_tree::{Attribute, AttributeMap, Directory, Entry, KeptAttributes, Parts};
 use std::alloc::Global;
 
 /// Renames an entry (RFC 4511, section 4.9): 32 where it is missing; 53 for the suffix's entry; 53 where
@@ -196,7 +196,7 @@ fn renamed_entry(
     let attributes = renamed_attributes(
         alloc,
         schema,
-        entry.attribute_map().try_clone(alloc)?,
+        entry.to_map(alloc)?,
         entry.key(),
         rdn,
         &key,
@@ -208,7 +208,7 @@ fn renamed_entry(
     Ok(Entry::of(Parts {
         own: one_rdn(alloc, rdn)?,
         key,
-        attributes,
+        attributes: KeptAttributes::of(attributes),
     }))
 }
 
@@ -369,14 +369,15 @@ fn left_by_rename_back(
     let left = renamed_attributes(
         alloc,
         schema,
-        after.attribute_map().try_clone(alloc)?,
+        after.to_map(alloc)?,
         after.key(),
         leaf,
         &key,
         true,
     )?;
-    let keys = all_keys(alloc, &left, before.attribute_map())?;
-    let mods = difference(alloc, keys.as_slice(), &left, before.attribute_map())?;
+    let before = before.to_map(alloc)?;
+    let keys = all_keys(alloc, &left, &before)?;
+    let mods = difference(alloc, keys.as_slice(), &left, &before)?;
     Ok(Some(mods))
 }
 

@@ -4,14 +4,15 @@ ghost use Rattle.std.specs.List.{list_any};
 ghost use Rattle.std.specs.FinMap as fin;
 ghost use Rattle.std.specs.Prelude.{◌≡◌, option_copied};
 ghost use Rattle.dir_names.specs.Values.{text_of};
+ghost use Rattle.dir_tree.specs.Lent.{lent_key};
 ghost use Rattle.dir_acl.specs.Inside.Fakes.{attributes_of};
 ghost use Rattle.dir_acl.specs.Truth.{both, either, has_matching, is_any_covered, matching_truth, opposite, text_has, truth_if, truth_of};
 
 use crate::filter::integers::{is_at_least, is_at_most};
 use crate::filter::substrings::has_pieces;
 use crate::{Filter, Matching, Test};
-use dir_names::{AttrKey, ValueKey};
-use dir_tree::{Attribute, Entry};
+use dir_names::AttrKey;
+use dir_tree::{AttributeView, Entry, KeyView};
 
 /// What a filter is on an entry.
 #[derive(Clone, Copy, PartialEq, Eq, Debug)]
@@ -120,14 +121,14 @@ fn is_any_covered_in(attr: &AttrKey, matching: &Matching, entry: &Entry) -> bool
     ensures { result ≡ is_any_covered attr.now (has_matching matching.now) entry.now.attributes }
 {
     for (key, attribute) in entry.attributes() {
-        if attr.covers(key) && has_matching(matching, attribute) {
+        if attr.covers(key) && has_matching(matching, &attribute) {
             return true;
         }
     }
     false
 }
 
-fn has_matching(matching: &Matching, attribute: &Attribute) -> bool
+fn has_matching(matching: &Matching, attribute: &AttributeView<'_>) -> bool
     ensures { result ≡ has_matching matching.now attribute.now.stored }
 {
     match matching {
@@ -137,7 +138,7 @@ fn has_matching(matching: &Matching, attribute: &Attribute) -> bool
     }
 }
 
-fn has_matching_text(matching: &Matching, attribute: &Attribute) -> bool
+fn has_matching_text(matching: &Matching, attribute: &AttributeView<'_>) -> bool
     ensures { result ≡ list_any (λ v. text_has matching.now (text_of v.0)) (fin.entries attribute.now.stored.values) }
 {
     for (key, _) in attribute.values() {
@@ -148,8 +149,8 @@ fn has_matching_text(matching: &Matching, attribute: &Attribute) -> bool
     false
 }
 
-fn key_has(matching: &Matching, key: &ValueKey) -> bool
-    ensures { result ≡ text_has matching.now (text_of key.now) }
+fn key_has(matching: &Matching, key: KeyView<'_>) -> bool
+    ensures { result ≡ text_has matching.now (text_of (lent_key key.entry)) }
 {
     let Some(text) = key.text() else {
         return false;

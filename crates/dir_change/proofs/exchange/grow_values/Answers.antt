@@ -5,7 +5,7 @@ use Rattle.dir_change.proofs.ExchangedInTurn.{HasMore, growing_is, more_added}
 use Rattle.dir_change.proofs.exchange.grow_values.Goals as goal
 
 pub loop-key-preserved : goal.loop-key-preserved
-loop-key-preserved c = (search rules, subst (HasMore c.args.values.now) (sym c.in_ok-add_if_missing.ensures.ok) (more_added c.args.values.now c.loop-key.values c.in-Some.key.now c.in-Some.bytes.now c.loop-key.invariant.1))
+loop-key-preserved c = (search rules, subst (HasMore c.args.values.now) (sym c.in_ok-add_if_missing.ensures.ok) (more_added c.args.values.now c.loop-key.values c.in-Some.key.now c.as_slice.result.now c.loop-key.invariant.1))
 
 pub returns-in_err-add_if_missing-clause-err : goal.returns-in_err-add_if_missing-clause-err
 returns-in_err-add_if_missing-clause-err c =

@@ -25,7 +25,7 @@ loop-key-preserved c =
     let so : AreLooksSoFar rows own mods keys xs before (k ∷ rest) = subst (AreLooksSoFar rows own mods keys xs before) here c.loop-key.invariant in
     elim c.match-attribute.branch as (λ b. AreLooksSoFar rows own mods keys xs new rest) [
       | in-Some+in_ok-looked_part+in_ok-put w ↦
-          let a = w.in-Some.attribute.now in
+          let a = w.in-Some.attribute in
           let part = w.in_ok-looked_part.field-0 in
           let same : a.key ≡ k = search rules in
           let there : Some a.stored ≡ fin.get xs k = search rules in

@@ -1,6 +1,7 @@
 use Rattle.std.proofs.Common.{◌≡◌, Some, true, false, subst, sym, ap, ◌∙◌, rules}
 use Rattle.std.specs.FinMap as fin
 use Rattle.std.proofs.lemmas.Result.{IfOk-weaker}
+use Rattle.dir_tree.specs.Lent.{lent_key}
 use Rattle.dir_tree.specs.Content.{Keyed, Stored, StoredValues}
 use Rattle.dir_change.specs.Inside.Looked.{LooksAt, all_name_values, all_named, is_free, with_each}
 use Rattle.dir_change.proofs.LookedParts.{only, looks_at_all, looks_at_part}
@@ -13,7 +14,7 @@ returns-in-Some-clause-looks c =
     let mods = c.args.mods.now in
     let k = c.args.attribute.now.key in
     let a = c.args.attribute.now.stored in
-    let one = c.in-Some.one.now in
+    let one = lent_key c.in-Some.one in
     let bytes = c.in-Some.bytes.now in
     let same : c.key-key.result.now ≡ k = search rules in
     let named : c.in_ok-named.named ≡ all_named rows k fin.empty mods = c.in_ok-named.ensures.ok ∙ ap (λ z. all_named rows z fin.empty mods) same in
@@ -27,5 +28,5 @@ returns-in-Some-clause-looks c =
 pub returns-clause-looks : goal.returns-clause-looks
 returns-clause-looks c =
     let a = c.args.attribute.now in
-    let same : a.stored ≡ c.in_ok-try_clone.field-0.stored = search rules in
+    let same : a.stored ≡ c.in_ok-to_attribute.field-0.stored = search rules in
     subst (λ b. LooksAt c.args.schema.now c.args.own.now c.args.mods.now a.key (Some a.stored) (Some b)) same (looks_at_all c.args.schema.now c.args.own.now c.args.mods.now a.key (Some a.stored))

@@ -1,9 +1,10 @@
 use Rattle.std.proofs.Common.{◌≡◌}
 use Rattle.std.specs.FinMap as fin
+use Rattle.dir_tree.specs.Lent.{lent_key}
 use Rattle.dir_change.specs.Inside.Looked.{with_each}
 use Rattle.dir_change.proofs.looked.part_with.Given as goal
 
 abbrev pub invariant-loop-key : goal.invariant-loop-key
 invariant-loop-key l =
-    with_each l.attribute.stored.values (fin.insert fin.empty l.one l.bytes) (fin.entries l.named)
+    with_each l.attribute.stored.values (fin.insert fin.empty (lent_key l.fn.one) l.bytes) (fin.entries l.named)
     ≡ with_each l.attribute.stored.values l.values l.key-iterator
