@@ -8,7 +8,7 @@ ghost use Rattle.dir_tools.specs.Canonical.{canonical_of, entry_text};
 
 use dir_ldif::{push_end, push_line, push_name};
 use dir_names::{Dn, Memory};
-use dir_tree::{Attribute, Directory, Entry};
+use dir_tree::{AttributeView, Directory, Entry};
 use std::alloc::Global;
 
 /// The canonical text of a directory: a record for each entry in order of keys, with its name as put
@@ -29,17 +29,17 @@ fn push_entry(text: &mut Vec<u8>, name: &Dn, entry: &Entry) -> Result<(), Memory
 {
     push_name(text, b"dn", name)?;
     for (_, attribute) in entry.attributes() {
-        push_values(text, attribute)?;
+        push_values(text, &attribute)?;
     }
     push_end(text)
 }
 
-fn push_values(text: &mut Vec<u8>, attribute: &Attribute) -> Result<(), Memory>
+fn push_values(text: &mut Vec<u8>, attribute: &AttributeView<'_>) -> Result<(), Memory>
     ensures { OnOk result (text.new.items ≡ text.old.items ++ flat_map value_text (attribute_lines (attribute.now.key, attribute.now.stored))) }
 {
     let spelling = attribute.description().spelling();
     for (_, bytes) in attribute.values() {
-        push_line(text, spelling, bytes.as_slice())?;
+        push_line(text, spelling, bytes)?;
     }
     Ok(())
 }
