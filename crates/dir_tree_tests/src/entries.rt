@@ -2,7 +2,7 @@
 
 use crate::make::{Texts, description, made, make, name, schema, value};
 use dir_names::{Bytes, Lines};
-use dir_tree::{Attribute, Entry, EntryFault, entries_hold_their_lines};
+use dir_tree::{AttributeView, Entry, EntryFault, entries_hold_their_lines};
 use std::alloc::Global;
 use std::process::Abort;
 
@@ -18,19 +18,24 @@ fn attribute<'e>(
     alloc: Global,
     entry: &'e Entry,
     attr_type: &str,
-) -> Option<&'e Attribute> {
+) -> Option<AttributeView<'e>> {
     let description = description(rt, alloc, attr_type);
     entry.attribute(description.key())
 }
 
 /// Asserts that there is an attribute of this type, so spelled, with these values in this order.
-fn assert_attribute(rt: &impl Abort, attribute: Option<&Attribute>, spelling: &str, want: &[&str]) {
+fn assert_attribute(
+    rt: &impl Abort,
+    attribute: Option<AttributeView<'_>>,
+    spelling: &str,
+    want: &[&str],
+) {
     let attribute = attribute.expect(rt, "no such attribute");
     assert!(rt; attribute.description().spelling() == spelling.as_bytes());
     let mut values = attribute.values();
     for text in want {
         let (_, bytes) = values.next().expect(rt, "no such value");
-        assert!(rt; bytes.as_slice() == text.as_bytes());
+        assert!(rt; bytes == text.as_bytes());
     }
     assert!(rt; values.next().is_none());
 }
@@ -78,7 +83,7 @@ fn many_lines_make_the_entry_that_few_would(rt: HostRuntime) {
     let entry = entry_of_200_notes(&rt, rt.alloc());
     let notes = attribute(&rt, rt.alloc(), &entry, "note").expect(&rt, "no note");
     assert!(rt; notes.description().spelling() == b"NOTE".as_slice());
-    assert_counts_up(&rt, notes);
+    assert_counts_up(&rt, &notes);
 }
 
 /// An entry with the notes 199 to 0, of one byte each, of which the first is spelled `NOTE`.
@@ -98,10 +103,10 @@ fn notes(rt: &impl Abort, alloc: Global) -> Lines {
 }
 
 /// Asserts that the values are the bytes from 0 to 199.
-fn assert_counts_up(rt: &impl Abort, attribute: &Attribute) {
+fn assert_counts_up(rt: &impl Abort, attribute: &AttributeView<'_>) {
     let mut at = 0u8;
     for (_, bytes) in attribute.values() {
-        assert!(rt; bytes.as_slice() == [at].as_slice());
+        assert!(rt; bytes == [at].as_slice());
         at = at.wrapping_add(1);
     }
     assert!(rt; at == 200);

@@ -13,6 +13,8 @@ mod faults;
 #[cfg(test)]
 mod in_place;
 #[cfg(test)]
+mod kept;
+#[cfg(test)]
 mod levels;
 #[cfg(test)]
 mod long_lists;

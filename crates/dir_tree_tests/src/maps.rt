@@ -81,8 +81,7 @@ fn assert_all(rt: &impl Abort, values: &ValueMap, want: &[&str]) {
 /// The attributes of an entry that is added with the values `b` and `a` of `SN`, the first of which names it.
 fn two_of_sn(rt: &impl Abort, alloc: Global) -> AttributeMap {
     let entry = made(rt, alloc, "sn=b", &[("SN", "b"), ("SN", "a")]);
-    let copy = entry.attribute_map().try_clone(alloc);
-    copy.expect(rt, "memory")
+    entry.to_map(alloc).expect(rt, "memory")
 }
 
 fn has(rt: &impl Abort, alloc: Global, attributes: &AttributeMap, attr_type: &str) -> bool {

@@ -2,7 +2,7 @@
 
 use crate::make::{bytes, description, made, schema, value};
 use dir_names::{Rdn, RdnKey};
-use dir_tree::{Attribute, AttributeMap, Entry, EntryFault, Parts};
+use dir_tree::{Attribute, AttributeMap, Entry, EntryFault, KeptAttributes, Parts};
 use std::alloc::Global;
 use std::process::Abort;
 
@@ -11,14 +11,32 @@ fn parts_of_kim(rt: &impl Abort, alloc: Global) -> Parts {
     made(rt, alloc, "cn=Kim", &[("uidNumber", "1")]).into_parts()
 }
 
-/// Adds a value to the attribute of this type, or a new attribute with it.
-fn add(rt: &impl Abort, alloc: Global, parts: &mut Parts, attr_type: &str, text: &str) {
-    let mut attribute = taken(rt, alloc, &mut parts.attributes, attr_type);
+/// The fields with one value more in the attribute of this type, or in a new attribute.
+fn with(rt: &impl Abort, alloc: Global, parts: Parts, attr_type: &str, text: &str) -> Parts {
+    let Parts {
+        own,
+        key,
+        attributes,
+    } = parts;
+    let mut map = opened(rt, alloc, attributes);
+    let mut attribute = taken(rt, alloc, &mut map, attr_type);
     let value = value(rt, alloc, attr_type, text);
     attribute
         .add(alloc, value, bytes(rt, alloc, text))
         .expect(rt, "a value");
-    parts.attributes.put(attribute).expect(rt, "memory");
+    map.put(attribute).expect(rt, "memory");
+    Parts {
+        own,
+        key,
+        attributes: KeptAttributes::of(map),
+    }
+}
+
+fn opened(rt: &impl Abort, alloc: Global, attributes: KeptAttributes) -> AttributeMap {
+    let Ok(map) = attributes.open(alloc) else {
+        panic!(rt; "memory");
+    };
+    map
 }
 
 /// The attribute of this type, which leaves the map, or one without values.
@@ -37,9 +55,9 @@ fn taken(
 
 #[test]
 fn fields_are_closed_to_an_entry(rt: HostRuntime) {
-    let mut parts = parts_of_kim(&rt, rt.alloc());
+    let parts = parts_of_kim(&rt, rt.alloc());
     assert!(rt; parts.own.len() == 1);
-    add(&rt, rt.alloc(), &mut parts, "sn", "Park");
+    let parts = with(&rt, rt.alloc(), parts, "sn", "Park");
     let entry = closed(&rt, rt.alloc(), parts);
     assert!(rt; entry.own().len() == 1);
     assert!(rt; entry.attributes().count() == 3);
@@ -71,9 +89,9 @@ fn rdn_key(rt: &impl Abort, alloc: Global, text: &[u8]) -> RdnKey {
 fn an_entry_has_the_values_of_its_own_rdn(rt: HostRuntime) {
     let mut parts = parts_of_kim(&rt, rt.alloc());
     parts.key = rdn_key(&rt, rt.alloc(), b"cn=Lee");
-    add(&rt, rt.alloc(), &mut parts, "uidNumber", "2");
-    let mut back = refused(&rt, rt.alloc(), parts, EntryFault::NotNamed);
-    add(&rt, rt.alloc(), &mut back, "cn", "LEE");
+    let parts = with(&rt, rt.alloc(), parts, "uidNumber", "2");
+    let back = refused(&rt, rt.alloc(), parts, EntryFault::NotNamed);
+    let back = with(&rt, rt.alloc(), back, "cn", "LEE");
     let back = refused(&rt, rt.alloc(), back, EntryFault::Single);
     assert!(rt; back.attributes.iter().count() == 2);
 }
