@@ -16,6 +16,7 @@ pub mod Placed
 pub mod PlainNames
 pub mod PrintLemmas
 pub mod PrintedLengths
+pub mod RankLemmas
 pub mod ReadNames
 pub mod ReadValues
 pub mod ReadsSpells
