@@ -21,6 +21,12 @@ pub(crate) fn without_extra_spaces(alloc: Global, text: Vec<u8>) -> Result<Vec<u
 fn has_no_extra_space(text: &[u8]) -> bool
     ensures { IsTrue result → without_extra_spaces text.now ≡ text.now }
 {
+    !text.contains(&b' ') || are_spaces_apart(text)
+}
+
+fn are_spaces_apart(text: &[u8]) -> bool
+    ensures { IsTrue result → without_extra_spaces text.now ≡ text.now }
+{
     let mut after_space = true;
     for b in text {
         if *b == b' ' && after_space {
