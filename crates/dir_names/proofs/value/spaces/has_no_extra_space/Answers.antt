@@ -1,4 +1,4 @@
-use Rattle.std.proofs.Common.{◌≡◌, ◌==◌, false, rules, sym, ◌∙◌}
+use Rattle.std.proofs.Common.{◌≡◌, ◌==◌, false, sym, ◌∙◌}
 use Rattle.std.specs.List.{list_any}
 use Rattle.dir_names.proofs.Tidy.{no_space-tidy}
 use Rattle.dir_names.proofs.value.spaces.has_no_extra_space.Goals as goal
