@@ -2,17 +2,16 @@
 //! each RDN. Of any other name it tells nothing.
 
 ghost use Rattle.std.specs.List.{list_all};
-ghost use Rattle.std.specs.Prelude.{◌≡◌, ◌++◌, ◌∷◌, ◌&&◌, nat_lt, IfSome, Some, not, option_copied, option_map, true};
+ghost use Rattle.std.specs.Prelude.{◌≡◌, ◌++◌, ◌∷◌, ◌&&◌, nat_lt, IfSome, Some, option_copied, option_map, true};
 ghost use Rattle.dir_names.specs.Ascii.{equals_sign};
 ghost use Rattle.dir_names.specs.Inside.SortKeys.{IsKeyLowercase, IsPairPut, IsPlainRdn, with_piece};
 ghost use Rattle.dir_names.specs.Inside.SortTexts.{name_sort};
 ghost use Rattle.dir_names.specs.NameKeys.{name_value_key};
-ghost use Rattle.dir_names.specs.Names.Printing.{is_special, printed_rest, printed_value};
 
 use crate::attribute::{is_reserved, is_type};
 use crate::key::sorting::{put_lowercase_pair, put_set};
 use crate::limits::{MAX_RDN_TEXT, MAX_RDNS};
-use crate::name::printing::is_special;
+use crate::name::printing::is_plain_value;
 use crate::name::type_and_value_key;
 use crate::value::spaces::has_no_extra_space;
 use crate::{Rule, Schema};
@@ -148,32 +147,4 @@ fn cut_at_equals(text: &[u8]) -> Option<(&[u8], &[u8])>
         }
     }
     None
-}
-
-/// Whether a value is printed as it is.
-fn is_plain_value(value: &[u8]) -> bool
-    ensures { result ≡ true → printed_value value.now ≡ value.now }
-{
-    match value.split_first() {
-        None => true,
-        Some((first, rest)) => {
-            *first != b' ' && *first != b'#' && !is_special(*first) && is_plain_rest(rest)
-        }
-    }
-}
-
-/// Whether the bytes of a value after the first one are printed as they are.
-fn is_plain_rest(rest: &[u8]) -> bool
-    ensures { result ≡ true → printed_rest rest.now ≡ rest.now }
-{
-    match rest.split_last() {
-        None => true,
-        Some((last, middle)) => *last != b' ' && !is_special(*last) && are_plain(middle),
-    }
-}
-
-fn are_plain(bytes: &[u8]) -> bool
-    ensures { result ≡ list_all (λ b. not (is_special b)) bytes.now }
-{
-    bytes.iter().all(|b| !is_special(*b))
 }
