@@ -136,7 +136,7 @@ impl AttrKey {
         self.shared.options().as_slice()
     }
 
-    fn rank(&self) -> Option<u8>
+    pub(crate) fn rank(&self) -> Option<u8>
         ensures { IfSome result (HasRank self.now) }
     {
         self.shared.rank()
