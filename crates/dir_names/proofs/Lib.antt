@@ -15,6 +15,7 @@ pub mod Pairs
 pub mod PieceLemmas
 pub mod Placed
 pub mod PlainNames
+pub mod PlusLemmas
 pub mod PrintLemmas
 pub mod PrintedLengths
 pub mod RankLemmas

@@ -2,7 +2,7 @@
 
 ghost use Rattle.std.specs.List.{list_all};
 ghost use Rattle.std.specs.Prelude.{◌≡◌, ◌<◌, ◌≤◌, [], ◌∷◌, ◌++◌, Ok, Some, None, false, cond, not, ◌&&◌, ◌==◌, IsTrue, IfOk, IfSome, OnOk, option_copied, length};
-ghost use Rattle.dir_names.specs.Ascii.{comma};
+ghost use Rattle.dir_names.specs.Ascii.{comma, plus};
 ghost use Rattle.dir_names.specs.Outcome.{Gives};
 ghost use Rattle.dir_names.specs.Names.Reading.{begins_with_hash, name_within_limits, pair_of, pieces, rdn_of, rdn_within_limit, value_of};
 ghost use Rattle.dir_names.specs.Inside.Few.{few_items};
@@ -143,11 +143,23 @@ fn read_pairs(alloc: Global, text: &[u8]) -> Result<Few<(Bytes, Bytes)>, NameFau
     let mut pairs = Few::None;
     let mut rest = Some(text);
     while let Some(more) = rest {
-        let (piece, after) = split_once_unescaped(more, b'+');
+        let (piece, after) = split_at_plus(more);
         pairs = pairs.with_last(alloc, read_pair(alloc, piece)?)?;
         rest = after;
     }
     Ok(pairs)
+}
+
+/// The text before the first plus sign that no backslash escapes, and, if there is one, the text after it.
+fn split_at_plus(text: &[u8]) -> (&[u8], Option<&[u8]>)
+    ensures pieces { pieces plus false text.now ≡ result.0.now ∷ pieces_left plus (option_copied result.1) }
+    ensures smaller { IfSome (option_copied result.1) (λ after. length after < length text.now) }
+{
+    if text.contains(&b'+') {
+        split_once_unescaped(text, b'+')
+    } else {
+        (text, None)
+    }
 }
 
 /// The text before the first separator that no backslash escapes, and, if there is one, the text after it.
