@@ -13,7 +13,9 @@ use Rattle.unicode_normalization.specs.declared.Form.TheVariants.{Nfkc}
 use Rattle.unicode_normalization.specs.Forms.{nfkc}
 use Rattle.unicode_normalization.proofs.FormsLemmas.{normalize-ascii}
 use Rattle.dir_names.specs.declared.fault.NameFault.TheVariants.{BadValue}
-use Rattle.dir_names.specs.ValueKeys.{folded_text, is_ascii, key_if}
+use Rattle.std.specs.Prelude.{◌==◌, ◌&&◌, not, length}
+use Rattle.dir_names.specs.ValueKeys.Spaces.{without_extra_spaces}
+use Rattle.dir_names.specs.ValueKeys.{folded_text, is_ascii, is_text, key_if}
 
 pub is_ascii_decides : (text : List ℕ) → Decides (is_ascii text) (All (λ b. b < 128) text)
 is_ascii_decides text = Decides-by_and (λ b. nat_lt b 128) (λ b. b < 128) is_ascii (λ b. Decides-ltb b 128) refl (λ _ _. refl) text
@@ -66,3 +68,10 @@ not_utf8 text n = by (is_utf8 text) refl
     by : (b : Bool) → is_utf8 text ≡ b → b ≡ false
     by true e = absurd (n (IsUtf8-from_is_utf8 text e))
     by false e = refl
+
+-- the key of an ASCII value regardless of case
+pub ascii_text_key : (text : List ℕ) → false ≡ (length text == 0) → is_ascii text ≡ true → Ok (without_extra_spaces (str_to_ascii_lowercase text)) ≡ key_if (is_text text) (without_extra_spaces (folded_text text))
+ascii_text_key text some e =
+    let a = ascii_from_test text e in
+    ap (λ t. Ok (without_extra_spaces t)) (sym (folded_text-ascii text a))
+    ∙ (λ i. key_if (not (some i) && sym (ascii_utf8 text a) i) (without_extra_spaces (folded_text text)))

@@ -8,14 +8,17 @@ pub mod CutLemmas
 pub mod FindLemmas
 pub mod HasKeys
 pub mod KeyLemmas
+pub mod LowercaseKeys
 pub mod Maps
 pub mod OptionLemmas
 pub mod Pairs
 pub mod PieceLemmas
 pub mod Placed
 pub mod PlainNames
+pub mod PlusLemmas
 pub mod PrintLemmas
 pub mod PrintedLengths
+pub mod RankLemmas
 pub mod ReadNames
 pub mod ReadValues
 pub mod ReadsSpells

@@ -1,12 +1,11 @@
 -- A name that is read from its end, each piece being printed as it is spelled.
-use Rattle.std.proofs.Common.{◌≡◌, ℕ, ◌+◌, ◌<◌, ◌≤◌, Bool, true, false, cond, not, ◌&&◌, ◌||◌, nat_le, nat_lt, List, [], ◌∷◌, ◌++◌, length, reverse, map, take, drop, get_or, Option, Some, None, Ok, Result, refl, sym, ap, ◌∙◌, append_assoc, arith}
+use Rattle.std.proofs.Common.{◌≡◌, ℕ, ◌+◌, ◌<◌, ◌≤◌, Bool, true, false, cond, not, ◌&&◌, ◌||◌, nat_le, nat_lt, List, [], ◌∷◌, ◌++◌, length, reverse, take, drop, get_or, Some, Ok, refl, sym, ap, ◌∙◌, append_assoc, arith}
 use Rattle.std.specs.Prelude.{◌==◌}
 use Rattle.std.specs.List.{flat_map, list_all}
 use Rattle.std.specs.Option.{option_and_then, option_map}
 use Rattle.std.specs.Result.{result_ok}
 use Rattle.std.proofs.lemmas.Bool.Decides.{nat_tests}
-use Rattle.std.proofs.lemmas.List.{append-nil, drop_more, reverse-append, take-append-drop}
-use Rattle.dir_names.specs.declared.fault.NameFault.{NameFault}
+use Rattle.std.proofs.lemmas.List.{drop_more, reverse-append, take-append-drop}
 use Rattle.dir_names.specs.declared.schema.TypeRow.{TypeRow}
 use Rattle.dir_names.specs.Descriptions.{is_reserved, is_type}
 use Rattle.dir_names.specs.Inside.SortKeys.{IsPlainRdn}
@@ -17,7 +16,7 @@ use Rattle.dir_names.specs.Names.{SpelledName, SpelledPair, SpelledRdn}
 use Rattle.dir_names.specs.Names.Limits.{is_rdn_within_limit, is_within_limits}
 use Rattle.dir_names.specs.Names.Printing.{escape_of, is_special, printed_byte, printed_name, printed_pair, printed_rdn, printed_rest, printed_value}
 use Rattle.dir_names.specs.Names.Reading.{name_within_limits}
-use Rattle.dir_names.specs.Names.Sound.{is_sound_name, is_sound_pair, is_sound_rdn}
+use Rattle.dir_names.specs.Names.Sound.{is_sound_name, is_sound_pair}
 use Rattle.dir_names.specs.Results.{option_collect, option_cons}
 use Rattle.dir_names.proofs.Collected.{collect_append}
 use Rattle.dir_names.proofs.PrintLemmas.{rest-snoc}

@@ -1,13 +1,12 @@
 -- The text of a name's key, put together from the RDNs, root first.
 use Rattle.std.proofs.Common.{◌≡◌, ℕ, ◌+◌, ◌<◌, List, [], ◌∷◌, ◌++◌, length, reverse, take, get_or, Option, Some, None, Ok, refl, sym, ap, ◌∙◌, append_assoc}
-use Rattle.std.specs.List.{flat_map}
 use Rattle.std.specs.Option.{option_and_then, option_map}
 use Rattle.std.proofs.Math.Seq.{take-length}
 use Rattle.std.proofs.lemmas.List.{append-nil, reverse-append, take_more}
 use Rattle.dir_names.specs.declared.fault.NameFault.{NameFault}
 use Rattle.dir_names.specs.declared.schema.TypeRow.{TypeRow}
 use Rattle.dir_names.specs.Attr.{Attr}
-use Rattle.dir_names.specs.Inside.SortKeys.{key_or_empty, kept_key}
+use Rattle.dir_names.specs.Inside.SortKeys.{key_or_empty}
 use Rattle.dir_names.specs.Inside.SortTexts.{name_sort, rdn_sort}
 use Rattle.dir_names.specs.Keys.{DnKeys, RdnKeys}
 use Rattle.dir_names.specs.NameKeys.{name_key, pair_key, rdn_key, set_if_distinct}

@@ -3,7 +3,8 @@
 --     tidied-tail          so a text is written from its first byte on that is not a space
 --     stays after bs       whether no space is at the end or beside another one, where `after` says whether one comes before
 use Rattle.std.proofs.Common.{◌≡◌, ℕ, ◌+◌, ◌-◌, ◌<◌, ◌≤◌, Bool, true, false, cond, not, List, [], ◌∷◌, ◌++◌, length, take, get_or, refl, sym, ap, ◌∙◌, arith}
-use Rattle.std.specs.Prelude.{◌==◌, ◌&&◌}
+use Rattle.std.specs.Prelude.{◌==◌, ◌&&◌, ◌||◌}
+use Rattle.std.specs.List.{list_any}
 use lib.Dec.{eqb-suc-zero}
 use Rattle.std.proofs.lemmas.Bool.{eqb-true, ne_eqb}
 use Rattle.std.proofs.lemmas.List.{take_more}
@@ -81,6 +82,23 @@ tidied_stays (b ∷ bs) e = without_extra_spaces-tail (b ∷ bs) ∙ by (b == 32
     by : (t : Bool) → (b == 32) ≡ t → cond t false (stays false bs) ≡ true → tail false (cond t (without_leading_spaces bs) (b ∷ bs)) ≡ b ∷ bs
     by true q h = absurd (cc)
     by false q h = (tail_stays (b ∷ bs)).0 (ap (λ t. cond t (stays true bs) (stays false bs)) q ∙ h)
+
+-- a text without any space is tidy
+no_space-stays : (bs : List ℕ) → list_any (λ b. b == 32) bs ≡ false → stays false bs ≡ true
+no_space-stays [] e = refl
+no_space-stays (b ∷ bs) e = by (b == 32) refl e (no_space-stays bs)
+  where
+    by : (t : Bool) → (b == 32) ≡ t → (t || list_any (λ b. b == 32) bs) ≡ false → (list_any (λ b. b == 32) bs ≡ false → stays false bs ≡ true) → cond t (stays true bs) (stays false bs) ≡ true
+    by true q h rest = absurd (cc)
+    by false q h rest = rest h
+
+pub no_space-tidy : (bs : List ℕ) → list_any (λ b. b == 32) bs ≡ false → without_extra_spaces bs ≡ bs
+no_space-tidy [] e = refl
+no_space-tidy (b ∷ bs) e = tidied_stays (b ∷ bs) (by (b == 32) refl e)
+  where
+    by : (t : Bool) → (b == 32) ≡ t → (t || list_any (λ b. b == 32) bs) ≡ false → cond t false (stays false bs) ≡ true
+    by true q h = absurd (cc)
+    by false q h = no_space-stays bs h
 
 -- ---- the ends
 

@@ -3,12 +3,13 @@
 ghost use Rattle.std.specs.Cmp.{partial_order_from_agreeing_total};
 ghost use Rattle.std.specs.List.{before_first, list_all, list_any};
 ghost use Rattle.std.specs.Ordering.{as_partial_cmp};
-ghost use Rattle.std.specs.Prelude.{◌≡◌, ◌↔◌, IsTrue, Ok, refl, ◌==◌, [], ◌∷◌, option_copied, position};
+ghost use Rattle.std.specs.Prelude.{◌≡◌, ◌↔◌, IsTrue, Ok, refl, ◌==◌, [], ◌∷◌, IfSome, map, option_copied, position};
 ghost use Rattle.std.specs.Str.{str_to_ascii_lowercase};
 ghost use Rattle.dir_names.specs.Ascii.{dot, semicolon};
 ghost use Rattle.dir_names.specs.Covers.{Covers, covers};
 ghost use Rattle.dir_names.specs.Cut.{after_first_separator, parts_at};
 ghost use Rattle.dir_names.specs.Inside.Left.{parts_left};
+ghost use Rattle.dir_names.specs.Inside.Ranks.{HasRank, IsTextAt};
 ghost use Rattle.dir_names.specs.Described.{described_eq, described_eq_laws, partial_described_eq_laws};
 ghost use Rattle.dir_names.specs.Descriptions.{description_of, is_descr, is_digit, is_keychar, is_number, is_numericoid, is_option, is_reserved, is_type, option_set};
 ghost use Rattle.dir_names.specs.Orders.{bytes_cmp, bytes_eq, attr_cmp, attr_eq, attr_cmp_total, attr_cmp_ties, tied_equiv, tied_per};
@@ -16,6 +17,7 @@ ghost use Rattle.dir_names.specs.Outcome.{Gives};
 ghost use Rattle.dir_names.specs.Sorted.{rises, with_member};
 
 use crate::limits::MAX_DESCRIPTION;
+use crate::schema::table::RANKED;
 use crate::value::folding::lowercase_copy;
 use crate::{Bytes, NameFault, Schema, Texts};
 use std::alloc::Global;
@@ -34,6 +36,41 @@ pub struct AttrKey {
 struct AttrParts {
     attr_type: Bytes,
     options: Texts,
+    /// The place in `RANKED` of a frequent type without options.
+    rank: Option<u8>,
+}
+
+impl Model for AttrParts {
+    ghost use Rattle.dir_names.specs.Attr.{Attr};
+
+    ghost Value = { Attr };
+
+    ghost view = { λ p. record { attr_type = p.attr_type; options = p.options } };
+
+    ghost use Rattle.std.specs.Prelude.{IfSome};
+    ghost use Rattle.dir_names.specs.Inside.Ranks.{HasRank};
+
+    ghost invariant = { λ p. IfSome p.rank (HasRank (record { attr_type = p.attr_type; options = p.options })) };
+}
+
+impl AttrParts {
+    fn rank(&self) -> Option<u8>
+        ensures { IfSome result (HasRank self.now) }
+    {
+        self.rank
+    }
+
+    fn attr_type(&self) -> &Bytes
+        ensures { result.now ≡ self.now.attr_type }
+    {
+        &self.attr_type
+    }
+
+    fn options(&self) -> &Texts
+        ensures { result.now ≡ self.now.options }
+    {
+        &self.options
+    }
 }
 
 impl Model for AttrKey {
@@ -41,7 +78,7 @@ impl Model for AttrKey {
 
     ghost Value = { Attr };
 
-    ghost view = { λ a. record { attr_type = a.shared.value.attr_type; options = a.shared.value.options } };
+    ghost view = { λ a. a.shared.value };
 }
 
 impl AttrKey {
@@ -51,7 +88,7 @@ impl AttrKey {
         ensures value { result ≡ covers self.now other.now }
         ensures meaning { IsTrue result ↔ Covers self.now other.now }
     {
-        self.shared.attr_type == other.shared.attr_type
+        self.shared.attr_type() == other.shared.attr_type()
             && is_subset(self.options(), other.options())
     }
 
@@ -74,22 +111,79 @@ impl AttrKey {
     fn of(alloc: Global, attr_type: Bytes, options: Texts) -> Result<AttrKey, NameFault>
         ensures { Gives (λ key. key) result (Ok (record { attr_type = attr_type; options = options })) }
     {
+        let rank = rank_of(attr_type.as_slice(), options.as_slice());
         Ok(AttrKey {
-            shared: Rc::new(alloc, AttrParts { attr_type, options })?,
+            shared: Rc::new(
+                alloc,
+                AttrParts {
+                    attr_type,
+                    options,
+                    rank,
+                },
+            )?,
         })
     }
 
     pub(crate) fn attr_type(&self) -> &[u8]
         ensures { result.now ≡ self.now.attr_type }
     {
-        self.shared.attr_type.as_slice()
+        self.shared.attr_type().as_slice()
     }
 
     pub(crate) fn options(&self) -> &[Bytes]
         ensures { result.now ≡ self.now.options }
     {
-        self.shared.options.as_slice()
+        self.shared.options().as_slice()
     }
+
+    pub(crate) fn rank(&self) -> Option<u8>
+        ensures { IfSome result (HasRank self.now) }
+    {
+        self.shared.rank()
+    }
+
+    #[inline(never)]
+    fn eq_by_text(&self, other: &AttrKey) -> bool
+        ensures { result ≡ attr_eq self.now other.now }
+    {
+        self.shared.attr_type() == other.shared.attr_type()
+            && self.shared.options() == other.shared.options()
+    }
+
+    #[inline(never)]
+    fn cmp_by_text(&self, other: &AttrKey) -> Ordering
+        ensures { result ≡ attr_cmp self.now other.now }
+    {
+        self.shared
+            .attr_type()
+            .cmp(other.shared.attr_type())
+            .then_with(|| self.shared.options().cmp(other.shared.options()))
+    }
+}
+
+/// The place in `RANKED` of a type without options, if it is there.
+fn rank_of(attr_type: &[u8], options: &[Bytes]) -> Option<u8>
+    ensures { IfSome result (HasRank (record { attr_type = attr_type.now; options = options.now })) }
+{
+    if !options.is_empty() {
+        return None;
+    }
+    match place_of(&RANKED, attr_type) {
+        Some(rank) if rank < RANKED.len() => Some(rank as u8),
+        _ => None,
+    }
+}
+
+/// A place at which a text is among these.
+fn place_of(texts: &[&str], text: &[u8]) -> Option<usize>
+    ensures { IfSome result (λ at. IsTextAt (map (λ one. one.now) texts.now) text.now at) }
+{
+    for (at, one) in texts.iter().enumerate() {
+        if one.as_bytes() == text {
+            return Some(at);
+        }
+    }
+    None
 }
 
 impl PartialEq for AttrKey {
@@ -98,8 +192,10 @@ impl PartialEq for AttrKey {
     ghost laws = { tied_per attr_cmp attr_cmp_total attr_cmp_ties };
 
     fn eq(&self, other: &AttrKey) -> bool {
-        self.shared.attr_type == other.shared.attr_type
-            && self.shared.options == other.shared.options
+        match (self.rank(), other.rank()) {
+            (Some(rank), Some(other_rank)) => rank == other_rank,
+            _ => self.eq_by_text(other),
+        }
     }
 }
 
@@ -127,10 +223,10 @@ impl Ord for AttrKey {
     ghost matches_eq = { attr_cmp_ties };
 
     fn cmp(&self, other: &AttrKey) -> Ordering {
-        self.shared
-            .attr_type
-            .cmp(&other.shared.attr_type)
-            .then_with(|| self.shared.options.cmp(&other.shared.options))
+        match (self.rank(), other.rank()) {
+            (Some(rank), Some(other_rank)) => rank.cmp(&other_rank),
+            _ => self.cmp_by_text(other),
+        }
     }
 }
 

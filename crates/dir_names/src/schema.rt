@@ -2,7 +2,7 @@
 
 ghost use Rattle.std.specs.Prelude.{◌≡◌, ◌<◌, ◌∷◌, All, IfErr, IfOk, IfSome, Ok, find, map, option_copied};
 ghost use Rattle.dir_names.specs.NameKeys.{attr_of};
-ghost use Rattle.dir_names.specs.Inside.Frequent.{IsFrequentSlot, IsFrequentDescription, IsFrequentType};
+ghost use Rattle.dir_names.specs.Inside.Frequent.{IsFrequentSlot, IsFrequentDescription, IsFrequentType, IsRankedRule};
 ghost use Rattle.dir_names.specs.Inside.Rows.{type_row};
 ghost use Rattle.std.specs.List.{list_any};
 ghost use Rattle.std.specs.Str.{str_eq_ignore_ascii_case};
@@ -12,7 +12,7 @@ ghost use Rattle.dir_names.specs.Outcome.{Gives};
 pub(crate) mod table;
 
 use crate::attribute::lowercase_bytes;
-use crate::schema::table::{FREQUENT, ROWS, Row};
+use crate::schema::table::{FREQUENT, RANKED, ROWS, Row};
 use crate::{AttrKey, Bytes, Description, NameFault, Texts};
 use std::alloc::Global;
 use std::marker::Model;
@@ -55,6 +55,15 @@ pub struct Schema {
     rows: Vec<TypeRow>,
     /// The types that copies of directories use most, each in the slot of its text.
     frequent: Vec<Option<FrequentType>>,
+    /// The rules of the types that have ranks, each at its rank.
+    ranked: Vec<RankedRule>,
+}
+
+/// The rule of the type that has this rank.
+#[derive(Clone, Copy, Debug)]
+struct RankedRule {
+    rank: u8,
+    rule: Rule,
 }
 
 /// The number of slots for frequent types.
@@ -77,9 +86,9 @@ impl Model for Schema {
     ghost view = { λ schema. schema.rows.items };
 
     ghost use Rattle.std.specs.Prelude.{All};
-    ghost use Rattle.dir_names.specs.Inside.Frequent.{IsFrequentSlot};
+    ghost use Rattle.dir_names.specs.Inside.Frequent.{IsFrequentSlot, IsRankedRule};
 
-    ghost invariant = { λ schema. All (IsFrequentSlot schema.rows.items) schema.frequent.items };
+    ghost invariant = { λ schema. All (IsFrequentSlot schema.rows.items) schema.frequent.items × All (IsRankedRule schema.rows.items) schema.ranked.items };
 }
 
 impl Schema {
@@ -94,10 +103,20 @@ impl Schema {
         let bare = Schema {
             rows: type_rows(alloc, &ROWS)?,
             frequent: Vec::new(alloc),
+            ranked: Vec::new(alloc),
         };
         let frequent = frequent_types(alloc, &bare)?;
-        let Schema { rows, frequent: _ } = bare;
-        Ok(Schema { rows, frequent })
+        let ranked = ranked_rules(alloc, &bare)?;
+        let Schema {
+            rows,
+            frequent: _,
+            ranked: _,
+        } = bare;
+        Ok(Schema {
+            rows,
+            frequent,
+            ranked,
+        })
     }
 
     /// The frequent type in the slot of this text.
@@ -124,6 +143,25 @@ impl Schema {
 
     /// The rule by which values of this type are compared.
     pub fn rule(&self, attr: &AttrKey) -> Rule
+        ensures { result ≡ rule_of self.now attr.now }
+    {
+        match self.ranked_rule(attr) {
+            Some(rule) => rule,
+            None => self.rule_in_slot(attr),
+        }
+    }
+
+    fn ranked_rule(&self, attr: &AttrKey) -> Option<Rule>
+        ensures { IfSome result (λ rule. rule ≡ rule_of self.now attr.now) }
+    {
+        let rank = attr.rank()?;
+        match self.ranked.get(usize::from(rank)) {
+            Some(ranked) if ranked.rank == rank => Some(ranked.rule),
+            _ => None,
+        }
+    }
+
+    fn rule_in_slot(&self, attr: &AttrKey) -> Rule
         ensures { result ≡ rule_of self.now attr.now }
     {
         match self.slot(attr.attr_type()) {
@@ -254,6 +292,32 @@ fn frequent_type(
         Err(NameFault::Memory) => Err(NameFault::Memory),
         _ => Ok(None),
     }
+}
+
+/// The rules of the types that have ranks.
+fn ranked_rules(alloc: Global, schema: &Schema) -> Result<Vec<RankedRule>, NameFault>
+    ensures ranked { IfOk result (λ rules. All (IsRankedRule schema.now) rules.items) }
+    ensures memory { IfErr result (λ e. e ≡ NameFault.Memory) }
+{
+    let mut rules = Vec::with_capacity(alloc, RANKED.len())?;
+    for name in &RANKED {
+        let attr = AttrKey::of_type(alloc, Bytes::copy_of(alloc, name.as_bytes())?)?;
+        let Some(ranked) = ranked_rule_of(schema, &attr) else {
+            return Ok(rules);
+        };
+        rules.push(ranked)?;
+    }
+    Ok(rules)
+}
+
+fn ranked_rule_of(schema: &Schema, attr: &AttrKey) -> Option<RankedRule>
+    ensures { IfSome result (IsRankedRule schema.now) }
+{
+    let rank = attr.rank()?;
+    Some(RankedRule {
+        rank,
+        rule: schema.rule(attr),
+    })
 }
 
 fn type_rows(alloc: Global, rows: &[Row]) -> Result<Vec<TypeRow>, NameFault>

@@ -180,8 +180,19 @@ fn case_ignore_key(alloc: Global, value: &[u8]) -> Result<Bytes, NameFault>
     if value.is_empty() {
         return Err(NameFault::BadValue);
     }
+    if is_ascii(value) {
+        return lowercase_key(alloc, value);
+    }
     let text = folded_text(alloc, value)?;
     Ok(Bytes::new(without_extra_spaces(alloc, text)?))
+}
+
+/// The text in lower case, without extra spaces.
+fn lowercase_key(alloc: Global, text: &[u8]) -> Result<Bytes, NameFault>
+    ensures { Gives (λ key. key) result (Ok (without_extra_spaces (str_to_ascii_lowercase text.now))) }
+{
+    let copy = lowercase_copy(alloc, text)?;
+    Ok(Bytes::new(without_extra_spaces(alloc, copy)?))
 }
 
 fn telephone_key(alloc: Global, value: &[u8]) -> Result<Bytes, NameFault>
@@ -197,11 +208,11 @@ fn telephone_key(alloc: Global, value: &[u8]) -> Result<Bytes, NameFault>
 fn ia5_case_ignore_key(alloc: Global, value: &[u8]) -> Result<Bytes, NameFault>
     ensures { Gives (λ key. key) result (key_if (is_ascii value.now) (without_extra_spaces (str_to_ascii_lowercase value.now))) }
 {
-    if !is_ascii(value) {
-        return Err(NameFault::BadValue);
+    if is_ascii(value) {
+        lowercase_key(alloc, value)
+    } else {
+        Err(NameFault::BadValue)
     }
-    let text = lowercase_copy(alloc, value)?;
-    Ok(Bytes::new(without_extra_spaces(alloc, text)?))
 }
 
 fn ia5_case_exact_key(alloc: Global, value: &[u8]) -> Result<Bytes, NameFault>

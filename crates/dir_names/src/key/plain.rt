@@ -2,19 +2,19 @@
 //! each RDN. Of any other name it tells nothing.
 
 ghost use Rattle.std.specs.List.{list_all};
-ghost use Rattle.std.specs.Prelude.{◌≡◌, ◌++◌, ◌∷◌, IfSome, Some, not, option_copied, option_map, true};
+ghost use Rattle.std.specs.Prelude.{◌≡◌, ◌++◌, ◌∷◌, ◌&&◌, nat_lt, IfSome, Some, option_copied, option_map, true};
 ghost use Rattle.dir_names.specs.Ascii.{equals_sign};
-ghost use Rattle.dir_names.specs.Inside.SortKeys.{IsPlainRdn, with_piece};
+ghost use Rattle.dir_names.specs.Inside.SortKeys.{IsKeyLowercase, IsPairPut, IsPlainRdn, with_piece};
 ghost use Rattle.dir_names.specs.Inside.SortTexts.{name_sort};
 ghost use Rattle.dir_names.specs.NameKeys.{name_value_key};
-ghost use Rattle.dir_names.specs.Names.Printing.{is_special, printed_rest, printed_value};
 
 use crate::attribute::{is_reserved, is_type};
-use crate::key::sorting::put_set;
+use crate::key::sorting::{put_lowercase_pair, put_set};
 use crate::limits::{MAX_RDN_TEXT, MAX_RDNS};
-use crate::name::printing::is_special;
+use crate::name::printing::is_plain_value;
 use crate::name::type_and_value_key;
-use crate::{NameFault, Schema};
+use crate::value::spaces::has_no_extra_space;
+use crate::{Rule, Schema};
 use std::alloc::Global;
 use std::slice;
 
@@ -59,10 +59,68 @@ fn put_plain_rdn(alloc: Global, schema: &Schema, piece: &[u8], out: &mut Vec<u8>
     {
         return false;
     }
+    put_plain_pair(alloc, schema, attr_type, value, out)
+}
+
+/// Appends the text of the key of an RDN that has this pair alone, and tells whether it has.
+fn put_plain_pair(
+    alloc: Global,
+    schema: &Schema,
+    attr_type: &[u8],
+    value: &[u8],
+    out: &mut Vec<u8>,
+) -> bool
+    ensures { result ≡ true → IsPairPut schema.now (attr_type.now, value.now) out.old.items out.new.items }
+{
+    match schema.frequent(attr_type) {
+        Some(frequent) if is_key_lowercase(schema.rule(frequent.key()), value) =>
+            put_lowercase_pair(frequent.key(), value, out).is_ok(),
+        _ => put_any_pair(alloc, schema, attr_type, value, out),
+    }
+}
+
+fn put_any_pair(
+    alloc: Global,
+    schema: &Schema,
+    attr_type: &[u8],
+    value: &[u8],
+    out: &mut Vec<u8>,
+) -> bool
+    ensures { result ≡ true → IsPairPut schema.now (attr_type.now, value.now) out.old.items out.new.items }
+{
     match type_and_value_key(alloc, schema, attr_type, value) {
         Ok(key) => put_set(slice::from_ref(&key), out).is_ok(),
         Err(_) => false,
     }
+}
+
+/// Whether the key of a value is its text in lower case, without a byte that is marked.
+fn is_key_lowercase(rule: Rule, value: &[u8]) -> bool
+    ensures { result ≡ true → IsKeyLowercase rule value.now }
+{
+    match rule {
+        Rule::CaseIgnore | Rule::Ia5CaseIgnore => is_tidy_ascii(value),
+        _ => false,
+    }
+}
+
+fn is_tidy_ascii(value: &[u8]) -> bool
+    ensures case { result ≡ true → IsKeyLowercase Rule.CaseIgnore value.now }
+    ensures ia5 { result ≡ true → IsKeyLowercase Rule.Ia5CaseIgnore value.now }
+{
+    if value.is_empty() {
+        return false;
+    }
+    if !are_unmarked(value) {
+        return false;
+    }
+    has_no_extra_space(value)
+}
+
+fn are_unmarked(value: &[u8]) -> bool
+    ensures { result ≡ list_all (λ b. nat_lt 1 b && nat_lt b 128) value.now }
+{
+    value.iter().all(|b| *b > 1 && *b < 128)
 }
 
 /// The text before the last comma, if there is one, and the text after it.
@@ -89,32 +147,4 @@ fn cut_at_equals(text: &[u8]) -> Option<(&[u8], &[u8])>
         }
     }
     None
-}
-
-/// Whether a value is printed as it is.
-fn is_plain_value(value: &[u8]) -> bool
-    ensures { result ≡ true → printed_value value.now ≡ value.now }
-{
-    match value.split_first() {
-        None => true,
-        Some((first, rest)) => {
-            *first != b' ' && *first != b'#' && !is_special(*first) && is_plain_rest(rest)
-        }
-    }
-}
-
-/// Whether the bytes of a value after the first one are printed as they are.
-fn is_plain_rest(rest: &[u8]) -> bool
-    ensures { result ≡ true → printed_rest rest.now ≡ rest.now }
-{
-    match rest.split_last() {
-        None => true,
-        Some((last, middle)) => *last != b' ' && !is_special(*last) && are_plain(middle),
-    }
-}
-
-fn are_plain(bytes: &[u8]) -> bool
-    ensures { result ≡ list_all (λ b. not (is_special b)) bytes.now }
-{
-    bytes.iter().all(|b| !is_special(*b))
 }

@@ -1,7 +1,8 @@
 //! The text that a name's key is kept with: its bytes are in the order of the keys.
 
 ghost use Rattle.std.specs.List.{flat_map, list_all};
-ghost use Rattle.std.specs.Prelude.{◌≡◌, ◌++◌, ◌∷◌, Ok, nat_lt};
+ghost use Rattle.std.specs.Prelude.{◌≡◌, ◌++◌, [], ◌∷◌, IsTrue, Ok, nat_lt};
+ghost use Rattle.std.specs.Str.{str_to_ascii_lowercase};
 ghost use Rattle.dir_names.specs.Outcome.{Gives};
 ghost use Rattle.dir_names.specs.Inside.SortTexts.{marked_byte, text_sort, list_sort, pair_sort, rdn_sort, name_sort};
 
@@ -31,6 +32,33 @@ pub(crate) fn put_set(pairs: &[(AttrKey, Bytes)], out: &mut Vec<u8>) -> Result<(
     out.push(1)?;
     put_pairs(pairs, out)?;
     out.push(0)?;
+    Ok(())
+}
+
+/// Appends the text of the RDN that has this attribute alone, with this value in lower case.
+pub(crate) fn put_lowercase_pair(
+    attr: &AttrKey,
+    value: &[u8],
+    out: &mut Vec<u8>,
+) -> Result<(), NameFault>
+    requires { IsTrue (list_all (λ b. nat_lt 1 b) (str_to_ascii_lowercase value.now)) }
+    ensures { Gives (λ _. out.new.items) result (Ok (out.old.items ++ 1 ∷ rdn_sort ((attr.now, str_to_ascii_lowercase value.now) ∷ []))) }
+{
+    out.extend_from_slice(&[1, 1])?;
+    put_text(attr.attr_type(), out)?;
+    put_options(attr.options(), out)?;
+    put_lowercase(value, out)?;
+    out.extend_from_slice(&[0, 0])?;
+    Ok(())
+}
+
+/// Appends a text in lower case.
+fn put_lowercase(text: &[u8], out: &mut Vec<u8>) -> Result<(), NameFault>
+    ensures { Gives (λ _. out.new.items) result (Ok (out.old.items ++ str_to_ascii_lowercase text.now)) }
+{
+    let start = out.len();
+    out.extend_from_slice(text)?;
+    out.as_mut_slice()[start..].make_ascii_lowercase();
     Ok(())
 }
 

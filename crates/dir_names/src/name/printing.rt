@@ -1,6 +1,7 @@
 //! The text of a name (RFC 4514, section 2).
 
-ghost use Rattle.std.specs.Prelude.{◌≡◌, ◌<◌, ◌++◌, Ok, cond, flat_map, IsTrue};
+ghost use Rattle.std.specs.List.{list_all};
+ghost use Rattle.std.specs.Prelude.{◌≡◌, ◌<◌, ◌++◌, Ok, cond, flat_map, not, true, IsTrue};
 ghost use Rattle.dir_names.specs.Outcome.{Gives};
 ghost use Rattle.dir_names.specs.Names.Printing.{escape_of, is_special, printed_byte, printed_name, printed_pair, printed_rdn, printed_rest, printed_value, upper_digit};
 ghost use Rattle.dir_names.specs.Names.Escapes.{is_refused_sign};
@@ -59,6 +60,10 @@ fn print_pair(pair: &(Bytes, Bytes), out: &mut Vec<u8>) -> Result<(), NameFault>
 fn print_value(value: &[u8], out: &mut Vec<u8>) -> Result<(), NameFault>
     ensures { Gives (λ _. out.new.items) result (Ok (out.old.items ++ printed_value value.now)) }
 {
+    if is_plain_value(value) {
+        out.extend_from_slice(value)?;
+        return Ok(());
+    }
     let Some((first, rest)) = value.split_first() else {
         return Ok(());
     };
@@ -99,8 +104,36 @@ fn put_byte(b: u8, is_escaped: bool, out: &mut Vec<u8>) -> Result<(), NameFault>
     Ok(())
 }
 
+/// Whether a value is printed as it is.
+pub(crate) fn is_plain_value(value: &[u8]) -> bool
+    ensures { result ≡ true → printed_value value.now ≡ value.now }
+{
+    match value.split_first() {
+        None => true,
+        Some((first, rest)) => {
+            *first != b' ' && *first != b'#' && !is_special(*first) && is_plain_rest(rest)
+        }
+    }
+}
+
+/// Whether the bytes of a value after the first one are printed as they are.
+fn is_plain_rest(rest: &[u8]) -> bool
+    ensures { result ≡ true → printed_rest rest.now ≡ rest.now }
+{
+    match rest.split_last() {
+        None => true,
+        Some((last, middle)) => *last != b' ' && !is_special(*last) && are_plain(middle),
+    }
+}
+
+fn are_plain(bytes: &[u8]) -> bool
+    ensures { result ≡ list_all (λ b. not (is_special b)) bytes.now }
+{
+    bytes.iter().all(|b| !is_special(*b))
+}
+
 /// Whether a byte is escaped anywhere in a value.
-pub(crate) fn is_special(b: u8) -> bool
+fn is_special(b: u8) -> bool
     ensures { result ≡ is_special b }
 {
     b < 32 || b > 126 || is_refused_sign(b)

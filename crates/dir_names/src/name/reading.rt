@@ -1,8 +1,8 @@
 //! The name that a text spells (RFC 4514, section 3).
 
 ghost use Rattle.std.specs.List.{list_all};
-ghost use Rattle.std.specs.Prelude.{◌≡◌, ◌<◌, [], ◌∷◌, ◌++◌, Ok, Some, None, false, cond, not, ◌&&◌, ◌==◌, IsTrue, IfOk, IfSome, OnOk, option_copied, length};
-ghost use Rattle.dir_names.specs.Ascii.{comma};
+ghost use Rattle.std.specs.Prelude.{◌≡◌, ◌<◌, ◌≤◌, [], ◌∷◌, ◌++◌, Ok, Some, None, false, cond, not, ◌&&◌, ◌==◌, IsTrue, IfOk, IfSome, OnOk, option_copied, length};
+ghost use Rattle.dir_names.specs.Ascii.{comma, plus};
 ghost use Rattle.dir_names.specs.Outcome.{Gives};
 ghost use Rattle.dir_names.specs.Names.Reading.{begins_with_hash, name_within_limits, pair_of, pieces, rdn_of, rdn_within_limit, value_of};
 ghost use Rattle.dir_names.specs.Inside.Few.{few_items};
@@ -11,13 +11,14 @@ ghost use Rattle.dir_names.specs.Inside.Steps.{is_outside, has_digit, keeps_digi
 ghost use Rattle.dir_names.specs.Outcome.{ok_or_bad_dn};
 ghost use Rattle.dir_names.specs.Results.{option_collect};
 ghost use Rattle.dir_names.specs.Names.Limits.{is_rdn_within_limit, ok_if_within};
+ghost use Rattle.dir_names.specs.ValueKeys.Spaces.{without_leading_spaces};
 ghost use Rattle.dir_names.specs.Names.Escapes.{is_hex, hex_of, is_refused, is_escapable};
 ghost use Rattle.dir_names.specs.Names.Sound.{is_sound_rdn};
 
 use crate::attribute::{is_reserved, is_type, split_once};
-use crate::limits::MAX_RDN_TEXT;
+use crate::limits::{MAX_RDN_TEXT, MAX_RDNS};
 use crate::list::few::Few;
-use crate::name::printing::{is_refused_sign, print_pairs};
+use crate::name::printing::{is_plain_value, is_refused_sign, print_pairs};
 use crate::value::spaces::{without_leading_spaces, without_trailing_spaces};
 use crate::{Bytes, Dn, NameFault, Rdn};
 use std::alloc::Global;
@@ -90,7 +91,7 @@ fn are_short(pairs: &[(Bytes, Bytes)]) -> bool
 fn read_rdns(alloc: Global, text: &[u8]) -> Result<Vec<Rdn>, NameFault>
     ensures { Gives (λ rdns. rdns.items) result (ok_if_within (list_all is_rdn_within_limit) (option_collect rdn_of (pieces comma false text.now))) }
 {
-    let mut rdns = Vec::new(alloc);
+    let mut rdns = Vec::with_capacity(alloc, rdns_at_most(text))?;
     let mut scratch = Vec::new(alloc);
     let mut are_within = true;
     let mut rest = Some(text);
@@ -106,6 +107,14 @@ fn read_rdns(alloc: Global, text: &[u8]) -> Result<Vec<Rdn>, NameFault>
     } else {
         Err(NameFault::NameLimit)
     }
+}
+
+/// How many RDNs a text has at most, if it is within the limits.
+fn rdns_at_most(text: &[u8]) -> usize
+    ensures { result ≤ 64 }
+{
+    let commas = text.iter().filter(|b| **b == b',').count();
+    commas.saturating_add(1).min(MAX_RDNS)
 }
 
 /// Appends the RDN of these pairs, if it is within the limit, and tells whether it is.
@@ -134,11 +143,23 @@ fn read_pairs(alloc: Global, text: &[u8]) -> Result<Few<(Bytes, Bytes)>, NameFau
     let mut pairs = Few::None;
     let mut rest = Some(text);
     while let Some(more) = rest {
-        let (piece, after) = split_once_unescaped(more, b'+');
+        let (piece, after) = split_at_plus(more);
         pairs = pairs.with_last(alloc, read_pair(alloc, piece)?)?;
         rest = after;
     }
     Ok(pairs)
+}
+
+/// The text before the first plus sign that no backslash escapes, and, if there is one, the text after it.
+fn split_at_plus(text: &[u8]) -> (&[u8], Option<&[u8]>)
+    ensures pieces { pieces plus false text.now ≡ result.0.now ∷ pieces_left plus (option_copied result.1) }
+    ensures smaller { IfSome (option_copied result.1) (λ after. length after < length text.now) }
+{
+    if text.contains(&b'+') {
+        split_once_unescaped(text, b'+')
+    } else {
+        (text, None)
+    }
 }
 
 /// The text before the first separator that no backslash escapes, and, if there is one, the text after it.
@@ -173,8 +194,18 @@ fn read_pair(alloc: Global, text: &[u8]) -> Result<(Bytes, Bytes), NameFault>
     if !is_type(attr_type) || is_reserved(attr_type) {
         return Err(NameFault::BadDn);
     }
-    let value = read_value(alloc, without_leading_spaces(after))?;
+    let value = read_value_after(alloc, after)?;
     Ok((Bytes::copy_of(alloc, attr_type)?, Bytes::new(value)))
+}
+
+/// The value that the text after an equals sign stands for. Most values are spelled as they are.
+fn read_value_after(alloc: Global, text: &[u8]) -> Result<Vec<u8>, NameFault>
+    ensures { Gives (λ value. value.items) result (ok_or_bad_dn (value_of (without_leading_spaces text.now))) }
+{
+    if is_plain_value(text) {
+        return Ok(text.to_vec(alloc)?);
+    }
+    read_value(alloc, without_leading_spaces(text))
 }
 
 /// Where a value is being read.

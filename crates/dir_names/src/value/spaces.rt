@@ -18,7 +18,13 @@ pub(crate) fn without_extra_spaces(alloc: Global, text: Vec<u8>) -> Result<Vec<u
 }
 
 /// Whether no space is at an end or beside another one.
-fn has_no_extra_space(text: &[u8]) -> bool
+pub(crate) fn has_no_extra_space(text: &[u8]) -> bool
+    ensures { IsTrue result → without_extra_spaces text.now ≡ text.now }
+{
+    !text.contains(&b' ') || are_spaces_apart(text)
+}
+
+fn are_spaces_apart(text: &[u8]) -> bool
     ensures { IsTrue result → without_extra_spaces text.now ≡ text.now }
 {
     let mut after_space = true;

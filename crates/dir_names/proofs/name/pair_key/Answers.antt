@@ -1,4 +1,4 @@
-use Rattle.std.proofs.Common.{◌≡◌, ℕ, List, subst}
+use Rattle.std.proofs.Common.{◌≡◌, subst}
 use Rattle.dir_names.specs.Names.{SpelledPair}
 use Rattle.dir_names.specs.NameKeys.{pair_key}
 use Rattle.dir_names.specs.Outcome.{Gives, ok_or_bad_dn}

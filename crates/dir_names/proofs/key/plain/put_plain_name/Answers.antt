@@ -1,4 +1,4 @@
-use Rattle.std.proofs.Common.{◌≡◌, ℕ, ◌+◌, ◌-◌, ◌++◌, ◌∷◌, [], ap, subst, ◌∙◌, arith, rules}
+use Rattle.std.proofs.Common.{◌≡◌, ℕ, ◌+◌, ◌-◌, [], ap, subst, ◌∙◌, arith, rules}
 use Rattle.std.specs.Option.{option_copied}
 use Rattle.dir_names.specs.Inside.SortKeys.{with_piece}
 use Rattle.dir_names.proofs.PlainNames.{IsReadFrom, nothing_read, rdn_read, last_read}

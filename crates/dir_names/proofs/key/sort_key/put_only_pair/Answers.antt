@@ -1,7 +1,7 @@
-use Rattle.std.proofs.Common.{◌≡◌, ◌++◌, ◌∷◌, [], Some, Ok, Result, ℕ, List, ap, sym, ◌∙◌, rules}
+use Rattle.std.proofs.Common.{◌≡◌, ◌++◌, ◌∷◌, [], Some, ap, rules}
 use Rattle.std.specs.Option.{option_map}
 use Rattle.dir_names.specs.Inside.SortTexts.{rdn_sort}
-use Rattle.dir_names.specs.NameKeys.{pair_key, rdn_key}
+use Rattle.dir_names.specs.NameKeys.{rdn_key}
 use Rattle.dir_names.specs.Outcome.{ok_or_bad_dn}
 use Rattle.dir_names.proofs.SortedNames.{only_fails, only_some}
 use Rattle.dir_names.proofs.key.sort_key.put_only_pair.Goals as goal

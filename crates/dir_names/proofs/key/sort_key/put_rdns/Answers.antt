@@ -1,4 +1,4 @@
-use Rattle.std.proofs.Common.{◌≡◌, ◌+◌, ◌-◌, ◌<◌, ◌≤◌, ℕ, length, sym, subst, arith}
+use Rattle.std.proofs.Common.{◌≡◌, ◌+◌, ◌-◌, ◌<◌, ℕ, length, sym, subst, arith}
 use Rattle.dir_names.specs.NameKeys.{rdn_key}
 use Rattle.dir_names.proofs.SortedNames.{IsSorted, some_text, sorted_more}
 use Rattle.dir_names.proofs.key.sort_key.put_rdns.Goals as goal

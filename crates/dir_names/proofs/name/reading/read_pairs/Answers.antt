@@ -11,11 +11,11 @@ use Rattle.dir_names.proofs.name.reading.read_pairs.Goals as goal
 
 pub loop-rest-preserved : goal.loop-rest-preserved
 loop-rest-preserved c =
-    let parted : pieces_left 43 (option_copied c.loop-rest.rest) ≡ c.split_once_unescaped.result.0.now ∷ pieces_left 43 (option_copied c.split_once_unescaped.result.1) = search rules in
+    let parted : pieces_left 43 (option_copied c.loop-rest.rest) ≡ c.split_at_plus.result.0.now ∷ pieces_left 43 (option_copied c.split_at_plus.result.1) = search rules in
     let so_far = c.loop-rest.invariant ∙ ap (λ ps. prefixed (few_items c.loop-rest.pairs) (option_collect pair_of ps)) parted in
-    let read = ok_some (pair_of c.split_once_unescaped.result.0.now) c.in_ok-read_pair.field-0 c.in_ok-read_pair.ensures in
+    let read = ok_some (pair_of c.split_at_plus.result.0.now) c.in_ok-read_pair.field-0 c.in_ok-read_pair.ensures in
     let longer : few_items c.in_ok-pairs.pairs ≡ few_items c.loop-rest.pairs ++ c.in_ok-read_pair.field-0 ∷ [] = search rules in
-    rw longer (all_more pair_of (pieces 43 false c.args.text.now) (few_items c.loop-rest.pairs) c.split_once_unescaped.result.0.now (pieces_left 43 (option_copied c.split_once_unescaped.result.1)) so_far c.in_ok-read_pair.field-0 read)
+    rw longer (all_more pair_of (pieces 43 false c.args.text.now) (few_items c.loop-rest.pairs) c.split_at_plus.result.0.now (pieces_left 43 (option_copied c.split_at_plus.result.1)) so_far c.in_ok-read_pair.field-0 read)
 
 pub returns-clause-sound : goal.returns-clause-sound
 returns-clause-sound c =

@@ -1,5 +1,5 @@
 use Rattle.std.proofs.Common.{◌≡◌, ◌∙◌, rules}
-use Rattle.dir_names.specs.Orders.{bytes_cmp, dn_key_cmp}
+use Rattle.dir_names.specs.Orders.{bytes_cmp}
 use Rattle.dir_names.proofs.SortOrder.{name_sorts}
 use Rattle.dir_names.proofs.key.sort_key.DnSortKey.cmp_key.Goals as goal
 

@@ -1,5 +1,5 @@
 use Rattle.std.proofs.Common.{◌≡◌, ◌∙◌, rules}
-use Rattle.dir_names.specs.Orders.{bytes_eq, dn_key_eq}
+use Rattle.dir_names.specs.Orders.{bytes_eq}
 use Rattle.dir_names.proofs.SortOrder.{name_sorts_eq}
 use Rattle.dir_names.proofs.key.sort_key.DnSortKey.is_same.Goals as goal
 

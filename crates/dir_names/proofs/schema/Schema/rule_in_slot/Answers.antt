@@ -3,7 +3,7 @@ use Rattle.dir_names.specs.declared.schema.TypeRow.{TypeRow}
 use Rattle.dir_names.specs.Inside.Frequent.{IsFrequentType}
 use Rattle.dir_names.specs.Orders.{bytes_eq, bytes_eq_decides}
 use Rattle.dir_names.specs.Table.{rule_in}
-use Rattle.dir_names.proofs.schema.Schema.rule.Goals as goal
+use Rattle.dir_names.proofs.schema.Schema.rule_in_slot.Goals as goal
 
 pub returns-in-Some : goal.returns-in-Some
 returns-in-Some c =

@@ -3,7 +3,7 @@ use Rattle.std.specs.Prelude.{◌==◌}
 use Rattle.std.specs.List.{list_all}
 use Rattle.dir_names.specs.Names.Printing.{is_special}
 use Rattle.dir_names.proofs.PlainNames.{plain_rest}
-use Rattle.dir_names.proofs.key.plain.is_plain_rest.Goals as goal
+use Rattle.dir_names.proofs.name.printing.is_plain_rest.Goals as goal
 
 pub returns-then-not-is_special : goal.returns-then-not-is_special
 returns-then-not-is_special c e =
