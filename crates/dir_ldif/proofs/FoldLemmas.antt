@@ -1,6 +1,6 @@
 -- Lemmas on folding a line.
-use Rattle.std.proofs.Common.{◌≡◌, ℕ, zero, suc, ◌-◌, ◌<◌, ◌≤◌, List, [], ◌∷◌, ◌++◌, length, refl, sym, ap, ◌∙◌, append_assoc, append-nil, length-append, arith}
-use Rattle.dir_ldif.specs.LineText.{fold_from}
+use Rattle.std.proofs.Common.{◌≡◌, ℕ, zero, suc, true, ◌+◌, ◌-◌, ◌<◌, ◌≤◌, List, [], ◌∷◌, ◌++◌, length, refl, sym, ap, ◌∙◌, append_assoc, append-nil, length-append, arith}
+use Rattle.dir_ldif.specs.LineText.{fold_from, is_plain, written_line}
 
 -- a prefix that there is room for stays as it is
 pub fold_from-fits : (front rest : List ℕ) (room : ℕ) → length front ≤ room → fold_from room (front ++ rest) ≡ front ++ fold_from (room - length front) rest
@@ -42,3 +42,16 @@ pub folded_whole : (before between after name text : List ℕ) (room left : ℕ)
     → ((rest : List ℕ) → after ++ fold_from left rest ≡ between ++ fold_from room (text ++ rest)) → after ++ 10 ∷ [] ≡ before ++ fold_from 76 (name ++ text)
 unfolding fold_from
 folded_whole before between after name text room left a b = b [] ∙ a (text ++ []) ∙ ap (λ t. before ++ fold_from 76 (name ++ t)) (append-nil text)
+
+-- a line with a plain value that fits in one physical line
+pub written_line-short : (out name value : List ℕ) → is_plain value ≡ true → length name + length value ≤ 74
+    → (((out ++ name) ++ 58 ∷ 32 ∷ []) ++ value) ++ 10 ∷ [] ≡ out ++ written_line name value
+unfolding fold_from
+written_line-short out name [] plain fits = cc
+written_line-short out name (b ∷ bs) plain fits =
+    let value = b ∷ bs in
+    let line = name ++ 58 ∷ 32 ∷ value in
+    let long : length line ≤ 76 = omega (arith, length-append name (58 ∷ 32 ∷ value)) in
+    let flat : (((out ++ name) ++ 58 ∷ 32 ∷ []) ++ value) ++ 10 ∷ [] ≡ out ++ (line ++ 10 ∷ []) =
+    append_assoc ((out ++ name) ++ 58 ∷ 32 ∷ []) value (10 ∷ []) ∙ append_assoc (out ++ name) (58 ∷ 32 ∷ []) (value ++ 10 ∷ []) ∙ append_assoc out name (58 ∷ 32 ∷ value ++ 10 ∷ []) ∙ ap (λ t. out ++ t) (sym (append_assoc name (58 ∷ 32 ∷ value) (10 ∷ []))) in
+    rw plain (flat ∙ ap (λ t. out ++ t) (sym (fold_from-fits line [] 76 long) ∙ ap (λ t. fold_from 76 t) (append-nil line)))

@@ -1,6 +1,6 @@
 //! The writer: the text of a record, line by line, folded.
 
-ghost use Rattle.std.specs.Prelude.{◌≡◌, ◌++◌, ◌∷◌, ◌≤◌, ℕ, List, [], IfOk, OnOk, codes};
+ghost use Rattle.std.specs.Prelude.{◌≡◌, ◌+◌, ◌++◌, ◌∷◌, ◌≤◌, ℕ, List, [], IfOk, OnOk, codes, length, true};
 ghost use Rattle.std.specs.Io.{StartsWith};
 ghost use Rattle.std.specs.List.{flat_map, list_all};
 ghost use Rattle.dir_names.specs.Names.Printing.{printed_rdn};
@@ -70,8 +70,25 @@ pub fn push_line(out: &mut Vec<u8>, name: &[u8], value: &[u8]) -> Result<(), Mem
     ensures bytes { OnOk result (IsBytes value.now) }
     ensures kept { StartsWith out.new.items out.old.items }
 {
+    if name.len() + value.len() <= COLUMNS - 2 && is_plain(value) {
+        return push_short_line(out, name, value);
+    }
     let room = push_folded(out, COLUMNS, name)?;
     let _ = push_value(out, room, value)?;
+    push_end(out)
+}
+
+/// Appends a line that is not folded, with a plain value.
+fn push_short_line(out: &mut Vec<u8>, name: &[u8], value: &[u8]) -> Result<(), Memory>
+    requires plain { is_plain value.now ≡ true }
+    requires fits { length name.now + length value.now ≤ 74 }
+    ensures text { OnOk result (out.new.items ≡ out.old.items ++ written_line name.now value.now) }
+    ensures kept { StartsWith out.new.items out.old.items }
+{
+    out.reserve(name.len() + value.len() + 3)?;
+    out.extend_from_slice(name)?;
+    out.extend_from_slice(b": ")?;
+    out.extend_from_slice(value)?;
     push_end(out)
 }
 
@@ -142,10 +159,15 @@ fn is_plain(value: &[u8]) -> bool
     }
 }
 
+/// Whether all bytes are safe. It tests each of them, without an early end, so that it becomes vector code.
 fn all_safe(text: &[u8]) -> bool
     ensures { result ≡ list_all is_safe text.now }
 {
-    text.iter().all(|b| is_safe(*b))
+    let mut safe = true;
+    for b in text {
+        safe &= is_safe(*b);
+    }
+    safe
 }
 
 /// `SAFE-CHAR`: ASCII without NUL, LF and CR.
