@@ -20,6 +20,7 @@ pub mod Pieced
 pub mod PlaceInPieces
 pub mod Relisted
 pub mod RestBelow
+pub mod SharedKeys
 pub mod SortedVecs
 pub mod SoundMade
 pub mod SpelledLemmas

@@ -20,6 +20,12 @@ use std::alloc::Global;
 use std::marker::Model;
 use std::slice;
 
+/// For how many bytes room is made at first. What is left of it is given back.
+const TEXT_ROOM: usize = 1000;
+
+/// For how many values more than attributes room is made at first.
+const MORE_VALUES: usize = 8;
+
 /// How the key of a value is kept.
 #[derive(Debug, Drop)]
 pub(crate) enum PackedKey {
@@ -87,14 +93,21 @@ impl Model for PackedValues {
 }
 
 impl PackedValues {
-    /// No values, with room for so many of so many bytes.
-    fn with_room(alloc: Global, room: Room) -> Result<PackedValues, Memory>
+    /// No values, with room for so many.
+    fn with_room(alloc: Global, count: usize) -> Result<PackedValues, Memory>
         ensures { IfOk result (λ p. p ≡ []) }
     {
         Ok(PackedValues {
-            values: Vec::with_capacity(alloc, room.values)?,
-            text: Vec::with_capacity(alloc, room.bytes)?,
+            values: Vec::with_capacity(alloc, count)?,
+            text: Vec::with_capacity(alloc, TEXT_ROOM)?,
         })
+    }
+
+    fn shrink(&mut self)
+        ensures { self.new ≡ self.old }
+    {
+        self.values.shrink_to_fit();
+        self.text.shrink_to_fit();
     }
 
     /// The values and one more.
@@ -311,13 +324,6 @@ impl Model for PackedAttributes {
     ghost invariant = { λ p. All (IsPacked p.values) p.attributes.items };
 }
 
-/// How many values attributes have, and how many bytes these and their keys have.
-#[derive(Clone, Copy)]
-struct Room {
-    values: usize,
-    bytes: usize,
-}
-
 impl PackedAttributes {
     /// These attributes.
     pub(crate) fn of(alloc: Global, attributes: &[Attribute]) -> Result<PackedAttributes, Memory>
@@ -325,11 +331,12 @@ impl PackedAttributes {
     {
         let mut packed = PackedAttributes {
             attributes: Vec::with_capacity(alloc, attributes.len())?,
-            values: PackedValues::with_room(alloc, room_for(attributes))?,
+            values: PackedValues::with_room(alloc, attributes.len().saturating_add(MORE_VALUES))?,
         };
         for attribute in attributes {
             packed = packed.with_attribute(alloc, attribute)?;
         }
+        packed.values.shrink();
         Ok(packed)
     }
 
@@ -449,32 +456,5 @@ impl<'a> Iterator for PackedViews<'a> {
     fn next(&mut self) -> Option<AttributeView<'a>> {
         let attribute = self.attributes.next()?;
         Some(view_of(attribute, self.values))
-    }
-}
-
-/// The room that attributes take.
-fn room_for(attributes: &[Attribute]) -> Room {
-    let mut room = Room {
-        values: 0,
-        bytes: 0,
-    };
-    for attribute in attributes {
-        for (key, bytes) in attribute.values() {
-            room.values = room.values.saturating_add(1);
-            room.bytes = room
-                .bytes
-                .saturating_add(bytes.as_slice().len())
-                .saturating_add(own_text(key, bytes.as_slice()));
-        }
-    }
-    room
-}
-
-/// How many bytes the key takes beside the value's.
-fn own_text(key: &ValueKey, bytes: &[u8]) -> usize {
-    match key {
-        ValueKey::Text(text) if text.as_slice() == bytes => 0,
-        ValueKey::Text(text) => text.as_slice().len(),
-        ValueKey::Name(_) => 0,
     }
 }

@@ -1,9 +1,15 @@
--- In which order the lines of an entry may be added: first all descriptions, then the values in any order.
-use Rattle.std.specs.Prelude.{◌≡◌, Bool, true, not, ◌&&◌, List, [], ◌∷◌}
+-- Lines with the keys of their values, and in which order they may be added: first all descriptions, then the values in any order.
+use Rattle.std.specs.Prelude.{◌≡◌, Bool, Ok, true, not, ◌&&◌, List, [], ◌∷◌}
 use Rattle.std.specs.FinMap as fin
+use Rattle.dir_names.specs.NameKeys.{value_key_of}
+use Rattle.dir_names.specs.declared.schema.TypeRow.{TypeRow}
 use Rattle.dir_tree.specs.declared.lines.KeyedLine.{KeyedLine}
 use Rattle.dir_tree.specs.Content.{StoredAttributes, has_value}
 use Rattle.dir_tree.specs.NewEntry.{give_distinct_values, with_description, with_line, with_lines}
+
+-- the key of a line is that of its value
+abbrev pub HasKey : List TypeRow → KeyedLine → Type 0
+HasKey rows line = value_key_of rows line.description.key line.bytes ≡ Ok line.key
 
 -- the attributes with the descriptions of all lines
 abbrev pub with_descriptions : StoredAttributes → List KeyedLine → StoredAttributes
