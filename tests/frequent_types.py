@@ -1,10 +1,11 @@
 #!/usr/bin/env python3
-"""Checks that each frequent attribute type of `dir_names` has a slot of its own.
+"""Checks that each frequent attribute type of `dir_names` has a slot and a rank of its own.
 
 usage: frequent_types.py
 
 `Schema` looks a frequent type up in one slot, by its first, middle and last letter and its length. Two types in one slot
-are no fault that a contract could see: one of them is then looked up as slowly as any other type.
+are no fault that a contract could see: one of them is then looked up as slowly as any other type. So it is with a type that
+has no rank in `RANKED`.
 """
 import pathlib
 import re
@@ -23,8 +24,8 @@ SLOT_OF = """
 """
 
 
-def frequent_types():
-    table = re.search(r"FREQUENT: \[&str; (\d+)\] = \[(.*?)\];", TABLE, re.S)
+def table_of(name):
+    table = re.search(name + r": \[&str; (\d+)\] = \[(.*?)\];", TABLE, re.S)
     types = re.findall(r'"([^"]+)"', table[2])
     expect(len(types), int(table[1]), "types in the table")
     return types
@@ -42,12 +43,18 @@ def the_function_is_the_one_repeated_here():
 def each_type_has_its_own_slot():
     slots = int(re.search(r"const SLOTS: usize = (\d+);", LOOKUP)[1])
     taken = {}
-    for name in frequent_types():
+    for name in table_of("FREQUENT"):
         other = taken.setdefault(slot_of(name, slots), name)
         expect(other, name, "the type in the slot")
     return f"{len(taken)} types in {slots} slots"
 
 
-CHECKS = [the_function_is_the_one_repeated_here, each_type_has_its_own_slot]
+def each_type_has_a_rank():
+    ranked = table_of("RANKED")
+    expect(ranked, sorted(name.lower() for name in table_of("FREQUENT")), "the types with ranks")
+    return f"{len(ranked)} ranks"
+
+
+CHECKS = [the_function_is_the_one_repeated_here, each_type_has_its_own_slot, each_type_has_a_rank]
 
 sys.exit(checks.run("frequent types", [(check.__name__.replace("_", " "), check) for check in CHECKS]))
