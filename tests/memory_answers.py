@@ -22,14 +22,15 @@ from checks import Wrong
 
 ROOT = pathlib.Path(__file__).resolve().parent.parent
 
-# Calls that hand back what could not be put where it was to go, for want of memory alone.
-HANDS_BACK = {"from_vec", "insert", "into_vec", "move_subtree", "push"}
+# Calls that hand back what could not be put where it was to go, or opened, for want of memory alone.
+HANDS_BACK = {"from_vec", "insert", "into_vec", "move_subtree", "open", "push"}
 
 # Functions that answer out of memory for a fault of a sink in memory, which takes all that it is given unless an allocation is refused.
 BUFFERED = {"run_fault"}
 
-# A count of values that has no next number: no memory holds so many.
-COUNTS = {"one_more"}
+# A count of values that has no next number: no memory holds so many. An index past 32 bits: the entry then stays as it was
+# made, and nobody is told of a fault (`KeptAttributes::packed`).
+COUNTS = {"index", "one_more"}
 
 ANSWER = re.compile(r"\b(?:\w+::)*(?:Memory|AllocError|OutOfMemory)\b")
 
