@@ -22,7 +22,7 @@ from checks import Wrong
 
 ROOT = pathlib.Path(__file__).resolve().parent.parent
 
-# Calls that hand back what could not be put where it was to go, or opened, for want of memory alone.
+# Calls that hand back what could not be put where it was to go, or opened: their only fault is out of memory.
 HANDS_BACK = {"from_vec", "insert", "into_vec", "move_subtree", "open", "push"}
 
 # Functions that answer out of memory for a fault of a sink in memory, which takes all that it is given unless an allocation is refused.
