@@ -146,11 +146,18 @@ impl Attribute {
         self.values.remove(alloc, key)
     }
 
+    /// How many values there are.
+    pub(crate) fn len(&self) -> usize
+        ensures { result ≡ fin.len self.now.stored.values }
+    {
+        self.values.len()
+    }
+
     /// Whether there is more than one value.
     pub fn has_many(&self) -> bool
         ensures { result ≡ nat_lt 1 (fin.len self.now.stored.values) }
     {
-        self.values.len() > 1
+        self.len() > 1
     }
 }
 

@@ -8,11 +8,14 @@ ghost use Rattle.dir_tree.specs.Content.{has_value};
 ghost use Rattle.dir_tree.specs.NewEntry.{exceeds_single_value};
 
 use crate::attributes::{AttributeMap, Attributes};
-use crate::packed::{PackedAttributes, PackedViews};
+use crate::packed::{PackedAttributes, PackedViews, Room};
 use crate::views::AttributeView;
 use dir_names::{AttrKey, Memory, Schema, ValueKey};
 use std::alloc::Global;
 use std::marker::Model;
+
+/// An entry with more values than this is not packed, so that its first change need not open it.
+const MOST_PACKED: usize = 1024;
 
 /// The form of an entry's attributes.
 #[derive(Debug, Drop)]
@@ -54,11 +57,15 @@ impl KeptAttributes {
         }
     }
 
-    /// The attributes of a map in little memory, unless there is none for that.
+    /// The attributes of a map in little memory, unless they have many values, or there is no memory for that.
     pub(crate) fn packed(alloc: Global, map: AttributeMap) -> KeptAttributes
         ensures { result ≡ map }
     {
-        match PackedAttributes::of(alloc, map.as_slice()) {
+        let room = Room::of(map.as_slice());
+        if room.values > MOST_PACKED {
+            return KeptAttributes::of(map);
+        }
+        match PackedAttributes::of(alloc, map.as_slice(), room) {
             Ok(packed) => KeptAttributes {
                 form: Form::Packed(packed),
             },

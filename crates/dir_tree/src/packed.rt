@@ -20,11 +20,36 @@ use std::alloc::Global;
 use std::marker::Model;
 use std::slice;
 
-/// For how many bytes room is made at first. What is left of it is given back.
-const TEXT_ROOM: usize = 1000;
+/// How much room some values take when they are packed.
+#[derive(Clone, Copy)]
+pub(crate) struct Room {
+    pub(crate) values: usize,
+    text: usize,
+}
 
-/// For how many values more than attributes room is made at first.
-const MORE_VALUES: usize = 8;
+impl Room {
+    /// The room for the values of these attributes.
+    pub(crate) fn of(attributes: &[Attribute]) -> Room {
+        let mut room = Room { values: 0, text: 0 };
+        for attribute in attributes {
+            room.values = room.values.saturating_add(attribute.len());
+            for (key, bytes) in attribute.values() {
+                room.text = room.text.saturating_add(packed_len(key, bytes.as_slice()));
+            }
+        }
+        room
+    }
+}
+
+/// How many bytes of text a value and its key take when they are packed.
+fn packed_len(key: &ValueKey, bytes: &[u8]) -> usize {
+    match key {
+        ValueKey::Text(own) if own.as_slice() != bytes => {
+            bytes.len().saturating_add(own.as_slice().len())
+        }
+        _ => bytes.len(),
+    }
+}
 
 /// How the key of a value is kept.
 #[derive(Debug, Drop)]
@@ -94,20 +119,13 @@ impl Model for PackedValues {
 
 impl PackedValues {
     /// No values, with room for so many.
-    fn with_room(alloc: Global, count: usize) -> Result<PackedValues, Memory>
+    fn with_room(alloc: Global, room: Room) -> Result<PackedValues, Memory>
         ensures { IfOk result (λ p. p ≡ []) }
     {
         Ok(PackedValues {
-            values: Vec::with_capacity(alloc, count)?,
-            text: Vec::with_capacity(alloc, TEXT_ROOM)?,
+            values: Vec::with_capacity(alloc, room.values)?,
+            text: Vec::with_capacity(alloc, room.text)?,
         })
-    }
-
-    fn shrink(&mut self)
-        ensures { self.new ≡ self.old }
-    {
-        self.values.shrink_to_fit();
-        self.text.shrink_to_fit();
     }
 
     /// The values and one more.
@@ -325,18 +343,21 @@ impl Model for PackedAttributes {
 }
 
 impl PackedAttributes {
-    /// These attributes.
-    pub(crate) fn of(alloc: Global, attributes: &[Attribute]) -> Result<PackedAttributes, Memory>
+    /// These attributes, whose values take so much room.
+    pub(crate) fn of(
+        alloc: Global,
+        attributes: &[Attribute],
+        room: Room,
+    ) -> Result<PackedAttributes, Memory>
         ensures { IfOk result (λ p. p ≡ attributes.now) }
     {
         let mut packed = PackedAttributes {
             attributes: Vec::with_capacity(alloc, attributes.len())?,
-            values: PackedValues::with_room(alloc, attributes.len().saturating_add(MORE_VALUES))?,
+            values: PackedValues::with_room(alloc, room)?,
         };
         for attribute in attributes {
             packed = packed.with_attribute(alloc, attribute)?;
         }
-        packed.values.shrink();
         Ok(packed)
     }
 
