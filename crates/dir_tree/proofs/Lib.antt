@@ -1,3 +1,4 @@
+pub mod Alike
 pub mod Climb
 pub mod DirLemmas
 pub mod EachEntry

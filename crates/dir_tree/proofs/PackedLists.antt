@@ -1,5 +1,5 @@
 -- Parts of lists, and values in a text that grows.
-use Rattle.std.proofs.Common.{◌≡◌, ℕ, ◌-◌, ◌<◌, ◌≤◌, List, [], ◌∷◌, ◌++◌, map, length, get_or, take, drop, IsTrue, T, refl, sym, ap, subst, ◌∙◌, ⊎_elim, arith}
+use Rattle.std.proofs.Common.{◌≡◌, ℕ, zero, suc, slice_get, ◌-◌, ◌<◌, ◌≤◌, List, [], ◌∷◌, ◌++◌, map, length, get_or, take, drop, IsTrue, T, refl, sym, ap, subst, ◌∙◌, ⊎_elim, arith}
 use Rattle.std.specs.declared.cmp.Ordering.{Ordering}
 use Rattle.std.specs.Cmp.{IsTotalOrder}
 use Rattle.std.specs.FinMap as fin
@@ -9,13 +9,14 @@ use Rattle.std.proofs.lemmas.List.{drop-map, take-map, drop-append-le, take-appe
 use Rattle.std.proofs.lemmas.List.Elements.{All-tail, All-cons, All-append}
 use Rattle.std.proofs.lemmas.Bool.{cases_lt}
 use Rattle.std.proofs.Math.Seq.{drop-append_seam, take-length}
+use Rattle.dir_names.specs.Keys.{DnKeys}
 use Rattle.dir_names.specs.declared.value.ValueKey.{ValueKey}
 use Rattle.dir_names.specs.declared.value.ValueKey.TheVariants as value_key
 use Rattle.dir_tree.specs.declared.packed.PackedKey.{PackedKey}
 use Rattle.dir_tree.specs.declared.packed.PackedKey.TheVariants as packed_key
 use Rattle.dir_tree.specs.declared.packed.PackedValue.{PackedValue}
 use Rattle.dir_tree.specs.declared.packed.PackedAttribute.{PackedAttribute}
-use Rattle.dir_tree.specs.Inside.Packed.{IsInside, IsKeyInside, IsPacked, key_in, packed_attribute, packed_value, part_of}
+use Rattle.dir_tree.specs.Inside.Packed.{IsInside, IsKeyInside, IsPacked, key_in, name_or_none, packed_attribute, packed_value, part_of}
 use Rattle.dir_tree.specs.Content.{Keyed, StoredValues}
 use Rattle.dir_tree.specs.Inside.Stored.{are_rising, value_pair, values_in}
 use Rattle.dir_tree.proofs.SortedVecs.{truth}
@@ -48,42 +49,52 @@ part-appended xs ys a b from to =
     let size : b - a ≡ length ys = omega (arith, from, to, length-append xs ys) in
     ap (λ n. take (b - a) (drop n (xs ++ ys))) from ∙ ap (take (b - a)) (drop-append_seam xs ys) ∙ ap (λ n. take n ys) size ∙ take-length ys
 
--- ---- values in a text that grows
+-- an item of a list is the same item of a longer one
+pub get-append : {A : Type 0} (xs ys : List A) (i : ℕ) → i < length xs → slice_get (xs ++ ys) i ≡ slice_get xs i
+get-append [] ys i h = absurd (omega (arith, h))
+get-append (x ∷ xs) ys zero h = refl
+get-append (x ∷ xs) ys (suc i) h = get-append xs ys i (omega (arith, h))
 
-key-append : (text more : List ℕ) (start end : ℕ) (key : PackedKey) → end ≤ length text → IsKeyInside text key → key_in (text ++ more) start end key ≡ key_in text start end key
-key-append text more start end packed_key.Same h k = ap value_key.Text (part-append text more start end h)
-key-append text more start end (packed_key.Text to) h k = ap value_key.Text (part-append text more end to k)
-key-append text more start end (packed_key.Name name) h k = refl
+-- ---- values in a text that grows, with names that grow
 
-pub key-inside : (text more : List ℕ) (key : PackedKey) → IsKeyInside text key → IsKeyInside (text ++ more) key
-key-inside text more packed_key.Same k = tt
-key-inside text more (packed_key.Text to) k = omega (arith, k, length-append text more)
-key-inside text more (packed_key.Name name) k = tt
+module _ (text more : List ℕ) (names others : List DnKeys) where
+  key-append : (start end : ℕ) (key : PackedKey) → end ≤ length text → IsKeyInside text names key → key_in (text ++ more) (names ++ others) start end key ≡ key_in text names start end key
+  key-append start end packed_key.Same h k = ap value_key.Text (part-append text more start end h)
+  key-append start end (packed_key.Text to) h k = ap value_key.Text (part-append text more end to k)
+  key-append start end (packed_key.Name at) h k = ap name_or_none (get-append names others at k)
 
-pub value-append : (text more : List ℕ) (v : PackedValue) → IsInside text v → packed_value (text ++ more) v ≡ packed_value text v
-value-append text more v h = λ i. (key-append text more v.start v.end v.key h.0 h.1 i, part-append text more v.start v.end h.0 i)
+  pub key-inside : (key : PackedKey) → IsKeyInside text names key → IsKeyInside (text ++ more) (names ++ others) key
+  key-inside packed_key.Same k = tt
+  key-inside (packed_key.Text to) k = omega (arith, k, length-append text more)
+  key-inside (packed_key.Name at) k = omega (arith, k, length-append names others)
 
-pub inside-append : (text more : List ℕ) (v : PackedValue) → IsInside text v → IsInside (text ++ more) v
-inside-append text more v h = (omega (arith, h.0, length-append text more), key-inside text more v.key h.1)
+  pub value-append : (v : PackedValue) → IsInside text names v → packed_value (text ++ more) (names ++ others) v ≡ packed_value text names v
+  value-append v h = λ i. (key-append v.start v.end v.key h.0 h.1 i, part-append text more v.start v.end h.0 i)
 
-pub values-append : (text more : List ℕ) (vs : List PackedValue) → All (IsInside text) vs → map (packed_value (text ++ more)) vs ≡ map (packed_value text) vs
-values-append text more [] h = refl
-values-append text more (v ∷ vs) h = λ i. value-append text more v (h 0 v (omega (arith, length vs))) i ∷ values-append text more vs (All-tail (IsInside text) v vs h) i
+  pub inside-append : (v : PackedValue) → IsInside text names v → IsInside (text ++ more) (names ++ others) v
+  inside-append v h = (omega (arith, h.0, length-append text more), key-inside v.key h.1)
 
-pub all_inside-append : (text more : List ℕ) (vs : List PackedValue) → All (IsInside text) vs → All (IsInside (text ++ more)) vs
-all_inside-append text more vs h = λ k d below. inside-append text more (get_or vs k d) (h k d below)
+  pub values-append : (vs : List PackedValue) → All (IsInside text names) vs → map (packed_value (text ++ more) (names ++ others)) vs ≡ map (packed_value text names) vs
+  values-append [] h = refl
+  values-append (v ∷ vs) h = λ i. value-append v (h 0 v (omega (arith, length vs))) i ∷ values-append vs (All-tail (IsInside text names) v vs h) i
 
--- values in a text, and one more in the text that has grown by it
-pub values-push : (text new : List ℕ) (vs : List PackedValue) (v : PackedValue) (value : ValueKey × List ℕ) → ((more : List ℕ) × (new ≡ text ++ more)) → All (IsInside text) vs → packed_value new v ≡ value → map (packed_value new) (vs ++ v ∷ []) ≡ map (packed_value text) vs ++ value ∷ []
-values-push text new vs v value (more, grown) h is =
-    map-append (packed_value new) vs (v ∷ [])
-    ∙ ap (λ t. map (packed_value t) vs ++ packed_value new v ∷ []) grown
-    ∙ ap (λ front. front ++ packed_value new v ∷ []) (values-append text more vs h)
-    ∙ ap (λ last. map (packed_value text) vs ++ last ∷ []) is
+  pub all_inside-append : (vs : List PackedValue) → All (IsInside text names) vs → All (IsInside (text ++ more) (names ++ others)) vs
+  all_inside-append vs h = λ k d below. inside-append (get_or vs k d) (h k d below)
 
-pub inside-push : (text new : List ℕ) (vs : List PackedValue) (v : PackedValue) → ((more : List ℕ) × (new ≡ text ++ more)) → All (IsInside text) vs → IsInside new v → All (IsInside new) (vs ++ v ∷ [])
-inside-push text new vs v (more, grown) h last =
-    All-append (IsInside new) vs (v ∷ []) (subst (λ t. All (IsInside t) vs) (sym grown) (all_inside-append text more vs h)) (All-cons (IsInside new) v [] last (λ k d below. absurd (omega (arith, below))))
+-- values, and one more in the text and with the names that have grown by it
+module _ (text new : List ℕ) (names all : List DnKeys) (vs : List PackedValue) (v : PackedValue) (grown : (more : List ℕ) × (new ≡ text ++ more)) (named : (others : List DnKeys) × (all ≡ names ++ others)) (h : All (IsInside text names) vs) where
+  pub values-push : (value : ValueKey × List ℕ) → packed_value new all v ≡ value → map (packed_value new all) (vs ++ v ∷ []) ≡ map (packed_value text names) vs ++ value ∷ []
+  values-push value is =
+      map-append (packed_value new all) vs (v ∷ [])
+      ∙ (λ i. map (packed_value (grown.1 i) (named.1 i)) vs ++ packed_value new all v ∷ [])
+      ∙ ap (λ front. front ++ packed_value new all v ∷ []) (values-append text grown.0 names named.0 vs h)
+      ∙ ap (λ last. map (packed_value text names) vs ++ last ∷ []) is
+
+  pub inside-push : IsInside new all v → All (IsInside new all) (vs ++ v ∷ [])
+  inside-push last =
+      let before : All (IsInside (text ++ grown.0) (names ++ named.0)) vs = all_inside-append text grown.0 names named.0 vs h in
+      let here : All (IsInside new all) vs = subst (λ t. All (IsInside t all) vs) (sym grown.1) (subst (λ ns. All (IsInside (text ++ grown.0) ns) vs) (sym named.1) before) in
+      All-append (IsInside new all) vs (v ∷ []) here (All-cons (IsInside new all) v [] last (λ k d below. absurd (omega (arith, below))))
 
 -- ---- attributes over a list of values that grows
 

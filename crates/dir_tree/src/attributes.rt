@@ -17,6 +17,7 @@ ghost use Rattle.dir_tree.specs.NewEntry.{IsTwiceFaultOf, exceeds_single_value, 
 ghost use Rattle.dir_tree.specs.declared.fault.EntryFault.TheVariants as EntryFault;
 
 use crate::EntryFault;
+use crate::list::ListIter;
 use crate::packed::PackedAttributes;
 use crate::search::Sought;
 use crate::values::{ValueMap, Values};
@@ -146,18 +147,18 @@ impl Attribute {
         self.values.remove(alloc, key)
     }
 
-    /// How many values there are.
-    pub(crate) fn len(&self) -> usize
-        ensures { result ≡ fin.len self.now.stored.values }
+    /// The values as they are stored, in order of their keys.
+    pub(crate) fn stored(&self) -> ListIter<'_>
+        ensures { result ≡ fin.entries self.now.stored.values }
     {
-        self.values.len()
+        self.values.stored()
     }
 
     /// Whether there is more than one value.
     pub fn has_many(&self) -> bool
         ensures { result ≡ nat_lt 1 (fin.len self.now.stored.values) }
     {
-        self.len() > 1
+        self.values.len() > 1
     }
 }
 

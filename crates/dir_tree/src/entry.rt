@@ -14,6 +14,7 @@ use crate::EntryFault;
 use crate::attributes::AttributeMap;
 use crate::kept::{AttributeViews, KeptAttributes};
 use crate::lines::attributes_of;
+use crate::packed::Shared;
 use crate::parts::Parts;
 use crate::views::AttributeView;
 use dir_names::{AttrKey, Dn, Lines, Memory, NameFault, Rdn, RdnKey, Schema, ValueKey};
@@ -125,6 +126,14 @@ impl Entry {
         self.attributes.to_map(alloc)
     }
 
+    /// Shares the memory of this key, if it is the entry's own, and of what entries before have too.
+    pub(crate) fn share(&mut self, alloc: Global, key: &RdnKey, shared: &mut Shared)
+        ensures { self.new ≡ self.old }
+    {
+        share_key(alloc, &mut self.key, key);
+        self.attributes.share(alloc, shared);
+    }
+
     /// The fields of the entry. The call doesn't allocate.
     pub fn into_parts(self) -> Parts
         ensures { content_of result ≡ self }
@@ -199,4 +208,15 @@ pub fn own_rdns(name: Dn, is_suffix: bool) -> Vec<Rdn>
         rdns.truncate(1);
     }
     rdns
+}
+
+/// Exchanges a key for a clone of the other, if they are equal.
+fn share_key(alloc: Global, own: &mut RdnKey, key: &RdnKey)
+    ensures { own.new ≡ own.old }
+{
+    if *own == *key {
+        if let Ok(key) = key.try_clone(alloc) {
+            *own = key;
+        }
+    }
 }

@@ -8,7 +8,7 @@ ghost use Rattle.dir_tree.specs.Content.{has_value};
 ghost use Rattle.dir_tree.specs.NewEntry.{exceeds_single_value};
 
 use crate::attributes::{AttributeMap, Attributes};
-use crate::packed::{PackedAttributes, PackedViews, Room};
+use crate::packed::{PackedAttributes, PackedViews, Room, Shared};
 use crate::views::AttributeView;
 use dir_names::{AttrKey, Memory, Schema, ValueKey};
 use std::alloc::Global;
@@ -70,6 +70,15 @@ impl KeptAttributes {
                 form: Form::Packed(packed),
             },
             Err(_) => KeptAttributes::of(map),
+        }
+    }
+
+    /// Shares the memory of what entries before have too.
+    pub(crate) fn share(&mut self, alloc: Global, shared: &mut Shared)
+        ensures { self.new ≡ self.old }
+    {
+        if let Form::Packed(packed) = &mut self.form {
+            packed.share(alloc, shared);
         }
     }
 

@@ -1,6 +1,7 @@
 //! The attributes of an entry in little memory: the texts of all values in one, and where in it each of them is.
 
 ghost use Rattle.std.specs.Prelude.{◌≡◌, ◌++◌, ◌∷◌, ◌<◌, ℕ, List, [], IfOk, IfSome, IsTrue, OnOk, get_or, length, map};
+ghost use Rattle.dir_names.specs.Keys.{DnKeys};
 ghost use Rattle.dir_names.specs.declared.value.ValueKey.{ValueKey};
 ghost use Rattle.std.specs.FinMap as fin;
 ghost use Rattle.std.specs.Option.{option_map};
@@ -14,40 +15,56 @@ ghost use Rattle.std.specs.List.Sorted.{IsSearchInRange};
 
 use crate::attributes::Attribute;
 use crate::search::{Sought, cmp_lent};
+use crate::stored::StoredValue;
 use crate::views::{AttributeView, KeyView};
 use dir_names::{AttrKey, Description, DnSortKey, Memory, ValueKey};
 use std::alloc::Global;
 use std::marker::Model;
+use std::rc::Rc;
 use std::slice;
+
+/// How many lists of attributes, and how many keys of names, are kept to be shared.
+const MOST_RECENT: usize = 8;
 
 /// How much room some values take when they are packed.
 #[derive(Clone, Copy)]
 pub(crate) struct Room {
     pub(crate) values: usize,
     text: usize,
+    names: usize,
 }
 
 impl Room {
     /// The room for the values of these attributes.
     pub(crate) fn of(attributes: &[Attribute]) -> Room {
-        let mut room = Room { values: 0, text: 0 };
+        let mut room = Room {
+            values: 0,
+            text: 0,
+            names: 0,
+        };
         for attribute in attributes {
-            room.values = room.values.saturating_add(attribute.len());
-            for (key, bytes) in attribute.values() {
-                room.text = room.text.saturating_add(packed_len(key, bytes.as_slice()));
+            for value in attribute.stored() {
+                room = room.with(value);
             }
         }
         room
     }
-}
 
-/// How many bytes of text a value and its key take when they are packed.
-fn packed_len(key: &ValueKey, bytes: &[u8]) -> usize {
-    match key {
-        ValueKey::Text(own) if own.as_slice() != bytes => {
-            bytes.len().saturating_add(own.as_slice().len())
+    /// The room for one value more.
+    fn with(self, value: &StoredValue) -> Room {
+        let (own, names) = match value.key() {
+            ValueKey::Text(own) if !value.is_own_key() => (own.as_slice().len(), 0),
+            ValueKey::Text(_) => (0, 0),
+            ValueKey::Name(_) => (0, 1),
+        };
+        Room {
+            values: self.values.saturating_add(1),
+            text: self
+                .text
+                .saturating_add(value.bytes().as_slice().len())
+                .saturating_add(own),
+            names: self.names.saturating_add(names),
         }
-        _ => bytes.len(),
     }
 }
 
@@ -58,8 +75,8 @@ pub(crate) enum PackedKey {
     Same,
     /// The key is a text, which follows the value up to this index.
     Text(u32),
-    /// The key is that of a name.
-    Name(DnSortKey),
+    /// The key is that of a name: the one at this index.
+    Name(u32),
 }
 
 /// Where a value is in the text, and its key.
@@ -71,21 +88,57 @@ pub(crate) struct PackedValue {
 }
 
 impl PackedValue {
-    fn bytes<'a>(&self, text: &'a [u8]) -> &'a [u8]
-        ensures { result.now ≡ part_of text.now self.now.start self.now.end }
+    fn bytes<'a>(&self, pool: PoolView<'a>) -> &'a [u8]
+        ensures { result.now ≡ part_of pool.entry.text.now self.now.start self.now.end }
     {
-        part_of(text, self.start, self.end)
+        part_of(pool.text, self.start, self.end)
     }
 
-    fn key<'a>(&'a self, text: &'a [u8]) -> KeyView<'a>
-        ensures { lent_key result ≡ (packed_value text.now self.now).0 }
+    fn key<'a>(&self, pool: PoolView<'a>) -> KeyView<'a>
+        ensures { lent_key result ≡ (packed_value pool.entry.text.now pool.entry.names.now self.now).0 }
     {
         match &self.key {
-            PackedKey::Same => KeyView::Text(part_of(text, self.start, self.end)),
-            PackedKey::Text(to) => KeyView::Text(part_of(text, self.end, *to)),
-            PackedKey::Name(name) => KeyView::Name(name),
+            PackedKey::Same => KeyView::Text(part_of(pool.text, self.start, self.end)),
+            PackedKey::Text(to) => KeyView::Text(part_of(pool.text, self.end, *to)),
+            PackedKey::Name(at) => match pool.names.get(*at as usize) {
+                Some(name) => KeyView::Name(name),
+                None => KeyView::Text(&[]),
+            },
         }
     }
+}
+
+/// What values are made of: the bytes of all in one text, and the keys that are names.
+#[derive(Debug, Drop)]
+struct Pool {
+    text: Vec<u8>,
+    names: Vec<DnSortKey>,
+}
+
+impl Pool {
+    fn with_room(alloc: Global, room: Room) -> Result<Pool, Memory> {
+        Ok(Pool {
+            text: Vec::with_capacity(alloc, room.text)?,
+            names: Vec::with_capacity(alloc, room.names)?,
+        })
+    }
+
+    fn lend(&self) -> PoolView<'_>
+        ensures text { result.text.now ≡ self.now.text.items }
+        ensures names { result.names.now ≡ self.now.names.items }
+    {
+        PoolView {
+            text: self.text.as_slice(),
+            names: self.names.as_slice(),
+        }
+    }
+}
+
+/// What values are made of, lent.
+#[derive(Clone, Copy)]
+pub(crate) struct PoolView<'a> {
+    text: &'a [u8],
+    names: &'a [DnSortKey],
 }
 
 /// The part of a list from one index up to another, as far as there is one.
@@ -101,7 +154,7 @@ fn part_of<T>(items: &[T], start: u32, end: u32) -> &[T]
 #[derive(Debug, Drop)]
 struct PackedValues {
     values: Vec<PackedValue>,
-    text: Vec<u8>,
+    pool: Pool,
 }
 
 impl Model for PackedValues {
@@ -112,9 +165,9 @@ impl Model for PackedValues {
 
     ghost Value = { List (ValueKey × List ℕ) };
 
-    ghost view = { λ p. map (packed_value p.text.items) p.values.items };
+    ghost view = { λ p. map (packed_value p.pool.text.items p.pool.names.items) p.values.items };
 
-    ghost invariant = { λ p. All (IsInside p.text.items) p.values.items };
+    ghost invariant = { λ p. All (IsInside p.pool.text.items p.pool.names.items) p.values.items };
 }
 
 impl PackedValues {
@@ -124,18 +177,18 @@ impl PackedValues {
     {
         Ok(PackedValues {
             values: Vec::with_capacity(alloc, room.values)?,
-            text: Vec::with_capacity(alloc, room.text)?,
+            pool: Pool::with_room(alloc, room)?,
         })
     }
 
     /// The values and one more.
-    fn with_value(self, alloc: Global, key: &ValueKey, bytes: &[u8]) -> Result<PackedValues, Memory>
-        ensures { IfOk result (λ p. p ≡ self ++ (key.now, bytes.now) ∷ []) }
+    fn with_value(self, alloc: Global, value: &StoredValue) -> Result<PackedValues, Memory>
+        ensures { IfOk result (λ p. p ≡ self ++ value.now ∷ []) }
     {
-        let PackedValues { mut values, text } = self;
-        match with_text(alloc, text, key, bytes) {
-            Ok((text, value)) => match values.push(value) {
-                Ok(()) => Ok(PackedValues { values, text }),
+        let PackedValues { mut values, pool } = self;
+        match pooled(alloc, pool, value) {
+            Ok((pool, value)) => match values.push(value) {
+                Ok(()) => Ok(PackedValues { values, pool }),
                 Err(_) => Err(Memory),
             },
             Err(_) => Err(Memory),
@@ -147,8 +200,8 @@ impl PackedValues {
         ensures { IfOk result (λ p. p ≡ self ++ fin.entries attribute.now.stored.values) }
     {
         let mut packed = self;
-        for (key, bytes) in attribute.values() {
-            packed = packed.with_value(alloc, key, bytes.as_slice())?;
+        for value in attribute.stored() {
+            packed = packed.with_value(alloc, value)?;
         }
         Ok(packed)
     }
@@ -158,53 +211,56 @@ impl PackedValues {
     {
         PackedSlice {
             values: self.values.as_slice(),
-            text: self.text.as_slice(),
+            pool: self.pool.lend(),
         }
     }
 }
 
-/// A text and the texts of a value after it, and where they are.
-fn with_text(
-    alloc: Global,
-    mut text: Vec<u8>,
-    key: &ValueKey,
-    bytes: &[u8],
-) -> Result<(Vec<u8>, PackedValue), Memory>
-    ensures value { IfOk result (λ with. packed_value with.0.items with.1 ≡ (key.now, bytes.now)) }
-    ensures inside { IfOk result (λ with. IsInside with.0.items with.1) }
-    ensures kept { IfOk result (λ with. (more : List ℕ) × (with.0.items ≡ text.items ++ more)) }
+/// The pool with the bytes and the key of a value, and where they are.
+fn pooled(alloc: Global, pool: Pool, value: &StoredValue) -> Result<(Pool, PackedValue), Memory>
+    ensures value { IfOk result (λ with. packed_value with.0.text.items with.0.names.items with.1 ≡ value.now) }
+    ensures inside { IfOk result (λ with. IsInside with.0.text.items with.0.names.items with.1) }
+    ensures text { IfOk result (λ with. (more : List ℕ) × (with.0.text.items ≡ pool.text.items ++ more)) }
+    ensures names { IfOk result (λ with. (more : List DnKeys) × (with.0.names.items ≡ pool.names.items ++ more)) }
 {
+    let Pool { mut text, names } = pool;
     let start = index(text.len())?;
-    text.extend_from_slice(bytes)?;
+    text.extend_from_slice(value.bytes().as_slice())?;
     let end = index(text.len())?;
-    let (text, key) = with_key(alloc, text, key, bytes)?;
-    Ok((text, PackedValue { start, end, key }))
+    let (pool, key) = pooled_key(alloc, Pool { text, names }, value)?;
+    Ok((pool, PackedValue { start, end, key }))
 }
 
-/// A text that ends with a value, and the text of its key after it, unless they are the same.
-fn with_key(
-    alloc: Global,
-    mut text: Vec<u8>,
-    key: &ValueKey,
-    bytes: &[u8],
-) -> Result<(Vec<u8>, PackedKey), Memory>
-    ensures key { IfOk result (λ with. (start : ℕ) → part_of text.items start (length text.items) ≡ bytes.now → key_in with.0.items start (length text.items) with.1 ≡ key.now) }
-    ensures inside { IfOk result (λ with. IsKeyInside with.0.items with.1) }
-    ensures kept { IfOk result (λ with. (more : List ℕ) × (with.0.items ≡ text.items ++ more)) }
+/// The pool, whose text ends with a value, with the value's key, unless they are the same.
+fn pooled_key(alloc: Global, pool: Pool, value: &StoredValue) -> Result<(Pool, PackedKey), Memory>
+    ensures key { IfOk result (λ with. (start : ℕ) → part_of pool.text.items start (length pool.text.items) ≡ value.now.1 → key_in with.0.text.items with.0.names.items start (length pool.text.items) with.1 ≡ value.now.0) }
+    ensures inside { IfOk result (λ with. IsKeyInside with.0.text.items with.0.names.items with.1) }
+    ensures text { IfOk result (λ with. (more : List ℕ) × (with.0.text.items ≡ pool.text.items ++ more)) }
+    ensures names { IfOk result (λ with. (more : List DnKeys) × (with.0.names.items ≡ pool.names.items ++ more)) }
 {
-    match key {
+    if value.is_own_key() {
+        return Ok((pool, PackedKey::Same));
+    }
+    let Pool {
+        mut text,
+        mut names,
+    } = pool;
+    match value.key() {
         ValueKey::Text(own) => {
-            if own.as_slice() == bytes {
-                return Ok((text, PackedKey::Same));
-            }
             text.extend_from_slice(own.as_slice())?;
             let end = index(text.len())?;
-            Ok((text, PackedKey::Text(end)))
+            Ok((Pool { text, names }, PackedKey::Text(end)))
         }
-        ValueKey::Name(name) => match name.try_clone(alloc) {
-            Ok(name) => Ok((text, PackedKey::Name(name))),
-            Err(_) => Err(Memory),
-        },
+        ValueKey::Name(name) => {
+            let at = index(names.len())?;
+            match name.try_clone(alloc) {
+                Ok(name) => match names.push(name) {
+                    Ok(()) => Ok((Pool { text, names }, PackedKey::Name(at))),
+                    Err(_) => Err(Memory),
+                },
+                Err(_) => Err(Memory),
+            }
+        }
     }
 }
 
@@ -219,7 +275,7 @@ fn index(at: usize) -> Result<u32, Memory>
 #[derive(Clone, Copy)]
 pub(crate) struct PackedSlice<'a> {
     values: &'a [PackedValue],
-    text: &'a [u8],
+    pool: PoolView<'a>,
 }
 
 impl<'a> PackedSlice<'a> {
@@ -228,7 +284,10 @@ impl<'a> PackedSlice<'a> {
     {
         PackedSlice {
             values: &[],
-            text: &[],
+            pool: PoolView {
+                text: &[],
+                names: &[],
+            },
         }
     }
 
@@ -244,7 +303,7 @@ impl<'a> PackedSlice<'a> {
     {
         PackedSlice {
             values: part_of(self.values, start, end),
-            text: self.text,
+            pool: self.pool,
         }
     }
 
@@ -255,7 +314,7 @@ impl<'a> PackedSlice<'a> {
         ensures place { result ≡ place value_key_cmp (sought_key sought.now) (map (λ value. (value_pair value).0) (values_of self.entry)) }
     {
         self.values
-            .binary_search_by(|value| cmp_lent(value.key(self.text), sought))
+            .binary_search_by(|value| cmp_lent(value.key(self.pool), sought))
     }
 
     /// The bytes of the value at an index.
@@ -263,7 +322,7 @@ impl<'a> PackedSlice<'a> {
         requires { at < length (values_of self) }
         ensures { (value : ValueKey × List ℕ) → result.now ≡ (get_or (values_of self.entry) at value).1 }
     {
-        self.values[at].bytes(self.text)
+        self.values[at].bytes(self.pool)
     }
 
     pub(crate) fn iter(self) -> PackedIter<'a>
@@ -271,7 +330,7 @@ impl<'a> PackedSlice<'a> {
     {
         PackedIter {
             values: self.values.iter(),
-            text: self.text,
+            pool: self.pool,
         }
     }
 }
@@ -280,7 +339,7 @@ impl<'a> PackedSlice<'a> {
 #[derive(Drop)]
 pub(crate) struct PackedIter<'a> {
     values: slice::Iter<'a, PackedValue>,
-    text: &'a [u8],
+    pool: PoolView<'a>,
 }
 
 impl<'a> Model for PackedIter<'a> {
@@ -291,7 +350,7 @@ impl<'a> Model for PackedIter<'a> {
 
     ghost Value = { List (ValueKey × List ℕ) };
 
-    ghost view = { λ s. map (packed_value s.text.now) (iter_rest s.values) };
+    ghost view = { λ s. map (packed_value s.pool.text.now s.pool.names.now) (iter_rest s.values) };
 }
 
 impl<'a> Iterator for PackedIter<'a> {
@@ -306,26 +365,26 @@ impl<'a> Iterator for PackedIter<'a> {
 
     fn next(&mut self) -> Option<(KeyView<'a>, &'a [u8])> {
         let value = self.values.next()?;
-        Some((value.key(self.text), value.bytes(self.text)))
+        Some((value.key(self.pool), value.bytes(self.pool)))
     }
 }
 
 /// An attribute whose values are some of a list.
-#[derive(Debug, Drop)]
+#[derive(PartialEq, Debug, Drop)]
 pub(crate) struct PackedAttribute {
-    description: Description,
     start: u32,
     end: u32,
+    description: Description,
 }
 
-/// Attributes, whose values are all in one list.
-#[derive(Debug, Drop)]
-pub(crate) struct PackedAttributes {
+/// Attributes that are being packed, whose values are all in one list.
+#[derive(Drop)]
+struct Packing {
     attributes: Vec<PackedAttribute>,
     values: PackedValues,
 }
 
-impl Model for PackedAttributes {
+impl Model for Packing {
     ghost use Rattle.std.specs.Prelude.{List, map};
     ghost use Rattle.std.specs.List.{All};
     ghost use Rattle.std.specs.Coded.{coded_list};
@@ -342,34 +401,12 @@ impl Model for PackedAttributes {
     ghost invariant = { λ p. All (IsPacked p.values) p.attributes.items };
 }
 
-impl PackedAttributes {
-    /// These attributes, whose values take so much room.
-    pub(crate) fn of(
-        alloc: Global,
-        attributes: &[Attribute],
-        room: Room,
-    ) -> Result<PackedAttributes, Memory>
-        ensures { IfOk result (λ p. p ≡ attributes.now) }
-    {
-        let mut packed = PackedAttributes {
-            attributes: Vec::with_capacity(alloc, attributes.len())?,
-            values: PackedValues::with_room(alloc, room)?,
-        };
-        for attribute in attributes {
-            packed = packed.with_attribute(alloc, attribute)?;
-        }
-        Ok(packed)
-    }
-
+impl Packing {
     /// The attributes and one more.
-    fn with_attribute(
-        self,
-        alloc: Global,
-        attribute: &Attribute,
-    ) -> Result<PackedAttributes, Memory>
+    fn with_attribute(self, alloc: Global, attribute: &Attribute) -> Result<Packing, Memory>
         ensures { IfOk result (λ p. p ≡ self ++ attribute.now ∷ []) }
     {
-        let PackedAttributes {
+        let Packing {
             mut attributes,
             values,
         } = self;
@@ -384,7 +421,69 @@ impl PackedAttributes {
             start,
             end,
         })?;
-        Ok(PackedAttributes { attributes, values })
+        Ok(Packing { attributes, values })
+    }
+
+    fn finish(self, alloc: Global) -> Result<PackedAttributes, Memory>
+        ensures { IfOk result (λ p. p ≡ self) }
+    {
+        let Packing { attributes, values } = self;
+        Ok(PackedAttributes {
+            attributes: Rc::new(alloc, attributes)?,
+            values,
+        })
+    }
+}
+
+/// Attributes, whose values are all in one list. Entries that are alike share the list of attributes.
+#[derive(Debug, Drop)]
+pub(crate) struct PackedAttributes {
+    attributes: Rc<Vec<PackedAttribute>>,
+    values: PackedValues,
+}
+
+impl Model for PackedAttributes {
+    ghost use Rattle.std.specs.Prelude.{List, map};
+    ghost use Rattle.std.specs.List.{All};
+    ghost use Rattle.std.specs.Coded.{coded_list};
+    ghost use Rattle.dir_tree.specs.Content.{Keyed};
+    ghost use Rattle.dir_tree.specs.Inside.Codes.{keyed_code};
+    ghost use Rattle.dir_tree.specs.Inside.Packed.{IsPacked, packed_attribute};
+
+    ghost Value = { List Keyed };
+
+    ghost coded = { coded_list keyed_code };
+
+    ghost view = { λ p. map (packed_attribute p.values) p.attributes.value.items };
+
+    ghost invariant = { λ p. All (IsPacked p.values) p.attributes.value.items };
+}
+
+impl PackedAttributes {
+    /// These attributes, whose values take so much room.
+    pub(crate) fn of(
+        alloc: Global,
+        attributes: &[Attribute],
+        room: Room,
+    ) -> Result<PackedAttributes, Memory>
+        ensures { IfOk result (λ p. p ≡ attributes.now) }
+    {
+        let mut packing = Packing {
+            attributes: Vec::with_capacity(alloc, attributes.len())?,
+            values: PackedValues::with_room(alloc, room)?,
+        };
+        for attribute in attributes {
+            packing = packing.with_attribute(alloc, attribute)?;
+        }
+        packing.finish(alloc)
+    }
+
+    /// Shares the memory of the list of attributes and of the keys of names with entries before.
+    pub(crate) fn share(&mut self, alloc: Global, shared: &mut Shared)
+        ensures { self.new ≡ self.old }
+    {
+        share_shape(&mut self.attributes, &mut shared.shapes);
+        share_names(alloc, &mut self.values.pool.names, &mut shared.names);
     }
 
     pub(crate) fn len(&self) -> usize
@@ -412,7 +511,7 @@ impl PackedAttributes {
         ensures { result ≡ self.now }
     {
         PackedViews {
-            attributes: self.attributes.iter(),
+            attributes: self.attributes.as_slice().iter(),
             values: self.values.as_slice(),
         }
     }
@@ -477,5 +576,114 @@ impl<'a> Iterator for PackedViews<'a> {
     fn next(&mut self) -> Option<AttributeView<'a>> {
         let attribute = self.attributes.next()?;
         Some(view_of(attribute, self.values))
+    }
+}
+
+/// What entries have that others after them may share.
+#[derive(Drop)]
+pub(crate) struct Shared {
+    shapes: Recent<Rc<Vec<PackedAttribute>>>,
+    names: Recent<DnSortKey>,
+}
+
+impl Shared {
+    pub(crate) fn new(alloc: Global) -> Shared {
+        Shared {
+            shapes: Recent::new(alloc),
+            names: Recent::new(alloc),
+        }
+    }
+}
+
+/// Exchanges a list of attributes for one that is alike, if one was met not long ago.
+fn share_shape(shape: &mut Rc<Vec<PackedAttribute>>, recent: &mut Recent<Rc<Vec<PackedAttribute>>>)
+    ensures { shape.new.value.items ≡ shape.old.value.items }
+{
+    if let Some(alike) = find_shape(recent.as_slice(), shape.as_slice()) {
+        if let Ok(alike) = alike.clone() {
+            *shape = alike;
+        }
+    } else if let Ok(shape) = shape.clone() {
+        recent.add(shape);
+    }
+}
+
+/// A list that has the same attributes, if there is one.
+fn find_shape<'a>(
+    shapes: &'a [Rc<Vec<PackedAttribute>>],
+    attributes: &[PackedAttribute],
+) -> Option<&'a Rc<Vec<PackedAttribute>>>
+    ensures { IfSome result (λ shape. shape.now.value.items ≡ attributes.now) }
+{
+    for shape in shapes {
+        if shape.as_slice() == attributes {
+            return Some(shape);
+        }
+    }
+    None
+}
+
+/// Exchanges keys of names for the same ones, where they were met not long ago.
+fn share_names(alloc: Global, names: &mut Vec<DnSortKey>, recent: &mut Recent<DnSortKey>)
+    ensures { names.new.items ≡ names.old.items }
+{
+    for at in 0..names.len() {
+        share_name(alloc, &mut names[at], recent);
+    }
+}
+
+/// Exchanges the key of a name for the same one, if it was met not long ago.
+fn share_name(alloc: Global, name: &mut DnSortKey, recent: &mut Recent<DnSortKey>)
+    ensures { name.new ≡ name.old }
+{
+    if let Some(same) = find_name(recent.as_slice(), name) {
+        if let Ok(same) = same.try_clone(alloc) {
+            *name = same;
+        }
+    } else if let Ok(name) = name.try_clone(alloc) {
+        recent.add(name);
+    }
+}
+
+/// The same key, if it is there.
+fn find_name<'a>(names: &'a [DnSortKey], name: &DnSortKey) -> Option<&'a DnSortKey>
+    ensures { IfSome result (λ found. found.now ≡ name.now) }
+{
+    for found in names {
+        if found == name {
+            return Some(found);
+        }
+    }
+    None
+}
+
+/// The last few items that were added.
+#[derive(Drop)]
+struct Recent<T> {
+    items: Vec<T>,
+    oldest: usize,
+}
+
+impl<T: Drop> Recent<T> {
+    fn new(alloc: Global) -> Recent<T> {
+        Recent {
+            items: Vec::new(alloc),
+            oldest: 0,
+        }
+    }
+
+    fn as_slice(&self) -> &[T] {
+        self.items.as_slice()
+    }
+
+    /// Adds an item, in place of the oldest if there are many. Where memory runs out it is not added.
+    fn add(&mut self, item: T) {
+        if self.items.len() < MOST_RECENT {
+            let _ = self.items.push(item);
+            return;
+        }
+        let oldest = self.oldest % MOST_RECENT;
+        self.items[oldest] = item;
+        self.oldest = oldest + 1;
     }
 }

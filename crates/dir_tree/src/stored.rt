@@ -1,6 +1,7 @@
 //! A value as it is stored. Most values are their own keys, and are stored once.
 
 ghost use Rattle.std.specs.Prelude.{◌≡◌, IfOk, IsTrue, None, true};
+ghost use Rattle.dir_names.specs.declared.value.ValueKey.TheVariants.{Text};
 ghost use Rattle.dir_tree.specs.Inside.Stored.{kept_bytes, has_bytes};
 ghost use Rattle.dir_tree.specs.Lent.{lent_key};
 
@@ -84,6 +85,16 @@ impl StoredValue {
                 ValueKey::Text(text) => text,
                 ValueKey::Name(_) => unreachable!(),
             },
+        }
+    }
+
+    /// Whether the value is its own key.
+    pub(crate) fn is_own_key(&self) -> bool
+        ensures { IsTrue result → self.now.0 ≡ Text self.now.1 }
+    {
+        match &self.bytes {
+            Some(_) => false,
+            None => true,
         }
     }
 

@@ -9,6 +9,7 @@ ghost use Rattle.dir_tree.specs.Inside.TreePlaces.{entry_on};
 ghost use Rattle.dir_tree.specs.Inside.Trees.{IsBelow};
 ghost use Rattle.dir_tree.specs.Moves.{IsShallow, rest_below};
 
+use crate::packed::Shared;
 use crate::tree::node::{Node, node_in};
 use crate::{Directory, Entry};
 use dir_names::{Dn, DnKey, Memory, RdnKey};
@@ -24,6 +25,7 @@ pub struct TreeDirectory {
     alloc: Global,
     suffix: DnKey,
     root: Option<Node>,
+    shared: Shared,
 }
 
 impl Model for TreeDirectory {
@@ -50,6 +52,7 @@ impl TreeDirectory {
             alloc,
             suffix,
             root: None,
+            shared: Shared::new(alloc),
         }
     }
 
@@ -105,6 +108,7 @@ impl Directory for TreeDirectory {
     }
 
     fn insert(&mut self, key: &DnKey, entry: Entry) -> Result<(), Entry> {
+        let entry = shared_entry(self.alloc, &mut self.shared, key, entry);
         let leaf = Node::leaf(self.alloc, entry);
         let path = path_below(&self.suffix, key).unwrap();
         match path.split_first() {
@@ -149,6 +153,17 @@ impl Directory for TreeDirectory {
         }
         Ok(walk)
     }
+}
+
+/// The entry at a key, which shares memory with the key and with entries before.
+fn shared_entry(alloc: Global, shared: &mut Shared, key: &DnKey, entry: Entry) -> Entry
+    ensures { result ≡ entry }
+{
+    let mut entry = entry;
+    if let Some(leaf) = key.parts().last() {
+        entry.share(alloc, leaf, shared);
+    }
+    entry
 }
 
 /// What follows the suffix in a key, if the key is at or below it.

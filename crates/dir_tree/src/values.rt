@@ -159,6 +159,13 @@ impl ValueMap {
         }
     }
 
+    /// The values as they are stored, in order of keys.
+    pub(crate) fn stored(&self) -> ListIter<'_>
+        ensures { result ≡ fin.entries self.now }
+    {
+        self.items.iter()
+    }
+
     pub fn try_clone(&self, alloc: Global) -> Result<ValueMap, Memory>
         ensures { IfOk result (λ m. m ≡ self.now) }
     {

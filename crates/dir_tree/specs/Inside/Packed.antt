@@ -1,5 +1,6 @@
 -- Attributes whose values are kept in one text.
-use Rattle.std.specs.Prelude.{ℕ, ◌-◌, ◌≤◌, List, drop, length, map, take, IsTrue, ⊤}
+use Rattle.std.specs.Prelude.{ℕ, ◌-◌, ◌<◌, ◌≤◌, List, [], Option, Some, None, drop, length, map, slice_get, take, IsTrue, ⊤}
+use Rattle.dir_names.specs.Keys.{DnKeys}
 use Rattle.dir_names.specs.declared.value.ValueKey.{ValueKey}
 use Rattle.dir_names.specs.declared.value.ValueKey.TheVariants as value_key
 use Rattle.dir_tree.specs.declared.packed.PackedKey.{PackedKey}
@@ -14,29 +15,34 @@ use Rattle.dir_tree.specs.Inside.Stored.{are_rising, values_in}
 abbrev pub part_of : {A : Type 0} → List A → ℕ → ℕ → List A
 part_of xs start end = take (end - start) (drop start xs)
 
--- the key of the value between two indices of a text
-abbrev pub key_in : List ℕ → ℕ → ℕ → PackedKey → ValueKey
-key_in text start end packed_key.Same = value_key.Text (part_of text start end)
-key_in text start end (packed_key.Text to) = value_key.Text (part_of text end to)
-key_in text start end (packed_key.Name name) = value_key.Name name
+-- a name as a key, if there is one
+abbrev pub name_or_none : Option DnKeys → ValueKey
+name_or_none None = value_key.Text []
+name_or_none (Some name) = value_key.Name name
+
+-- the key of the value between two indices of a text, where some keys are names
+abbrev pub key_in : List ℕ → List DnKeys → ℕ → ℕ → PackedKey → ValueKey
+key_in text names start end packed_key.Same = value_key.Text (part_of text start end)
+key_in text names start end (packed_key.Text to) = value_key.Text (part_of text end to)
+key_in text names start end (packed_key.Name at) = name_or_none (slice_get names at)
 
 -- a value in a text, with its key
-abbrev pub packed_value : List ℕ → PackedValue → ValueKey × List ℕ
-packed_value text v = (key_in text v.start v.end v.key, part_of text v.start v.end)
+abbrev pub packed_value : List ℕ → List DnKeys → PackedValue → ValueKey × List ℕ
+packed_value text names v = (key_in text names v.start v.end v.key, part_of text v.start v.end)
 
 -- the values that are lent
 abbrev pub values_of : PackedSlice → List (ValueKey × List ℕ)
-values_of slice = map (packed_value slice.text.now) slice.values.now
+values_of slice = map (packed_value slice.pool.text.now slice.pool.names.now) slice.values.now
 
--- the end of a key that is kept in a text is inside it
-abbrev pub IsKeyInside : List ℕ → PackedKey → Type 0
-IsKeyInside text packed_key.Same = ⊤
-IsKeyInside text (packed_key.Text to) = to ≤ length text
-IsKeyInside text (packed_key.Name name) = ⊤
+-- the end of a key that is kept in a text is inside it, and a name is among the names
+abbrev pub IsKeyInside : List ℕ → List DnKeys → PackedKey → Type 0
+IsKeyInside text names packed_key.Same = ⊤
+IsKeyInside text names (packed_key.Text to) = to ≤ length text
+IsKeyInside text names (packed_key.Name at) = at < length names
 
--- a value and its key are inside a text
-abbrev pub IsInside : List ℕ → PackedValue → Type 0
-IsInside text v = (v.end ≤ length text) × IsKeyInside text v.key
+-- a value and its key are inside a text, or its key among the names
+abbrev pub IsInside : List ℕ → List DnKeys → PackedValue → Type 0
+IsInside text names v = (v.end ≤ length text) × IsKeyInside text names v.key
 
 -- an attribute whose values are some of these
 abbrev pub packed_attribute : List (ValueKey × List ℕ) → PackedAttribute → Keyed

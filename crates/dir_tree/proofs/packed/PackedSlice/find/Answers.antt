@@ -10,10 +10,11 @@ use Rattle.dir_tree.proofs.packed.PackedSlice.find.Goals as goal
 
 pub returns-clause-place : goal.returns-clause-place
 returns-clause-place c =
-    let text = c.args.self.text.now in
+    let text = c.args.self.pool.text.now in
+    let names = c.args.self.pool.names.now in
     let values = c.args.self.values.now in
     let key = sought_key c.args.sought.now in
-    let keys = map-map (λ value. value.0) (packed_value text) values in
-    let by = c.binary_search_by.ensures.position (λ value. value_key_cmp (packed_value text value).0 key) (always_returns_same _ _ _ (λ a r f called. search rules)) in
-    placed value_key_cmp_total (packed_value text) values (subst (λ ks. IsTrue (rises value_key_cmp ks)) keys c.requires) key c.binary_search_by.result (search rules) by
+    let keys = map-map (λ value. value.0) (packed_value text names) values in
+    let by = c.binary_search_by.ensures.position (λ value. value_key_cmp (packed_value text names value).0 key) (always_returns_same _ _ _ (λ a r f called. search rules)) in
+    placed value_key_cmp_total (packed_value text names) values (subst (λ ks. IsTrue (rises value_key_cmp ks)) keys c.requires) key c.binary_search_by.result (search rules) by
     ∙ ap (place value_key_cmp key) (sym keys)

@@ -2,7 +2,7 @@ use Rattle.std.proofs.Common.{◌≡◌, map, length, sym, ap, subst, ◌∙◌,
 use Rattle.std.specs.List.{All}
 use Rattle.dir_tree.specs.Inside.Packed.{IsPacked, packed_attribute}
 use Rattle.dir_tree.proofs.PackedLists.{attributes-push, packed-push}
-use Rattle.dir_tree.proofs.packed.PackedAttributes.with_attribute.Goals as goal
+use Rattle.dir_tree.proofs.packed.Packing.with_attribute.Goals as goal
 
 pub returns : goal.returns
 returns c =
