@@ -1,11 +1,11 @@
 -- Parts of lists, and values in a text that grows.
-use Rattle.std.proofs.Common.{◌≡◌, ℕ, zero, suc, slice_get, ◌-◌, ◌<◌, ◌≤◌, List, [], ◌∷◌, ◌++◌, map, length, get_or, take, drop, IsTrue, T, refl, sym, ap, subst, ◌∙◌, ⊎_elim, arith}
+use Rattle.std.proofs.Common.{◌≡◌, Bool, true, false, cond, ℕ, zero, suc, slice_get, ◌-◌, ◌<◌, ◌≤◌, List, [], ◌∷◌, ◌++◌, map, length, get_or, take, drop, IsTrue, T, refl, sym, ap, subst, ◌∙◌, ⊎_elim, arith}
 use Rattle.std.specs.declared.cmp.Ordering.{Ordering}
 use Rattle.std.specs.Cmp.{IsTotalOrder}
 use Rattle.std.specs.FinMap as fin
 use Rattle.std.specs.FinMap.{IsAntisymmetric, same_map, get-entries, get-from_sorted, entries_sorted}
 use Rattle.std.specs.List.{All}
-use Rattle.std.proofs.lemmas.List.{drop-map, take-map, drop-append-le, take-append-le, length-drop, length-append, map-append, map-id}
+use Rattle.std.proofs.lemmas.List.{drop-map, take-map, drop-append-le, take-append-le, append-nil, length-drop, length-append, map-append, map-id}
 use Rattle.std.proofs.lemmas.List.Elements.{All-tail, All-cons, All-append}
 use Rattle.std.proofs.lemmas.Bool.{cases_lt}
 use Rattle.std.proofs.Math.Seq.{drop-append_seam, take-length}
@@ -76,7 +76,7 @@ module _ (text more : List ℕ) (names others : List DnKeys) where
 
   pub values-append : (vs : List PackedValue) → All (IsInside text names) vs → map (packed_value (text ++ more) (names ++ others)) vs ≡ map (packed_value text names) vs
   values-append [] h = refl
-  values-append (v ∷ vs) h = λ i. value-append v (h 0 v (omega (arith, length vs))) i ∷ values-append vs (All-tail (IsInside text names) v vs h) i
+  values-append (v ∷ vs) h = λ i. value-append v (h 0 v (omega arith)) i ∷ values-append vs (All-tail (IsInside text names) v vs h) i
 
   pub all_inside-append : (vs : List PackedValue) → All (IsInside text names) vs → All (IsInside (text ++ more) (names ++ others)) vs
   all_inside-append vs h = λ k d below. inside-append (get_or vs k d) (h k d below)
@@ -96,20 +96,31 @@ module _ (text new : List ℕ) (names all : List DnKeys) (vs : List PackedValue)
       let here : All (IsInside new all) vs = subst (λ t. All (IsInside t all) vs) (sym grown.1) (subst (λ ns. All (IsInside (text ++ grown.0) ns) vs) (sym named.1) before) in
       All-append (IsInside new all) vs (v ∷ []) here (All-cons (IsInside new all) v [] last (λ k d below. absurd (omega (arith, below))))
 
--- ---- attributes over a list of values that grows
+-- ---- attributes over lists of values that grow
 
-pub attribute-append : (values more : List (ValueKey × List ℕ)) (a : PackedAttribute) → IsPacked values a → packed_attribute (values ++ more) a ≡ packed_attribute values a
-attribute-append values more a h = ap (λ part. record { key = a.description.key; stored = record { spelling = a.description.spelling; values = values_in part } }) (part-append values more a.start a.end h.0)
+cond-append : {A : Type 0} (b : Bool) (xs more ys others : List A) → cond b (xs ++ more) (ys ++ others) ≡ cond b xs ys ++ cond b more others
+cond-append true xs more ys others = refl
+cond-append false xs more ys others = refl
 
-pub packed-append : (values more : List (ValueKey × List ℕ)) (a : PackedAttribute) → IsPacked values a → IsPacked (values ++ more) a
-packed-append values more a h = (omega (arith, h.0, length-append values more), ap are_rising (part-append values more a.start a.end h.0) ∙ h.1)
+module _ (common more own others : List (ValueKey × List ℕ)) where
+  grown : (a : PackedAttribute) → cond a.is_common (common ++ more) (own ++ others) ≡ cond a.is_common common own ++ cond a.is_common more others
+  grown a = cond-append a.is_common common more own others
 
-pub attributes-append : (values more : List (ValueKey × List ℕ)) (attrs : List PackedAttribute) → All (IsPacked values) attrs → map (packed_attribute (values ++ more)) attrs ≡ map (packed_attribute values) attrs
-attributes-append values more [] h = refl
-attributes-append values more (a ∷ attrs) h = λ i. attribute-append values more a (h 0 a (omega (arith, length attrs))) i ∷ attributes-append values more attrs (All-tail (IsPacked values) a attrs h) i
+  same_part : (a : PackedAttribute) → IsPacked common own a → part_of (cond a.is_common (common ++ more) (own ++ others)) a.start a.end ≡ part_of (cond a.is_common common own) a.start a.end
+  same_part a h = ap (λ values. part_of values a.start a.end) (grown a) ∙ part-append (cond a.is_common common own) (cond a.is_common more others) a.start a.end h.0
 
-pub all_packed-append : (values more : List (ValueKey × List ℕ)) (attrs : List PackedAttribute) → All (IsPacked values) attrs → All (IsPacked (values ++ more)) attrs
-all_packed-append values more attrs h = λ k d below. packed-append values more (get_or attrs k d) (h k d below)
+  attribute-append : (a : PackedAttribute) → IsPacked common own a → packed_attribute (common ++ more) (own ++ others) a ≡ packed_attribute common own a
+  attribute-append a h = ap (λ part. record { key = a.description.key; stored = record { spelling = a.description.spelling; values = values_in part } }) (same_part a h)
+
+  packed-append : (a : PackedAttribute) → IsPacked common own a → IsPacked (common ++ more) (own ++ others) a
+  packed-append a h = (omega (arith, h.0, ap length (grown a), length-append (cond a.is_common common own) (cond a.is_common more others)), ap are_rising (same_part a h) ∙ h.1)
+
+  attributes-append : (attrs : List PackedAttribute) → All (IsPacked common own) attrs → map (packed_attribute (common ++ more) (own ++ others)) attrs ≡ map (packed_attribute common own) attrs
+  attributes-append [] h = refl
+  attributes-append (a ∷ attrs) h = λ i. attribute-append a (h 0 a (omega arith)) i ∷ attributes-append attrs (All-tail (IsPacked common own) a attrs h) i
+
+  all_packed-append : (attrs : List PackedAttribute) → All (IsPacked common own) attrs → All (IsPacked (common ++ more) (own ++ others)) attrs
+  all_packed-append attrs h = λ k d below. packed-append (get_or attrs k d) (h k d below)
 
 -- ---- an attribute more
 
@@ -125,22 +136,52 @@ keys-entries (e ∷ es) = ap (λ ks. e.0 ∷ ks) (keys-entries es)
 pub entries_rise : (m : StoredValues) → IsTrue (are_rising (fin.entries m))
 entries_rise m = truth (subst T (is_sorted-keys value_key_cmp (fin.entries m) ∙ ap (rises value_key_cmp) (keys-entries (fin.entries m))) (entries_sorted m))
 
-module _ (old new : List (ValueKey × List ℕ)) (a : PackedAttribute) (x : Keyed) (grown : new ≡ old ++ fin.entries x.stored.values) (from : a.start ≡ length old) (to : a.end ≡ length new) where
-  last : part_of new a.start a.end ≡ fin.entries x.stored.values
-  last = ap (λ values. part_of values a.start a.end) grown ∙ part-appended old (fin.entries x.stored.values) a.start a.end from (to ∙ ap length grown)
+-- some values were added, to those that many entries have or to the entry's own, and are between two indices
+pub record Added (common own new : List (ValueKey × List ℕ)) (is_common : Bool) (common_now own_now : List (ValueKey × List ℕ)) (start end : ℕ) : Type 0 where
+  pub common_is : common_now ≡ common ++ cond is_common new []
+  pub own_is : own_now ≡ own ++ cond is_common [] new
+  pub from : start ≡ length (cond is_common common own)
+  pub to : end ≡ length (cond is_common common_now own_now)
 
-  last_values : values_in (part_of new a.start a.end) ≡ x.stored.values
+pub added_common : (common own new now : List (ValueKey × List ℕ)) (start end : ℕ) → now ≡ common ++ new → start ≡ length common → end ≡ length now → Added common own new true now own start end
+added_common common own new now start end is from to = record { common_is = is; own_is = sym (append-nil own); from = from; to = to }
+
+pub added_own : (common own new now : List (ValueKey × List ℕ)) (start end : ℕ) → now ≡ own ++ new → start ≡ length own → end ≡ length now → Added common own new false common now start end
+added_own common own new now start end is from to = record { common_is = sym (append-nil common); own_is = is; from = from; to = to }
+
+cond-either : {A : Type 0} (b : Bool) (xs : List A) → cond b (cond b xs []) (cond b [] xs) ≡ xs
+cond-either true xs = refl
+cond-either false xs = refl
+
+module _ (common own common_now own_now : List (ValueKey × List ℕ)) (a : PackedAttribute) (x : Keyed) (added : Added common own (fin.entries x.stored.values) a.is_common common_now own_now a.start a.end) where
+  abbrev more : List (ValueKey × List ℕ)
+  more = cond a.is_common (fin.entries x.stored.values) []
+
+  abbrev others : List (ValueKey × List ℕ)
+  others = cond a.is_common [] (fin.entries x.stored.values)
+
+  around : cond a.is_common common_now own_now ≡ cond a.is_common common own ++ fin.entries x.stored.values
+  around =
+      (λ i. cond a.is_common (added.common_is i) (added.own_is i))
+      ∙ grown common more own others a
+      ∙ ap (λ new. cond a.is_common common own ++ new) (cond-either a.is_common (fin.entries x.stored.values))
+
+  last : part_of (cond a.is_common common_now own_now) a.start a.end ≡ fin.entries x.stored.values
+  last = ap (λ values. part_of values a.start a.end) around ∙ part-appended (cond a.is_common common own) (fin.entries x.stored.values) a.start a.end added.from (added.to ∙ ap length around)
+
+  last_values : values_in (part_of (cond a.is_common common_now own_now) a.start a.end) ≡ x.stored.values
   last_values = ap values_in last ∙ ap (λ es. fin.from_sorted {R = value_key_cmp} es) (map-id (fin.entries x.stored.values)) ∙ map_again value_key_cmp_total value_key_cmp_exact x.stored.values
 
-  pub attributes-push : (attrs : List PackedAttribute) → All (IsPacked old) attrs → a.description ≡ record { spelling = x.stored.spelling; key = x.key } → map (packed_attribute new) (attrs ++ a ∷ []) ≡ map (packed_attribute old) attrs ++ x ∷ []
+  pub attributes-push : (attrs : List PackedAttribute) → All (IsPacked common own) attrs → a.description ≡ record { spelling = x.stored.spelling; key = x.key } → map (packed_attribute common_now own_now) (attrs ++ a ∷ []) ≡ map (packed_attribute common own) attrs ++ x ∷ []
   attributes-push attrs h described =
-      map-append (packed_attribute new) attrs (a ∷ [])
-      ∙ ap (λ values. map (packed_attribute values) attrs ++ packed_attribute new a ∷ []) grown
-      ∙ ap (λ front. front ++ packed_attribute new a ∷ []) (attributes-append old (fin.entries x.stored.values) attrs h)
-      ∙ (λ i. map (packed_attribute old) attrs ++ record { key = (described i).key; stored = record { spelling = (described i).spelling; values = last_values i } } ∷ [])
+      map-append (packed_attribute common_now own_now) attrs (a ∷ [])
+      ∙ (λ i. map (packed_attribute (added.common_is i) (added.own_is i)) attrs ++ packed_attribute common_now own_now a ∷ [])
+      ∙ ap (λ front. front ++ packed_attribute common_now own_now a ∷ []) (attributes-append common more own others attrs h)
+      ∙ (λ i. map (packed_attribute common own) attrs ++ record { key = (described i).key; stored = record { spelling = (described i).spelling; values = last_values i } } ∷ [])
 
-  pub packed-push : (attrs : List PackedAttribute) → All (IsPacked old) attrs → All (IsPacked new) (attrs ++ a ∷ [])
+  pub packed-push : (attrs : List PackedAttribute) → All (IsPacked common own) attrs → All (IsPacked common_now own_now) (attrs ++ a ∷ [])
   packed-push attrs h =
-      let before : All (IsPacked new) attrs = subst (λ values. All (IsPacked values) attrs) (sym grown) (all_packed-append old (fin.entries x.stored.values) attrs h) in
-      let here : IsPacked new a = (omega (arith, to), ap are_rising last ∙ entries_rise x.stored.values) in
-      All-append (IsPacked new) attrs (a ∷ []) before (All-cons (IsPacked new) a [] here (λ k d below. absurd (omega (arith, below))))
+      let before : All (IsPacked (common ++ more) (own ++ others)) attrs = all_packed-append common more own others attrs h in
+      let now : All (IsPacked common_now own_now) attrs = subst (λ values. All (IsPacked values own_now) attrs) (sym added.common_is) (subst (λ values. All (IsPacked (common ++ more) values) attrs) (sym added.own_is) before) in
+      let here : IsPacked common_now own_now a = (omega (arith, added.to), ap are_rising last ∙ entries_rise x.stored.values) in
+      All-append (IsPacked common_now own_now) attrs (a ∷ []) now (All-cons (IsPacked common_now own_now) a [] here (λ k d below. absurd (omega (arith, below))))

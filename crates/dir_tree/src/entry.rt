@@ -126,12 +126,23 @@ impl Entry {
         self.attributes.to_map(alloc)
     }
 
-    /// Shares the memory of this key, if it is the entry's own, and of what entries before have too.
-    pub(crate) fn share(&mut self, alloc: Global, key: &RdnKey, shared: &mut Shared)
-        ensures { self.new ≡ self.old }
+    /// The entry in little memory, at this key: it shares what the key and the entries before have too.
+    pub(crate) fn settled(self, alloc: Global, key: &RdnKey, shared: &mut Shared) -> Entry
+        ensures { result ≡ self }
     {
-        share_key(alloc, &mut self.key, key);
-        self.attributes.share(alloc, shared);
+        let Entry {
+            own,
+            key: mut own_key,
+            attributes,
+        } = self;
+        share_key(alloc, &mut own_key, key);
+        let mut attributes = attributes.packed_again(alloc);
+        attributes.share(alloc, shared);
+        Entry {
+            own,
+            key: own_key,
+            attributes,
+        }
     }
 
     /// The fields of the entry. The call doesn't allocate.

@@ -8,7 +8,7 @@ ghost use Rattle.dir_tree.specs.Content.{has_value};
 ghost use Rattle.dir_tree.specs.NewEntry.{exceeds_single_value};
 
 use crate::attributes::{AttributeMap, Attributes};
-use crate::packed::{PackedAttributes, PackedViews, Room, Shared};
+use crate::packed::{PackedAttributes, PackedViews, Rooms, Shared};
 use crate::views::AttributeView;
 use dir_names::{AttrKey, Memory, Schema, ValueKey};
 use std::alloc::Global;
@@ -16,6 +16,9 @@ use std::marker::Model;
 
 /// An entry with more values than this is not packed, so that its first change need not open it.
 const MOST_PACKED: usize = 1024;
+
+/// An entry with more values than this is not packed again after a change, so that the next one need not open it.
+const MOST_PACKED_AGAIN: usize = 64;
 
 /// The form of an entry's attributes.
 #[derive(Debug, Drop)]
@@ -61,11 +64,30 @@ impl KeptAttributes {
     pub(crate) fn packed(alloc: Global, map: AttributeMap) -> KeptAttributes
         ensures { result ≡ map }
     {
-        let room = Room::of(map.as_slice());
-        if room.values > MOST_PACKED {
+        KeptAttributes::packed_up_to(alloc, map, MOST_PACKED)
+    }
+
+    /// The attributes, packed again if they were opened.
+    pub(crate) fn packed_again(self, alloc: Global) -> KeptAttributes
+        ensures { result ≡ self }
+    {
+        match self.form {
+            Form::Open(map) => KeptAttributes::packed_up_to(alloc, map, MOST_PACKED_AGAIN),
+            Form::Packed(packed) => KeptAttributes {
+                form: Form::Packed(packed),
+            },
+        }
+    }
+
+    /// The attributes of a map in little memory, unless they have more values than that, or there is no memory for it.
+    fn packed_up_to(alloc: Global, map: AttributeMap, most: usize) -> KeptAttributes
+        ensures { result ≡ map }
+    {
+        let rooms = Rooms::of(map.as_slice());
+        if rooms.values() > most {
             return KeptAttributes::of(map);
         }
-        match PackedAttributes::of(alloc, map.as_slice(), room) {
+        match PackedAttributes::of(alloc, map.as_slice(), rooms) {
             Ok(packed) => KeptAttributes {
                 form: Form::Packed(packed),
             },

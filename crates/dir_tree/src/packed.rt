@@ -28,24 +28,26 @@ const MOST_RECENT: usize = 8;
 
 /// How much room some values take when they are packed.
 #[derive(Clone, Copy)]
-pub(crate) struct Room {
-    pub(crate) values: usize,
+struct Room {
+    values: usize,
     text: usize,
     names: usize,
 }
 
 impl Room {
-    /// The room for the values of these attributes.
-    pub(crate) fn of(attributes: &[Attribute]) -> Room {
-        let mut room = Room {
+    fn none() -> Room {
+        Room {
             values: 0,
             text: 0,
             names: 0,
-        };
-        for attribute in attributes {
-            for value in attribute.stored() {
-                room = room.with(value);
-            }
+        }
+    }
+
+    /// The room for the values of one attribute more.
+    fn with_values(self, attribute: &Attribute) -> Room {
+        let mut room = self;
+        for value in attribute.stored() {
+            room = room.with(value);
         }
         room
     }
@@ -68,22 +70,64 @@ impl Room {
     }
 }
 
+/// How much room the values of an entry take: those that many entries have, and its own.
+#[derive(Clone, Copy)]
+pub(crate) struct Rooms {
+    common: Room,
+    own: Room,
+}
+
+impl Rooms {
+    /// The room for the values of these attributes.
+    pub(crate) fn of(attributes: &[Attribute]) -> Rooms {
+        let mut rooms = Rooms {
+            common: Room::none(),
+            own: Room::none(),
+        };
+        for attribute in attributes {
+            if is_common(attribute.description()) {
+                rooms.common = rooms.common.with_values(attribute);
+            } else {
+                rooms.own = rooms.own.with_values(attribute);
+            }
+        }
+        rooms
+    }
+
+    /// How many values there are.
+    pub(crate) fn values(self) -> usize {
+        self.common.values.saturating_add(self.own.values)
+    }
+}
+
+/// Whether the values of an attribute are likely to be the same in many entries.
+fn is_common(description: &Description) -> bool {
+    let spelling = description.spelling();
+    let common = match spelling.first() {
+        Some(b'c') => b"creatorsName".as_slice(),
+        Some(b'o') => b"objectClass".as_slice(),
+        Some(b's') => b"structuralObjectClass".as_slice(),
+        _ => return false,
+    };
+    spelling == common
+}
+
 /// How the key of a value is kept.
-#[derive(Debug, Drop)]
+#[derive(PartialEq, Debug, Drop)]
 pub(crate) enum PackedKey {
     /// The key is the value itself.
     Same,
     /// The key is a text, which follows the value up to this index.
-    Text(u32),
+    Text(u16),
     /// The key is that of a name: the one at this index.
-    Name(u32),
+    Name(u16),
 }
 
 /// Where a value is in the text, and its key.
-#[derive(Debug, Drop)]
+#[derive(PartialEq, Debug, Drop)]
 pub(crate) struct PackedValue {
-    start: u32,
-    end: u32,
+    start: u16,
+    end: u16,
     key: PackedKey,
 }
 
@@ -142,7 +186,7 @@ pub(crate) struct PoolView<'a> {
 }
 
 /// The part of a list from one index up to another, as far as there is one.
-fn part_of<T>(items: &[T], start: u32, end: u32) -> &[T]
+fn part_of<T>(items: &[T], start: u16, end: u16) -> &[T]
     ensures { result.now ≡ part_of items.now start end }
 {
     let end = (end as usize).min(items.len());
@@ -195,6 +239,22 @@ impl PackedValues {
         }
     }
 
+    /// The values and those of an attribute, which are between two indices.
+    fn with_values_at(
+        self,
+        alloc: Global,
+        attribute: &Attribute,
+    ) -> Result<(PackedValues, u16, u16), Memory>
+        ensures values { IfOk result (λ with. with.0 ≡ self ++ fin.entries attribute.now.stored.values) }
+        ensures start { IfOk result (λ with. with.1 ≡ length self) }
+        ensures end { IfOk result (λ with. with.2 ≡ length with.0) }
+    {
+        let start = index(self.values.len())?;
+        let packed = self.with_values(alloc, attribute)?;
+        let end = index(packed.values.len())?;
+        Ok((packed, start, end))
+    }
+
     /// The values and those of an attribute.
     fn with_values(self, alloc: Global, attribute: &Attribute) -> Result<PackedValues, Memory>
         ensures { IfOk result (λ p. p ≡ self ++ fin.entries attribute.now.stored.values) }
@@ -204,6 +264,15 @@ impl PackedValues {
             packed = packed.with_value(alloc, value)?;
         }
         Ok(packed)
+    }
+
+    /// Whether these values are made of the same parts as the others.
+    fn is_like(&self, other: &PackedValues) -> bool
+        ensures { IsTrue result → self.now ≡ other.now }
+    {
+        self.pool.text.as_slice() == other.pool.text.as_slice()
+            && self.values.as_slice() == other.values.as_slice()
+            && self.pool.names.as_slice() == other.pool.names.as_slice()
     }
 
     fn as_slice(&self) -> PackedSlice<'_>
@@ -265,10 +334,10 @@ fn pooled_key(alloc: Global, pool: Pool, value: &StoredValue) -> Result<(Pool, P
 }
 
 /// An index of a text or a list, if that is short enough to be packed.
-fn index(at: usize) -> Result<u32, Memory>
+fn index(at: usize) -> Result<u16, Memory>
     ensures { IfOk result (λ n. n ≡ at) }
 {
-    u32::try_from(at).map_err(|_| Memory)
+    u16::try_from(at).map_err(|_| Memory)
 }
 
 /// Values in a text, lent.
@@ -298,7 +367,7 @@ impl<'a> PackedSlice<'a> {
     }
 
     /// The values from one index up to another, as far as there are any.
-    fn part(self, start: u32, end: u32) -> PackedSlice<'a>
+    fn part(self, start: u16, end: u16) -> PackedSlice<'a>
         ensures { values_of result ≡ part_of (values_of self.entry) start end }
     {
         PackedSlice {
@@ -369,19 +438,21 @@ impl<'a> Iterator for PackedIter<'a> {
     }
 }
 
-/// An attribute whose values are some of a list.
+/// An attribute whose values are some of a list: of the values that many entries have, or of an entry's own.
 #[derive(PartialEq, Debug, Drop)]
 pub(crate) struct PackedAttribute {
-    start: u32,
-    end: u32,
+    is_common: bool,
+    start: u16,
+    end: u16,
     description: Description,
 }
 
-/// Attributes that are being packed, whose values are all in one list.
+/// Attributes that are being packed.
 #[derive(Drop)]
 struct Packing {
     attributes: Vec<PackedAttribute>,
-    values: PackedValues,
+    common: PackedValues,
+    own: PackedValues,
 }
 
 impl Model for Packing {
@@ -396,9 +467,9 @@ impl Model for Packing {
 
     ghost coded = { coded_list keyed_code };
 
-    ghost view = { λ p. map (packed_attribute p.values) p.attributes.items };
+    ghost view = { λ p. map (packed_attribute p.common p.own) p.attributes.items };
 
-    ghost invariant = { λ p. All (IsPacked p.values) p.attributes.items };
+    ghost invariant = { λ p. All (IsPacked p.common p.own) p.attributes.items };
 }
 
 impl Packing {
@@ -408,38 +479,55 @@ impl Packing {
     {
         let Packing {
             mut attributes,
-            values,
+            common,
+            own,
         } = self;
         let Ok(description) = attribute.description().try_clone(alloc) else {
             return Err(Memory);
         };
-        let start = index(values.as_slice().len())?;
-        let values = values.with_values(alloc, attribute)?;
-        let end = index(values.as_slice().len())?;
+        let is_common = is_common(attribute.description());
+        let (common, own, start, end) = if is_common {
+            let (common, start, end) = common.with_values_at(alloc, attribute)?;
+            (common, own, start, end)
+        } else {
+            let (own, start, end) = own.with_values_at(alloc, attribute)?;
+            (common, own, start, end)
+        };
         attributes.push(PackedAttribute {
-            description,
+            is_common,
             start,
             end,
+            description,
         })?;
-        Ok(Packing { attributes, values })
+        Ok(Packing {
+            attributes,
+            common,
+            own,
+        })
     }
 
     fn finish(self, alloc: Global) -> Result<PackedAttributes, Memory>
         ensures { IfOk result (λ p. p ≡ self) }
     {
-        let Packing { attributes, values } = self;
+        let Packing {
+            attributes,
+            common,
+            own,
+        } = self;
         Ok(PackedAttributes {
             attributes: Rc::new(alloc, attributes)?,
-            values,
+            common: Rc::new(alloc, common)?,
+            own,
         })
     }
 }
 
-/// Attributes, whose values are all in one list. Entries that are alike share the list of attributes.
+/// Attributes with their values. Entries that are alike share the list of attributes, and the values that many have.
 #[derive(Debug, Drop)]
 pub(crate) struct PackedAttributes {
     attributes: Rc<Vec<PackedAttribute>>,
-    values: PackedValues,
+    common: Rc<PackedValues>,
+    own: PackedValues,
 }
 
 impl Model for PackedAttributes {
@@ -454,9 +542,9 @@ impl Model for PackedAttributes {
 
     ghost coded = { coded_list keyed_code };
 
-    ghost view = { λ p. map (packed_attribute p.values) p.attributes.value.items };
+    ghost view = { λ p. map (packed_attribute p.common.value p.own) p.attributes.value.items };
 
-    ghost invariant = { λ p. All (IsPacked p.values) p.attributes.value.items };
+    ghost invariant = { λ p. All (IsPacked p.common.value p.own) p.attributes.value.items };
 }
 
 impl PackedAttributes {
@@ -464,13 +552,14 @@ impl PackedAttributes {
     pub(crate) fn of(
         alloc: Global,
         attributes: &[Attribute],
-        room: Room,
+        rooms: Rooms,
     ) -> Result<PackedAttributes, Memory>
         ensures { IfOk result (λ p. p ≡ attributes.now) }
     {
         let mut packing = Packing {
             attributes: Vec::with_capacity(alloc, attributes.len())?,
-            values: PackedValues::with_room(alloc, room)?,
+            common: PackedValues::with_room(alloc, rooms.common)?,
+            own: PackedValues::with_room(alloc, rooms.own)?,
         };
         for attribute in attributes {
             packing = packing.with_attribute(alloc, attribute)?;
@@ -478,12 +567,13 @@ impl PackedAttributes {
         packing.finish(alloc)
     }
 
-    /// Shares the memory of the list of attributes and of the keys of names with entries before.
+    /// Shares the memory of the list of attributes, of common values and of the keys of names with entries before.
     pub(crate) fn share(&mut self, alloc: Global, shared: &mut Shared)
         ensures { self.new ≡ self.old }
     {
         share_shape(&mut self.attributes, &mut shared.shapes);
-        share_names(alloc, &mut self.values.pool.names, &mut shared.names);
+        share_values(&mut self.common, &mut shared.values);
+        share_names(alloc, &mut self.own.pool.names, &mut shared.names);
     }
 
     pub(crate) fn len(&self) -> usize
@@ -502,7 +592,11 @@ impl PackedAttributes {
             .attributes
             .binary_search_by(|attribute| attribute.description.key().cmp(key))
         {
-            Ok(at) => Some(view_of(&self.attributes[at], self.values.as_slice())),
+            Ok(at) => Some(view_of(
+                &self.attributes[at],
+                self.common.as_slice(),
+                self.own.as_slice(),
+            )),
             Err(_) => None,
         }
     }
@@ -512,27 +606,34 @@ impl PackedAttributes {
     {
         PackedViews {
             attributes: self.attributes.as_slice().iter(),
-            values: self.values.as_slice(),
+            common: self.common.as_slice(),
+            own: self.own.as_slice(),
         }
     }
 }
 
 /// An attribute whose values are some of a list, lent.
-fn view_of<'a>(attribute: &'a PackedAttribute, values: PackedSlice<'a>) -> AttributeView<'a>
-    requires { IsPacked (values_of values) attribute.now }
-    ensures { result ≡ packed_attribute (values_of values.entry) attribute.now }
+fn view_of<'a>(
+    attribute: &'a PackedAttribute,
+    common: PackedSlice<'a>,
+    own: PackedSlice<'a>,
+) -> AttributeView<'a>
+    requires { IsPacked (values_of common) (values_of own) attribute.now }
+    ensures { result ≡ packed_attribute (values_of common.entry) (values_of own.entry) attribute.now }
 {
+    let values = if attribute.is_common { common } else { own };
     AttributeView::packed(
         &attribute.description,
         values.part(attribute.start, attribute.end),
     )
 }
 
-/// Attributes whose values are all in one list, lent one after the other.
+/// Attributes with their values, lent one after the other.
 #[derive(Drop)]
 pub(crate) struct PackedViews<'a> {
     attributes: slice::Iter<'a, PackedAttribute>,
-    values: PackedSlice<'a>,
+    common: PackedSlice<'a>,
+    own: PackedSlice<'a>,
 }
 
 impl<'a> Model for PackedViews<'a> {
@@ -548,9 +649,9 @@ impl<'a> Model for PackedViews<'a> {
 
     ghost coded = { coded_list keyed_code };
 
-    ghost view = { λ s. map (packed_attribute (values_of s.values)) (iter_rest s.attributes) };
+    ghost view = { λ s. map (packed_attribute (values_of s.common) (values_of s.own)) (iter_rest s.attributes) };
 
-    ghost invariant = { λ s. All (IsPacked (values_of s.values)) (iter_rest s.attributes) };
+    ghost invariant = { λ s. All (IsPacked (values_of s.common) (values_of s.own)) (iter_rest s.attributes) };
 }
 
 impl<'a> PackedViews<'a> {
@@ -559,7 +660,8 @@ impl<'a> PackedViews<'a> {
     {
         PackedViews {
             attributes: [].iter(),
-            values: PackedSlice::empty(),
+            common: PackedSlice::empty(),
+            own: PackedSlice::empty(),
         }
     }
 }
@@ -575,7 +677,7 @@ impl<'a> Iterator for PackedViews<'a> {
 
     fn next(&mut self) -> Option<AttributeView<'a>> {
         let attribute = self.attributes.next()?;
-        Some(view_of(attribute, self.values))
+        Some(view_of(attribute, self.common, self.own))
     }
 }
 
@@ -583,6 +685,7 @@ impl<'a> Iterator for PackedViews<'a> {
 #[derive(Drop)]
 pub(crate) struct Shared {
     shapes: Recent<Rc<Vec<PackedAttribute>>>,
+    values: Recent<Rc<PackedValues>>,
     names: Recent<DnSortKey>,
 }
 
@@ -590,6 +693,7 @@ impl Shared {
     pub(crate) fn new(alloc: Global) -> Shared {
         Shared {
             shapes: Recent::new(alloc),
+            values: Recent::new(alloc),
             names: Recent::new(alloc),
         }
     }
@@ -618,6 +722,34 @@ fn find_shape<'a>(
     for shape in shapes {
         if shape.as_slice() == attributes {
             return Some(shape);
+        }
+    }
+    None
+}
+
+/// Exchanges values for the same ones, if they were met not long ago.
+fn share_values(values: &mut Rc<PackedValues>, recent: &mut Recent<Rc<PackedValues>>)
+    ensures { values.new.value ≡ values.old.value }
+{
+    if let Some(same) = find_values(recent.as_slice(), values) {
+        if let Ok(same) = same.clone() {
+            *values = same;
+        }
+    } else if let Ok(values) = values.clone() {
+        recent.add(values);
+    }
+}
+
+/// The same values, if they are there.
+fn find_values<'a>(
+    recent: &'a [Rc<PackedValues>],
+    values: &PackedValues,
+) -> Option<&'a Rc<PackedValues>>
+    ensures { IfSome result (λ found. found.now.value ≡ values.now) }
+{
+    for found in recent {
+        if found.is_like(values) {
+            return Some(found);
         }
     }
     None

@@ -95,6 +95,7 @@ impl Directory for TreeDirectory {
     }
 
     fn replace(&mut self, key: &DnKey, entry: Entry) -> Entry {
+        let entry = settled(self.alloc, &mut self.shared, key, entry);
         let path = path_below(&self.suffix, key).unwrap();
         node_in(&mut self.root).replace_at(path, entry)
     }
@@ -108,7 +109,7 @@ impl Directory for TreeDirectory {
     }
 
     fn insert(&mut self, key: &DnKey, entry: Entry) -> Result<(), Entry> {
-        let entry = shared_entry(self.alloc, &mut self.shared, key, entry);
+        let entry = settled(self.alloc, &mut self.shared, key, entry);
         let leaf = Node::leaf(self.alloc, entry);
         let path = path_below(&self.suffix, key).unwrap();
         match path.split_first() {
@@ -133,6 +134,7 @@ impl Directory for TreeDirectory {
         if old == new {
             return Ok(self.replace(old, entry));
         }
+        let entry = settled(self.alloc, &mut self.shared, new, entry);
         let (first, rest) = parts_below(&self.suffix, old);
         let (new_first, new_rest) = parts_below(&self.suffix, new);
         node_in(&mut self.root).move_at(self.alloc, first, rest, new_first, new_rest, entry)
@@ -155,15 +157,14 @@ impl Directory for TreeDirectory {
     }
 }
 
-/// The entry at a key, which shares memory with the key and with entries before.
-fn shared_entry(alloc: Global, shared: &mut Shared, key: &DnKey, entry: Entry) -> Entry
+/// The entry in little memory, at a key.
+fn settled(alloc: Global, shared: &mut Shared, key: &DnKey, entry: Entry) -> Entry
     ensures { result ≡ entry }
 {
-    let mut entry = entry;
-    if let Some(leaf) = key.parts().last() {
-        entry.share(alloc, leaf, shared);
+    match key.parts().last() {
+        Some(leaf) => entry.settled(alloc, leaf, shared),
+        None => entry,
     }
-    entry
 }
 
 /// What follows the suffix in a key, if the key is at or below it.

@@ -1,5 +1,5 @@
 -- Attributes whose values are kept in one text.
-use Rattle.std.specs.Prelude.{ℕ, ◌-◌, ◌<◌, ◌≤◌, List, [], Option, Some, None, drop, length, map, slice_get, take, IsTrue, ⊤}
+use Rattle.std.specs.Prelude.{ℕ, ◌-◌, ◌<◌, ◌≤◌, List, [], Option, Some, None, cond, drop, length, map, slice_get, take, IsTrue, ⊤}
 use Rattle.dir_names.specs.Keys.{DnKeys}
 use Rattle.dir_names.specs.declared.value.ValueKey.{ValueKey}
 use Rattle.dir_names.specs.declared.value.ValueKey.TheVariants as value_key
@@ -44,10 +44,10 @@ IsKeyInside text names (packed_key.Name at) = at < length names
 abbrev pub IsInside : List ℕ → List DnKeys → PackedValue → Type 0
 IsInside text names v = (v.end ≤ length text) × IsKeyInside text names v.key
 
--- an attribute whose values are some of these
-abbrev pub packed_attribute : List (ValueKey × List ℕ) → PackedAttribute → Keyed
-packed_attribute values a = record { key = a.description.key; stored = record { spelling = a.description.spelling; values = values_in (part_of values a.start a.end) } }
+-- an attribute whose values are some of those that many entries have, or of an entry's own
+abbrev pub packed_attribute : List (ValueKey × List ℕ) → List (ValueKey × List ℕ) → PackedAttribute → Keyed
+packed_attribute common own a = record { key = a.description.key; stored = record { spelling = a.description.spelling; values = values_in (part_of (cond a.is_common common own) a.start a.end) } }
 
 -- its values are among these, and in strictly rising order of their keys
-abbrev pub IsPacked : List (ValueKey × List ℕ) → PackedAttribute → Type 0
-IsPacked values a = (a.end ≤ length values) × IsTrue (are_rising (part_of values a.start a.end))
+abbrev pub IsPacked : List (ValueKey × List ℕ) → List (ValueKey × List ℕ) → PackedAttribute → Type 0
+IsPacked common own a = (a.end ≤ length (cond a.is_common common own)) × IsTrue (are_rising (part_of (cond a.is_common common own) a.start a.end))

@@ -34,11 +34,11 @@ unwrap-path-requires c = mapped_some c.path_below.result ∙ ap is_some c.path_b
 
 pub invariant_of-self : goal.invariant_of-self
 invariant_of-self c =
-    tree_begun c.self.inside.suffix c.self.inside.root c.args.key.now (suffix_key c.self.inside.suffix c.args.key.now c.unwrap-path.result.now (path_is (goal.at.invariant_of-self c).After-split_first) c.in-None.ensures.cases) c.self.invariant c.leaf-leaf.result c.args.entry (c.leaf-leaf.ensures ∙ ap (λ e. fin.insert fin.empty [] (Some e)) c.shared_entry-entry.ensures) (free (goal.at.invariant_of-self c).After-path_below) (parent (goal.at.invariant_of-self c).After-path_below) c.path_below.ensures.within_limit
+    tree_begun c.self.inside.suffix c.self.inside.root c.args.key.now (suffix_key c.self.inside.suffix c.args.key.now c.unwrap-path.result.now (path_is (goal.at.invariant_of-self c).After-split_first) c.in-None.ensures.cases) c.self.invariant c.leaf-leaf.result c.args.entry (c.leaf-leaf.ensures ∙ ap (λ e. fin.insert fin.empty [] (Some e)) c.settled-entry.ensures) (free (goal.at.invariant_of-self c).After-path_below) (parent (goal.at.invariant_of-self c).After-path_below) c.path_below.ensures.within_limit
 
 pub returns-in-None-clause-ok : goal.returns-in-None-clause-ok
 returns-in-None-clause-ok c =
-    suffix_put c.self.inside.suffix c.self.inside.root c.args.key.now (suffix_key c.self.inside.suffix c.args.key.now c.unwrap-path.result.now (path_is (goal.at.returns-in-None-clause-ok c).After-split_first) c.in-None.ensures.cases) c.self.invariant c.leaf-leaf.result c.args.entry (c.leaf-leaf.ensures ∙ ap (λ e. fin.insert fin.empty [] (Some e)) c.shared_entry-entry.ensures) (free (goal.at.returns-in-None-clause-ok c).After-path_below)
+    suffix_put c.self.inside.suffix c.self.inside.root c.args.key.now (suffix_key c.self.inside.suffix c.args.key.now c.unwrap-path.result.now (path_is (goal.at.returns-in-None-clause-ok c).After-split_first) c.in-None.ensures.cases) c.self.invariant c.leaf-leaf.result c.args.entry (c.leaf-leaf.ensures ∙ ap (λ e. fin.insert fin.empty [] (Some e)) c.settled-entry.ensures) (free (goal.at.returns-in-None-clause-ok c).After-path_below)
     ∙ ap (λ d. put_entry d c.args.key.now c.args.entry) c.self.view_is
 
 pub node_in-requires : goal.node_in-requires
@@ -54,7 +54,7 @@ grow_at-requires c =
 pub invariant_of-self-in-Some : goal.invariant_of-self-in-Some
 invariant_of-self-in-Some c = elim c.match-grow_at.branch [
   | in-Ok w ↦
-      tree_grown c.self.inside.suffix c.self.inside.root c.args.key.now c.node_in.result.now (c.in-Some.first.now ∷ c.in-Some.rest.now) (spot (goal.at.invariant_of-self-in-Some c).After-node_in (path_is (goal.at.invariant_of-self-in-Some c).After-split_first)) c.self.invariant c.grow_at.new.self c.leaf-leaf.result c.args.entry (c.leaf-leaf.ensures ∙ ap (λ e. fin.insert fin.empty [] (Some e)) c.shared_entry-entry.ensures) w.in-Ok.ensures.ok
+      tree_grown c.self.inside.suffix c.self.inside.root c.args.key.now c.node_in.result.now (c.in-Some.first.now ∷ c.in-Some.rest.now) (spot (goal.at.invariant_of-self-in-Some c).After-node_in (path_is (goal.at.invariant_of-self-in-Some c).After-split_first)) c.self.invariant c.grow_at.new.self c.leaf-leaf.result c.args.entry (c.leaf-leaf.ensures ∙ ap (λ e. fin.insert fin.empty [] (Some e)) c.settled-entry.ensures) w.in-Ok.ensures.ok
       (free (goal.at.invariant_of-self-in-Some c).After-path_below) (parent (goal.at.invariant_of-self-in-Some c).After-path_below) c.path_below.ensures.within_limit
   | in-Err w ↦ subst (IsTree c.self.inside.suffix) (c.node_in.ensures.is ∙ ap (λ m. Some m) (sym w.in-Err.ensures.err)) c.self.invariant
 ]
@@ -63,7 +63,7 @@ pub returns-after-grow_at-clause-ok : goal.returns-after-grow_at-clause-ok
 returns-after-grow_at-clause-ok c = elim c.match-grow_at.branch [
   | in-Ok w ↦
       subst (λ r. OnOk r (tree_dir c.self.inside.suffix (Some c.grow_at.new.self) ≡ put_entry c.args.self.now c.args.key.now c.args.entry)) (sym w.result-is)
-      (spot_grown c.self.inside.suffix c.self.inside.root c.args.key.now c.node_in.result.now (c.in-Some.first.now ∷ c.in-Some.rest.now) (spot (goal.at.returns-after-grow_at-clause-ok c).After-node_in (path_is (goal.at.returns-after-grow_at-clause-ok c).After-split_first)) c.self.invariant c.grow_at.new.self c.leaf-leaf.result c.args.entry (c.leaf-leaf.ensures ∙ ap (λ e. fin.insert fin.empty [] (Some e)) c.shared_entry-entry.ensures) w.in-Ok.ensures.ok
+      (spot_grown c.self.inside.suffix c.self.inside.root c.args.key.now c.node_in.result.now (c.in-Some.first.now ∷ c.in-Some.rest.now) (spot (goal.at.returns-after-grow_at-clause-ok c).After-node_in (path_is (goal.at.returns-after-grow_at-clause-ok c).After-split_first)) c.self.invariant c.grow_at.new.self c.leaf-leaf.result c.args.entry (c.leaf-leaf.ensures ∙ ap (λ e. fin.insert fin.empty [] (Some e)) c.settled-entry.ensures) w.in-Ok.ensures.ok
       (free (goal.at.returns-after-grow_at-clause-ok c).After-path_below)
       ∙ ap (λ d. put_entry d c.args.key.now c.args.entry) c.self.view_is)
   | in-Err w ↦ subst (λ r. OnOk r (tree_dir c.self.inside.suffix (Some c.grow_at.new.self) ≡ put_entry c.args.self.now c.args.key.now c.args.entry)) (sym w.result-is) tt
@@ -74,5 +74,5 @@ returns-after-grow_at-clause-value_returned c = elim c.match-grow_at.branch [
   | in-Ok w ↦ subst (λ r. IfErr r (λ e. e ≡ c.args.entry)) (sym w.result-is) tt
   | in-Err w ↦
       let same : w.unwrap.result ≡ c.leaf-leaf.result = inner (sym w.unwrap.ensures ∙ w.in-Err.ensures.value_returned) in
-      subst (λ r. IfErr r (λ e. e ≡ c.args.entry)) (sym w.result-is) (leaf_entry w.unwrap.result c.args.entry w.into_entry.result (same ∙ (c.leaf-leaf.ensures ∙ ap (λ e. fin.insert fin.empty [] (Some e)) c.shared_entry-entry.ensures)) w.into_entry.ensures)
+      subst (λ r. IfErr r (λ e. e ≡ c.args.entry)) (sym w.result-is) (leaf_entry w.unwrap.result c.args.entry w.into_entry.result (same ∙ (c.leaf-leaf.ensures ∙ ap (λ e. fin.insert fin.empty [] (Some e)) c.settled-entry.ensures)) w.into_entry.ensures)
 ]

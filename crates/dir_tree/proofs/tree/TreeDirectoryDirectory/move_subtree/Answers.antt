@@ -67,8 +67,8 @@ move_at-requires-clause-apart c = move_apart c.self.inside.suffix c.node_in.resu
 pub invariant_of-self : goal.invariant_of-self
 invariant_of-self c =
     cases c.move_at.result c.move_at.ensures.ok c.move_at.ensures.err
-    (λ (move : IsMove c.node_in.result.now (c.parts_below.result.0.now ∷ c.parts_below.result.1.now) (c.parts_below-2.result.0.now ∷ c.parts_below-2.result.1.now) c.args.entry c.move_at.new.self).
-    tree_moved c.self.inside.suffix c.node_in.result.now (c.parts_below.result.0.now ∷ c.parts_below.result.1.now) (c.parts_below-2.result.0.now ∷ c.parts_below-2.result.1.now) (ready (goal.at.invariant_of-self c).After-node_in) c.args.entry c.move_at.new.self move)
+    (λ (move : IsMove c.node_in.result.now (c.parts_below.result.0.now ∷ c.parts_below.result.1.now) (c.parts_below-2.result.0.now ∷ c.parts_below-2.result.1.now) c.settled-entry.result c.move_at.new.self).
+    tree_moved c.self.inside.suffix c.node_in.result.now (c.parts_below.result.0.now ∷ c.parts_below.result.1.now) (c.parts_below-2.result.0.now ∷ c.parts_below-2.result.1.now) (ready (goal.at.invariant_of-self c).After-node_in) c.settled-entry.result c.move_at.new.self move)
     (λ (same : c.move_at.new.self ≡ c.node_in.result.now). subst (IsTree c.self.inside.suffix) (c.node_in.ensures.is ∙ ap (λ m. Some m) (sym same)) c.self.invariant)
 
 pub returns-clause-old : goal.returns-clause-old
@@ -86,8 +86,9 @@ pub returns-clause-ok : goal.returns-clause-ok
 returns-clause-ok c =
     let s : DnKeys = c.self.inside.suffix in
     on_ok c.move_at.result
-    (λ (move : IsMove c.node_in.result.now (c.parts_below.result.0.now ∷ c.parts_below.result.1.now) (c.parts_below-2.result.0.now ∷ c.parts_below-2.result.1.now) c.args.entry c.move_at.new.self).
-    move_made s c.node_in.result.now (c.parts_below.result.0.now ∷ c.parts_below.result.1.now) (c.parts_below-2.result.0.now ∷ c.parts_below-2.result.1.now) (ready (goal.at.returns-clause-ok c).After-node_in) c.args.entry c.move_at.new.self move
-    ∙ (λ i. move_subtree (tree_dir s (sym c.node_in.ensures.is i)) (sym c.parts_below.ensures i) (sym c.parts_below-2.ensures i) c.args.entry)
-    ∙ ap (λ d. move_subtree d c.args.old.now c.args.new.now c.args.entry) c.self.view_is)
+    (λ (move : IsMove c.node_in.result.now (c.parts_below.result.0.now ∷ c.parts_below.result.1.now) (c.parts_below-2.result.0.now ∷ c.parts_below-2.result.1.now) c.settled-entry.result c.move_at.new.self).
+    move_made s c.node_in.result.now (c.parts_below.result.0.now ∷ c.parts_below.result.1.now) (c.parts_below-2.result.0.now ∷ c.parts_below-2.result.1.now) (ready (goal.at.returns-clause-ok c).After-node_in) c.settled-entry.result c.move_at.new.self move
+    ∙ (λ i. move_subtree (tree_dir s (sym c.node_in.ensures.is i)) (sym c.parts_below.ensures i) (sym c.parts_below-2.ensures i) c.settled-entry.result)
+    ∙ ap (λ d. move_subtree d c.args.old.now c.args.new.now c.settled-entry.result) c.self.view_is
+    ∙ ap (move_subtree c.args.self.now c.args.old.now c.args.new.now) c.settled-entry.ensures)
     c.move_at.ensures.ok

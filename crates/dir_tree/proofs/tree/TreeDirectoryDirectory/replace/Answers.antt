@@ -1,4 +1,5 @@
-use Rattle.std.proofs.Common.{◌≡◌, true, is_some, sym, ap, ◌∙◌}
+use Rattle.std.proofs.Common.{◌≡◌, Some, true, is_some, sym, ap, ◌∙◌}
+use Rattle.std.specs.FinMap as fin
 use Rattle.std.specs.Option.{option_map}
 use Rattle.dir_tree.specs.Dir.{entry_at, put_entry}
 use Rattle.dir_tree.specs.Inside.Trees.{tree_dir}
@@ -23,7 +24,7 @@ replace_at-requires c = spot_there c.self.inside.suffix c.self.inside.root c.arg
 
 pub invariant_of-self : goal.invariant_of-self
 invariant_of-self c =
-    tree_replaced c.self.inside.suffix c.self.inside.root c.args.key.now c.node_in.result.now c.unwrap-path.result.now (spot (goal.at.invariant_of-self c).After-node_in) c.self.invariant c.replace_at.new.self c.args.entry c.replace_at.ensures.new (there (goal.at.invariant_of-self c).After-path_below)
+    tree_replaced c.self.inside.suffix c.self.inside.root c.args.key.now c.node_in.result.now c.unwrap-path.result.now (spot (goal.at.invariant_of-self c).After-node_in) c.self.invariant c.replace_at.new.self c.args.entry (c.replace_at.ensures.new ∙ ap (λ e. fin.insert c.node_in.result.now c.unwrap-path.result.now (Some e)) c.settled-entry.ensures) (there (goal.at.invariant_of-self c).After-path_below)
 
 pub returns-clause-old : goal.returns-clause-old
 returns-clause-old c =
@@ -31,5 +32,5 @@ returns-clause-old c =
 
 pub returns-clause-new : goal.returns-clause-new
 returns-clause-new c =
-    spot_replaced c.self.inside.suffix c.self.inside.root c.args.key.now c.node_in.result.now c.unwrap-path.result.now (spot (goal.at.returns-clause-new c).After-node_in) c.self.invariant c.replace_at.new.self c.args.entry c.replace_at.ensures.new
+    spot_replaced c.self.inside.suffix c.self.inside.root c.args.key.now c.node_in.result.now c.unwrap-path.result.now (spot (goal.at.returns-clause-new c).After-node_in) c.self.invariant c.replace_at.new.self c.args.entry (c.replace_at.ensures.new ∙ ap (λ e. fin.insert c.node_in.result.now c.unwrap-path.result.now (Some e)) c.settled-entry.ensures)
     ∙ ap (λ d. put_entry d c.args.key.now c.args.entry) c.self.view_is
