@@ -25,8 +25,8 @@ in_order c =
 at : (c : After-binary_search_by) → c.binary_search_by.result ≡ place attr_cmp c.args.key.now (keys_in attr_cmp_total (pair c) c.self.inside.attributes.value.items)
 at c =
     let by =
-      subst (λ xs. IsBinarySearchResult (λ a. attr_cmp a.description.key c.args.key.now) xs c.binary_search_by.result) (c.deref-2.ensures.value ∙ ap (λ v. v.items) c.deref.ensures)
-      (c.binary_search_by.ensures.position (λ a. attr_cmp a.description.key c.args.key.now) (always_returns_same _ _ _ (λ a r f called. search rules))) in
+    subst (λ xs. IsBinarySearchResult (λ a. attr_cmp a.description.key c.args.key.now) xs c.binary_search_by.result) (c.deref-2.ensures.value ∙ ap (λ v. v.items) c.deref.ensures)
+    (c.binary_search_by.ensures.position (λ a. attr_cmp a.description.key c.args.key.now) (always_returns_same _ _ _ (λ a r f called. search rules))) in
     placed attr_cmp_total (pair c) c.self.inside.attributes.value.items (in_order c) c.args.key.now c.binary_search_by.result (search rules) by
 
 -- the map that the attributes are is that of the pairs
