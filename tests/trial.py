@@ -14,6 +14,7 @@ SCRIPTS = (
     "crashes.py",
     "power.py",
     "size.py",
+    "peak.py",
     "operations.py",
     "cut.py",
     "forms.py",

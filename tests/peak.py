@@ -1,0 +1,56 @@
+#!/usr/bin/env python3
+"""Measures the peak memory of runs on a directory as slapcat writes one: no contract can say that entries are packed and share memory.
+
+usage: peak.py PROGRAM
+"""
+import os
+import pathlib
+import subprocess
+import sys
+import tempfile
+
+import checks
+
+sys.path.append(str(pathlib.Path(__file__).resolve().parent.parent / "bench"))
+from directory import SUFFIX, Directory  # noqa: E402
+
+ENTRIES = 20_000
+CHANGES = 2_000
+
+# The most that a run may take, as a multiple of the copy. Entries that share nothing take 3.8 and 4.0, and entries that are not packed 5.8.
+MOST = {"none": 2.9, "changes": 3.0}
+
+
+def peak_of(program, folder, changes):
+    """The peak memory of a run of these changes, in bytes."""
+    words = [program, "slapmodify", "-b", SUFFIX, "--data", "copy", "-l", changes, "--out", f"{changes}.new", "--undo", f"{changes}.undo"]
+    child = subprocess.Popen(words, cwd=folder, stdout=subprocess.DEVNULL)
+    _, status, usage = os.wait4(child.pid, 0)
+    child.returncode = os.waitstatus_to_exitcode(status)
+    checks.expect(child.returncode, 0, "exit status")
+    return usage.ru_maxrss * 1024
+
+
+def try_peak(program, folder, changes):
+    ratio = peak_of(program, folder, changes) / folder.joinpath("copy").stat().st_size
+    if ratio > MOST[changes]:
+        raise checks.Wrong(f"{ratio:.2f} times the copy, more than {MOST[changes]}")
+    return f"{ratio:.2f} times the copy"
+
+
+def main():
+    program = os.path.abspath(sys.argv[1])
+    with tempfile.TemporaryDirectory() as name:
+        folder = pathlib.Path(name)
+        directory = Directory(ENTRIES)
+        directory.write(folder / "copy")
+        directory.write_changes(folder / "changes", CHANGES, True)
+        folder.joinpath("none").touch()
+        named = [
+            (f"{ENTRIES} entries, no change", lambda: try_peak(program, folder, "none")),
+            (f"{ENTRIES} entries, {CHANGES} changes", lambda: try_peak(program, folder, "changes")),
+        ]
+        sys.exit(checks.run("peak memory", named))
+
+
+main()
