@@ -147,6 +147,13 @@ impl Attribute {
         self.values.remove(alloc, key)
     }
 
+    /// How many values there are. The call takes no time by them.
+    pub(crate) fn len(&self) -> usize
+        ensures { result ≡ fin.len self.now.stored.values }
+    {
+        self.values.len()
+    }
+
     /// The values as they are stored, in order of their keys.
     pub(crate) fn stored(&self) -> ListIter<'_>
         ensures { result ≡ fin.entries self.now.stored.values }

@@ -7,7 +7,7 @@ ghost use Rattle.dir_names.specs.declared.value.ValueKey.TheVariants.{Text};
 ghost use Rattle.dir_tree.specs.Content.{has_value};
 ghost use Rattle.dir_tree.specs.NewEntry.{exceeds_single_value};
 
-use crate::attributes::{AttributeMap, Attributes};
+use crate::attributes::{Attribute, AttributeMap, Attributes};
 use crate::packed::{PackedAttributes, PackedViews, Rooms, Shared};
 use crate::views::AttributeView;
 use dir_names::{AttrKey, Memory, Schema, ValueKey};
@@ -83,10 +83,10 @@ impl KeptAttributes {
     fn packed_up_to(alloc: Global, map: AttributeMap, most: usize) -> KeptAttributes
         ensures { result ≡ map }
     {
-        let rooms = Rooms::of(map.as_slice());
-        if rooms.values() > most {
+        if count_of(map.as_slice()) > most {
             return KeptAttributes::of(map);
         }
+        let rooms = Rooms::of(map.as_slice());
         match PackedAttributes::of(alloc, map.as_slice(), rooms) {
             Ok(packed) => KeptAttributes {
                 form: Form::Packed(packed),
@@ -195,6 +195,15 @@ impl KeptAttributes {
         }
         false
     }
+}
+
+/// How many values attributes have in all.
+fn count_of(attributes: &[Attribute]) -> usize {
+    let mut count: usize = 0;
+    for attribute in attributes {
+        count = count.saturating_add(attribute.len());
+    }
+    count
 }
 
 /// The attributes of an entry, lent, in order of their keys.

@@ -93,11 +93,6 @@ impl Rooms {
         }
         rooms
     }
-
-    /// How many values there are.
-    pub(crate) fn values(self) -> usize {
-        self.common.values.saturating_add(self.own.values)
-    }
 }
 
 /// Whether the values of an attribute are likely to be the same in many entries.
