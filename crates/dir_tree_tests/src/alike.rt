@@ -128,6 +128,12 @@ fn opened(rt: &impl Abort, alloc: Global, entry: Entry) -> Entry {
     })
 }
 
+/// Puts an entry in the place of the one at a key.
+fn put_back(rt: &impl Abort, directory: &mut TreeDirectory, key: &DnKey, entry: Entry) {
+    assert!(rt; directory.get(key).is_some());
+    let _ = directory.replace(key, entry);
+}
+
 #[test]
 fn an_entry_that_is_put_back_has_its_values(rt: HostRuntime) {
     let alloc = rt.alloc();
@@ -135,7 +141,7 @@ fn an_entry_that_is_put_back_has_its_values(rt: HostRuntime) {
     for (own, lines) in &ENTRIES {
         let key = below(&rt, alloc, own);
         let entry = opened(&rt, alloc, made(&rt, alloc, own, lines));
-        let _ = directory.replace(&key, entry);
+        put_back(&rt, &mut directory, &key, entry);
     }
     assert_all(&rt, alloc, &directory);
 }
