@@ -1,13 +1,16 @@
+pub mod Adjacent
 pub mod Alike
 pub mod Climb
 pub mod DirLemmas
 pub mod EachEntry
+pub mod EachLine
 pub mod Examples
 pub mod Faults
 pub mod FoundInPieces
 pub mod GainedValues
 pub mod KeyPlaces
 pub mod MadeAgain
+pub mod MadeOfLines
 pub mod MapWrites
 pub mod MoveLemmas
 pub mod NewEntryHolds
@@ -18,8 +21,10 @@ pub mod OwnNames
 pub mod OwnValues
 pub mod PackedLists
 pub mod Pieced
+pub mod PatternLines
 pub mod PlaceInPieces
 pub mod Relisted
+pub mod Reordered
 pub mod RestBelow
 pub mod SharedKeys
 pub mod SortedVecs

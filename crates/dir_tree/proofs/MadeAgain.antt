@@ -17,7 +17,7 @@ use Rattle.dir_tree.specs.declared.lines.KeyedLine.{KeyedLine}
 use Rattle.dir_tree.specs.Inside.Arranged.{have_new_values}
 use Rattle.dir_tree.specs.Content.{Content, Stored, StoredAttributes, has_in, has_value}
 use Rattle.std.specs.Option.{ok_or}
-use Rattle.dir_tree.specs.NewEntry.{attributes_if_distinct, attributes_of, keyed_line, keyed_lines, leaf_lines, new_entry, ok_unless_exceeding, with_line, with_lines, with_missing_lines, with_missing_of, with_value}
+use Rattle.dir_tree.specs.NewEntry.{attributes_if_distinct, attributes_of, give_distinct_values, keyed_line, keyed_lines, leaf_lines, new_entry, ok_unless_exceeding, with_line, with_lines, with_missing_lines, with_missing_of, with_value}
 use Rattle.dir_tree.specs.WellFormed.{Each, IsSoundAttribute, IsSoundEntry, IsSoundValue, all_lines, attribute_lines, has_each}
 use Rattle.dir_tree.specs.NewEntryLaw.{value_in}
 use Rattle.dir_tree.proofs.Orderless.{free_of_empty}
@@ -26,11 +26,15 @@ use Rattle.dir_names.proofs.Both.{left, right}
 use Rattle.dir_names.proofs.Collected.{collect_append}
 
 -- a value of an attribute, as a line with its key
-abbrev keyed_of : Attr × Stored → ValueKey × List ℕ → KeyedLine
+abbrev pub keyed_of : Attr × Stored → ValueKey × List ℕ → KeyedLine
 keyed_of a v = record { description = record { spelling = a.1.spelling; key = a.0 }; key = v.0; bytes = v.1 }
 
-abbrev keyed_attribute : Attr × Stored → List KeyedLine
+abbrev pub keyed_attribute : Attr × Stored → List KeyedLine
 keyed_attribute a = map (keyed_of a) (fin.entries a.1.values)
+
+-- the attribute has values
+abbrev pub HasSome : Attr × Stored → Type 0
+HasSome a = fin.entries a.1.values ≡ [] → ⊥
 
 -- ---- each line has its key
 
@@ -111,17 +115,29 @@ not_there xs k e = by (fin.get xs k) e
     by None h = refl
     by (Some b) h = absurd (true≢false (sym h))
 
-module _ (rows : List TypeRow) where
-  all_attributes : (xs : StoredAttributes) (es : List (Attr × Stored)) → Each (IsSoundAttribute rows) es → are_new attr_cmp_total attr_cmp_exact xs es ≡ true →
-      (with_lines xs (flat_map keyed_attribute es) ≡ inserted attr_cmp_total attr_cmp_exact xs es) × (have_new_values xs (flat_map keyed_attribute es) ≡ true)
-  all_attributes xs [] sound new = (refl, refl)
-  all_attributes xs (a ∷ es) sound new =
-      let none = not_there xs a.0 (left _ (are_new attr_cmp_total attr_cmp_exact (fin.insert xs a.0 a.1) es) new) in
-      let one = one_attribute xs a none sound.0.1 in
-      let rest = all_attributes (fin.insert xs a.0 a.1) es sound.1 (right (not (fin.contains_key xs a.0)) _ new) in (
-        with_append xs (keyed_attribute a) (flat_map keyed_attribute es) ∙ ap (λ ys. with_lines ys (flat_map keyed_attribute es)) one ∙ rest.0,
-        free_append xs (keyed_attribute a) (flat_map keyed_attribute es) ∙ (λ i. one_free xs a none i && (ap (λ ys. have_new_values ys (flat_map keyed_attribute es)) one ∙ rest.1) i),
-      )
+-- attributes that have values, none of them there yet
+pub all_attributes : (xs : StoredAttributes) (es : List (Attr × Stored)) → Each HasSome es → are_new attr_cmp_total attr_cmp_exact xs es ≡ true →
+    (with_lines xs (flat_map keyed_attribute es) ≡ inserted attr_cmp_total attr_cmp_exact xs es) × (have_new_values xs (flat_map keyed_attribute es) ≡ true)
+all_attributes xs [] some new = (refl, refl)
+all_attributes xs (a ∷ es) some new =
+    let none = not_there xs a.0 (left _ (are_new attr_cmp_total attr_cmp_exact (fin.insert xs a.0 a.1) es) new) in
+    let one = one_attribute xs a none some.0 in
+    let rest = all_attributes (fin.insert xs a.0 a.1) es some.1 (right (not (fin.contains_key xs a.0)) _ new) in (
+      with_append xs (keyed_attribute a) (flat_map keyed_attribute es) ∙ ap (λ ys. with_lines ys (flat_map keyed_attribute es)) one ∙ rest.0,
+      free_append xs (keyed_attribute a) (flat_map keyed_attribute es) ∙ (λ i. one_free xs a none i && (ap (λ ys. have_new_values ys (flat_map keyed_attribute es)) one ∙ rest.1) i),
+    )
+
+-- the values of all attributes of a map make it, and none of them comes twice
+pub whole_again : (m : StoredAttributes) → Each HasSome (fin.entries m) → (with_lines fin.empty (flat_map keyed_attribute (fin.entries m)) ≡ m) × (give_distinct_values (flat_map keyed_attribute (fin.entries m)) ≡ true)
+whole_again m some =
+    let again = all_attributes fin.empty (fin.entries m) some (new_whole attr_cmp_total attr_cmp_exact m) in (
+      again.0 ∙ inserted_whole attr_cmp_total attr_cmp_exact m,
+      sym (free_of_empty fin.empty (flat_map keyed_attribute (fin.entries m)) (λ k v. ap (value_in v) (get-empty attr_cmp k))) ∙ again.1,
+    )
+
+sound_has_some : (rows : List TypeRow) (es : List (Attr × Stored)) → Each (IsSoundAttribute rows) es → Each HasSome es
+sound_has_some rows [] sound = tt
+sound_has_some rows (a ∷ es) sound = (sound.0.1, sound_has_some rows es sound.1)
 
 -- ---- the values of the own RDN are there
 
@@ -142,11 +158,11 @@ made_again rows e sound =
     ∙ ap (λ xs. ok_unless_exceeding rows (record { own = e.own; key = e.key; attributes = xs })) (nothing_by e.attributes (leaf_lines rows e.own) sound.2)
     ∙ ap (λ b. cond b (Err Single) (Ok e)) sound.3
   where
-    again : (with_lines fin.empty (flat_map keyed_attribute (fin.entries e.attributes)) ≡ inserted attr_cmp_total attr_cmp_exact fin.empty (fin.entries e.attributes)) × (have_new_values fin.empty (flat_map keyed_attribute (fin.entries e.attributes)) ≡ true)
-    again = all_attributes rows fin.empty (fin.entries e.attributes) sound.1 (new_whole attr_cmp_total attr_cmp_exact e.attributes)
+    again : (with_lines fin.empty (flat_map keyed_attribute (fin.entries e.attributes)) ≡ e.attributes) × (give_distinct_values (flat_map keyed_attribute (fin.entries e.attributes)) ≡ true)
+    again = whole_again e.attributes (sound_has_some rows (fin.entries e.attributes) sound.1)
 
     gathered_again : attributes_of rows (all_lines e.attributes) ≡ Ok e.attributes
     gathered_again =
         ap (λ o. and_then (ok_or o BadValue) attributes_if_distinct) (keyed_all rows (fin.entries e.attributes) sound.1)
-        ∙ ap (λ b. cond b (Ok (with_lines fin.empty (flat_map keyed_attribute (fin.entries e.attributes)))) (Err Twice)) (sym (free_of_empty fin.empty (flat_map keyed_attribute (fin.entries e.attributes)) (λ k v. ap (value_in v) (get-empty attr_cmp k))) ∙ again.1)
-        ∙ ap Ok (again.0 ∙ inserted_whole attr_cmp_total attr_cmp_exact e.attributes)
+        ∙ ap (λ b. cond b (Ok (with_lines fin.empty (flat_map keyed_attribute (fin.entries e.attributes)))) (Err Twice)) again.1
+        ∙ ap Ok again.0

@@ -276,7 +276,7 @@ few_rest : {A : Type 0} (b : Bool) (x : A) (xs : List A) → few (cond b (x ∷ 
 few_rest false x xs e = e
 few_rest true x xs e = ap few (few_tail x xs e)
 
-few_apart : (ls : List KeyedLine) → ((k : Attr) (v : ValueKey) → few (filter (gives_value k v) ls) ≡ true) → give_distinct_values ls ≡ true
+pub few_apart : (ls : List KeyedLine) → ((k : Attr) (v : ValueKey) → few (filter (gives_value k v) ls) ≡ true) → give_distinct_values ls ≡ true
 few_apart [] h = refl
 few_apart (l ∷ ls) h =
     let one : few (l ∷ filter (give_same_value l) ls) ≡ true = ap (λ b. few (cond b (l ∷ filter (give_same_value l) ls) (filter (give_same_value l) ls))) (sym (given_itself l)) ∙ h l.description.key l.key in

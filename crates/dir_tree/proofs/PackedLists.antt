@@ -1,12 +1,13 @@
 -- Parts of lists, and values in a text that grows.
-use Rattle.std.proofs.Common.{◌≡◌, Bool, true, false, cond, ℕ, zero, suc, slice_get, ◌-◌, ◌<◌, ◌≤◌, List, [], ◌∷◌, ◌++◌, map, length, get_or, take, drop, IsTrue, T, refl, sym, ap, subst, ◌∙◌, ⊎_elim, arith}
+use Rattle.std.proofs.Common.{◌≡◌, min, Bool, true, false, cond, ℕ, zero, suc, slice_get, ◌-◌, ◌<◌, ◌≤◌, List, [], ◌∷◌, ◌++◌, map, length, get_or, take, drop, IsTrue, T, refl, sym, ap, subst, ◌∙◌, ⊎_elim, arith}
 use Rattle.std.specs.declared.cmp.Ordering.{Ordering}
 use Rattle.std.specs.Cmp.{IsTotalOrder}
 use Rattle.std.specs.FinMap as fin
 use Rattle.std.specs.FinMap.{IsAntisymmetric, same_map, get-entries, get-from_sorted, entries_sorted}
-use Rattle.std.specs.List.{All}
-use Rattle.std.proofs.lemmas.List.{drop-map, take-map, drop-append-le, take-append-le, append-nil, length-drop, length-append, map-append, map-id}
+use Rattle.std.specs.List.{All, insert}
+use Rattle.std.proofs.lemmas.List.{drop_all, drop-map, take-map, drop-append-le, take-append-le, append-nil, length-drop, length-append, map-append, map-id}
 use Rattle.std.proofs.lemmas.List.Elements.{All-tail, All-cons, All-append}
+use Rattle.std.proofs.lemmas.List.Sorted.{All-permutation, IsPermutation-insert}
 use Rattle.std.proofs.lemmas.Bool.{cases_lt}
 use Rattle.std.proofs.Math.Seq.{drop-append_seam, take-length}
 use Rattle.dir_names.specs.Keys.{DnKeys}
@@ -42,6 +43,13 @@ part-append xs ys a b h = ⊎_elim outside inside (cases_lt b a)
         let begins : a ≤ length xs = omega arith in
         let fits : b - a ≤ length (drop a xs) = omega (arith, length-drop a xs) in
         ap (take (b - a)) (drop-append-le a xs ys begins) ∙ take-append-le (b - a) (drop a xs) ys fits
+
+-- what follows an index in a list, as a part up to its end
+pub part-after : {A : Type 0} (xs : List A) (start from : ℕ) → from ≡ min start (length xs) → take (length xs - from) (drop from xs) ≡ drop start xs
+part-after xs start from e = ap (λ n. take n (drop from xs)) (sym (length-drop from xs)) ∙ take-length (drop from xs) ∙ same
+  where
+    same : drop from xs ≡ drop start xs
+    same = ⊎_elim (λ above. ap (λ n. drop n xs) (let is : from ≡ length xs = omega (arith, e, above) in is) ∙ drop_all (length xs) xs (omega arith) ∙ sym (drop_all start xs (omega (arith, above)))) (λ below. ap (λ n. drop n xs) (let is : from ≡ start = omega (arith, e, below) in is)) (cases_lt (length xs) start)
 
 -- what is appended to a list is its last part
 pub part-appended : {A : Type 0} (xs ys : List A) (a b : ℕ) → a ≡ length xs → b ≡ length (xs ++ ys) → part_of (xs ++ ys) a b ≡ ys
@@ -90,11 +98,28 @@ module _ (text new : List ℕ) (names all : List DnKeys) (vs : List PackedValue)
       ∙ ap (λ front. front ++ packed_value new all v ∷ []) (values-append text grown.0 names named.0 vs h)
       ∙ ap (λ last. map (packed_value text names) vs ++ last ∷ []) is
 
+  pub values-insert : (at : ℕ) (value : ValueKey × List ℕ) → packed_value new all v ≡ value → map (packed_value new all) (insert vs at v) ≡ insert (map (packed_value text names) vs) at value
+  values-insert at value is =
+      map-append (packed_value new all) (take at vs) (v ∷ drop at vs)
+      ∙ (λ i. sym (take-map (packed_value new all) at vs) i ++ is i ∷ sym (drop-map (packed_value new all) at vs) i)
+      ∙ ap (λ all_values. take at all_values ++ value ∷ drop at all_values) ((λ i. map (packed_value (grown.1 i) (named.1 i)) vs) ∙ values-append text grown.0 names named.0 vs h)
+
+  pub inside-insert : (at : ℕ) → IsInside new all v → All (IsInside new all) (insert vs at v)
+  inside-insert at last =
+      let before : All (IsInside (text ++ grown.0) (names ++ named.0)) vs = all_inside-append text grown.0 names named.0 vs h in
+      let here : All (IsInside new all) vs = subst (λ t. All (IsInside t all) vs) (sym grown.1) (subst (λ ns. All (IsInside (text ++ grown.0) ns) vs) (sym named.1) before) in
+      All-permutation (IsInside new all) (v ∷ vs) (insert vs at v) (IsPermutation-insert vs at v) (All-cons (IsInside new all) v vs last here)
+
   pub inside-push : IsInside new all v → All (IsInside new all) (vs ++ v ∷ [])
   inside-push last =
       let before : All (IsInside (text ++ grown.0) (names ++ named.0)) vs = all_inside-append text grown.0 names named.0 vs h in
       let here : All (IsInside new all) vs = subst (λ t. All (IsInside t all) vs) (sym grown.1) (subst (λ ns. All (IsInside (text ++ grown.0) ns) vs) (sym named.1) before) in
       All-append (IsInside new all) vs (v ∷ []) here (All-cons (IsInside new all) v [] last (λ k d below. absurd (omega (arith, below))))
+
+-- the keys of values in a text
+pub keys-packed : (text : List ℕ) (names : List DnKeys) (vs : List PackedValue) → map (λ v. (packed_value text names v).0) vs ≡ map (λ value. (value_pair value).0) (map (packed_value text names) vs)
+keys-packed text names [] = refl
+keys-packed text names (v ∷ vs) = ap (λ ks. (packed_value text names v).0 ∷ ks) (keys-packed text names vs)
 
 -- ---- attributes over lists of values that grow
 

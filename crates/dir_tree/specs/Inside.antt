@@ -5,6 +5,7 @@ pub mod Codes
 pub mod Kept
 pub mod Lent
 pub mod Packed
+pub mod Patterns
 pub mod Searches
 pub mod Stored
 pub mod TreeFalls

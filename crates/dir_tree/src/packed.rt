@@ -1,6 +1,6 @@
 //! The attributes of an entry in little memory: the texts of all values in one, and where in it each of them is.
 
-ghost use Rattle.std.specs.Prelude.{◌≡◌, ◌++◌, ◌∷◌, ◌<◌, ℕ, List, [], IfOk, IfSome, IsTrue, OnOk, get_or, length, map};
+ghost use Rattle.std.specs.Prelude.{◌≡◌, ◌++◌, ◌∷◌, ◌<◌, ℕ, List, [], IfOk, IfSome, IsTrue, OnOk, drop, get_or, length, map};
 ghost use Rattle.dir_names.specs.Keys.{DnKeys};
 ghost use Rattle.dir_names.specs.declared.value.ValueKey.{ValueKey};
 ghost use Rattle.std.specs.FinMap as fin;
@@ -13,12 +13,15 @@ ghost use Rattle.dir_tree.specs.Inside.Searches.{sought_key};
 ghost use Rattle.dir_tree.specs.Inside.Stored.{are_rising, attributes_in, attributes_rise, value_pair};
 ghost use Rattle.std.specs.List.Sorted.{IsSearchInRange};
 
+pub(crate) mod pattern;
+
 use crate::attributes::Attribute;
 use crate::search::{Sought, cmp_lent};
 use crate::stored::StoredValue;
 use crate::views::{AttributeView, KeyView};
 use dir_names::{AttrKey, Description, DnSortKey, Memory, ValueKey};
 use std::alloc::Global;
+use std::cmp::Ordering;
 use std::marker::Model;
 use std::rc::Rc;
 use std::slice;
@@ -387,6 +390,26 @@ impl<'a> PackedSlice<'a> {
         ensures { (value : ValueKey × List ℕ) → result.now ≡ (get_or (values_of self.entry) at value).1 }
     {
         self.values[at].bytes(self.pool)
+    }
+
+    /// The values from an index on.
+    fn after(self, start: usize) -> PackedSlice<'a>
+        ensures { values_of result ≡ drop start (values_of self.entry) }
+    {
+        let start = start.min(self.values.len());
+        PackedSlice {
+            values: &self.values[start..],
+            pool: self.pool,
+        }
+    }
+
+    /// Whether the keys of the values rise.
+    fn rises(self) -> bool
+        ensures { IsTrue result → IsTrue (are_rising (values_of self.entry)) }
+    {
+        self.values.is_sorted_by(|one, another| {
+            cmp_lent(one.key(self.pool), &Sought::Key(another.key(self.pool))) == Ordering::Less
+        })
     }
 
     pub(crate) fn iter(self) -> PackedIter<'a>

@@ -15,7 +15,7 @@ use crate::{Cause, Input, ToolFault};
 use dir_change::{Refusal, ResultCode};
 use dir_ldif::{Record, RecordFault, RecordReader, Source, StreamFault};
 use dir_names::{Dn, DnKey, Lines, NameFault, Schema};
-use dir_tree::{Directory, Entry, may_stand, own_rdns};
+use dir_tree::{Directory, Entry, EntryMaker, may_stand, own_rdns};
 use std::alloc::Global;
 use std::collections::BTreeMap;
 
@@ -24,6 +24,7 @@ use std::collections::BTreeMap;
 pub(super) struct Loading<D: Directory + Drop> {
     directory: D,
     waiting: BTreeMap<DnKey, Waiting>,
+    maker: EntryMaker,
 }
 
 /// An entry that came before its parent, and its line.
@@ -49,6 +50,7 @@ impl<D: Directory + Drop> Loading<D> {
         Loading {
             directory,
             waiting: BTreeMap::new(alloc),
+            maker: EntryMaker::new(alloc),
         }
     }
 
@@ -102,7 +104,10 @@ impl<D: Directory + Drop> Loading<D> {
             return Err(refused(line, ResultCode::EntryAlreadyExists));
         }
         let is_suffix = key == *self.directory.suffix();
-        let entry = match Entry::make(alloc, schema, own_rdns(name, is_suffix), lines) {
+        let entry = match self
+            .maker
+            .make(alloc, schema, own_rdns(name, is_suffix), lines)
+        {
             Ok(entry) => entry,
             Err(fault) => {
                 return Err(match Refusal::from(fault) {
@@ -128,6 +133,7 @@ impl<D: Directory + Drop> Loading<D> {
         let Loading {
             mut directory,
             waiting,
+            maker: _,
         } = self;
         let mut orphans = Orphans::new(alloc);
         for (key, waiting) in waiting {

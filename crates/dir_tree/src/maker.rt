@@ -1,0 +1,130 @@
+//! Entries that are made one after the other.
+
+ghost use Rattle.std.specs.Prelude.{◌≡◌, IfSome, IsSome, Ok, false};
+ghost use Rattle.dir_tree.specs.Inside.Patterns.{HasEach};
+ghost use Rattle.dir_tree.specs.NewEntry.{Makes, attributes_of, exceeds_single_value, new_entry, rdn_lines, with_missing_of};
+
+use crate::EntryFault;
+use crate::entry::{Entry, leaf_key};
+use crate::kept::KeptAttributes;
+use crate::packed::pattern::{Pattern, order_of};
+use crate::parts::Parts;
+use dir_names::{Bytes, Description, Lines, Rdn, Schema};
+use std::alloc::Global;
+
+/// How many patterns are remembered.
+const MOST_PATTERNS: usize = 8;
+
+/// An entry of more lines is not remembered.
+const MOST_LINES: usize = 64;
+
+/// Makes entries one after the other. It remembers how the lines of the last ones were arranged: an entry whose lines
+/// are arranged as those of one of them is made in less time.
+#[derive(Drop)]
+pub struct EntryMaker {
+    patterns: Vec<Pattern>,
+}
+
+impl EntryMaker {
+    pub fn new(alloc: Global) -> EntryMaker {
+        EntryMaker {
+            patterns: Vec::new(alloc),
+        }
+    }
+
+    /// The entry that an add makes, as `Entry::make` answers it.
+    ///
+    /// # Errors
+    ///
+    /// As for `Entry::make`.
+    pub fn make(
+        &mut self,
+        alloc: Global,
+        schema: &Schema,
+        spelled: Vec<Rdn>,
+        values: Lines,
+    ) -> Result<Entry, EntryFault>
+        ensures { Makes (λ entry. entry) result (new_entry schema.now spelled.items values) }
+    {
+        let mut own = spelled;
+        own.shrink_to_fit();
+        let Some(leaf) = own.first() else {
+            return Err(EntryFault::NotNamed);
+        };
+        let key = leaf_key(alloc, schema, leaf)?;
+        match self.alike(alloc, schema, leaf, values.as_slice()) {
+            Some(attributes) => Ok(Entry::of(Parts {
+                own,
+                key,
+                attributes,
+            })),
+            None => self.made(alloc, schema, own, values),
+        }
+    }
+
+    /// The entry that an add makes. How its lines are arranged is remembered, unless they are many.
+    fn made(
+        &mut self,
+        alloc: Global,
+        schema: &Schema,
+        own: Vec<Rdn>,
+        lines: Lines,
+    ) -> Result<Entry, EntryFault>
+        ensures { Makes (λ entry. entry) result (new_entry schema.now own.items lines) }
+    {
+        let order = if lines.as_slice().len() > MOST_LINES {
+            None
+        } else {
+            order_of(alloc, lines.as_slice())
+        };
+        let entry = Entry::make(alloc, schema, own, lines)?;
+        if let Some(pattern) = pattern_of(&entry, order) {
+            self.remember(pattern);
+        }
+        Ok(entry)
+    }
+
+    /// The attributes of a new entry, if its lines are arranged as those of an entry before.
+    fn alike(
+        &mut self,
+        alloc: Global,
+        schema: &Schema,
+        leaf: &Rdn,
+        lines: &[(Description, Bytes)],
+    ) -> Option<KeptAttributes>
+        requires { IsSome (rdn_lines schema.now leaf.now) }
+        ensures lines { IfSome result (λ made. attributes_of schema.now lines.now ≡ Ok made) }
+        ensures own { IfSome result (λ made. with_missing_of made (rdn_lines schema.now leaf.now) ≡ made) }
+        ensures single { IfSome result (λ made. exceeds_single_value schema.now made ≡ false) }
+    {
+        for at in 0..self.patterns.len() {
+            if let Some(made) = KeptAttributes::made(
+                alloc,
+                schema,
+                leaf,
+                lines,
+                &self.patterns[at],
+            ) {
+                self.patterns.as_mut_slice().swap(0, at);
+                return Some(made);
+            }
+        }
+        None
+    }
+
+    /// Remembers a pattern, in place of one that was not met for long if there are many.
+    fn remember(&mut self, pattern: Pattern) {
+        if self.patterns.len() < MOST_PATTERNS {
+            let _ = self.patterns.push(pattern);
+        } else {
+            self.patterns[MOST_PATTERNS - 1] = pattern;
+        }
+    }
+}
+
+/// The pattern of an entry that was made of lines whose order is given.
+fn pattern_of(entry: &Entry, order: Option<Vec<u16>>) -> Option<Pattern>
+    requires { IfSome order (λ order. HasEach order.items) }
+{
+    Pattern::of(entry.packed()?, order?)
+}
