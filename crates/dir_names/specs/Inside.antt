@@ -5,6 +5,7 @@ pub mod Frequent
 pub mod Left
 pub mod Ranks
 pub mod Rows
+pub mod ShortKeys
 pub mod SortKeys
 pub mod SortTexts
 pub mod Steps
