@@ -3,6 +3,7 @@
 pub mod Few
 pub mod Frequent
 pub mod Left
+pub mod Parents
 pub mod Ranks
 pub mod Rows
 pub mod ShortKeys
