@@ -1,15 +1,15 @@
 //! The key of a value, appended to a text unless it is the value itself. ASCII values need no memory of their own.
 
 ghost use Rattle.std.specs.List.{list_any};
-ghost use Rattle.std.specs.Prelude.{◌≡◌, false, true, IfErr, IfOk, IsTrue, Ok};
+ghost use Rattle.std.specs.Prelude.{◌≡◌, ◌==◌, ◌||◌, ◌++◌, false, true, IfErr, IfOk, IsTrue, Ok};
 ghost use Rattle.std.specs.Char.{is_ascii_uppercase};
 ghost use Rattle.std.specs.Str.{str_to_ascii_lowercase};
 ghost use Rattle.dir_names.specs.Inside.ShortKeys.{IsKeyByWay};
 ghost use Rattle.dir_names.specs.NameKeys.{as_text};
-ghost use Rattle.dir_names.specs.Outcome.{IsNameFaultOf};
+ghost use Rattle.dir_names.specs.Outcome.{Gives, IsNameFaultOf};
 ghost use Rattle.dir_names.specs.ValueKeys.{is_ascii, text_key_of};
 ghost use Rattle.dir_names.specs.ValueKeys.Pushed.{Pushes, is_appended};
-ghost use Rattle.dir_names.specs.ValueKeys.Spaces.{without_extra_spaces};
+ghost use Rattle.dir_names.specs.ValueKeys.Spaces.{without_extra_spaces, without_spaces_and_hyphens};
 
 use crate::key::sorting::put_lowercase;
 use crate::value::folding::is_ascii;
@@ -35,6 +35,8 @@ enum Way {
     Same,
     /// It is the value in lower case.
     Lowercase,
+    /// It is the value in lower case, without spaces and hyphens.
+    Dialed,
     /// By its rule.
     ByRule,
 }
@@ -83,6 +85,10 @@ fn push_text_key(
             put_lowercase(value, text)?;
             Ok(PushedKey::Appended)
         }
+        Way::Dialed => {
+            put_dialed(value, text)?;
+            Ok(PushedKey::Appended)
+        }
         Way::ByRule => push_key_by_rule(alloc, rule, value, text),
     }
 }
@@ -111,6 +117,7 @@ fn way_of(rule: Rule, value: &[u8]) -> Way
     match rule {
         Rule::Octet => Way::Same,
         Rule::CaseIgnore if !value.is_empty() && is_tidy(value) => way_to_lowercase(value),
+        Rule::Telephone if !value.is_empty() && is_ascii(value) => way_to_dialed(value),
         Rule::Ia5CaseIgnore if is_tidy(value) => way_to_lowercase(value),
         Rule::Ia5CaseExact if is_tidy(value) => Way::Same,
         Rule::ObjectId if is_object_id(value) => way_to_lowercase(value),
@@ -127,6 +134,37 @@ fn way_to_lowercase(value: &[u8]) -> Way
     } else {
         Way::Same
     }
+}
+
+fn way_to_dialed(value: &[u8]) -> Way
+    ensures { IsKeyByWay (Ok (without_spaces_and_hyphens (str_to_ascii_lowercase value.now))) value.now result }
+{
+    if has_undialed(value) {
+        Way::Dialed
+    } else {
+        Way::Same
+    }
+}
+
+/// Whether there is a space, a hyphen or a letter that is not in lower case.
+fn has_undialed(value: &[u8]) -> bool
+    ensures { result ≡ list_any (λ b. b == 32 || b == 45 || is_ascii_uppercase b) value.now }
+{
+    value
+        .iter()
+        .any(|b| *b == b' ' || *b == b'-' || b.is_ascii_uppercase())
+}
+
+/// Appends a text in lower case, without its spaces and hyphens.
+fn put_dialed(value: &[u8], text: &mut Vec<u8>) -> Result<(), NameFault>
+    ensures { Gives (λ _. text.new.items) result (Ok (text.old.items ++ without_spaces_and_hyphens (str_to_ascii_lowercase value.now))) }
+{
+    for b in value {
+        if *b != b' ' && *b != b'-' {
+            text.push(b.to_ascii_lowercase())?;
+        }
+    }
+    Ok(())
 }
 
 /// Whether a letter is not in lower case.
