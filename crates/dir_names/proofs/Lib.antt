@@ -23,6 +23,7 @@ pub mod ReadNames
 pub mod ReadValues
 pub mod ReadsSpells
 pub mod Rfc4514
+pub mod ShortKeys
 pub mod SingleSpaces
 pub mod SortOrder
 pub mod SortedNames

@@ -45,7 +45,7 @@ single (b ∷ bs) =
     (λ i. cond (same_space b i && begins bs i) (single bs i) (to_ascii_lowercase b ∷ single bs i))
     ∙ choose (b == 32 && begins_with_space bs) (with_single_spaces bs) (b ∷ with_single_spaces bs)
 
-stays_tidy : (bs : List ℕ) → without_extra_spaces bs ≡ bs → without_extra_spaces (str_to_ascii_lowercase bs) ≡ str_to_ascii_lowercase bs
+pub stays_tidy : (bs : List ℕ) → without_extra_spaces bs ≡ bs → without_extra_spaces (str_to_ascii_lowercase bs) ≡ str_to_ascii_lowercase bs
 stays_tidy bs e =
     ap (λ l. without_trailing_spaces (without_leading_spaces l)) (single bs)
     ∙ ap without_trailing_spaces (leading (with_single_spaces bs))

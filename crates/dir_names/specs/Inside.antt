@@ -3,8 +3,10 @@
 pub mod Few
 pub mod Frequent
 pub mod Left
+pub mod Parents
 pub mod Ranks
 pub mod Rows
+pub mod ShortKeys
 pub mod SortKeys
 pub mod SortTexts
 pub mod Steps

@@ -1,5 +1,6 @@
 -- The comparison key of a value under each matching rule (RFC 4517, section 4.2).
 pub mod Pieces
+pub mod Pushed
 pub mod Spaces
 use Rattle.std.specs.Prelude.{ℕ, Bool, false, cond, not, ◌&&◌, ◌==◌, nat_lt, List, [], ◌∷◌, length, chars, encode_utf8_all, Result, Ok, Err}
 use Rattle.std.specs.List.{list_all}

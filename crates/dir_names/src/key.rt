@@ -3,9 +3,10 @@
 
 ghost use Rattle.std.specs.Cmp.{partial_order_from_agreeing_total};
 ghost use Rattle.std.specs.Ordering.{as_partial_cmp};
-ghost use Rattle.std.specs.Prelude.{◌≡◌, ◌<◌, ◌≤◌, ◌↔◌, [], ◌∷◌, ◌++◌, IsTrue, Ok, Err, cond, nat_lt, refl, length};
+ghost use Rattle.std.specs.Prelude.{◌≡◌, ◌<◌, ◌≤◌, ◌↔◌, [], ◌∷◌, ◌++◌, IfErr, IfOk, IsTrue, Ok, Err, cond, nat_lt, refl, length};
 ghost use Rattle.dir_names.specs.Keys.{is_rdn_key, with_pair, IsAtOrBelow, IsParent, parent_of};
 ghost use Rattle.dir_names.specs.Orders.{rdn_key_cmp, rdn_key_eq, rdn_key_cmp_total, rdn_key_cmp_ties, dn_key_cmp, dn_key_eq, dn_key_cmp_total, dn_key_cmp_ties, tied_equiv, tied_per};
+ghost use Rattle.dir_names.specs.Inside.Parents.{AreSortTexts, parts_above};
 ghost use Rattle.dir_names.specs.Inside.SortTexts.{name_sort};
 ghost use Rattle.dir_names.specs.Outcome.{Gives};
 ghost use Rattle.dir_names.specs.declared.fault.NameFault.TheVariants.{NameLimit};
@@ -158,11 +159,14 @@ impl Ord for RdnKey {
     }
 }
 
-/// The keys of the at most 64 RDNs of a name, root first, and the text that the name is ordered by.
+/// The keys of the at most 64 RDNs of a name, root first, and the text that the name is ordered by, which
+/// begins with that of its parent.
 #[derive(Debug, Drop)]
 struct NameKey {
     parts: Vec<RdnKey>,
     sort: Vec<u8>,
+    /// The length of the parent's text.
+    above: usize,
 }
 
 impl Model for NameKey {
@@ -173,10 +177,10 @@ impl Model for NameKey {
 
     ghost view = { λ key. key.parts.items };
 
-    ghost use Rattle.std.specs.Prelude.{◌≡◌, ◌≤◌, length};
-    ghost use Rattle.dir_names.specs.Inside.SortTexts.{name_sort};
+    ghost use Rattle.std.specs.Prelude.{◌≤◌, length};
+    ghost use Rattle.dir_names.specs.Inside.Parents.{AreSortTexts};
 
-    ghost invariant = { λ key. (key.sort.items ≡ name_sort key.parts.items) × (length key.parts.items ≤ 64) };
+    ghost invariant = { λ key. AreSortTexts key.parts.items key.sort.items key.above × (length key.parts.items ≤ 64) };
 }
 
 impl NameKey {
@@ -185,20 +189,28 @@ impl NameKey {
         ensures { Gives (λ key. key) result (Ok parts.items) }
     {
         let mut sort = Vec::with_capacity(alloc, parts.len().saturating_mul(24))?;
-        put_name(parts.as_slice(), &mut sort)?;
+        let above = put_name_and_above(parts.as_slice(), &mut sort)?;
         sort.shrink_to_fit();
-        Ok(NameKey { parts, sort })
+        Ok(NameKey { parts, sort, above })
     }
 
-    fn child(&self, alloc: Global, part: &RdnKey) -> Result<NameKey, NameFault>
-        requires { length self.now < 64 }
-        ensures { Gives (λ key. key) result (Ok (self.now ++ part.now ∷ [])) }
+    /// The key of the name that has these parts and one more. `sort` is the text of these.
+    fn with_leaf(
+        alloc: Global,
+        parts: &[RdnKey],
+        sort: &[u8],
+        leaf: &RdnKey,
+    ) -> Result<NameKey, NameFault>
+        requires room { length parts.now < 64 }
+        requires sorted { sort.now ≡ name_sort parts.now }
+        ensures { Gives (λ key. key) result (Ok (parts.now ++ leaf.now ∷ [])) }
     {
-        let mut sort = self.sort.as_slice().to_vec(alloc)?;
-        put_part(part, &mut sort)?;
-        let mut parts = cloned_parts(alloc, self.parts.as_slice())?;
-        parts.push(part.try_clone(alloc)?)?;
-        Ok(NameKey { parts, sort })
+        let above = sort.len();
+        let mut sort = sort.to_vec(alloc)?;
+        put_part(leaf, &mut sort)?;
+        let mut parts = cloned_parts(alloc, parts)?;
+        parts.push(leaf.try_clone(alloc)?)?;
+        Ok(NameKey { parts, sort, above })
     }
 
     fn as_slice(&self) -> &[RdnKey]
@@ -214,24 +226,43 @@ impl NameKey {
         self.sort.as_slice()
     }
 
-    fn is_same(&self, other: &NameKey) -> bool
-        ensures { result ≡ dn_key_eq self.now other.now }
+    /// The parts above the leaf.
+    fn above(&self) -> &[RdnKey]
+        ensures value { result.now ≡ parts_above self.now }
+        ensures within_limit { length self.now ≤ 64 }
     {
-        self.sort == other.sort
+        &self.parts[..self.parts.len().saturating_sub(1)]
     }
 
-    fn compare(&self, other: &NameKey) -> Ordering
-        ensures { result ≡ dn_key_cmp self.now other.now }
+    fn sort_text_above(&self) -> &[u8]
+        ensures { result.now ≡ name_sort (parts_above self.now) }
     {
-        self.sort.cmp(&other.sort)
+        &self.sort[..self.above]
     }
 }
 
+/// Puts the text of a name, and tells how long that of its parent is.
+fn put_name_and_above(parts: &[RdnKey], sort: &mut Vec<u8>) -> Result<usize, NameFault>
+    requires { sort.old.items ≡ [] }
+    ensures texts { IfOk result (AreSortTexts parts.now sort.new.items) }
+    ensures memory { IfErr result (λ e. e ≡ NameFault.Memory) }
+{
+    let Some((leaf, above)) = parts.split_last() else {
+        return Ok(0);
+    };
+    put_name(above, sort)?;
+    let len = sort.len();
+    put_part(leaf, sort)?;
+    Ok(len)
+}
+
 /// What a name is compared by: the keys of its RDNs, root first, so that a name comes before all names
-/// below it. It has at most 64, as a name has. Copies share its memory.
+/// below it. It has at most 64, as a name has. Copies share its memory, and so does the key of the parent.
 #[derive(Debug, Drop)]
 pub struct DnKey {
     shared: Rc<NameKey>,
+    /// Whether the name is the parent of the one that is shared.
+    is_above: bool,
 }
 
 impl Model for DnKey {
@@ -240,7 +271,9 @@ impl Model for DnKey {
 
     ghost Value = { List (List (Attr × List ℕ)) };
 
-    ghost view = { λ key. key.shared.value };
+    ghost use Rattle.dir_names.specs.Inside.Parents.{parts_or_above};
+
+    ghost view = { λ key. parts_or_above key.is_above key.shared.value };
 }
 
 impl DnKey {
@@ -280,10 +313,8 @@ impl DnKey {
         if self.depth() >= MAX_RDNS {
             return Err(NameFault::NameLimit);
         }
-        let child = self.shared.child(alloc, part)?;
-        Ok(DnKey {
-            shared: Rc::new(alloc, child)?,
-        })
+        let child = NameKey::with_leaf(alloc, self.parts(), self.sort_text(), part)?;
+        DnKey::of(alloc, child)
     }
 
     /// The key of the name without its leaf, or `None` for the name without RDNs.
@@ -293,8 +324,14 @@ impl DnKey {
         let Some((_, above)) = self.parts().split_last() else {
             return Ok(None);
         };
-        let parts = cloned_parts(alloc, above)?;
-        Ok(Some(DnKey::from_parts(alloc, parts)?))
+        if self.is_above {
+            let parts = cloned_parts(alloc, above)?;
+            return Ok(Some(DnKey::from_parts(alloc, parts)?));
+        }
+        Ok(Some(DnKey {
+            shared: self.shared.clone()?,
+            is_above: true,
+        }))
     }
 
     /// The keys of the RDNs, root first.
@@ -302,14 +339,22 @@ impl DnKey {
         ensures value { result.now ≡ self.now }
         ensures within_limit { length self.now ≤ 64 }
     {
-        self.shared.as_slice()
+        if self.is_above {
+            self.shared.above()
+        } else {
+            self.shared.as_slice()
+        }
     }
 
     /// The text that the key is ordered by.
     fn sort_text(&self) -> &[u8]
         ensures { result.now ≡ name_sort self.now }
     {
-        self.shared.sort_text()
+        if self.is_above {
+            self.shared.sort_text_above()
+        } else {
+            self.shared.sort_text()
+        }
     }
 
     /// The same key, in the same memory.
@@ -318,6 +363,16 @@ impl DnKey {
     {
         Ok(DnKey {
             shared: self.shared.clone()?,
+            is_above: self.is_above,
+        })
+    }
+
+    fn of(alloc: Global, key: NameKey) -> Result<DnKey, NameFault>
+        ensures { Gives (λ key. key) result (Ok key) }
+    {
+        Ok(DnKey {
+            shared: Rc::new(alloc, key)?,
+            is_above: false,
         })
     }
 
@@ -325,10 +380,7 @@ impl DnKey {
         requires { length parts.items ≤ 64 }
         ensures { Gives (λ key. key) result (Ok parts.items) }
     {
-        let key = NameKey::new(alloc, parts)?;
-        Ok(DnKey {
-            shared: Rc::new(alloc, key)?,
-        })
+        DnKey::of(alloc, NameKey::new(alloc, parts)?)
     }
 }
 
@@ -338,7 +390,7 @@ impl PartialEq for DnKey {
     ghost laws = { tied_per dn_key_cmp dn_key_cmp_total dn_key_cmp_ties };
 
     fn eq(&self, other: &DnKey) -> bool {
-        self.shared.is_same(&other.shared)
+        self.sort_text() == other.sort_text()
     }
 }
 
@@ -366,7 +418,7 @@ impl Ord for DnKey {
     ghost matches_eq = { dn_key_cmp_ties };
 
     fn cmp(&self, other: &DnKey) -> Ordering {
-        self.shared.compare(&other.shared)
+        self.sort_text().cmp(other.sort_text())
     }
 }
 

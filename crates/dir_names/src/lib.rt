@@ -23,3 +23,4 @@ pub use name::{Dn, Rdn};
 pub use schema::{Rule, Schema};
 pub use value::ValueKey;
 pub use value::pieces::PiecePlace;
+pub use value::pushed::PushedKey;

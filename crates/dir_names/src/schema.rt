@@ -2,7 +2,7 @@
 
 ghost use Rattle.std.specs.Prelude.{◌≡◌, ◌<◌, ◌∷◌, All, IfErr, IfOk, IfSome, Ok, find, map, option_copied};
 ghost use Rattle.dir_names.specs.NameKeys.{attr_of};
-ghost use Rattle.dir_names.specs.Inside.Frequent.{IsFrequentSlot, IsFrequentDescription, IsFrequentType, IsRankedRule};
+ghost use Rattle.dir_names.specs.Inside.Frequent.{IsFrequentSlot, IsFrequentDescription, IsFrequentType, IsRankedType};
 ghost use Rattle.dir_names.specs.Inside.Rows.{type_row};
 ghost use Rattle.std.specs.List.{list_any};
 ghost use Rattle.std.specs.Str.{str_eq_ignore_ascii_case};
@@ -55,15 +55,16 @@ pub struct Schema {
     rows: Vec<TypeRow>,
     /// The types that copies of directories use most, each in the slot of its text.
     frequent: Vec<Option<FrequentType>>,
-    /// The rules of the types that have ranks, each at its rank.
-    ranked: Vec<RankedRule>,
+    /// The types that have ranks, each at its rank.
+    ranked: Vec<RankedType>,
 }
 
-/// The rule of the type that has this rank.
+/// What is known of the type that has this rank.
 #[derive(Clone, Copy, Debug)]
-struct RankedRule {
+struct RankedType {
     rank: u8,
     rule: Rule,
+    single: bool,
 }
 
 /// The number of slots for frequent types.
@@ -86,9 +87,9 @@ impl Model for Schema {
     ghost view = { λ schema. schema.rows.items };
 
     ghost use Rattle.std.specs.Prelude.{All};
-    ghost use Rattle.dir_names.specs.Inside.Frequent.{IsFrequentSlot, IsRankedRule};
+    ghost use Rattle.dir_names.specs.Inside.Frequent.{IsFrequentSlot, IsRankedType};
 
-    ghost invariant = { λ schema. All (IsFrequentSlot schema.rows.items) schema.frequent.items × All (IsRankedRule schema.rows.items) schema.ranked.items };
+    ghost invariant = { λ schema. All (IsFrequentSlot schema.rows.items) schema.frequent.items × All (IsRankedType schema.rows.items) schema.ranked.items };
 }
 
 impl Schema {
@@ -106,7 +107,7 @@ impl Schema {
             ranked: Vec::new(alloc),
         };
         let frequent = frequent_types(alloc, &bare)?;
-        let ranked = ranked_rules(alloc, &bare)?;
+        let ranked = ranked_types(alloc, &bare)?;
         let Schema {
             rows,
             frequent: _,
@@ -145,18 +146,19 @@ impl Schema {
     pub fn rule(&self, attr: &AttrKey) -> Rule
         ensures { result ≡ rule_of self.now attr.now }
     {
-        match self.ranked_rule(attr) {
-            Some(rule) => rule,
+        match self.ranked_type(attr) {
+            Some(ranked) => ranked.rule,
             None => self.rule_in_slot(attr),
         }
     }
 
-    fn ranked_rule(&self, attr: &AttrKey) -> Option<Rule>
-        ensures { IfSome result (λ rule. rule ≡ rule_of self.now attr.now) }
+    fn ranked_type(&self, attr: &AttrKey) -> Option<RankedType>
+        ensures rule { IfSome result (λ ranked. ranked.rule ≡ rule_of self.now attr.now) }
+        ensures single { IfSome result (λ ranked. ranked.single ≡ single_of self.now attr.now) }
     {
         let rank = attr.rank()?;
         match self.ranked.get(usize::from(rank)) {
-            Some(ranked) if ranked.rank == rank => Some(ranked.rule),
+            Some(ranked) if ranked.rank == rank => Some(*ranked),
             _ => None,
         }
     }
@@ -182,6 +184,15 @@ impl Schema {
 
     /// Whether an attribute of this type takes at most one value.
     pub fn single(&self, attr: &AttrKey) -> bool
+        ensures { result ≡ single_of self.now attr.now }
+    {
+        match self.ranked_type(attr) {
+            Some(ranked) => ranked.single,
+            None => self.single_in_table(attr),
+        }
+    }
+
+    fn single_in_table(&self, attr: &AttrKey) -> bool
         ensures { result ≡ single_of self.now attr.now }
     {
         match row_of(self.rows.as_slice(), attr.attr_type()) {
@@ -294,29 +305,30 @@ fn frequent_type(
     }
 }
 
-/// The rules of the types that have ranks.
-fn ranked_rules(alloc: Global, schema: &Schema) -> Result<Vec<RankedRule>, NameFault>
-    ensures ranked { IfOk result (λ rules. All (IsRankedRule schema.now) rules.items) }
+/// The types that have ranks.
+fn ranked_types(alloc: Global, schema: &Schema) -> Result<Vec<RankedType>, NameFault>
+    ensures ranked { IfOk result (λ types. All (IsRankedType schema.now) types.items) }
     ensures memory { IfErr result (λ e. e ≡ NameFault.Memory) }
 {
-    let mut rules = Vec::with_capacity(alloc, RANKED.len())?;
+    let mut types = Vec::with_capacity(alloc, RANKED.len())?;
     for name in &RANKED {
         let attr = AttrKey::of_type(alloc, Bytes::copy_of(alloc, name.as_bytes())?)?;
-        let Some(ranked) = ranked_rule_of(schema, &attr) else {
-            return Ok(rules);
+        let Some(ranked) = ranked_type_of(schema, &attr) else {
+            return Ok(types);
         };
-        rules.push(ranked)?;
+        types.push(ranked)?;
     }
-    Ok(rules)
+    Ok(types)
 }
 
-fn ranked_rule_of(schema: &Schema, attr: &AttrKey) -> Option<RankedRule>
-    ensures { IfSome result (IsRankedRule schema.now) }
+fn ranked_type_of(schema: &Schema, attr: &AttrKey) -> Option<RankedType>
+    ensures { IfSome result (IsRankedType schema.now) }
 {
     let rank = attr.rank()?;
-    Some(RankedRule {
+    Some(RankedType {
         rank,
         rule: schema.rule(attr),
+        single: schema.single(attr),
     })
 }
 

@@ -14,6 +14,7 @@ ghost use Rattle.dir_names.specs.Values.{value_key_cmp, value_key_eq, value_key_
 
 pub(crate) mod folding;
 pub(crate) mod pieces;
+pub(crate) mod pushed;
 pub(crate) mod spaces;
 
 use crate::attribute::{are_digits, lowercase_bytes};

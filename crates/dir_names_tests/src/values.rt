@@ -1,7 +1,7 @@
 //! Keys of values by the rules of their types, and the pieces of substring assertions.
 
 use crate::make::{attr_key, name_key, schema, value_key};
-use dir_names::{DnKey, NameFault, PiecePlace, ValueKey};
+use dir_names::{DnKey, NameFault, PiecePlace, PushedKey, ValueKey};
 use std::alloc::Global;
 use std::process::Abort;
 
@@ -60,6 +60,25 @@ fn values_are_folded_and_normalised(rt: HostRuntime) {
 fn assert_key(rt: &impl Abort, alloc: Global, attr_type: &str, value: &[u8], want: &[u8]) {
     let key = value_key(rt, alloc, attr_type, value);
     assert!(rt; key.text() == Some(want), "{attr_type}");
+}
+
+#[test]
+fn pushed_keys_are_those_of_the_values(rt: HostRuntime) {
+    for (attr_type, value, want) in &KEYS {
+        assert_pushed(&rt, rt.alloc(), attr_type, value, want);
+    }
+}
+
+fn assert_pushed(rt: &impl Abort, alloc: Global, attr_type: &str, value: &[u8], want: &[u8]) {
+    let attr = attr_key(rt, alloc, attr_type);
+    let mut text = Vec::new(alloc);
+    let pushed = schema(rt, alloc).push_value_key(alloc, &attr, value, &mut text);
+    let is_wanted = match pushed {
+        Ok(PushedKey::Same) => value == want && text.is_empty(),
+        Ok(PushedKey::Appended) => value != want && text.as_slice() == want,
+        _ => false,
+    };
+    assert!(rt; is_wanted, "{attr_type}");
 }
 
 #[test]

@@ -53,7 +53,7 @@ pub(crate) fn put_lowercase_pair(
 }
 
 /// Appends a text in lower case.
-fn put_lowercase(text: &[u8], out: &mut Vec<u8>) -> Result<(), NameFault>
+pub(crate) fn put_lowercase(text: &[u8], out: &mut Vec<u8>) -> Result<(), NameFault>
     ensures { Gives (λ _. out.new.items) result (Ok (out.old.items ++ str_to_ascii_lowercase text.now)) }
 {
     let start = out.len();
