@@ -10,6 +10,7 @@ ghost use Rattle.dir_ldif.specs.Inside.Values.{bytes_of};
 
 use crate::faults::{RecordFault, Refusal};
 use crate::reader::bytes::{cut_at, without_spaces};
+use crate::scan::all_usual;
 use base64::DecodeAllocError;
 use base64::engine::general_purpose::STANDARD;
 use dir_names::Bytes;
@@ -95,6 +96,7 @@ fn limited_value(alloc: Global, text: &[u8]) -> Result<Value<'_>, Refusal>
 }
 
 /// The value of a base64 text, within the limit. A text that is too long for that is not decoded.
+#[inline(never)]
 fn limited_decoded(alloc: Global, text: &[u8]) -> Result<Value<'_>, Refusal>
     ensures { Meets Refuses bytes_of result (and_then (base64_value text.now) within_limit) }
 {
@@ -166,6 +168,14 @@ fn limited(value: Value<'_>) -> Result<Value<'_>, Refusal>
 
 /// Whether a text has a NUL or a CR.
 fn has_nul_or_cr(text: &[u8]) -> bool
+    ensures { result ≡ list_any is_nul_or_cr text.now }
+{
+    !all_usual(text) && finds_nul_or_cr(text)
+}
+
+/// The same, by a search: few texts need it.
+#[inline(never)]
+fn finds_nul_or_cr(text: &[u8]) -> bool
     ensures { result ≡ list_any is_nul_or_cr text.now }
 {
     memchr2(0, b'\r', text).is_some()

@@ -8,6 +8,7 @@ ghost use Rattle.dir_names.specs.Ascii.{carriage_return, space};
 use memchr::memchr;
 
 /// The bytes before the first such byte, and those after it.
+#[inline(always)]
 pub(crate) fn cut_at(byte: u8, text: &[u8]) -> Option<(&[u8], &[u8])>
     ensures { option_map (λ p. (p.0.now, p.1.now)) result ≡ cut_at byte text.now }
 {
