@@ -72,6 +72,7 @@ fn owned(value: Vec<u8>) -> Bytes
 ///
 /// `BadLine` for a line without a name or a colon; then `UrlValue`, `BadBase64`, or `BadLine` for a
 /// NUL or a CR in a plain value; then `ValueTooLong`.
+#[inline(always)]
 pub(crate) fn attrval_of(alloc: Global, line: &[u8]) -> Result<(&[u8], Value<'_>), Refusal>
     ensures { Meets Refuses (λ p. (p.0.now, bytes_of p.1)) result (attrval_of line.now) }
 {
@@ -85,6 +86,7 @@ pub(crate) fn attrval_of(alloc: Global, line: &[u8]) -> Result<(&[u8], Value<'_>
 }
 
 /// The value in what follows a name and its colon, within the limit.
+#[inline(always)]
 fn limited_value(alloc: Global, text: &[u8]) -> Result<Value<'_>, Refusal>
     ensures { Meets Refuses bytes_of result (and_then (value_of text.now) within_limit) }
 {

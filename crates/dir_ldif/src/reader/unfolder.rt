@@ -304,6 +304,7 @@ impl Unfolder {
 
     /// Finishes the physical line in hand, with the bytes before its LF. Answers whether it is empty, so that
     /// the block has ended.
+    #[inline(always)]
     fn finish_physical_line(&mut self, spare: &mut Spare, text: &[u8]) -> Result<bool, StreamFault>
         requires room { self.old.number < 2 ^ 63 }
         ensures number { self.new.number ≡ self.old.number + 1 }
@@ -318,6 +319,7 @@ impl Unfolder {
     }
 
     /// Takes a physical line, in two parts: it continues the last line, or begins a line.
+    #[inline(always)]
     fn unfold(
         &mut self,
         number: u64,
@@ -345,6 +347,7 @@ impl Unfolder {
     }
 
     /// Continues a line by one that begins with a space, in two parts.
+    #[inline(never)]
     fn continue_line(&mut self, last: Line, front: &[u8], back: &[u8]) -> Result<bool, StreamFault>
         requires none { self.old.partial.items ≡ [] }
         requires continuable { may_be_continued (Some last) ≡ true }
@@ -389,6 +392,7 @@ impl Unfolder {
     }
 
     /// Adds a line that is complete to the block. Comments and the version line belong to no block.
+    #[inline(always)]
     fn push_to_block(&mut self, line: Line) -> Result<(), StreamFault>
         requires { may_be_continued (Some line) ≡ true }
         ensures number { self.new.number ≡ self.old.number }
