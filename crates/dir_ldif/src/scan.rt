@@ -8,6 +8,7 @@ ghost use Rattle.dir_ldif.specs.Inside.Usual.{is_usual};
 const PIECE: usize = 32;
 
 /// Whether all bytes are usual: ASCII past CR, as most texts have no other. Such a text has no NUL, LF or CR.
+#[inline(never)]
 pub(crate) fn all_usual(text: &[u8]) -> bool
     ensures { result ≡ list_all is_usual text.now }
 {

@@ -161,6 +161,7 @@ fn push_folded(out: &mut Vec<u8>, room: usize, text: &[u8]) -> Result<usize, Mem
 }
 
 /// Whether a value is written in a line as it is.
+#[inline(always)]
 fn is_plain(value: &[u8]) -> bool
     ensures { result ≡ is_plain value.now }
 {

@@ -150,6 +150,7 @@ fn decoded(alloc: Global, text: &[u8]) -> Result<Vec<u8>, Refusal>
 }
 
 /// A value that is written plainly, within the limit.
+#[inline(always)]
 fn plain(text: &[u8]) -> Result<Value<'_>, Refusal>
     ensures { Meets Refuses bytes_of result (and_then (plain_value text.now) within_limit) }
 {
