@@ -9,7 +9,7 @@ ghost use Rattle.dir_ldif.specs.AttrVal.{base64_value, is_base64, is_nul_or_cr, 
 ghost use Rattle.dir_ldif.specs.Inside.Values.{bytes_of};
 
 use crate::faults::{RecordFault, Refusal};
-use crate::reader::bytes::{cut_at, without_spaces};
+use crate::reader::bytes::{cut_near, without_spaces};
 use crate::scan::all_usual;
 use base64::DecodeAllocError;
 use base64::engine::general_purpose::STANDARD;
@@ -76,7 +76,7 @@ fn owned(value: Vec<u8>) -> Bytes
 pub(crate) fn attrval_of(alloc: Global, line: &[u8]) -> Result<(&[u8], Value<'_>), Refusal>
     ensures { Meets Refuses (λ p. (p.0.now, bytes_of p.1)) result (attrval_of line.now) }
 {
-    let Some((name, rest)) = cut_at(b':', line) else {
+    let Some((name, rest)) = cut_near(b':', line) else {
         return Err(Refusal::Fault(RecordFault::BadLine));
     };
     if name.is_empty() {
