@@ -53,10 +53,20 @@ impl Value<'_> {
         ensures err { IfErr result (λ refusal. refusal ≡ Refusal.Memory) }
     {
         match self {
-            Value::Plain(text) => Ok(owned(text.to_vec(alloc)?)),
+            Value::Plain(text) => Ok(owned(copy_of(alloc, text)?)),
             Value::Decoded(value) => Ok(owned(value)),
         }
     }
+}
+
+/// A copy of a text, in memory of exactly its size.
+fn copy_of(alloc: Global, text: &[u8]) -> Result<Vec<u8>, Refusal>
+    ensures ok { IfOk result (λ v. v.items ≡ text.now) }
+    ensures err { IfErr result (λ refusal. refusal ≡ Refusal.Memory) }
+{
+    let mut copy = Vec::with_capacity(alloc, text.len())?;
+    copy.extend_from_slice(text)?;
+    Ok(copy)
 }
 
 fn owned(value: Vec<u8>) -> Bytes
