@@ -66,6 +66,7 @@ pub fn push_change(out: &mut Vec<u8>, change: &Change) -> Result<(), Memory>
 
 /// Appends one line of a name and a value: plain where the value can be written so, else in base64; folded at
 /// 76 bytes; with its LF (RFC 2849, notes 2, 4 and 8).
+#[inline(always)]
 pub fn push_line(out: &mut Vec<u8>, name: &[u8], value: &[u8]) -> Result<(), Memory>
     ensures text { OnOk result (out.new.items ≡ out.old.items ++ written_line name.now value.now) }
     ensures bytes { OnOk result (IsBytes value.now) }
@@ -90,6 +91,7 @@ fn push_any_line(out: &mut Vec<u8>, name: &[u8], value: &[u8]) -> Result<(), Mem
 }
 
 /// Appends a line that is not folded, with a plain value.
+#[inline(always)]
 fn push_short_line(out: &mut Vec<u8>, name: &[u8], value: &[u8]) -> Result<(), Memory>
     requires plain { is_plain value.now ≡ true }
     requires fits { length name.now + length value.now ≤ 74 }
