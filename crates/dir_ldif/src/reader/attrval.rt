@@ -29,6 +29,9 @@ const ENCODED_PIECE: usize = 1024;
 /// How many bytes such a piece decodes to, if it has no padding.
 const DECODED_PIECE: usize = 768;
 
+/// The greatest length of a value that is copied by one call: a longer one is copied in a loop, which is as fast.
+const SHORT: usize = 512;
+
 /// The value of a line: a part of the line, or decoded.
 #[derive(Drop)]
 pub(crate) enum Value<'a> {
@@ -64,6 +67,9 @@ fn copy_of(alloc: Global, text: &[u8]) -> Result<Vec<u8>, Refusal>
     ensures ok { IfOk result (λ v. v.items ≡ text.now) }
     ensures err { IfErr result (λ refusal. refusal ≡ Refusal.Memory) }
 {
+    if text.len() > SHORT {
+        return Ok(text.to_vec(alloc)?);
+    }
     let mut copy = Vec::with_capacity(alloc, text.len())?;
     copy.extend_from_slice(text)?;
     Ok(copy)
