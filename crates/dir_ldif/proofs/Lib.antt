@@ -21,6 +21,7 @@ pub mod ReadIsSound
 pub mod RecordsLemmas
 pub mod Rfc
 pub mod RoundTrip
+pub mod ScanLemmas
 pub mod ScriptLemmas
 pub mod SoundNames
 pub mod SoundTexts

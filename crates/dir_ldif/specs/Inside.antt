@@ -3,4 +3,5 @@ pub mod Bounds
 pub mod Reader
 pub mod Refusals
 pub mod Unfolder
+pub mod Usual
 pub mod Values

@@ -6,6 +6,7 @@ mod faults;
 mod laws;
 mod reader;
 mod records;
+mod scan;
 mod writer;
 
 pub use device::{DeviceFault, Reader, Script, Sink, Source, Tape, Writer, write_whole};

@@ -12,6 +12,7 @@ ghost use Rattle.dir_ldif.specs.LineText.{base64_of, fold_from, is_plain, is_saf
 ghost use Rattle.dir_names.specs.Ascii.{line_feed, space};
 
 use crate::records::{Change, ChangeKind, Mod, ModOp, Record};
+use crate::scan::all_usual;
 use base64::engine::general_purpose::STANDARD;
 use dir_names::{Bytes, Description, Dn, Lines, Memory, Rdn};
 use std::alloc::Global;
@@ -65,6 +66,7 @@ pub fn push_change(out: &mut Vec<u8>, change: &Change) -> Result<(), Memory>
 
 /// Appends one line of a name and a value: plain where the value can be written so, else in base64; folded at
 /// 76 bytes; with its LF (RFC 2849, notes 2, 4 and 8).
+#[inline(always)]
 pub fn push_line(out: &mut Vec<u8>, name: &[u8], value: &[u8]) -> Result<(), Memory>
     ensures text { OnOk result (out.new.items ≡ out.old.items ++ written_line name.now value.now) }
     ensures bytes { OnOk result (IsBytes value.now) }
@@ -73,12 +75,23 @@ pub fn push_line(out: &mut Vec<u8>, name: &[u8], value: &[u8]) -> Result<(), Mem
     if name.len() + value.len() <= COLUMNS - 2 && is_plain(value) {
         return push_short_line(out, name, value);
     }
+    push_any_line(out, name, value)
+}
+
+/// The same of any line: one that is folded, or whose value is empty or not plain.
+#[inline(never)]
+fn push_any_line(out: &mut Vec<u8>, name: &[u8], value: &[u8]) -> Result<(), Memory>
+    ensures text { OnOk result (out.new.items ≡ out.old.items ++ written_line name.now value.now) }
+    ensures bytes { OnOk result (IsBytes value.now) }
+    ensures kept { StartsWith out.new.items out.old.items }
+{
     let room = push_folded(out, COLUMNS, name)?;
     let _ = push_value(out, room, value)?;
     push_end(out)
 }
 
 /// Appends a line that is not folded, with a plain value.
+#[inline(always)]
 fn push_short_line(out: &mut Vec<u8>, name: &[u8], value: &[u8]) -> Result<(), Memory>
     requires plain { is_plain value.now ≡ true }
     requires fits { length name.now + length value.now ≤ 74 }
@@ -150,6 +163,7 @@ fn push_folded(out: &mut Vec<u8>, room: usize, text: &[u8]) -> Result<usize, Mem
 }
 
 /// Whether a value is written in a line as it is.
+#[inline(always)]
 fn is_plain(value: &[u8]) -> bool
     ensures { result ≡ is_plain value.now }
 {
@@ -159,8 +173,16 @@ fn is_plain(value: &[u8]) -> bool
     }
 }
 
-/// Whether all bytes are safe. It tests each of them, without an early end, so that it becomes vector code.
+/// Whether all bytes are safe.
 fn all_safe(text: &[u8]) -> bool
+    ensures { result ≡ list_all is_safe text.now }
+{
+    all_usual(text) || each_safe(text)
+}
+
+/// The same: it tests each byte, without an early end, so that it becomes vector code.
+#[inline(never)]
+fn each_safe(text: &[u8]) -> bool
     ensures { result ≡ list_all is_safe text.now }
 {
     let mut safe = true;

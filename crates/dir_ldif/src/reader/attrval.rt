@@ -9,7 +9,8 @@ ghost use Rattle.dir_ldif.specs.AttrVal.{base64_value, is_base64, is_nul_or_cr, 
 ghost use Rattle.dir_ldif.specs.Inside.Values.{bytes_of};
 
 use crate::faults::{RecordFault, Refusal};
-use crate::reader::bytes::{cut_at, without_spaces};
+use crate::reader::bytes::{cut_near, without_spaces};
+use crate::scan::all_usual;
 use base64::DecodeAllocError;
 use base64::engine::general_purpose::STANDARD;
 use dir_names::Bytes;
@@ -27,6 +28,9 @@ const ENCODED_PIECE: usize = 1024;
 
 /// How many bytes such a piece decodes to, if it has no padding.
 const DECODED_PIECE: usize = 768;
+
+/// The greatest length of a value that is copied by one call: a longer one is copied in a loop, which is as fast.
+const SHORT: usize = 512;
 
 /// The value of a line: a part of the line, or decoded.
 #[derive(Drop)]
@@ -52,10 +56,23 @@ impl Value<'_> {
         ensures err { IfErr result (λ refusal. refusal ≡ Refusal.Memory) }
     {
         match self {
-            Value::Plain(text) => Ok(owned(text.to_vec(alloc)?)),
+            Value::Plain(text) => Ok(owned(copy_of(alloc, text)?)),
             Value::Decoded(value) => Ok(owned(value)),
         }
     }
+}
+
+/// A copy of a text, in memory of exactly its size.
+fn copy_of(alloc: Global, text: &[u8]) -> Result<Vec<u8>, Refusal>
+    ensures ok { IfOk result (λ v. v.items ≡ text.now) }
+    ensures err { IfErr result (λ refusal. refusal ≡ Refusal.Memory) }
+{
+    if text.len() > SHORT {
+        return Ok(text.to_vec(alloc)?);
+    }
+    let mut copy = Vec::with_capacity(alloc, text.len())?;
+    copy.extend_from_slice(text)?;
+    Ok(copy)
 }
 
 fn owned(value: Vec<u8>) -> Bytes
@@ -71,10 +88,11 @@ fn owned(value: Vec<u8>) -> Bytes
 ///
 /// `BadLine` for a line without a name or a colon; then `UrlValue`, `BadBase64`, or `BadLine` for a
 /// NUL or a CR in a plain value; then `ValueTooLong`.
+#[inline(always)]
 pub(crate) fn attrval_of(alloc: Global, line: &[u8]) -> Result<(&[u8], Value<'_>), Refusal>
     ensures { Meets Refuses (λ p. (p.0.now, bytes_of p.1)) result (attrval_of line.now) }
 {
-    let Some((name, rest)) = cut_at(b':', line) else {
+    let Some((name, rest)) = cut_near(b':', line) else {
         return Err(Refusal::Fault(RecordFault::BadLine));
     };
     if name.is_empty() {
@@ -84,6 +102,7 @@ pub(crate) fn attrval_of(alloc: Global, line: &[u8]) -> Result<(&[u8], Value<'_>
 }
 
 /// The value in what follows a name and its colon, within the limit.
+#[inline(always)]
 fn limited_value(alloc: Global, text: &[u8]) -> Result<Value<'_>, Refusal>
     ensures { Meets Refuses bytes_of result (and_then (value_of text.now) within_limit) }
 {
@@ -95,6 +114,7 @@ fn limited_value(alloc: Global, text: &[u8]) -> Result<Value<'_>, Refusal>
 }
 
 /// The value of a base64 text, within the limit. A text that is too long for that is not decoded.
+#[inline(never)]
 fn limited_decoded(alloc: Global, text: &[u8]) -> Result<Value<'_>, Refusal>
     ensures { Meets Refuses bytes_of result (and_then (base64_value text.now) within_limit) }
 {
@@ -146,6 +166,7 @@ fn decoded(alloc: Global, text: &[u8]) -> Result<Vec<u8>, Refusal>
 }
 
 /// A value that is written plainly, within the limit.
+#[inline(always)]
 fn plain(text: &[u8]) -> Result<Value<'_>, Refusal>
     ensures { Meets Refuses bytes_of result (and_then (plain_value text.now) within_limit) }
 {
@@ -166,6 +187,14 @@ fn limited(value: Value<'_>) -> Result<Value<'_>, Refusal>
 
 /// Whether a text has a NUL or a CR.
 fn has_nul_or_cr(text: &[u8]) -> bool
+    ensures { result ≡ list_any is_nul_or_cr text.now }
+{
+    !all_usual(text) && finds_nul_or_cr(text)
+}
+
+/// The same, by a search: few texts need it.
+#[inline(never)]
+fn finds_nul_or_cr(text: &[u8]) -> bool
     ensures { result ≡ list_any is_nul_or_cr text.now }
 {
     memchr2(0, b'\r', text).is_some()

@@ -1,19 +1,55 @@
 //! Small operations on bytes.
 
-ghost use Rattle.std.specs.Prelude.{◌≡◌, ◌++◌};
+ghost use Rattle.std.specs.Prelude.{◌≡◌, ◌==◌, ◌++◌, ◌≤◌, length, not, take};
+ghost use Rattle.std.specs.List.{prefix_len};
 ghost use Rattle.std.specs.Option.{option_map};
 ghost use Rattle.dir_ldif.specs.Bytes.{begins_with, cut_at, without_leading, without_last};
 ghost use Rattle.dir_names.specs.Ascii.{carriage_return, space};
 
 use memchr::memchr;
+use std::simd::prelude::*;
+
+/// How many bytes are searched at once for a byte that is near.
+const NEAR: usize = 16;
 
 /// The bytes before the first such byte, and those after it.
+#[inline(always)]
 pub(crate) fn cut_at(byte: u8, text: &[u8]) -> Option<(&[u8], &[u8])>
     ensures { option_map (λ p. (p.0.now, p.1.now)) result ≡ cut_at byte text.now }
 {
     match memchr(byte, text) {
         Some(at) => Some((&text[..at], &text[at + 1..])),
         None => None,
+    }
+}
+
+/// The same, where the byte is mostly among the first 16.
+#[inline(always)]
+pub(crate) fn cut_near(byte: u8, text: &[u8]) -> Option<(&[u8], &[u8])>
+    ensures { option_map (λ p. (p.0.now, p.1.now)) result ≡ cut_at byte text.now }
+{
+    if text.len() >= NEAR {
+        let at = bytes_before(byte, text);
+        if at < NEAR {
+            return Some((&text[..at], &text[at + 1..]));
+        }
+    }
+    cut_at(byte, text)
+}
+
+/// How many of the first 16 bytes come before the first such byte.
+#[inline(always)]
+fn bytes_before(byte: u8, text: &[u8]) -> usize
+    requires { 16 ≤ length text.now }
+    ensures { result ≡ prefix_len (λ b. not (b == byte)) (take 16 text.now) }
+{
+    let found = u8x16::from_slice(text)
+        .simd_eq(u8x16::splat(byte))
+        .to_bitmask();
+    if found == 0 {
+        NEAR
+    } else {
+        found.trailing_zeros() as usize
     }
 }
 

@@ -128,6 +128,7 @@ fn value_lines(alloc: Global, schema: &Schema, lines: &[Line]) -> Result<Lines, 
     Ok(Lines::new(items))
 }
 
+#[inline(always)]
 fn value_line(alloc: Global, schema: &Schema, line: &Line) -> Result<(Description, Bytes), Refusal>
     ensures read { Meets Refuses (λ p. p) result (value_line schema.now line.now) }
     ensures sound { IfOk result (λ p. IsBytes p.1) }

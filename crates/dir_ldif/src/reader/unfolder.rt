@@ -304,6 +304,7 @@ impl Unfolder {
 
     /// Finishes the physical line in hand, with the bytes before its LF. Answers whether it is empty, so that
     /// the block has ended.
+    #[inline(always)]
     fn finish_physical_line(&mut self, spare: &mut Spare, text: &[u8]) -> Result<bool, StreamFault>
         requires room { self.old.number < 2 ^ 63 }
         ensures number { self.new.number ≡ self.old.number + 1 }
@@ -313,11 +314,44 @@ impl Unfolder {
     {
         let number = self.number;
         self.number = number + 1;
+        if self.partial.is_empty() {
+            let whole = without_cr(text);
+            if !whole.is_empty() && whole.len() <= MAX_LINE && !begins_with_space(whole) {
+                return self.begin_whole_line(number, whole, spare);
+            }
+        }
         let line = mem::replace(&mut self.partial, Vec::new(self.alloc));
         self.unfold(number, line, text, spare)
     }
 
+    /// Begins a logical line by a physical line that is in one part, and neither empty nor too long: most are such.
+    #[inline(always)]
+    fn begin_whole_line(
+        &mut self,
+        number: u64,
+        text: &[u8],
+        spare: &mut Spare,
+    ) -> Result<bool, StreamFault>
+        requires none { self.old.partial.items ≡ [] }
+        requires some { is_empty text.now ≡ false }
+        requires short { length text.now ≤ 2097152 }
+        requires begins { begins_with space text.now ≡ false }
+        ensures number { self.new.number ≡ self.old.number }
+        ensures partial { self.new.partial ≡ self.old.partial }
+        ensures last { IfOk result (λ ends. ends ≡ false) }
+        ensures takes { TakesLine (λ more. blocks_to_come_with self.old ((number, text.now) ∷ more)) result self.new }
+    {
+        let mut copy = spare.text(Vec::new(self.alloc));
+        copy.extend_from_slice(text)?;
+        let line = Line::new(number, copy);
+        if let Some(last) = mem::replace(&mut self.last, Some(line)) {
+            self.push_to_block(last)?;
+        }
+        Ok(false)
+    }
+
     /// Takes a physical line, in two parts: it continues the last line, or begins a line.
+    #[inline(never)]
     fn unfold(
         &mut self,
         number: u64,
@@ -389,6 +423,7 @@ impl Unfolder {
     }
 
     /// Adds a line that is complete to the block. Comments and the version line belong to no block.
+    #[inline(always)]
     fn push_to_block(&mut self, line: Line) -> Result<(), StreamFault>
         requires { may_be_continued (Some line) ≡ true }
         ensures number { self.new.number ≡ self.old.number }

@@ -14,6 +14,7 @@ pub(crate) enum Version {
 }
 
 /// The version line of a text has the plain value 1 (RFC 2849, `version-spec`).
+#[inline(never)]
 pub(crate) fn version_of(line: &[u8]) -> Version
     ensures { result ≡ version_of line.now }
 {

@@ -1,7 +1,7 @@
-use Rattle.std.proofs.Common.{◌∙◌}
-use Rattle.dir_ldif.specs.AttrVal.{is_nul_or_cr}
-use Rattle.dir_ldif.proofs.AttrValLemmas.{is_some-first}
+use Rattle.dir_ldif.proofs.ScanLemmas.{all_usual-no_end}
 use Rattle.dir_ldif.proofs.reader.attrval.has_nul_or_cr.Goals as goal
 
-pub returns : goal.returns
-returns c = c.is_some.ensures ∙ is_some-first is_nul_or_cr c.args.text.now c.memchr2.result c.memchr2.ensures
+pub returns-else-not-all_usual : goal.returns-else-not-all_usual
+returns-else-not-all_usual c =
+    let none = all_usual-no_end c.args.text.now (cc) in
+    cc

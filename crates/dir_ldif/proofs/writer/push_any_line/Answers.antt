@@ -2,7 +2,7 @@ use Rattle.std.proofs.Common.{◌∙◌}
 use Rattle.std.proofs.lemmas.Result.{on_ok_weaker}
 use Rattle.dir_ldif.proofs.FoldLemmas.{folded_whole}
 use Rattle.dir_ldif.specs.LineText.{value_spec}
-use Rattle.dir_ldif.proofs.writer.push_line.Goals as goal
+use Rattle.dir_ldif.proofs.writer.push_any_line.Goals as goal
 
 pub returns-clause-text : goal.returns-clause-text
 returns-clause-text c =
