@@ -8,11 +8,8 @@ use Rattle.dir_names.specs.Described.{Described}
 use Rattle.dir_names.specs.NameKeys.{value_key_of}
 use Rattle.dir_names.specs.declared.schema.TypeRow.{TypeRow}
 use Rattle.dir_names.specs.declared.value.ValueKey.{ValueKey}
-use Rattle.dir_names.specs.declared.value.ValueKey.TheVariants.{Text, Name}
 use Rattle.dir_tree.specs.declared.lines.KeyedLine.{KeyedLine}
 use Rattle.dir_tree.specs.declared.packed.PackedAttribute.{PackedAttribute}
-use Rattle.dir_tree.specs.declared.packed.pattern.PushedKey.{PushedKey}
-use Rattle.dir_tree.specs.declared.packed.pattern.PushedKey.TheVariants as pushed
 use Rattle.dir_tree.specs.Content.{Keyed}
 use Rattle.dir_tree.specs.Inside.Packed.{IsPacked, packed_attribute}
 use Rattle.dir_tree.specs.Inside.Stored.{are_rising}
@@ -79,8 +76,3 @@ pub record Gathers (rows : List TypeRow) (lines : List (Described × List ℕ)) 
   pub same : IsPermutation made (lines_of (map (packed_attribute common own) attrs))
   pub packed : All (IsPacked common own) attrs
   pub some : All HasValues (map (packed_attribute common own) attrs)
-
-abbrev pub pushed_key : PushedKey → List ℕ → List ℕ → ValueKey
-pushed_key pushed.Same value more = Text value
-pushed_key pushed.Appended value more = Text more
-pushed_key (pushed.Name name) value more = Name name

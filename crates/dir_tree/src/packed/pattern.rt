@@ -6,7 +6,7 @@ ghost use Rattle.dir_names.specs.NameKeys.{value_key_of};
 ghost use Rattle.dir_names.specs.Orders.{attr_cmp};
 ghost use Rattle.dir_names.specs.Sorted.{rises};
 ghost use Rattle.dir_tree.specs.Inside.Packed.{IsInside, packed_value};
-ghost use Rattle.dir_tree.specs.Inside.Patterns.{AddsLines, HasEach, InsertsValue, pushed_key};
+ghost use Rattle.dir_tree.specs.Inside.Patterns.{AddsLines, HasEach, InsertsValue};
 ghost use Rattle.dir_tree.specs.Inside.Stored.{attributes_in, attributes_rise};
 ghost use Rattle.dir_tree.specs.NewEntry.{attributes_of};
 
@@ -15,7 +15,7 @@ use crate::packed::{
     index,
 };
 use crate::search::{Sought, cmp_lent};
-use dir_names::{AttrKey, Bytes, Description, DnSortKey, NameFault, Schema, ValueKey};
+use dir_names::{AttrKey, Bytes, Description, PushedKey, Schema};
 use std::alloc::Global;
 use std::cmp::Ordering;
 use std::rc::Rc;
@@ -280,7 +280,7 @@ fn pooled_line(
     let start = index(text.len()).ok()?;
     text.extend_from_slice(bytes).ok()?;
     let end = index(text.len()).ok()?;
-    let Ok(pushed) = push_value_key(alloc, schema, attr, bytes, &mut text) else {
+    let Ok(pushed) = schema.push_value_key(alloc, attr, bytes, &mut text) else {
         return None;
     };
     let key = match pushed {
@@ -293,34 +293,4 @@ fn pooled_line(
         }
     };
     Some((Pool { text, names }, PackedValue { start, end, key }))
-}
-
-/// Where a key is.
-#[derive(Debug, Drop)]
-pub(crate) enum PushedKey {
-    Same,
-    Appended,
-    Name(DnSortKey),
-}
-
-fn push_value_key(
-    alloc: Global,
-    schema: &Schema,
-    attr: &AttrKey,
-    value: &[u8],
-    text: &mut Vec<u8>,
-) -> Result<PushedKey, NameFault>
-    ensures { IfOk result (λ pushed. (more : List ℕ) × (text.new.items ≡ text.old.items ++ more) × (value_key_of schema.now attr.now value.now ≡ Ok (pushed_key pushed value.now more))) }
-{
-    match schema.value_key(alloc, attr, value)? {
-        ValueKey::Text(key) => {
-            if key.as_slice() == value {
-                Ok(PushedKey::Same)
-            } else {
-                text.extend_from_slice(key.as_slice())?;
-                Ok(PushedKey::Appended)
-            }
-        }
-        ValueKey::Name(name) => Ok(PushedKey::Name(name)),
-    }
 }

@@ -2,9 +2,8 @@ use Rattle.std.proofs.Common.{◌≡◌, ◌<◌, ◌≤◌, ℕ, zero, suc, Lis
 use Rattle.std.proofs.lemmas.List.{length-append}
 use Rattle.dir_names.specs.declared.value.ValueKey.TheVariants.{Text, Name}
 use Rattle.dir_tree.specs.declared.packed.PackedKey.TheVariants as packed_key
-use Rattle.dir_tree.specs.declared.packed.pattern.PushedKey.TheVariants as pushed
 use Rattle.dir_tree.specs.Inside.Packed.{key_in, name_or_none, part_of}
-use Rattle.dir_tree.specs.Inside.Patterns.{pushed_key}
+use Rattle.dir_names.specs.ValueKeys.Pushed.{pushed_key}
 use Rattle.dir_tree.proofs.PackedLists.{part-append, part-appended}
 use Rattle.dir_tree.proofs.packed.pattern.pooled_line.Goals as goal
 use Rattle.dir_tree.proofs.packed.pattern.pooled_line.Goals.{in-Same, in-Appended+in_ok-ok-in-Appended, in-Name+in_ok-at-in-Name+in_ok-ok-in-Name}
@@ -21,7 +20,7 @@ returns-clause-key c =
     let text = c.extend_from_slice.new.self.items in
     let all = c.push_value_key.new.text.items in
     let bytes = c.args.bytes.now in
-    let told = c.in-Ok.ensures in
+    let told = c.in-Ok.ensures.key in
     let more = told.0 in
     let first : text ≡ before ++ bytes = search rules in
     let from : c.in_ok-start.start ≡ length before = search rules in
