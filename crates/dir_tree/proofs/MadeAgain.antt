@@ -147,7 +147,7 @@ nothing_gained xs (l ∷ ls) there =
     ap (λ ys. with_missing_lines ys ls) (ap (λ b. cond b xs (with_line xs l)) (left _ (list_all (λ l. has_value xs l.description.key l.key) ls) there))
     ∙ nothing_gained xs ls (right (has_value xs l.description.key l.key) _ there)
 
-nothing_by : (xs : StoredAttributes) (o : Option (List KeyedLine)) → has_each xs o ≡ true → with_missing_of xs o ≡ xs
+pub nothing_by : (xs : StoredAttributes) (o : Option (List KeyedLine)) → has_each xs o ≡ true → with_missing_of xs o ≡ xs
 nothing_by xs None there = refl
 nothing_by xs (Some ls) there = nothing_gained xs ls there
 

@@ -430,7 +430,7 @@ fn any_exceeds_single_value(items: &[Attribute], schema: &Schema) -> bool
 }
 
 /// A pair of an RDN as a description and the key of its value.
-pub(crate) fn keyed_pair(
+fn keyed_pair(
     alloc: Global,
     schema: &Schema,
     pair: &(Bytes, Bytes),

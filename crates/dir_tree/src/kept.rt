@@ -1,17 +1,20 @@
 //! The attributes of an entry as it keeps them: packed, from when it is made until it is changed.
 
-ghost use Rattle.std.specs.Prelude.{◌≡◌, IfErr, IfOk, IfSome, IsSome, IsTrue, Ok, false};
+ghost use Rattle.std.specs.Prelude.{◌≡◌, IfErr, IfOk, IfSome, Ok, Some, false};
 ghost use Rattle.std.specs.Option.{option_map};
 ghost use Rattle.std.specs.FinMap as fin;
+ghost use Rattle.dir_names.specs.NameKeys.{rdn_key};
+ghost use Rattle.dir_names.specs.Names.{SpelledRdn};
 ghost use Rattle.dir_names.specs.declared.value.ValueKey.TheVariants.{Text};
 ghost use Rattle.dir_tree.specs.Content.{has_value};
 ghost use Rattle.dir_tree.specs.NewEntry.{attributes_of, exceeds_single_value, rdn_lines, with_missing_of};
 
-use crate::attributes::{Attribute, AttributeMap, Attributes, keyed_pair};
+use crate::attributes::{Attribute, AttributeMap, Attributes};
 use crate::packed::pattern::Pattern;
 use crate::packed::{PackedAttributes, PackedViews, Rooms, Shared};
+use crate::parts::has_each;
 use crate::views::AttributeView;
-use dir_names::{AttrKey, Bytes, Description, Memory, Rdn, Schema, ValueKey};
+use dir_names::{AttrKey, Bytes, Description, Memory, RdnKey, Schema, ValueKey};
 use std::alloc::Global;
 use std::marker::Model;
 
@@ -66,38 +69,21 @@ impl KeptAttributes {
     pub(crate) fn made(
         alloc: Global,
         schema: &Schema,
-        leaf: &Rdn,
+        key: &RdnKey,
         lines: &[(Description, Bytes)],
         pattern: &Pattern,
     ) -> Option<KeptAttributes>
-        requires { IsSome (rdn_lines schema.now leaf.now) }
         ensures lines { IfSome result (λ made. attributes_of schema.now lines.now ≡ Ok made) }
-        ensures own { IfSome result (λ made. with_missing_of made (rdn_lines schema.now leaf.now) ≡ made) }
+        ensures own { IfSome result (λ made. (rdn : SpelledRdn) → rdn_key schema.now rdn ≡ Some key.now → with_missing_of made (rdn_lines schema.now rdn) ≡ made) }
         ensures single { IfSome result (λ made. exceeds_single_value schema.now made ≡ false) }
     {
         let made = KeptAttributes {
             form: Form::Packed(pattern.packed(alloc, schema, lines)?),
         };
-        if !made.has_each(alloc, schema, leaf) || made.exceeds_single_value(schema) {
+        if !has_each(&made, key.pairs()) || made.exceeds_single_value(schema) {
             return None;
         }
         Some(made)
-    }
-
-    /// Whether the value of each pair of an RDN is there. Each pair must have a key.
-    fn has_each(&self, alloc: Global, schema: &Schema, rdn: &Rdn) -> bool
-        requires { IsSome (rdn_lines schema.now rdn.now) }
-        ensures { IsTrue result → with_missing_of self.now (rdn_lines schema.now rdn.now) ≡ self.now }
-    {
-        for pair in rdn.pairs() {
-            let Ok((description, key)) = keyed_pair(alloc, schema, pair) else {
-                return false;
-            };
-            if !self.has(description.key(), &key) {
-                return false;
-            }
-        }
-        true
     }
 
     /// The packed attributes, if they are packed.

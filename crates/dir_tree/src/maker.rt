@@ -1,6 +1,8 @@
 //! Entries that are made one after the other.
 
-ghost use Rattle.std.specs.Prelude.{◌≡◌, IfSome, IsSome, Ok, false};
+ghost use Rattle.std.specs.Prelude.{◌≡◌, IfSome, Ok, Some, false};
+ghost use Rattle.dir_names.specs.NameKeys.{rdn_key};
+ghost use Rattle.dir_names.specs.Names.{SpelledRdn};
 ghost use Rattle.dir_tree.specs.Inside.Patterns.{HasEach};
 ghost use Rattle.dir_tree.specs.NewEntry.{Makes, attributes_of, exceeds_single_value, new_entry, rdn_lines, with_missing_of};
 
@@ -9,7 +11,7 @@ use crate::entry::{Entry, leaf_key};
 use crate::kept::KeptAttributes;
 use crate::packed::pattern::{Pattern, order_of};
 use crate::parts::Parts;
-use dir_names::{Bytes, Description, Lines, Rdn, Schema};
+use dir_names::{Bytes, Description, Lines, Rdn, RdnKey, Schema};
 use std::alloc::Global;
 
 /// How many patterns are remembered.
@@ -52,7 +54,7 @@ impl EntryMaker {
             return Err(EntryFault::NotNamed);
         };
         let key = leaf_key(alloc, schema, leaf)?;
-        match self.alike(alloc, schema, leaf, values.as_slice()) {
+        match self.alike(alloc, schema, &key, values.as_slice()) {
             Some(attributes) => Ok(Entry::of(Parts {
                 own,
                 key,
@@ -84,24 +86,23 @@ impl EntryMaker {
         Ok(entry)
     }
 
-    /// The attributes of a new entry, if its lines are arranged as those of an entry before.
+    /// The attributes of a new entry whose own RDN has this key, if its lines are arranged as those of an entry before.
     fn alike(
         &mut self,
         alloc: Global,
         schema: &Schema,
-        leaf: &Rdn,
+        key: &RdnKey,
         lines: &[(Description, Bytes)],
     ) -> Option<KeptAttributes>
-        requires { IsSome (rdn_lines schema.now leaf.now) }
         ensures lines { IfSome result (λ made. attributes_of schema.now lines.now ≡ Ok made) }
-        ensures own { IfSome result (λ made. with_missing_of made (rdn_lines schema.now leaf.now) ≡ made) }
+        ensures own { IfSome result (λ made. (rdn : SpelledRdn) → rdn_key schema.now rdn ≡ Some key.now → with_missing_of made (rdn_lines schema.now rdn) ≡ made) }
         ensures single { IfSome result (λ made. exceeds_single_value schema.now made ≡ false) }
     {
         for at in 0..self.patterns.len() {
             if let Some(made) = KeptAttributes::made(
                 alloc,
                 schema,
-                leaf,
+                key,
                 lines,
                 &self.patterns[at],
             ) {

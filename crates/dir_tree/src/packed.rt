@@ -721,6 +721,9 @@ impl Shared {
 fn share_shape(shape: &mut Rc<Vec<PackedAttribute>>, recent: &mut Recent<Rc<Vec<PackedAttribute>>>)
     ensures { shape.new.value.items ≡ shape.old.value.items }
 {
+    if is_shared(recent.as_slice(), shape) {
+        return;
+    }
     if let Some(alike) = find_shape(recent.as_slice(), shape.as_slice()) {
         if let Ok(alike) = alike.clone() {
             *shape = alike;
@@ -728,6 +731,11 @@ fn share_shape(shape: &mut Rc<Vec<PackedAttribute>>, recent: &mut Recent<Rc<Vec<
     } else if let Ok(shape) = shape.clone() {
         recent.add(shape);
     }
+}
+
+/// Whether a list is in the memory of one of these.
+fn is_shared(shapes: &[Rc<Vec<PackedAttribute>>], shape: &Rc<Vec<PackedAttribute>>) -> bool {
+    shapes.iter().any(|known| Rc::ptr_eq(known, shape))
 }
 
 /// A list that has the same attributes, if there is one.

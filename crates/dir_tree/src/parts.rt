@@ -43,7 +43,7 @@ impl Parts {
 }
 
 /// Whether the attributes have each of these values.
-fn has_each(attributes: &KeptAttributes, pairs: &[(AttrKey, Bytes)]) -> bool
+pub(crate) fn has_each(attributes: &KeptAttributes, pairs: &[(AttrKey, Bytes)]) -> bool
     ensures { result ≡ list_all (λ pair. has_value attributes.now pair.0 (Text pair.1)) pairs.now }
 {
     for pair in pairs {
