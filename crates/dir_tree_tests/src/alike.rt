@@ -81,7 +81,7 @@ fn below(rt: &impl Abort, alloc: Global, own: &str) -> DnKey {
 }
 
 /// Asserts that an entry has these lines, as they are spelled.
-fn assert_lines(rt: &impl Abort, alloc: Global, entry: &Entry, lines: Texts) {
+pub(crate) fn assert_lines(rt: &impl Abort, alloc: Global, entry: &Entry, lines: Texts) {
     for (attr_type, text) in lines {
         assert_line(rt, alloc, entry, attr_type, text);
     }

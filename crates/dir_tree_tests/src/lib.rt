@@ -23,6 +23,8 @@ mod long_lists;
 #[cfg(test)]
 mod make;
 #[cfg(test)]
+mod makers;
+#[cfg(test)]
 mod maps;
 #[cfg(test)]
 mod moves;

@@ -56,7 +56,7 @@ pub(crate) fn made(rt: &impl Abort, alloc: Global, text: &str, lines: Texts) -> 
     make(rt, alloc, text, lines).expect(rt, "an entry")
 }
 
-fn lines_of(rt: &impl Abort, alloc: Global, lines: Texts) -> Lines {
+pub(crate) fn lines_of(rt: &impl Abort, alloc: Global, lines: Texts) -> Lines {
     let mut items = Vec::new(alloc);
     for (attr_type, text) in lines {
         items
