@@ -133,8 +133,9 @@ impl<D: Directory + Drop> Loading<D> {
         let Loading {
             mut directory,
             waiting,
-            maker: _,
+            maker,
         } = self;
+        drop(maker);
         let mut orphans = Orphans::new(alloc);
         for (key, waiting) in waiting {
             let Waiting { line, entry } = waiting;
