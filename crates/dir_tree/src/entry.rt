@@ -14,7 +14,7 @@ use crate::EntryFault;
 use crate::attributes::AttributeMap;
 use crate::kept::{AttributeViews, KeptAttributes};
 use crate::lines::attributes_of;
-use crate::packed::{PackedAttributes, Shared};
+use crate::packed::Shared;
 use crate::parts::Parts;
 use crate::views::AttributeView;
 use dir_names::{AttrKey, Dn, Lines, Memory, NameFault, Rdn, RdnKey, Schema, ValueKey};
@@ -74,11 +74,6 @@ impl Entry {
             key,
             attributes: KeptAttributes::packed(alloc, attributes),
         })
-    }
-
-    /// The attributes, if they are packed.
-    pub(crate) fn packed(&self) -> Option<&PackedAttributes> {
-        self.attributes.packed_form()
     }
 
     /// The own name as spelled, leaf first: one RDN, or all of the suffix.

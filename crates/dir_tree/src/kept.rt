@@ -86,14 +86,6 @@ impl KeptAttributes {
         Some(made)
     }
 
-    /// The packed attributes, if they are packed.
-    pub(crate) fn packed_form(&self) -> Option<&PackedAttributes> {
-        match &self.form {
-            Form::Open(_) => None,
-            Form::Packed(packed) => Some(packed),
-        }
-    }
-
     /// The attributes of a map in little memory, unless they have many values, or there is no memory for that.
     pub(crate) fn packed(alloc: Global, map: AttributeMap) -> KeptAttributes
         ensures { result ≡ map }

@@ -3,13 +3,12 @@
 ghost use Rattle.std.specs.Prelude.{◌≡◌, IfSome, Ok, Some, false};
 ghost use Rattle.dir_names.specs.NameKeys.{rdn_key};
 ghost use Rattle.dir_names.specs.Names.{SpelledRdn};
-ghost use Rattle.dir_tree.specs.Inside.Patterns.{HasEach};
 ghost use Rattle.dir_tree.specs.NewEntry.{Makes, attributes_of, exceeds_single_value, new_entry, rdn_lines, with_missing_of};
 
 use crate::EntryFault;
 use crate::entry::{Entry, leaf_key};
 use crate::kept::KeptAttributes;
-use crate::packed::pattern::{Pattern, order_of};
+use crate::packed::pattern::Pattern;
 use crate::parts::Parts;
 use dir_names::{Bytes, Description, Lines, Rdn, RdnKey, Schema};
 use std::alloc::Global;
@@ -17,7 +16,7 @@ use std::alloc::Global;
 /// How many patterns are remembered.
 const MOST_PATTERNS: usize = 8;
 
-/// An entry of more lines is not remembered.
+/// An entry of more lines is made by the general way.
 const MOST_LINES: usize = 64;
 
 /// Makes entries one after the other. It remembers how the lines of the last ones were arranged: an entry whose lines
@@ -54,40 +53,20 @@ impl EntryMaker {
             return Err(EntryFault::NotNamed);
         };
         let key = leaf_key(alloc, schema, leaf)?;
-        match self.alike(alloc, schema, &key, values.as_slice()) {
+        match self.made(alloc, schema, &key, values.as_slice()) {
             Some(attributes) => Ok(Entry::of(Parts {
                 own,
                 key,
                 attributes,
             })),
-            None => self.made(alloc, schema, own, values),
+            None => Entry::make(alloc, schema, own, values),
         }
     }
 
-    /// The entry that an add makes. How its lines are arranged is remembered, unless they are many.
+    /// The attributes of a new entry whose own RDN has this key, packed at once by the pattern of an entry before, or
+    /// else by their own, which is remembered. None where there are many lines, where an add would be refused, or where
+    /// the lines lack a value of the own RDN.
     fn made(
-        &mut self,
-        alloc: Global,
-        schema: &Schema,
-        own: Vec<Rdn>,
-        lines: Lines,
-    ) -> Result<Entry, EntryFault>
-        ensures { Makes (λ entry. entry) result (new_entry schema.now own.items lines) }
-    {
-        let order = if lines.as_slice().len() > MOST_LINES {
-            None
-        } else {
-            order_of(alloc, lines.as_slice())
-        };
-        let entry = Entry::make(alloc, schema, own, lines)?;
-        if let Some(pattern) = pattern_of(&entry, order) {
-            self.remember(pattern);
-        }
-        Ok(entry)
-    }
-
-    /// The attributes of a new entry whose own RDN has this key, if its lines are arranged as those of an entry before.
-    fn alike(
         &mut self,
         alloc: Global,
         schema: &Schema,
@@ -98,6 +77,9 @@ impl EntryMaker {
         ensures own { IfSome result (λ made. (rdn : SpelledRdn) → rdn_key schema.now rdn ≡ Some key.now → with_missing_of made (rdn_lines schema.now rdn) ≡ made) }
         ensures single { IfSome result (λ made. exceeds_single_value schema.now made ≡ false) }
     {
+        if lines.len() > MOST_LINES {
+            return None;
+        }
         for at in 0..self.patterns.len() {
             if let Some(made) = KeptAttributes::made(
                 alloc,
@@ -110,7 +92,10 @@ impl EntryMaker {
                 return Some(made);
             }
         }
-        None
+        let pattern = Pattern::of(alloc, lines)?;
+        let made = KeptAttributes::made(alloc, schema, key, lines, &pattern)?;
+        self.remember(pattern);
+        Some(made)
     }
 
     /// Remembers a pattern, in place of one that was not met for long if there are many.
@@ -121,11 +106,4 @@ impl EntryMaker {
             self.patterns[MOST_PATTERNS - 1] = pattern;
         }
     }
-}
-
-/// The pattern of an entry that was made of lines whose order is given.
-fn pattern_of(entry: &Entry, order: Option<Vec<u16>>) -> Option<Pattern>
-    requires { IfSome order (λ order. HasEach order.items) }
-{
-    Pattern::of(entry.packed()?, order?)
 }

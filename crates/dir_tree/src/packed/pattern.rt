@@ -12,7 +12,7 @@ ghost use Rattle.dir_tree.specs.NewEntry.{attributes_of};
 
 use crate::packed::{
     PackedAttribute, PackedAttributes, PackedKey, PackedValue, PackedValues, Pool, PoolView, Room,
-    index,
+    index, is_common,
 };
 use crate::search::{Sought, cmp_lent};
 use dir_names::{AttrKey, Bytes, Description, PushedKey, Schema};
@@ -30,14 +30,14 @@ pub(crate) struct Pattern {
 }
 
 impl Pattern {
-    /// The pattern of an entry that has these attributes and was made of these lines.
-    pub(crate) fn of(packed: &PackedAttributes, order: Vec<u16>) -> Option<Pattern>
-        requires { HasEach order.items }
-    {
-        let attributes = packed.attributes.clone().ok()?;
+    /// The pattern of these lines. None where lines of one attribute are spelled in different ways, or memory runs out.
+    pub(crate) fn of(alloc: Global, lines: &[(Description, Bytes)]) -> Option<Pattern> {
+        let order = order_of(alloc, lines)?;
+        let attributes = attributes_in_order(alloc, lines, order.as_slice())?;
         if !keys_rise(attributes.as_slice()) {
             return None;
         }
+        let attributes = Rc::new(alloc, attributes).ok()?;
         Some(Pattern { attributes, order })
     }
 
@@ -54,7 +54,9 @@ impl Pattern {
         if lines.len() != self.order.len() {
             return None;
         }
-        let (common, own) = self.rooms(lines);
+        let Some((common, own)) = self.rooms(lines) else {
+            return None;
+        };
         let Ok(mut common) = PackedValues::with_room(alloc, common) else {
             return None;
         };
@@ -87,28 +89,63 @@ impl Pattern {
         })
     }
 
-    /// The room that values take at most, where no key is longer than its value.
-    fn rooms(&self, lines: &[(Description, Bytes)]) -> (Room, Room) {
+    /// The room that values take at most, where no key is longer than its value. None where the lines are of other attributes.
+    fn rooms(&self, lines: &[(Description, Bytes)]) -> Option<(Room, Room)> {
         let mut common = Room::none();
         let mut own = Room::none();
         let mut rest = self.order.as_slice();
         for attribute in self.attributes.as_slice() {
-            let Some((taken, after)) = rest.split_at_checked(attribute.len()) else {
-                break;
-            };
+            let (taken, after) = rest.split_at_checked(attribute.len())?;
             rest = after;
             if attribute.is_common {
-                common = common.with_lines(lines, taken);
+                common = common.with_lines(attribute, lines, taken)?;
             } else {
-                own = own.with_lines(lines, taken);
+                own = own.with_lines(attribute, lines, taken)?;
             }
         }
-        (common, own)
+        Some((common, own))
     }
 }
 
+/// The attributes of lines in an order, each with the places that its values will have.
+fn attributes_in_order(
+    alloc: Global,
+    lines: &[(Description, Bytes)],
+    order: &[u16],
+) -> Option<Vec<PackedAttribute>> {
+    let mut attributes: Vec<PackedAttribute> = Vec::with_capacity(alloc, order.len()).ok()?;
+    let mut common: u16 = 0;
+    let mut own: u16 = 0;
+    for number in order {
+        let line = lines.get(usize::from(*number))?;
+        let is_common = is_common(&line.0);
+        let start = if is_common { common } else { own };
+        let end = start.checked_add(1)?;
+        if is_common {
+            common = end;
+        } else {
+            own = end;
+        }
+        let count = attributes.len();
+        if count > 0 && attributes[count - 1].description == line.0 {
+            attributes[count - 1].end = end;
+        } else {
+            let description = line.0.try_clone(alloc).ok()?;
+            attributes
+                .push(PackedAttribute {
+                    is_common,
+                    start,
+                    end,
+                    description,
+                })
+                .ok()?;
+        }
+    }
+    Some(attributes)
+}
+
 /// The numbers of lines, so that those of one attribute are side by side, and the attributes in the order of their keys.
-pub(crate) fn order_of(alloc: Global, lines: &[(Description, Bytes)]) -> Option<Vec<u16>>
+fn order_of(alloc: Global, lines: &[(Description, Bytes)]) -> Option<Vec<u16>>
     ensures { IfSome result (λ order. HasEach order.items) }
 {
     let mut order = Vec::with_capacity(alloc, lines.len()).ok()?;
@@ -137,18 +174,25 @@ fn keys_rise(attributes: &[PackedAttribute]) -> bool
 }
 
 impl Room {
-    /// The room for the values of some lines more, and for keys that are as long.
-    fn with_lines(self, lines: &[(Description, Bytes)], taken: &[u16]) -> Room {
+    /// The room for the values of some lines more, and for keys that are as long, if the lines are of this attribute.
+    fn with_lines(
+        self,
+        attribute: &PackedAttribute,
+        lines: &[(Description, Bytes)],
+        taken: &[u16],
+    ) -> Option<Room> {
         let mut room = self;
-        for at in taken {
-            if let Some(line) = lines.get(*at as usize) {
-                room.values = room.values.saturating_add(1);
-                room.text = room
-                    .text
-                    .saturating_add(line.1.as_slice().len().saturating_mul(2));
+        for number in taken {
+            let line = lines.get(usize::from(*number))?;
+            if line.0.key() != attribute.description.key() {
+                return None;
             }
+            room.values = room.values.saturating_add(1);
+            room.text = room
+                .text
+                .saturating_add(line.1.as_slice().len().saturating_mul(2));
         }
-        room
+        Some(room)
     }
 }
 
