@@ -3,9 +3,9 @@
 
 ghost use Rattle.std.specs.Cmp.{partial_order_from_agreeing_total};
 ghost use Rattle.std.specs.Ordering.{as_partial_cmp};
-ghost use Rattle.std.specs.Prelude.{◌≡◌, ◌<◌, ◌≤◌, ◌↔◌, [], ◌∷◌, ◌++◌, IfErr, IfOk, IsTrue, Ok, Err, cond, nat_lt, refl, length};
+ghost use Rattle.std.specs.Prelude.{◌≡◌, ◌<◌, ◌≤◌, ◌↔◌, [], ◌∷◌, ◌++◌, IfErr, IfOk, IfSome, IsTrue, Ok, Err, cond, nat_lt, refl, length};
 ghost use Rattle.dir_names.specs.Keys.{is_rdn_key, with_pair, IsAtOrBelow, IsParent, parent_of};
-ghost use Rattle.dir_names.specs.Orders.{rdn_key_cmp, rdn_key_eq, rdn_key_cmp_total, rdn_key_cmp_ties, dn_key_cmp, dn_key_eq, dn_key_cmp_total, dn_key_cmp_ties, tied_equiv, tied_per};
+ghost use Rattle.dir_names.specs.Orders.{rdn_key_cmp, rdn_key_eq, rdn_key_cmp_total, rdn_key_cmp_ties, pair_cmp, pair_eq, dn_key_cmp, dn_key_eq, dn_key_cmp_total, dn_key_cmp_ties, tied_equiv, tied_per};
 ghost use Rattle.dir_names.specs.Inside.Parents.{AreSortTexts, parts_above};
 ghost use Rattle.dir_names.specs.Inside.SortTexts.{name_sort};
 ghost use Rattle.dir_names.specs.Outcome.{Gives};
@@ -18,11 +18,15 @@ pub(crate) mod sorting;
 use crate::key::sorting::{put_name, put_part};
 use crate::limits::MAX_RDNS;
 use crate::list::few::Few;
+use crate::list::short::cmp_short;
 use crate::{AttrKey, Bytes, NameFault};
 use std::alloc::Global;
 use std::cmp::Ordering;
 use std::marker::Model;
 use std::rc::Rc;
+
+/// The room that is made for the text of a leaf, in bytes.
+const LEAF_ROOM: usize = 48;
 
 /// The pairs of attribute and value key of an RDN, in order.
 #[derive(Debug, Drop)]
@@ -76,6 +80,17 @@ impl PairSet {
     {
         self.pairs.as_slice()
     }
+
+    /// The pair of a set that has one alone.
+    #[inline(always)]
+    fn only(&self) -> Option<&(AttrKey, Bytes)>
+        ensures { IfSome result (λ pair. self.now ≡ pair.now ∷ []) }
+    {
+        match &self.pairs {
+            Few::One(pair) => Some(pair),
+            _ => None,
+        }
+    }
 }
 
 /// What an RDN is compared by: the set of its pairs of attribute and value key, in order. Copies
@@ -119,6 +134,43 @@ impl RdnKey {
             set: Rc::new(alloc, set)?,
         })
     }
+
+    #[inline(always)]
+    fn only_pair(&self) -> Option<&(AttrKey, Bytes)>
+        ensures { IfSome result (λ pair. self.now ≡ pair.now ∷ []) }
+    {
+        self.set.only()
+    }
+
+    #[inline(never)]
+    fn eq_by_pairs(&self, other: &RdnKey) -> bool
+        ensures { result ≡ rdn_key_eq self.now other.now }
+    {
+        self.pairs() == other.pairs()
+    }
+
+    #[inline(never)]
+    fn cmp_by_pairs(&self, other: &RdnKey) -> Ordering
+        ensures { result ≡ rdn_key_cmp self.now other.now }
+    {
+        self.pairs().cmp(other.pairs())
+    }
+}
+
+fn eq_pair(one: &(AttrKey, Bytes), other: &(AttrKey, Bytes)) -> bool
+    ensures { result ≡ pair_eq one.now other.now }
+{
+    one.0 == other.0 && one.1 == other.1
+}
+
+#[inline(always)]
+fn cmp_pair(one: &(AttrKey, Bytes), other: &(AttrKey, Bytes)) -> Ordering
+    ensures { result ≡ pair_cmp one.now other.now }
+{
+    match one.0.cmp(&other.0) {
+        Ordering::Equal => cmp_short(one.1.as_slice(), other.1.as_slice()),
+        found => found,
+    }
 }
 
 impl PartialEq for RdnKey {
@@ -127,7 +179,10 @@ impl PartialEq for RdnKey {
     ghost laws = { tied_per rdn_key_cmp rdn_key_cmp_total rdn_key_cmp_ties };
 
     fn eq(&self, other: &RdnKey) -> bool {
-        self.pairs() == other.pairs()
+        match (self.only_pair(), other.only_pair()) {
+            (Some(pair), Some(other_pair)) => eq_pair(pair, other_pair),
+            _ => self.eq_by_pairs(other),
+        }
     }
 }
 
@@ -154,8 +209,12 @@ impl Ord for RdnKey {
 
     ghost matches_eq = { rdn_key_cmp_ties };
 
+    #[inline(always)]
     fn cmp(&self, other: &RdnKey) -> Ordering {
-        self.pairs().cmp(other.pairs())
+        match (self.only_pair(), other.only_pair()) {
+            (Some(pair), Some(other_pair)) => cmp_pair(pair, other_pair),
+            _ => self.cmp_by_pairs(other),
+        }
     }
 }
 
@@ -206,11 +265,16 @@ impl NameKey {
         ensures { Gives (λ key. key) result (Ok (parts.now ++ leaf.now ∷ [])) }
     {
         let above = sort.len();
-        let mut sort = sort.to_vec(alloc)?;
-        put_part(leaf, &mut sort)?;
-        let mut parts = cloned_parts(alloc, parts)?;
+        let mut whole = Vec::with_capacity(alloc, above.saturating_add(LEAF_ROOM))?;
+        whole.extend_from_slice(sort)?;
+        put_part(leaf, &mut whole)?;
+        let mut parts = cloned_parts(alloc, parts, 1)?;
         parts.push(leaf.try_clone(alloc)?)?;
-        Ok(NameKey { parts, sort, above })
+        Ok(NameKey {
+            parts,
+            sort: whole,
+            above,
+        })
     }
 
     fn as_slice(&self) -> &[RdnKey]
@@ -325,7 +389,7 @@ impl DnKey {
             return Ok(None);
         };
         if self.is_above {
-            let parts = cloned_parts(alloc, above)?;
+            let parts = cloned_parts(alloc, above, 0)?;
             return Ok(Some(DnKey::from_parts(alloc, parts)?));
         }
         Ok(Some(DnKey {
@@ -422,10 +486,11 @@ impl Ord for DnKey {
     }
 }
 
-fn cloned_parts(alloc: Global, parts: &[RdnKey]) -> Result<Vec<RdnKey>, NameFault>
+/// Copies of the parts, with room for so many more.
+fn cloned_parts(alloc: Global, parts: &[RdnKey], room: usize) -> Result<Vec<RdnKey>, NameFault>
     ensures { Gives (λ copy. copy.items) result (Ok parts.now) }
 {
-    let mut copy = Vec::with_capacity(alloc, parts.len())?;
+    let mut copy = Vec::with_capacity(alloc, parts.len().saturating_add(room))?;
     for part in parts {
         copy.push(part.try_clone(alloc)?)?;
     }

@@ -1,5 +1,5 @@
 //! Lists with a value of their own in contracts: bytes, texts, and in `lines` descriptions with values.
-//! `few` is a list within the crate.
+//! `few` is a list within the crate, and `short` how short texts compare.
 
 ghost use Rattle.std.specs.Cmp.{partial_order_from_agreeing_total};
 ghost use Rattle.std.specs.Ordering.{as_partial_cmp};
@@ -9,6 +9,7 @@ ghost use Rattle.dir_names.specs.Outcome.{Gives};
 
 pub(crate) mod few;
 pub(crate) mod lines;
+pub(crate) mod short;
 
 use crate::NameFault;
 use std::alloc::Global;

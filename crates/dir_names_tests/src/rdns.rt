@@ -52,6 +52,33 @@ fn pairs_of_a_key_are_in_order(rt: HostRuntime) {
     }
 }
 
+/// RDNs, each with one whose key comes after its own.
+const RISING: [(&str, &str); 9] = [
+    ("cn=a", "CN=B"),
+    ("cn=b", "sn=a"),
+    ("cn=a", "cn=aa"),
+    ("cn=a", "cn=a+sn=a"),
+    ("cn=a+sn=a", "sn=B+cn=A"),
+    ("cn=a+sn=b", "cn=aa"),
+    ("cn=0123456789abcdef", "cn=0123456789abcdef0"),
+    ("cn=0123456789abcdef0", "cn=0123456789abcdef1"),
+    ("cn=0123456789abcdef0", "cn=0123456789abcdeg"),
+];
+
+#[test]
+fn keys_are_in_the_order_of_their_pairs(rt: HostRuntime) {
+    for (one, other) in &RISING {
+        assert_rising(&rt, rt.alloc(), one, other);
+    }
+}
+
+fn assert_rising(rt: &impl Abort, alloc: Global, one: &str, other: &str) {
+    let key = rdn_key(rt, alloc, one);
+    let other_key = rdn_key(rt, alloc, other);
+    assert!(rt; key < other_key && other_key > key, "{one}");
+    assert!(rt; key != other_key && key == rdn_key(rt, alloc, one), "{one}");
+}
+
 fn assert_key_pair(
     rt: &impl Abort,
     alloc: Global,
