@@ -20,7 +20,7 @@ use crate::reader::spare::Spare;
 use crate::reader::unfolder::{Line, Unfolder};
 use crate::records::Record;
 pub use attrval::MAX_VALUE;
-use dir_names::Schema;
+use dir_names::{NameReader, Schema};
 use std::alloc::Global;
 pub use unfolder::MAX_LINE;
 
@@ -148,6 +148,7 @@ impl<'s, R: Source + Drop> RecordReader<'s, R> {
 struct Core {
     unfolder: Unfolder,
     spare: Spare,
+    names: NameReader,
     // the last piece that was read; `at..end` are the bytes in hand, which are not used up yet
     buffer: Vec<u8>,
     at: usize,
@@ -186,6 +187,7 @@ impl Core {
         Ok(Core {
             unfolder: Unfolder::new(alloc),
             spare: Spare::new(alloc),
+            names: NameReader::new(alloc),
             buffer: vec![in alloc; 0; PIECE]?,
             at: 0,
             end: 0,
@@ -259,7 +261,7 @@ impl Core {
         if block.is_empty() {
             return Ok(None);
         }
-        let answer = answer_of(self.alloc, schema, block.as_slice())?;
+        let answer = answer_of(self.alloc, schema, &mut self.names, block.as_slice())?;
         self.spare.keep(block);
         Ok(Some(answer))
     }
@@ -369,7 +371,12 @@ impl Core {
 }
 
 /// The answer on a block.
-fn answer_of(alloc: Global, schema: &Schema, block: &[Line]) -> Result<Answer, StreamFault>
+fn answer_of(
+    alloc: Global,
+    schema: &Schema,
+    names: &mut NameReader,
+    block: &[Line],
+) -> Result<Answer, StreamFault>
     requires { 0 < length block.now }
     ensures ok { IfOk result (λ answer. answer ≡ found_of schema.now block.now) }
     ensures legal { IfOk result (IsLegalFound schema.now) }
@@ -377,7 +384,7 @@ fn answer_of(alloc: Global, schema: &Schema, block: &[Line]) -> Result<Answer, S
     ensures err { IfErr result (λ fault. fault ≡ StreamFault.Memory) }
 {
     let number = block[0].number();
-    match record_of(alloc, schema, block) {
+    match record_of(alloc, schema, names, block) {
         Ok(record) => Ok((number, Ok(record))),
         Err(Refusal::Fault(fault)) => Ok((number, Err(fault))),
         Err(Refusal::Memory) => Err(StreamFault::Memory),
@@ -398,18 +405,19 @@ pub fn read_all(alloc: Global, schema: &Schema, text: &[u8]) -> Result<Vec<Answe
     }
     let mut unfolder = Unfolder::new(alloc);
     let mut spare = Spare::new(alloc);
+    let mut names = NameReader::new(alloc);
     let mut answers = Vec::new(alloc);
     let mut rest = text;
     while let Some((block, after)) = unfolder.push_chunk(&mut spare, rest)? {
         rest = after;
-        push_answer(alloc, schema, &mut answers, block.as_slice())?;
+        push_answer(alloc, schema, &mut names, &mut answers, block.as_slice())?;
         spare.keep(block);
     }
     let block = unfolder.finish(&mut spare)?;
     if block.is_empty() {
         return Ok(answers);
     }
-    push_answer(alloc, schema, &mut answers, block.as_slice())?;
+    push_answer(alloc, schema, &mut names, &mut answers, block.as_slice())?;
     Ok(answers)
 }
 
@@ -417,6 +425,7 @@ pub fn read_all(alloc: Global, schema: &Schema, text: &[u8]) -> Result<Vec<Answe
 fn push_answer(
     alloc: Global,
     schema: &Schema,
+    names: &mut NameReader,
     answers: &mut Vec<Answer>,
     block: &[Line],
 ) -> Result<(), StreamFault>
@@ -426,6 +435,6 @@ fn push_answer(
     ensures sound { OnOk result (All (IsSoundFound schema.now) answers.old.items → All (IsSoundFound schema.now) answers.new.items) }
     ensures err { IfErr result (λ fault. fault ≡ StreamFault.Memory) }
 {
-    answers.push(answer_of(alloc, schema, block)?)?;
+    answers.push(answer_of(alloc, schema, names, block)?)?;
     Ok(())
 }

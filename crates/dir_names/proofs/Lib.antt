@@ -8,6 +8,7 @@ pub mod CutLemmas
 pub mod FindLemmas
 pub mod HasKeys
 pub mod KeyLemmas
+pub mod KnownParents
 pub mod LowercaseKeys
 pub mod Maps
 pub mod OptionLemmas

@@ -2,6 +2,7 @@
 -- `SpellsByte` and `SpellsBytes` of `Names.Spells` say as a grammar.
 pub mod Few
 pub mod Frequent
+pub mod KnownKeys
 pub mod Left
 pub mod Parents
 pub mod Ranks

@@ -7,6 +7,7 @@ pub mod Described
 pub mod Descriptions
 pub mod FaultText
 pub mod Inside
+pub mod KeyedNames
 pub mod Keys
 pub mod NameKeys
 pub mod Names

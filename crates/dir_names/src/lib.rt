@@ -19,6 +19,7 @@ pub use key::{DnKey, RdnKey};
 pub use limits::{MAX_DESCRIPTION, MAX_RDN_TEXT, MAX_RDNS};
 pub use list::lines::Lines;
 pub use list::{Bytes, Texts};
+pub use name::reader::NameReader;
 pub use name::{Dn, Rdn};
 pub use schema::{Rule, Schema};
 pub use value::ValueKey;

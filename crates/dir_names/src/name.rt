@@ -1,7 +1,8 @@
 //! Names and RDNs as they are spelled (RFC 4514): read, printed, and turned into keys.
 
-ghost use Rattle.std.specs.Prelude.{◌≡◌, ◌≤◌, [], cond, is_some, length, nat_le, Ok, Err, Some, IsTrue, IsFalse, IfOk, IsErrOf};
+ghost use Rattle.std.specs.Prelude.{◌≡◌, ◌≤◌, ◌<◌, [], ◌∷◌, IfSome, option_copied, cond, is_some, length, nat_le, Ok, Err, Some, IsTrue, IsFalse, IfOk, IsErrOf};
 ghost use Rattle.dir_names.specs.Inside.Few.{few_items};
+ghost use Rattle.dir_names.specs.Inside.KnownKeys.{IsKeyOf};
 ghost use Rattle.dir_names.specs.NameKeys.{pair_key, rdn_key, name_key};
 ghost use Rattle.dir_names.specs.Names.{name_eq, rdn_eq, name_eq_laws, rdn_eq_laws, partial_name_eq_laws, partial_rdn_eq_laws, SpelledRdn, SpelledName};
 ghost use Rattle.dir_names.specs.Outcome.{Gives};
@@ -15,6 +16,7 @@ ghost use Rattle.dir_names.specs.ValueKeys.{is_ascii};
 ghost use Rattle.dir_names.specs.declared.fault.NameFault.TheVariants.{BadDn, NameLimit};
 
 pub(crate) mod printing;
+pub(crate) mod reader;
 pub(crate) mod reading;
 
 use crate::attribute::AttrKey;
@@ -190,6 +192,8 @@ pub(crate) fn type_and_value_key(
 #[derive(Debug, Drop)]
 pub struct Dn {
     rdns: Vec<Rdn>,
+    /// The key of the name, if it is known.
+    key: Option<DnKey>,
 }
 
 impl Model for Dn {
@@ -199,11 +203,12 @@ impl Model for Dn {
 
     ghost view = { λ name. name.rdns.items };
 
-    ghost use Rattle.std.specs.Prelude.{IsTrue};
+    ghost use Rattle.std.specs.Prelude.{IsTrue, IfSome};
+    ghost use Rattle.dir_names.specs.Inside.KnownKeys.{IsKeyOf};
     ghost use Rattle.dir_names.specs.Names.Limits.{is_within_limits};
     ghost use Rattle.dir_names.specs.Names.Sound.{is_sound_name};
 
-    ghost invariant = { λ name. IsTrue (is_sound_name name.rdns.items) × IsTrue (is_within_limits name.rdns.items) };
+    ghost invariant = { λ name. IsTrue (is_sound_name name.rdns.items) × IsTrue (is_within_limits name.rdns.items) × IfSome name.key (IsKeyOf name.rdns.items) };
 }
 
 impl Dn {
@@ -255,6 +260,22 @@ impl Dn {
     pub fn key(&self, alloc: Global, schema: &Schema) -> Result<DnKey, NameFault>
         ensures { Gives (λ key. key) result (ok_or_bad_dn (name_key schema.now self.now)) }
     {
+        schema.has_builtin_rows();
+        match self.known_key() {
+            Some(key) => key.try_clone(alloc),
+            None => self.key_of_rdns(alloc, schema),
+        }
+    }
+
+    fn known_key(&self) -> Option<&DnKey>
+        ensures { IfSome result (λ key. IsKeyOf self.now key.now) }
+    {
+        self.key.as_ref()
+    }
+
+    fn key_of_rdns(&self, alloc: Global, schema: &Schema) -> Result<DnKey, NameFault>
+        ensures { Gives (λ key. key) result (ok_or_bad_dn (name_key schema.now self.now)) }
+    {
         let mut parts = Vec::with_capacity(alloc, self.rdns.len())?;
         let mut at = self.rdns.len();
         while at > 0 {
@@ -266,6 +287,16 @@ impl Dn {
 
     /// Whether the name has a key, that is, whether each of its RDNs has one.
     pub fn has_key(&self, alloc: Global, schema: &Schema) -> Result<bool, NameFault>
+        ensures { Gives (λ has. has) result (Ok (is_some (name_key schema.now self.now))) }
+    {
+        schema.has_builtin_rows();
+        match self.known_key() {
+            Some(_) => Ok(true),
+            None => self.rdns_have_keys(alloc, schema),
+        }
+    }
+
+    fn rdns_have_keys(&self, alloc: Global, schema: &Schema) -> Result<bool, NameFault>
         ensures { Gives (λ has. has) result (Ok (is_some (name_key schema.now self.now))) }
     {
         for rdn in self.rdns.as_slice() {
@@ -289,7 +320,8 @@ impl Dn {
     pub fn into_rdns(self) -> Vec<Rdn>
         ensures { result.items ≡ self }
     {
-        self.rdns
+        let Dn { rdns, key: _ } = self;
+        rdns
     }
 
     /// The name with these RDNs, leaf first.
@@ -315,7 +347,33 @@ impl Dn {
         for rdn in rdns.as_slice() {
             let _pairs = &rdn.pairs;
         }
-        Dn { rdns }
+        Dn { rdns, key: None }
+    }
+
+    /// The same name, of which the key is known.
+    pub(crate) fn with_key(self, key: DnKey) -> Dn
+        requires { IsKeyOf self key }
+        ensures { result ≡ self }
+    {
+        let Dn { rdns, key: _ } = self;
+        Dn {
+            rdns,
+            key: Some(key),
+        }
+    }
+
+    /// The name of a child, by its leaf and its key. The other RDNs share the memory of these.
+    pub(crate) fn child(&self, alloc: Global, leaf: Rdn, key: DnKey) -> Result<Dn, NameFault>
+        requires room { length self.now < 64 }
+        requires key { IsKeyOf (leaf ∷ self.now) key }
+        ensures { Gives (λ name. name) result (Ok (leaf ∷ self.now)) }
+    {
+        let mut rdns = Vec::with_capacity(alloc, self.rdns.len() + 1)?;
+        rdns.push(leaf)?;
+        for rdn in self.rdns.as_slice() {
+            rdns.push(rdn.try_clone(alloc)?)?;
+        }
+        Ok(Dn::of_rdns(rdns).with_key(key))
     }
 
     /// The name without RDNs.
@@ -324,6 +382,7 @@ impl Dn {
     {
         Dn {
             rdns: Vec::new(alloc),
+            key: None,
         }
     }
 
@@ -336,7 +395,17 @@ impl Dn {
         for rdn in self.rdns.as_slice() {
             rdns.push(rdn.try_clone(alloc)?)?;
         }
-        Ok(Dn { rdns })
+        let key = cloned_key(alloc, self.known_key())?;
+        Ok(Dn { rdns, key })
+    }
+}
+
+fn cloned_key(alloc: Global, key: Option<&DnKey>) -> Result<Option<DnKey>, NameFault>
+    ensures { Gives (λ key. key) result (Ok (option_copied key.entry)) }
+{
+    match key {
+        Some(key) => Ok(Some(key.try_clone(alloc)?)),
+        None => Ok(None),
     }
 }
 

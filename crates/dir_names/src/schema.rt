@@ -8,6 +8,7 @@ ghost use Rattle.std.specs.List.{list_any};
 ghost use Rattle.std.specs.Str.{str_eq_ignore_ascii_case};
 ghost use Rattle.dir_names.specs.Orders.{bytes_eq};
 ghost use Rattle.dir_names.specs.Outcome.{Gives};
+ghost use Rattle.dir_names.specs.Table.Builtin.{builtin_rows};
 
 pub(crate) mod table;
 
@@ -49,7 +50,7 @@ pub struct TypeRow {
 }
 
 /// The attribute types that are known. Values of any other type are compared byte by byte, and an
-/// attribute of it takes any number of them.
+/// attribute of it takes any number of them. All schemas have the same types.
 #[derive(Debug, Drop)]
 pub struct Schema {
     rows: Vec<TypeRow>,
@@ -86,10 +87,11 @@ impl Model for Schema {
 
     ghost view = { λ schema. schema.rows.items };
 
-    ghost use Rattle.std.specs.Prelude.{All};
+    ghost use Rattle.std.specs.Prelude.{◌≡◌, All};
     ghost use Rattle.dir_names.specs.Inside.Frequent.{IsFrequentSlot, IsRankedType};
+    ghost use Rattle.dir_names.specs.Table.Builtin.{builtin_rows};
 
-    ghost invariant = { λ schema. All (IsFrequentSlot schema.rows.items) schema.frequent.items × All (IsRankedType schema.rows.items) schema.ranked.items };
+    ghost invariant = { λ schema. All (IsFrequentSlot schema.rows.items) schema.frequent.items × All (IsRankedType schema.rows.items) schema.ranked.items × (schema.rows.items ≡ builtin_rows) };
 }
 
 impl Schema {
@@ -102,7 +104,7 @@ impl Schema {
         ensures { Gives (λ schema. schema) result (Ok builtin_rows) }
     {
         let bare = Schema {
-            rows: type_rows(alloc, &ROWS)?,
+            rows: known_types(alloc)?,
             frequent: Vec::new(alloc),
             ranked: Vec::new(alloc),
         };
@@ -118,6 +120,14 @@ impl Schema {
             frequent,
             ranked,
         })
+    }
+
+    /// A law, for proofs: a schema has the built-in types, so that what is known under one holds under each other.
+    #[inline(always)]
+    pub(crate) fn has_builtin_rows(&self)
+        ensures { self.now ≡ builtin_rows }
+    {
+        let _rows = &self.rows;
     }
 
     /// The frequent type in the slot of this text.
@@ -330,6 +340,13 @@ fn ranked_type_of(schema: &Schema, attr: &AttrKey) -> Option<RankedType>
         rule: schema.rule(attr),
         single: schema.single(attr),
     })
+}
+
+/// The types of the table.
+fn known_types(alloc: Global) -> Result<Vec<TypeRow>, NameFault>
+    ensures { Gives (λ types. types.items) result (Ok builtin_rows) }
+{
+    type_rows(alloc, &ROWS)
 }
 
 fn type_rows(alloc: Global, rows: &[Row]) -> Result<Vec<TypeRow>, NameFault>

@@ -17,4 +17,6 @@ mod names;
 #[cfg(test)]
 mod rdns;
 #[cfg(test)]
+mod reader;
+#[cfg(test)]
 mod values;

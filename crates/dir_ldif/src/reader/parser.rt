@@ -14,18 +14,23 @@ use crate::faults::{RecordFault, Refusal};
 use crate::reader::attrval::{Value, attrval_of};
 use crate::reader::unfolder::Line;
 use crate::records::{Change, ChangeKind, Mod, ModOp, Mods, Record};
-use dir_names::{Bytes, Description, Dn, Lines, NameFault, Rdn, Schema, Texts};
+use dir_names::{Bytes, Description, Dn, Lines, NameFault, NameReader, Rdn, Schema, Texts};
 use std::alloc::Global;
 
 /// The record that a block of lines is (RFC 2849, `ldif-attrval-record` and `ldif-change-record`).
 #[tactic(auto, unfolding(crate::specs::RecordGrammar::record_of))]
-pub(crate) fn record_of(alloc: Global, schema: &Schema, block: &[Line]) -> Result<Record, Refusal>
+pub(crate) fn record_of(
+    alloc: Global,
+    schema: &Schema,
+    names: &mut NameReader,
+    block: &[Line],
+) -> Result<Record, Refusal>
     ensures read { Meets Refuses (λ r. r) result (record_of schema.now block.now) }
     ensures sound { IfOk result (λ r. IsSoundRecord r) }
 {
     match block.split_first() {
         Some((first, rest)) => {
-            let dn = dn_line(alloc, schema, first)?;
+            let dn = dn_line(alloc, schema, names, first)?;
             body_of(alloc, schema, dn, rest)
         }
         None => Err(Refusal::Fault(RecordFault::BadLine)),
@@ -81,7 +86,12 @@ fn change_record(
 }
 
 /// The name of the line that begins a record.
-fn dn_line(alloc: Global, schema: &Schema, line: &Line) -> Result<Dn, Refusal>
+fn dn_line(
+    alloc: Global,
+    schema: &Schema,
+    names: &mut NameReader,
+    line: &Line,
+) -> Result<Dn, Refusal>
     ensures read { Meets Refuses (λ name. name) result (dn_line schema.now line.now) }
     ensures sound { IfOk result (λ name. IsSoundName name) }
 {
@@ -89,7 +99,22 @@ fn dn_line(alloc: Global, schema: &Schema, line: &Line) -> Result<Dn, Refusal>
     if !is_keyword(name, b"dn") {
         return Err(Refusal::Fault(RecordFault::BadLine));
     }
-    legal_dn(alloc, schema, value.as_slice())
+    next_dn(alloc, schema, names, value.as_slice())
+}
+
+/// The name that a text spells, if it has a key, for a text that is one of many.
+fn next_dn(
+    alloc: Global,
+    schema: &Schema,
+    names: &mut NameReader,
+    text: &[u8],
+) -> Result<Dn, Refusal>
+    ensures read { Meets Refuses (λ name. name) result (legal_dn schema.now text.now) }
+    ensures sound { IfOk result (λ name. IsSoundName name) }
+{
+    let dn = names.read(alloc, schema, text)?;
+    let _rdns = dn.rdns();
+    Ok(dn)
 }
 
 /// The name that a text spells, if it has a key.

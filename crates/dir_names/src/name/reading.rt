@@ -44,7 +44,8 @@ pub(crate) fn read_one_rdn(alloc: Global, text: &[u8]) -> Result<Rdn, NameFault>
     }
 }
 
-fn read_rdn_within_limit(alloc: Global, text: &[u8]) -> Result<Rdn, NameFault>
+/// Reads an RDN, of which the text has no other.
+pub(crate) fn read_rdn_within_limit(alloc: Global, text: &[u8]) -> Result<Rdn, NameFault>
     ensures { Gives (λ rdn. rdn) result (ok_if_within is_rdn_within_limit (rdn_of text.now)) }
 {
     let pairs = read_pairs(alloc, text)?;
@@ -163,7 +164,7 @@ fn split_at_plus(text: &[u8]) -> (&[u8], Option<&[u8]>)
 }
 
 /// The text before the first separator that no backslash escapes, and, if there is one, the text after it.
-fn split_once_unescaped(text: &[u8], separator: u8) -> (&[u8], Option<&[u8]>)
+pub(crate) fn split_once_unescaped(text: &[u8], separator: u8) -> (&[u8], Option<&[u8]>)
     ensures pieces { pieces separator false text.now ≡ result.0.now ∷ pieces_left separator (option_copied result.1) }
     ensures smaller { IfSome (option_copied result.1) (λ after. length after < length text.now) }
 {

@@ -1,6 +1,6 @@
 use Rattle.dir_names.specs.Table.Builtin.{builtin_rows}
-use Rattle.dir_names.proofs.schema.Schema.builtin.Goals as goal
+use Rattle.dir_names.proofs.schema.known_types.Goals as goal
 
 pub returns : goal.returns
 unfolding builtin_rows
-returns c = c.in_ok-type_rows.ensures
+returns c = c.type_rows.ensures

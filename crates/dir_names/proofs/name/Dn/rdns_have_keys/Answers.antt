@@ -4,7 +4,7 @@ use Rattle.std.proofs.lemmas.List.{take_all}
 use Rattle.dir_names.specs.NameKeys.{rdn_key}
 use Rattle.dir_names.specs.Names.{SpelledRdn}
 use Rattle.dir_names.proofs.HasKeys.{has_each, lacks_at}
-use Rattle.dir_names.proofs.name.Dn.has_key.Goals as goal
+use Rattle.dir_names.proofs.name.Dn.rdns_have_keys.Goals as goal
 
 pub returns-then-not-branch : goal.returns-then-not-branch
 returns-then-not-branch c =

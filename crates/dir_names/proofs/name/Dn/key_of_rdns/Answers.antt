@@ -7,7 +7,7 @@ use Rattle.dir_names.specs.Results.{option_collect}
 use Rattle.dir_names.proofs.AllLemmas.{prefixed}
 use Rattle.dir_names.proofs.Both.{left}
 use Rattle.dir_names.proofs.Collected.{collect_length}
-use Rattle.dir_names.proofs.name.Dn.key.Goals as goal
+use Rattle.dir_names.proofs.name.Dn.key_of_rdns.Goals as goal
 
 pub from_parts-requires : goal.from_parts-requires
 from_parts-requires c =
