@@ -1,5 +1,5 @@
-//! What names and RDNs are compared by. `sorting` has the texts that make a comparison one pass over bytes, and
-//! `sort_key` the keys of names that are values.
+//! What names and RDNs are compared by. `sorting` has the texts that make a comparison one pass over bytes,
+//! `sort_key` the keys of names that are values, and `recent` those that were read last.
 
 ghost use Rattle.std.specs.Cmp.{partial_order_from_agreeing_total};
 ghost use Rattle.std.specs.Ordering.{as_partial_cmp};
@@ -12,6 +12,7 @@ ghost use Rattle.dir_names.specs.Outcome.{Gives};
 ghost use Rattle.dir_names.specs.declared.fault.NameFault.TheVariants.{NameLimit};
 
 mod plain;
+pub(crate) mod recent;
 pub(crate) mod sort_key;
 pub(crate) mod sorting;
 

@@ -14,6 +14,7 @@ mod value;
 pub use attribute::{AttrKey, Description};
 pub use fault::NameFault;
 pub use fault::memory::Memory;
+pub use key::recent::RecentNames;
 pub use key::sort_key::DnSortKey;
 pub use key::{DnKey, RdnKey};
 pub use limits::{MAX_DESCRIPTION, MAX_RDN_TEXT, MAX_RDNS};

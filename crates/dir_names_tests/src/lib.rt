@@ -19,4 +19,6 @@ mod rdns;
 #[cfg(test)]
 mod reader;
 #[cfg(test)]
+mod recent;
+#[cfg(test)]
 mod values;

@@ -1,7 +1,7 @@
 //! Keys of values by the rules of their types, and the pieces of substring assertions.
 
 use crate::make::{attr_key, name_key, schema, value_key};
-use dir_names::{DnKey, NameFault, PiecePlace, PushedKey, ValueKey};
+use dir_names::{DnKey, NameFault, PiecePlace, PushedKey, RecentNames, ValueKey};
 use std::alloc::Global;
 use std::process::Abort;
 
@@ -71,14 +71,33 @@ fn pushed_keys_are_those_of_the_values(rt: HostRuntime) {
 
 fn assert_pushed(rt: &impl Abort, alloc: Global, attr_type: &str, value: &[u8], want: &[u8]) {
     let attr = attr_key(rt, alloc, attr_type);
+    let schema = schema(rt, alloc);
     let mut text = Vec::new(alloc);
-    let pushed = schema(rt, alloc).push_value_key(alloc, &attr, value, &mut text);
-    let is_wanted = match pushed {
+    let pushed = schema.push_value_key(alloc, &attr, value, &mut text);
+    assert!(rt;
+        is_pushed(&pushed, text.as_slice(), value, want),
+        "{attr_type}"
+    );
+    let mut text = Vec::new(alloc);
+    let pushed = RecentNames::new().push_value_key(alloc, &schema, &attr, value, &mut text);
+    assert!(rt;
+        is_pushed(&pushed, text.as_slice(), value, want),
+        "{attr_type}"
+    );
+}
+
+/// Whether the key of a value is in its place, and this one.
+fn is_pushed(
+    pushed: &Result<PushedKey, NameFault>,
+    text: &[u8],
+    value: &[u8],
+    want: &[u8],
+) -> bool {
+    match pushed {
         Ok(PushedKey::Same) => value == want && text.is_empty(),
-        Ok(PushedKey::Appended) => value != want && text.as_slice() == want,
+        Ok(PushedKey::Appended) => value != want && text == want,
         _ => false,
-    };
-    assert!(rt; is_wanted, "{attr_type}");
+    }
 }
 
 #[test]

@@ -1,7 +1,7 @@
 -- What an attribute's lines add to values, and what all lines of an entry make.
-use Rattle.std.proofs.Common.{◌≡◌, ◌<◌, ◌≤◌, ◌-◌, ℕ, zero, suc, get_or, Bool, true, false, cond, List, [], ◌∷◌, ◌++◌, map, length, take, drop, slice_get, Option, Some, None, Ok, Err, IsTrue, refl, sym, ap, subst, ◌∙◌, arith}
+use Rattle.std.proofs.Common.{◌≡◌, ◌<◌, ◌-◌, ℕ, zero, suc, get_or, true, false, cond, List, [], ◌∷◌, ◌++◌, map, length, slice_get, Option, Some, None, Ok, IsTrue, refl, sym, ap, subst, ◌∙◌, arith}
 use Rattle.std.specs.FinMap as fin
-use Rattle.std.specs.List.{All, flat_map, insert}
+use Rattle.std.specs.List.{All, insert}
 use Rattle.std.specs.List.Sorted.{IsPermutation}
 use Rattle.std.specs.Option.{option_map}
 use Rattle.std.specs.Result.{result_ok}
@@ -14,9 +14,8 @@ use Rattle.dir_names.specs.declared.schema.TypeRow.{TypeRow}
 use Rattle.dir_names.specs.declared.value.ValueKey.{ValueKey}
 use Rattle.dir_names.specs.declared.value.ValueKey.TheVariants.{Text}
 use Rattle.dir_names.specs.Described.{Described}
-use Rattle.dir_names.specs.NameKeys.{value_key_of}
-use Rattle.dir_names.specs.Results.{option_collect, option_cons}
-use Rattle.dir_names.specs.Values.{value_key_cmp, value_key_cmp_total}
+use Rattle.dir_names.specs.Results.{option_cons}
+use Rattle.dir_names.specs.Values.{value_key_cmp_total}
 use Rattle.dir_names.proofs.Collected.{collect_append, collect_length}
 use Rattle.dir_tree.specs.declared.lines.KeyedLine.{KeyedLine}
 use Rattle.dir_tree.specs.declared.packed.PackedAttribute.{PackedAttribute}

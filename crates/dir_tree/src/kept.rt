@@ -14,7 +14,7 @@ use crate::packed::pattern::Pattern;
 use crate::packed::{PackedAttributes, PackedViews, Rooms, Shared};
 use crate::parts::has_each;
 use crate::views::AttributeView;
-use dir_names::{AttrKey, Bytes, Description, Memory, RdnKey, Schema, ValueKey};
+use dir_names::{AttrKey, Bytes, Description, Memory, RdnKey, RecentNames, Schema, ValueKey};
 use std::alloc::Global;
 use std::marker::Model;
 
@@ -69,6 +69,7 @@ impl KeptAttributes {
     pub(crate) fn made(
         alloc: Global,
         schema: &Schema,
+        recent: &mut RecentNames,
         key: &RdnKey,
         lines: &[(Description, Bytes)],
         pattern: &Pattern,
@@ -78,7 +79,7 @@ impl KeptAttributes {
         ensures single { IfSome result (λ made. exceeds_single_value schema.now made ≡ false) }
     {
         let made = KeptAttributes {
-            form: Form::Packed(pattern.packed(alloc, schema, lines)?),
+            form: Form::Packed(pattern.packed(alloc, schema, recent, lines)?),
         };
         if !has_each(&made, key.pairs()) || made.exceeds_single_value(schema) {
             return None;

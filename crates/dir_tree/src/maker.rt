@@ -10,7 +10,7 @@ use crate::entry::{Entry, leaf_key};
 use crate::kept::KeptAttributes;
 use crate::packed::pattern::Pattern;
 use crate::parts::Parts;
-use dir_names::{Bytes, Description, Lines, Rdn, RdnKey, Schema};
+use dir_names::{Bytes, Description, Lines, Rdn, RdnKey, RecentNames, Schema};
 use std::alloc::Global;
 
 /// How many patterns are remembered.
@@ -19,17 +19,20 @@ const MOST_PATTERNS: usize = 8;
 /// An entry of more lines is made by the general way.
 const MOST_LINES: usize = 64;
 
-/// Makes entries one after the other. It remembers how the lines of the last ones were arranged: an entry whose lines
-/// are arranged as those of one of them is made in less time.
+/// Makes entries one after the other. It remembers how the lines of the last ones were arranged, and the last values
+/// that are names: an entry whose lines are arranged as those of one of them, or that has such a value, is made in less
+/// time.
 #[derive(Drop)]
 pub struct EntryMaker {
     patterns: Vec<Pattern>,
+    names: RecentNames,
 }
 
 impl EntryMaker {
     pub fn new(alloc: Global) -> EntryMaker {
         EntryMaker {
             patterns: Vec::new(alloc),
+            names: RecentNames::new(),
         }
     }
 
@@ -84,6 +87,7 @@ impl EntryMaker {
             if let Some(made) = KeptAttributes::made(
                 alloc,
                 schema,
+                &mut self.names,
                 key,
                 lines,
                 &self.patterns[at],
@@ -93,7 +97,7 @@ impl EntryMaker {
             }
         }
         let pattern = Pattern::of(alloc, lines)?;
-        let made = KeptAttributes::made(alloc, schema, key, lines, &pattern)?;
+        let made = KeptAttributes::made(alloc, schema, &mut self.names, key, lines, &pattern)?;
         self.remember(pattern);
         Some(made)
     }

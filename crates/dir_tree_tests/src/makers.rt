@@ -151,3 +151,16 @@ fn an_entry_that_is_arranged_as_another_is_refused_for_its_own_faults(rt: HostRu
     assert_refused(&rt, alloc, &mut maker, bad, EntryFault::BadValue);
     assert_made(&rt, alloc, &mut maker, "cn=a", sound);
 }
+
+#[test]
+fn names_that_were_values_before_are_refused_for_their_own_faults(rt: HostRuntime) {
+    let alloc = rt.alloc();
+    let mut maker = EntryMaker::new(alloc);
+    let sound: Texts = &[("cn", "a"), ("seeAlso", "cn=x"), ("seeAlso", "cn=y")];
+    assert_made(&rt, alloc, &mut maker, "cn=a", sound);
+    let twice: Texts = &[("cn", "a"), ("seeAlso", "cn=y"), ("seeAlso", "cn=y")];
+    assert_refused(&rt, alloc, &mut maker, twice, EntryFault::Twice);
+    let bad: Texts = &[("cn", "a"), ("seeAlso", "cn=x"), ("seeAlso", "cn:y")];
+    assert_refused(&rt, alloc, &mut maker, bad, EntryFault::BadValue);
+    assert_made(&rt, alloc, &mut maker, "cn=a", sound);
+}

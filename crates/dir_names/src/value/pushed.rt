@@ -15,7 +15,7 @@ use crate::key::sorting::put_lowercase;
 use crate::value::folding::is_ascii;
 use crate::value::spaces::has_no_extra_space;
 use crate::value::{is_integer, is_object_id, text_key};
-use crate::{AttrKey, DnSortKey, NameFault, Rule, Schema};
+use crate::{AttrKey, DnSortKey, NameFault, RecentNames, Rule, Schema};
 use std::alloc::Global;
 
 /// Where the key of a value is, after `Schema::push_value_key`.
@@ -63,6 +63,33 @@ impl Schema {
     {
         match self.rule(attr) {
             Rule::Name => Ok(PushedKey::Name(DnSortKey::read(alloc, self, value)?)),
+            rule => push_text_key(alloc, rule, value, text),
+        }
+    }
+}
+
+impl RecentNames {
+    ghost use Rattle.dir_names.specs.NameKeys.{value_key_of};
+
+    /// Finds the key of a value as `Schema::push_value_key` does. A name that is one of the last is not read again.
+    ///
+    /// # Errors
+    ///
+    /// As for `Schema::push_value_key`.
+    pub fn push_value_key(
+        &mut self,
+        alloc: Global,
+        schema: &Schema,
+        attr: &AttrKey,
+        value: &[u8],
+        text: &mut Vec<u8>,
+    ) -> Result<PushedKey, NameFault>
+        ensures key { IfOk result (Pushes (value_key_of schema.now attr.now value.now) value.now text.old.items text.new.items) }
+        ensures kept { IfOk result (λ pushed. is_appended pushed ≡ false → text.new.items ≡ text.old.items) }
+        ensures fault { IfErr result (λ e. IsNameFaultOf e (value_key_of schema.now attr.now value.now)) }
+    {
+        match schema.rule(attr) {
+            Rule::Name => Ok(PushedKey::Name(self.read(alloc, schema, value)?)),
             rule => push_text_key(alloc, rule, value, text),
         }
     }

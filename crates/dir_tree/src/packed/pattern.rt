@@ -15,7 +15,7 @@ use crate::packed::{
     index, is_common,
 };
 use crate::search::{Sought, cmp_lent};
-use dir_names::{AttrKey, Bytes, Description, PushedKey, Schema};
+use dir_names::{AttrKey, Bytes, Description, PushedKey, RecentNames, Schema};
 use std::alloc::Global;
 use std::cmp::Ordering;
 use std::rc::Rc;
@@ -46,6 +46,7 @@ impl Pattern {
         &self,
         alloc: Global,
         schema: &Schema,
+        recent: &mut RecentNames,
         lines: &[(Description, Bytes)],
     ) -> Option<PackedAttributes>
         ensures rise { IfSome result (λ packed. IsTrue (attributes_rise packed)) }
@@ -68,9 +69,9 @@ impl Pattern {
             let (taken, after) = rest.split_at_checked(attribute.len())?;
             rest = after;
             if attribute.is_common {
-                common = common.with_lines(alloc, schema, attribute, lines, taken)?;
+                common = common.with_lines(alloc, schema, recent, attribute, lines, taken)?;
             } else {
-                own = own.with_lines(alloc, schema, attribute, lines, taken)?;
+                own = own.with_lines(alloc, schema, recent, attribute, lines, taken)?;
             }
         }
         if !rest.is_empty() {
@@ -209,6 +210,7 @@ impl PackedValues {
         self,
         alloc: Global,
         schema: &Schema,
+        recent: &mut RecentNames,
         attribute: &PackedAttribute,
         lines: &[(Description, Bytes)],
         numbers: &[u16],
@@ -228,6 +230,7 @@ impl PackedValues {
             values = values.with_value_after(
                 alloc,
                 schema,
+                recent,
                 line.0.key(),
                 line.1.as_slice(),
                 start,
@@ -244,6 +247,7 @@ impl PackedValues {
         self,
         alloc: Global,
         schema: &Schema,
+        recent: &mut RecentNames,
         attr: &AttrKey,
         bytes: &[u8],
         start: usize,
@@ -252,7 +256,7 @@ impl PackedValues {
         ensures { IfSome result (InsertsValue schema.now attr.now bytes.now start self) }
     {
         let PackedValues { mut values, pool } = self;
-        let (pool, value) = pooled_line(alloc, schema, pool, attr, bytes)?;
+        let (pool, value) = pooled_line(alloc, schema, recent, pool, attr, bytes)?;
         let at = place_after(values.as_slice(), start, &value, pool.lend());
         match values.insert(at, value) {
             Ok(()) => Some(PackedValues { values, pool }),
@@ -307,6 +311,7 @@ fn place_after(
 fn pooled_line(
     alloc: Global,
     schema: &Schema,
+    recent: &mut RecentNames,
     pool: Pool,
     attr: &AttrKey,
     bytes: &[u8],
@@ -324,7 +329,7 @@ fn pooled_line(
     let start = index(text.len()).ok()?;
     text.extend_from_slice(bytes).ok()?;
     let end = index(text.len()).ok()?;
-    let Ok(pushed) = schema.push_value_key(alloc, attr, bytes, &mut text) else {
+    let Ok(pushed) = recent.push_value_key(alloc, schema, attr, bytes, &mut text) else {
         return None;
     };
     let key = match pushed {

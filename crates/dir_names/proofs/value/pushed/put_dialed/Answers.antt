@@ -1,4 +1,4 @@
-use Rattle.std.proofs.Common.{◌++◌, Ok, ap, sym, ◌∙◌}
+use Rattle.std.proofs.Common.{◌++◌, Ok, ap, ◌∙◌}
 use Rattle.std.proofs.lemmas.List.{append-nil}
 use Rattle.std.proofs.Math.ListN.{drop_of_length-le}
 use Rattle.dir_names.proofs.ShortKeys.{dialed, dialed_is}

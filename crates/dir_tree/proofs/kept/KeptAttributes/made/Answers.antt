@@ -1,4 +1,4 @@
-use Rattle.std.proofs.Common.{◌≡◌, true, Some, sym, ap, ◌∙◌, rules}
+use Rattle.std.proofs.Common.{◌≡◌, true, ◌∙◌, rules}
 use Rattle.std.specs.List.{list_all}
 use Rattle.dir_names.specs.declared.value.ValueKey.TheVariants.{Text}
 use Rattle.dir_tree.specs.Content.{has_value}

@@ -1,4 +1,4 @@
-use Rattle.std.proofs.Common.{◌≡◌, ◌≤◌, ◌<◌, ◌-◌, ℕ, List, map, length, drop, take, sym, ap, ◌∙◌, arith}
+use Rattle.std.proofs.Common.{map, sym, ap, ◌∙◌}
 use Rattle.std.proofs.lemmas.List.{drop-map}
 use Rattle.dir_tree.specs.Inside.Packed.{packed_value}
 use Rattle.dir_tree.proofs.PackedLists.{part-after}

@@ -1,4 +1,4 @@
-use Rattle.std.proofs.Common.{◌≡◌, ◌+◌, ℕ, Bool, true, false, not, [], ◌++◌, ◌∷◌, length, take, drop, get_or, slice_get, Some, IsTrue, refl, sym, ap, subst, ◌∙◌, true≢false, arith, rules}
+use Rattle.std.proofs.Common.{◌≡◌, Bool, true, false, not, length, take, drop, get_or, slice_get, Some, IsTrue, refl, sym, ap, subst, ◌∙◌, true≢false, arith, rules}
 use Rattle.std.specs.Bool.{◌==◌}
 use Rattle.dir_names.specs.Described.{described_eq_decides}
 use Rattle.std.proofs.lemmas.List.{take_all, take_more}

@@ -1,4 +1,4 @@
-use Rattle.std.proofs.Common.{◌≡◌, ◌<◌, ◌+◌, ℕ, Bool, true, nat_eq, List, [], ◌∷◌, ◌++◌, length, refl, sym, ap, subst, ◌∙◌, arith, rules}
+use Rattle.std.proofs.Common.{◌≡◌, [], ◌∷◌, ◌++◌, length, sym, ap, subst, ◌∙◌, rules}
 use Rattle.dir_tree.specs.Inside.Patterns.{HasEach}
 use Rattle.dir_tree.proofs.EachLine.{each_none, each_more, each_kept}
 use Rattle.dir_tree.proofs.packed.pattern.order_of.Goals as goal

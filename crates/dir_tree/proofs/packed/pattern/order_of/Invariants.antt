@@ -1,5 +1,4 @@
-use Rattle.std.proofs.Common.{◌≡◌, ◌<◌, ℕ, true, nat_eq, length}
-use Rattle.std.specs.List.{list_any}
+use Rattle.std.proofs.Common.{◌≡◌, length}
 use Rattle.dir_tree.specs.Inside.Patterns.{HasEach}
 use Rattle.dir_tree.proofs.packed.pattern.order_of.Given as goal
 

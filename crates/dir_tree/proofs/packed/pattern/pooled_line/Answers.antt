@@ -1,7 +1,5 @@
-use Rattle.std.proofs.Common.{◌≡◌, ◌<◌, ◌≤◌, ℕ, zero, suc, List, [], ◌∷◌, ◌++◌, length, slice_get, Some, Ok, refl, sym, ap, ◌∙◌, arith, rules}
-use Rattle.std.proofs.lemmas.List.{length-append}
-use Rattle.dir_names.specs.declared.value.ValueKey.TheVariants.{Text, Name}
-use Rattle.dir_tree.specs.declared.packed.PackedKey.TheVariants as packed_key
+use Rattle.std.proofs.Common.{◌≡◌, ℕ, zero, suc, List, [], ◌∷◌, ◌++◌, length, slice_get, Some, Ok, refl, sym, ap, ◌∙◌, arith, rules}
+use Rattle.dir_names.specs.declared.value.ValueKey.TheVariants.{Text}
 use Rattle.dir_tree.specs.Inside.Packed.{key_in, name_or_none, part_of}
 use Rattle.dir_names.specs.ValueKeys.Pushed.{pushed_key}
 use Rattle.dir_tree.proofs.PackedLists.{part-append, part-appended}

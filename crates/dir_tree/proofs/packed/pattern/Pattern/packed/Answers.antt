@@ -1,9 +1,8 @@
-use Rattle.std.proofs.Common.{◌≡◌, ◌+◌, ℕ, true, false, [], ◌++◌, ◌∷◌, map, length, take, drop, get_or, IsTrue, refl, sym, ap, subst, ◌∙◌, arith, rules}
+use Rattle.std.proofs.Common.{◌≡◌, ◌+◌, [], ◌++◌, ◌∷◌, map, length, take, IsTrue, sym, ap, subst, ◌∙◌, arith, rules}
 use Rattle.std.proofs.lemmas.List.{take_all, take_more, take-append-drop}
-use Rattle.std.specs.List.{All}
 use Rattle.dir_names.specs.Orders.{attr_cmp}
 use Rattle.dir_names.specs.Sorted.{rises}
-use Rattle.dir_tree.specs.Inside.Packed.{IsPacked, packed_attribute}
+use Rattle.dir_tree.specs.Inside.Packed.{packed_attribute}
 use Rattle.dir_tree.specs.Inside.Patterns.{Gathers}
 use Rattle.dir_tree.specs.Inside.Stored.{attributes_rise}
 use Rattle.dir_tree.proofs.PatternLines.{gathers_all, gathers_common, gathers_none, gathers_own, keys-attributes, nil_of}

@@ -1,0 +1,109 @@
+//! The names that were last read as values, with their keys.
+
+ghost use Rattle.std.specs.Prelude.{◌≡◌, IfSome, Some};
+ghost use Rattle.dir_names.specs.NameKeys.{name_value_key};
+ghost use Rattle.dir_names.specs.Outcome.{Gives, ok_or_bad_value};
+ghost use Rattle.dir_names.specs.Table.Builtin.{builtin_rows};
+
+use crate::{DnSortKey, NameFault, Schema};
+use std::alloc::Global;
+use std::mem;
+
+/// A name of more bytes is not remembered.
+const MOST_BYTES: usize = 512;
+
+/// The last two names that were read as values, with their keys, which are the same under each schema. A value of the
+/// same bytes as one of them is not read again.
+#[derive(Drop)]
+pub struct RecentNames {
+    last: Option<RecentName>,
+    before: Option<RecentName>,
+}
+
+#[derive(Drop)]
+struct RecentName {
+    value: Vec<u8>,
+    key: DnSortKey,
+    ghost is_key: { name_value_key builtin_rows value.items ≡ Some key },
+}
+
+impl RecentNames {
+    pub fn new() -> RecentNames {
+        RecentNames {
+            last: None,
+            before: None,
+        }
+    }
+
+    /// The key of the name that a value spells, as `DnSortKey::read` answers it.
+    ///
+    /// # Errors
+    ///
+    /// As for `DnSortKey::read`.
+    pub fn read(
+        &mut self,
+        alloc: Global,
+        schema: &Schema,
+        value: &[u8],
+    ) -> Result<DnSortKey, NameFault>
+        ensures { Gives (λ key. key) result (ok_or_bad_value (name_value_key schema.now value.now)) }
+    {
+        schema.has_builtin_rows();
+        match key_in(&self.last, value) {
+            Some(key) => key.try_clone(alloc),
+            None => self.read_other(alloc, schema, value),
+        }
+    }
+
+    /// `read` of a value that is not the last name.
+    #[inline(never)]
+    fn read_other(
+        &mut self,
+        alloc: Global,
+        schema: &Schema,
+        value: &[u8],
+    ) -> Result<DnSortKey, NameFault>
+        ensures { Gives (λ key. key) result (ok_or_bad_value (name_value_key schema.now value.now)) }
+    {
+        schema.has_builtin_rows();
+        if let Some(key) = key_in(&self.before, value) {
+            let key = key.try_clone(alloc)?;
+            mem::swap(&mut self.last, &mut self.before);
+            return Ok(key);
+        }
+        let key = DnSortKey::read(alloc, schema, value)?;
+        if value.len() <= MOST_BYTES {
+            self.keep(alloc, value, &key);
+        }
+        Ok(key)
+    }
+
+    /// Remembers a name in place of the older one, if there is memory for it.
+    fn keep(&mut self, alloc: Global, value: &[u8], key: &DnSortKey)
+        requires { name_value_key builtin_rows value.now ≡ Some key.now }
+    {
+        let mut bytes = match self.before.take() {
+            Some(RecentName { value, key: _key }) => value,
+            None => Vec::new(alloc),
+        };
+        bytes.clear();
+        let Ok(()) = bytes.extend_from_slice(value) else {
+            return;
+        };
+        let Ok(key) = key.try_clone(alloc) else {
+            return;
+        };
+        self.before = mem::replace(&mut self.last, Some(RecentName { value: bytes, key }));
+    }
+}
+
+/// The key of a remembered name, if a value is its bytes.
+#[inline(always)]
+fn key_in<'a>(name: &'a Option<RecentName>, value: &[u8]) -> Option<&'a DnSortKey>
+    ensures { IfSome result (λ key. name_value_key builtin_rows value.now ≡ Some key.now) }
+{
+    match name {
+        Some(name) if name.value.as_slice() == value => Some(&name.key),
+        _ => None,
+    }
+}
