@@ -9,7 +9,8 @@ answer must come from a refused allocation. These forms hand one on, and pass:
     call(..)?                        the fault of a call, turned by `From`
     Err(..::Memory) => ..::Memory    an arm of a match whose pattern names the fault, in a `From` too
     Err(_) => ..::Memory             where out of memory is the only fault of the call that is matched, by the type or the
-                                     contract of every function of its name; so `map_err(|_| ..::Memory)` and `let .. else`
+                                     contract of every function of its name that has a `Result`; so `map_err(|_| ..::Memory)` and
+                                     `let .. else`
 
 There must be no other place but those in BUFFERED and COUNTS. Tests are left out.
 """
@@ -23,7 +24,7 @@ from checks import Wrong
 ROOT = pathlib.Path(__file__).resolve().parent.parent
 
 # Calls that hand back what could not be put where it was to go, or opened: their only fault is out of memory.
-HANDS_BACK = {"from_vec", "insert", "into_vec", "move_subtree", "open", "push"}
+HANDS_BACK = {"from_vec", "grow_at", "insert", "into_vec", "move_subtree", "open", "push"}
 
 # Functions that answer out of memory for a fault of a sink in memory, which takes all that it is given unless an allocation is refused.
 BUFFERED = {"run_fault"}
@@ -167,7 +168,8 @@ def main():
     signatures = {}
     for text in sources.values():
         for function, signature, _, _ in functions_of(text, code_of(text)):
-            signatures.setdefault(function, []).append(signature)
+            if "-> Result<" in signature:
+                signatures.setdefault(function, []).append(signature)
     only_memory = {name for name, given in signatures.items() if all(map(may_only_lack_memory, given))}
 
     def check(text):

@@ -33,6 +33,7 @@ pub mod SpelledLemmas
 pub mod SpelledMoves
 pub mod SplitPieces
 pub mod StableSorts
+pub mod TreeAdds
 pub mod TreeChildren
 pub mod TreeDirs
 pub mod TreeMoves

@@ -229,6 +229,22 @@ only_flat (Some (Some b)) a h = ap (λ o. Some o) h
 
 -- ---- a write further down
 
+-- what was in the place of a child is put there again
+pub same_place : (m : Places) (x : RdnKeys) (place : Option Places) → IsAt m (x ∷ []) (place_map place) → with_child m x place ≡ m
+same_place m x place is = same_map dn_key_cmp_total dn_key_cmp_exact _ _ (λ q. get_with_child m x place q ∙ by q)
+  where
+    by : (q : DnKeys) → grafted (rest_below (x ∷ []) q) (fin.get (place_map place)) (fin.get m q) ≡ fin.get m q
+    by [] = refl
+    by (y ∷ q) = here (rdn_key_eq x y) refl
+      where
+        here : (b : Bool) → rdn_key_eq x y ≡ b → grafted (cond b (Some q) None) (fin.get (place_map place)) (fin.get m (y ∷ q)) ≡ fin.get m (y ∷ q)
+        here true t = is q ∙ ap (λ z. fin.get m (z ∷ q)) ((rdn_key_eq_decides x y).0 t)
+        here false t = refl
+
+-- nothing is at or below an empty place
+pub nothing_in : (m : Places) (x : RdnKeys) (place : Option Places) → IsAt m (x ∷ []) (place_map place) → place ≡ None → (q : DnKeys) → entry_on m (x ∷ q) ≡ None
+nothing_in m x place is none q = ap entry_in (sym (is q)) ∙ ap (λ place. entry_in (fin.get (place_map place) q)) none ∙ empty_place q
+
 module _ (m : Places) (x : RdnKeys) (child : Places) (is : IsAt m (x ∷ []) child) where
   pub graft_child : (path : DnKeys) (new : DnKeys → Option (Option Content)) (after : Places) → IsGraft child path new after → IsGraft m (x ∷ path) new (with_child m x (Some after))
   graft_child path new after graft q = get_with_child m x (Some after) q ∙ by q
@@ -243,15 +259,7 @@ module _ (m : Places) (x : RdnKeys) (child : Places) (is : IsAt m (x ∷ []) chi
 
   -- or none
   pub same_child : with_child m x (Some child) ≡ m
-  same_child = same_map dn_key_cmp_total dn_key_cmp_exact _ _ (λ q. get_with_child m x (Some child) q ∙ by q)
-    where
-      by : (q : DnKeys) → grafted (rest_below (x ∷ []) q) (fin.get child) (fin.get m q) ≡ fin.get m q
-      by [] = refl
-      by (y ∷ q) = here (rdn_key_eq x y) refl
-        where
-          here : (b : Bool) → rdn_key_eq x y ≡ b → grafted (cond b (Some q) None) (fin.get child) (fin.get m (y ∷ q)) ≡ fin.get m (y ∷ q)
-          here true t = is q ∙ ap (λ z. fin.get m (z ∷ q)) ((rdn_key_eq_decides x y).0 t)
-          here false t = refl
+  same_child = same_place m x (Some child) is
 
   pub insert_child : (path : DnKeys) (value : Option Content) → with_child m x (Some (fin.insert child path value)) ≡ fin.insert m (x ∷ path) value
   insert_child path value = same_map dn_key_cmp_total dn_key_cmp_exact _ _ (λ q. get_with_child m x (Some (fin.insert child path value)) q ∙ by q ∙ sym (get-insert dn_key_cmp_total m (x ∷ path) value q))

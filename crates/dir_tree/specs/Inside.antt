@@ -8,6 +8,7 @@ pub mod Packed
 pub mod Patterns
 pub mod Searches
 pub mod Stored
+pub mod TreeAdds
 pub mod TreeFalls
 pub mod TreeLends
 pub mod TreeNames

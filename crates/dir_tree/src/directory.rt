@@ -3,6 +3,7 @@
 ghost use Rattle.dir_names.specs.declared.fault.NameFault.TheVariants as NameFault;
 ghost use Rattle.std.specs.Prelude.{◌≡◌, ◌↔◌, ◌+◌, ◌≤◌, IfErr, IfOk, IsSome, IsTrue, None, OnErr, OnOk, Some, length, map, option_copied, take};
 ghost use Rattle.dir_names.specs.Keys.{parent_of};
+ghost use Rattle.dir_tree.specs.Added.{IsNotAdded};
 ghost use Rattle.dir_tree.specs.Dir.{Dir, HasChild, IsClosed, entry_at, has_parent, is_there, put_entry, remove_entry};
 ghost use Rattle.dir_tree.specs.Moves.{IsShallow, MayMoveTo, height_below, move_subtree};
 ghost use Rattle.dir_tree.specs.SpelledNames.{named_entries, own_depth, spelled_name};
@@ -10,6 +11,17 @@ ghost use Rattle.dir_tree.specs.SpelledNames.{named_entries, own_depth, spelled_
 use crate::Entry;
 use dir_names::{Dn, DnKey, Memory, NameFault, Rdn};
 use std::alloc::Global;
+
+/// Why an entry was not added to a directory.
+#[derive(Drop)]
+pub enum NotAdded {
+    /// There is an entry with this key.
+    Taken,
+    /// The key is not the suffix, and there is no entry with its parent's key. The entry comes back.
+    NoParent(Entry),
+    /// Memory ran out.
+    Memory,
+}
 
 /// A directory: a suffix, and a map from the keys of names to entries. Each entry but the suffix's has
 /// its parent in the map.
@@ -54,6 +66,19 @@ pub trait Directory {
         ensures ok { OnOk result (state self.new ≡ put_entry (state self.old) key.now entry) }
         ensures err { OnErr result (state self.new ≡ state self.old) }
         ensures value_returned { IfErr result (λ e. e ≡ entry) };
+
+    /// Puts an entry at a key, if that has none, and is the suffix or has its parent in the map. It is looked up once,
+    /// where `get`, `may_stand` and `insert` look three times.
+    ///
+    /// # Errors
+    ///
+    /// Why the entry was not added. Then the map is as it was.
+    fn add(&mut self, key: &DnKey, entry: Entry) -> Result<(), NotAdded>
+        ensures ok { OnOk result (state self.new ≡ put_entry (state self.old) key.now entry) }
+        ensures free { OnOk result (entry_at (state self.old) key.now ≡ None) }
+        ensures parent { OnOk result (IsTrue (has_parent (state self.old) key.now)) }
+        ensures err { OnErr result (state self.new ≡ state self.old) }
+        ensures cause { IfErr result (IsNotAdded (state self.old) key.now entry) };
 
     /// By how many RDNs the longest key at or below this one is longer: 0 for an entry without children.
     /// There must be an entry.

@@ -21,7 +21,7 @@ mod values;
 mod views;
 
 pub use attributes::{Attribute, AttributeMap, Attributes};
-pub use directory::{Directory, may_stand, spelled_own};
+pub use directory::{Directory, NotAdded, may_stand, spelled_own};
 pub use entry::{Entry, own_rdns};
 pub use fault::EntryFault;
 pub use flat::FlatDirectory;

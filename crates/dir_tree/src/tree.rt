@@ -11,7 +11,7 @@ ghost use Rattle.dir_tree.specs.Moves.{IsShallow, rest_below};
 
 use crate::packed::Shared;
 use crate::tree::node::{Node, node_in};
-use crate::{Directory, Entry};
+use crate::{Directory, Entry, NotAdded};
 use dir_names::{Dn, DnKey, Memory, RdnKey};
 use std::alloc::Global;
 use std::marker::Model;
@@ -122,6 +122,30 @@ impl Directory for TreeDirectory {
                     Ok(()) => Ok(()),
                     Err(place) => Err(place.unwrap().into_entry()),
                 }
+            }
+        }
+    }
+
+    fn add(&mut self, key: &DnKey, entry: Entry) -> Result<(), NotAdded> {
+        let entry = settled(self.alloc, &mut self.shared, key, entry);
+        let Some(path) = path_below(&self.suffix, key) else {
+            return Err(NotAdded::NoParent(entry));
+        };
+        match path.split_first() {
+            None => {
+                if let Some(root) = &self.root {
+                    // The root is asked for its entry, so that the proof knows that it has one.
+                    let _entry = root.entry();
+                    return Err(NotAdded::Taken);
+                }
+                self.root = Some(Node::leaf(self.alloc, entry));
+                Ok(())
+            }
+            Some((first, rest)) => {
+                let Some(root) = &mut self.root else {
+                    return Err(NotAdded::NoParent(entry));
+                };
+                root.add_at(self.alloc, first, rest, entry)
             }
         }
     }

@@ -1,7 +1,7 @@
 //! Names as spelled and walks, over one map of whole names and over a tree of nodes.
 
 use crate::make::{assert_spelled, assert_walked, bare, fill, flat, key, key_of, name, put, tree};
-use dir_tree::{Directory, TreeDirectory};
+use dir_tree::{Directory, NotAdded, TreeDirectory};
 use std::alloc::Global;
 use std::process::Abort;
 
@@ -91,4 +91,57 @@ fn an_entry_is_put_into_a_directory(rt: HostRuntime) {
     let entry = bare(&rt, rt.alloc(), suffix, true);
     put(&rt, rt.alloc(), &mut directory, &key, entry);
     assert_walked(&rt, rt.alloc(), &directory, &["DC=com"]);
+}
+
+/// Names of entries that are added in turn, and what comes of it.
+const ADDS: [(&str, &str); 13] = [
+    ("cn=a,dc=com", "no parent"),
+    ("dc=org", "no parent"),
+    ("dc=com", "added"),
+    ("DC=COM", "taken"),
+    ("dc=org", "no parent"),
+    ("cn=a,dc=org", "no parent"),
+    ("cn=c,cn=a,dc=com", "no parent"),
+    ("cn=A,dc=com", "added"),
+    ("CN=a,dc=com", "taken"),
+    ("cn=d,cn=c,cn=a,dc=com", "no parent"),
+    ("cn=c,cn=b,dc=com", "no parent"),
+    ("cn=c,cn=a,dc=com", "added"),
+    ("cn=C,cn=a,dc=com", "taken"),
+];
+
+#[test]
+fn an_entry_is_added_at_a_free_place_below_its_parent(rt: HostRuntime) {
+    assert_adds(&rt, rt.alloc(), flat(&rt, rt.alloc(), "dc=com"));
+    assert_adds(&rt, rt.alloc(), tree(&rt, rt.alloc(), "dc=com"));
+}
+
+fn assert_adds<D: Directory + Drop>(rt: &impl Abort, alloc: Global, mut directory: D) {
+    for (text, want) in &ADDS {
+        let told = add(rt, alloc, &mut directory, text);
+        assert!(rt; told == *want, "{text}: {told}");
+    }
+    let walked = ["dc=com", "cn=A,dc=com", "cn=c,cn=A,dc=com"];
+    assert_walked(rt, alloc, &directory, &walked);
+}
+
+/// What comes of an entry that is added at this name. One that comes back is the one that was given.
+fn add<D: Directory>(
+    rt: &impl Abort,
+    alloc: Global,
+    directory: &mut D,
+    text: &str,
+) -> &'static str {
+    let key = key_of(rt, alloc, text);
+    let entry = bare(rt, alloc, name(rt, alloc, text), false);
+    match directory.add(&key, entry) {
+        Ok(()) => "added",
+        Err(NotAdded::Taken) => "taken",
+        Err(NotAdded::NoParent(entry)) => {
+            let own = bare(rt, alloc, name(rt, alloc, text), false);
+            assert!(rt; entry.own() == own.own(), "{text}");
+            "no parent"
+        }
+        Err(NotAdded::Memory) => "memory",
+    }
 }

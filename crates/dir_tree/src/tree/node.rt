@@ -4,13 +4,14 @@ ghost use Rattle.std.specs.Borrow.{sem};
 ghost use Rattle.std.specs.Prelude.{◌≡◌, ◌↔◌, ◌+◌, ◌≤◌, ℕ, [], ◌∷◌, ◌++◌, IfErr, IfNone, IfOk, IfSome, IsSome, IsTrue, None, OnErr, OnOk, Some, length, map, take};
 ghost use Rattle.std.specs.FinMap as fin;
 ghost use Rattle.dir_names.specs.Keys.{DnKeys, RdnKeys};
-ghost use Rattle.dir_tree.specs.Inside.TreeLends.{LendsNode, LendsPlace};
+ghost use Rattle.dir_tree.specs.Inside.TreeAdds.{IsNotAddedOn, leaf_places, path_above};
+ghost use Rattle.dir_tree.specs.Inside.TreeLends.{LendsNode, LendsPlace, LendsPlaceIf};
 ghost use Rattle.dir_tree.specs.Moves.{rest_below};
 ghost use Rattle.dir_tree.specs.Inside.TreeNames.{name_in, named_places};
 ghost use Rattle.dir_tree.specs.Inside.TreePlaces.{HasPlace, IsAt, IsGraft, IsMove, entry_on, place_map};
 
-use crate::Entry;
 use crate::flat::push_clones;
+use crate::{Entry, NotAdded};
 use dir_names::{Dn, Memory, Rdn, RdnKey};
 use std::alloc::Global;
 use std::collections::BTreeMap;
@@ -99,6 +100,15 @@ impl Node {
         self.children.get_mut(part).unwrap()
     }
 
+    /// The place of a child, for writing, if there is one.
+    fn place_if(&mut self, part: &RdnKey) -> Option<&mut Option<Node>>
+        ensures* writes_back { sem 𝓛 (LendsPlaceIf self.entry part.now result) }
+        ensures some { IfSome result (λ place. IsAt self.old (part.now ∷ []) (place_map place.now)) }
+        ensures none { IfNone result ((q : DnKeys) → entry_on self.old (part.now ∷ q) ≡ None) }
+    {
+        self.children.get_mut(part)
+    }
+
     /// Puts another entry into this node, and returns the old one.
     pub(crate) fn exchange(&mut self, entry: Entry) -> Entry
         ensures old { fin.get self.old [] ≡ Some (Some result) }
@@ -149,6 +159,60 @@ impl Node {
                     Err(refused) => Err(refused.value.1),
                 }
             }
+        }
+    }
+
+    /// Adds an entry at a path below this node, if there is none, and there is a node above it.
+    ///
+    /// # Errors
+    ///
+    /// Why it was not added. Then the node is as it was.
+    pub(crate) fn add_at(
+        &mut self,
+        alloc: Global,
+        first: &RdnKey,
+        rest: &[RdnKey],
+        entry: Entry,
+    ) -> Result<(), NotAdded>
+        ensures ok { OnOk result (IsGraft self.old (first.now ∷ rest.now) (fin.get (leaf_places entry)) self.new) }
+        ensures free { OnOk result (entry_on self.old (first.now ∷ rest.now) ≡ None) }
+        ensures parent { OnOk result (IsSome (entry_on self.old (path_above first.now rest.now))) }
+        ensures err { OnErr result (self.new ≡ self.old) }
+        ensures cause { IfErr result (IsNotAddedOn self.old first.now rest.now entry) }
+    {
+        let Some((second, rest)) = rest.split_first() else {
+            return self.add_child(alloc, first, entry);
+        };
+        let Some(place) = self.place_if(first) else {
+            return Err(NotAdded::NoParent(entry));
+        };
+        match place {
+            Some(child) => child.add_at(alloc, second, rest, entry),
+            None => Err(NotAdded::NoParent(entry)),
+        }
+    }
+
+    /// Adds an entry directly below this node, if there is none.
+    ///
+    /// # Errors
+    ///
+    /// As for `add_at`.
+    fn add_child(&mut self, alloc: Global, part: &RdnKey, entry: Entry) -> Result<(), NotAdded>
+        ensures ok { OnOk result (IsGraft self.old (part.now ∷ []) (fin.get (leaf_places entry)) self.new) }
+        ensures free { OnOk result (entry_on self.old (part.now ∷ []) ≡ None) }
+        ensures parent { IsSome (entry_on self.old []) }
+        ensures err { OnErr result (self.new ≡ self.old) }
+        ensures cause { IfErr result (IsNotAddedOn self.old part.now [] entry) }
+    {
+        // Each node is asked for its entry, so that the proof knows that it has one.
+        let _entry = self.entry();
+        if let Some(child) = self.child(part) {
+            let _entry = child.entry();
+            return Err(NotAdded::Taken);
+        }
+        match self.grow_at(alloc, part, &[], Some(Node::leaf(alloc, entry))) {
+            Ok(()) => Ok(()),
+            Err(_) => Err(NotAdded::Memory),
         }
     }
 

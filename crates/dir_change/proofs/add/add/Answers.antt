@@ -21,6 +21,10 @@ use Rattle.dir_change.proofs.AfterOperations.{add_spelled, joined_fits}
 use Rattle.dir_change.proofs.Conditions.{below_true, below_false, copied_none, copied_some, add_outside, add_taken, add_placed}
 use Rattle.dir_change.proofs.add.add.Goals as goal
 
+nothing_there : (o : Option Content) → is_some o ≡ false → o ≡ None
+nothing_there None h = refl
+nothing_there (Some e) h = absurd (true≢false h)
+
 -- an entry that isn't made is refused with its code
 fails_refused : (d : Dir) (k : DnKeys) (fault : EntryFault) (wanted : Result Content EntryFault) → IsEntryFaultOf fault wanted → IsRefused (entry_refusal fault) (with_new_entry d k wanted)
 fails_refused d k BadValue wanted e = ap (with_new_entry d k) e
@@ -114,3 +118,7 @@ returns-in-Ok-clause-undo g c =
     ∙ ap (λ o. o ++ c.in-Some.above) (sym c.spelled_own-counted.ensures)
     ∙ sym c.in_ok-spelled.ensures.ok in
     c.in_ok-undo.ensures ∙ ap (λ n. record { dn = n; kind = kind.Delete } ∷ []) (sym spelled)
+
+pub insert-requires-clause-free : goal.insert-requires-clause-free
+insert-requires-clause-free g c =
+    nothing_there (entry_at (g.D.Directory.state c.args.directory.now) c.args.key.now) (ap is_some (sym c.get.ensures) ∙ copied_none c.get.result (sym c.if-is_some.ensures))
