@@ -1,5 +1,5 @@
 -- Why a copy is not read, in the words of its definition.
-use Rattle.std.proofs.Common.{◌≡◌, ℕ, true, false, not, List, [], ◌∷◌, ◌++◌, Option, None, Some, is_some, Result, Ok, Err, IfErr, IfSome, Bor, refl, ap, subst, ◌∙◌}
+use Rattle.std.proofs.Common.{◌≡◌, ℕ, true, false, not, List, [], ◌∷◌, ◌++◌, Option, None, Some, is_some, Result, Ok, Err, IfErr, IfSome, Bor, inl, inr, refl, ap, subst, sym, ◌∙◌, true≢false}
 use Rattle.std.specs.Option.{option_copied, option_map}
 use Rattle.dir_names.specs.declared.schema.TypeRow.{TypeRow}
 use Rattle.dir_names.specs.Described.{Described}
@@ -27,10 +27,10 @@ use Rattle.dir_tools.specs.declared.fault.Cause.TheVariants as cause
 use Rattle.dir_tools.specs.declared.fault.Input.TheVariants as input
 use Rattle.dir_tools.specs.declared.fault.ToolFault.{ToolFault}
 use Rattle.dir_tools.specs.declared.fault.ToolFault.TheVariants as tool
-use Rattle.dir_tools.specs.CopyOf.{LoadedCopy, copy_of, empty_copy, refused_if, whole_directory, with_content, with_entry, with_record, with_records}
+use Rattle.dir_tools.specs.CopyOf.{CopyFault, LoadedCopy, copy_of, empty_copy, refused_if, whole_directory, with_content, with_entry, with_record, with_records}
 use Rattle.dir_names.specs.Results.{and_then}
 use Rattle.dir_names.specs.Below.{is_at_or_below}
-use Rattle.dir_tools.specs.Inside.Loading.{IsCopyFault, IsLoaded, IsMadeOf, IsRecordFault, LoadsOver, LoadsTo, StopsLoading, TakesRecord, copy_fault, waiting_or}
+use Rattle.dir_tools.specs.Inside.Loading.{IsCopyFault, IsLoaded, IsMadeOf, IsNotPut, IsRecordFault, LoadsOver, LoadsTo, StopsLoading, TakesRecord, copy_fault, waiting_or}
 use Rattle.dir_tools.specs.CopyFaults.{HasNoEntries, IsCopyFaultCause}
 use Rattle.dir_tools.specs.ReadCalls.{FillsReadCalls}
 use Rattle.dir_tools.proofs.CopyLemmas.{complete_load, loads_all}
@@ -79,6 +79,18 @@ waits_there m standing waiting k new_entry there = ap is_some (new_entry.2 k) �
 pub some_copied : {A : Type 0} (o : Option (Bor A)) → is_some o ≡ true → is_some (option_copied o) ≡ true
 some_copied None e = absurd (cc)
 some_copied (Some x) e = refl
+
+-- why an entry is not put, as a fault of the copy
+pub not_put : (line : ℕ) (there : Option Content) (fault : ToolFault) → IsNotPut line there fault → IsRecordFault fault
+not_put line there fault (inl e) = subst IsRecordFault (sym e) tt
+not_put line there fault (inr h) = subst IsRecordFault (sym h.0) tt
+
+pub not_put_at : {A : Type 0} (wanted : Result A CopyFault) (line : ℕ) (there : Option Content) (fault : ToolFault) → IsNotPut line there fault → (is_some there ≡ true → wanted ≡ Err (line, cause.Code EntryAlreadyExists)) → IsCopyFault wanted fault
+not_put_at wanted line there fault (inl e) taken = subst (IsCopyFault wanted) (sym e) tt
+not_put_at wanted line there fault (inr h) taken = subst (IsCopyFault wanted) (sym h.0) (taken h.1)
+
+pub not_free : {A : Type 0} (there : Option A) {P : Type 0} → there ≡ None → is_some there ≡ true → P
+not_free there {P} none h = absurd (true≢false (sym h ∙ ap is_some none))
 
 -- a fault of an entry, but out of memory, is the definition's
 pub makes_none : (fault : EntryFault) (code : ResultCode) (wanted : Result Content EntryFault) → entry_refusal fault ≡ refusal.Code code → FailsToMake fault wanted → wanted ≡ Err fault

@@ -1,5 +1,5 @@
 -- The view of `Loading`: a copy as far as it was read. No public contract needs this file.
-use Rattle.std.specs.Prelude.{◌≡◌, ℕ, ◌≤◌, ⊤, Bool, true, false, List, length, Option, None, Some, IsTrue, Result, Ok, Err, IfSome}
+use Rattle.std.specs.Prelude.{◌≡◌, ◌⊎◌, ℕ, ◌≤◌, ⊤, Bool, true, false, List, length, Option, None, Some, IsSome, IsTrue, Result, Ok, Err, IfSome}
 use Rattle.std.specs.List.{list_all}
 use Rattle.std.specs.BTreeMap.{get}
 use Rattle.std.specs.BTreeSet.{BTreeSet, contains}
@@ -18,6 +18,7 @@ use Rattle.dir_ldif.specs.declared.faults.StreamFault.{StreamFault}
 use Rattle.dir_ldif.specs.declared.faults.StreamFault.TheVariants as stream
 use Rattle.dir_tree.specs.WellFormed.{IsSoundEntry, own_part}
 use Rattle.dir_tools.specs.CopyOf.{CopyFault, LoadedCopy, with_record, with_records}
+use Rattle.dir_change.specs.declared.result_code.ResultCode.TheVariants.{EntryAlreadyExists}
 use Rattle.dir_tools.specs.declared.copy.loading.Loading.{Loading}
 use Rattle.dir_tools.specs.declared.copy.loading.Waiting.{Waiting}
 use Rattle.dir_tools.specs.declared.fault.Cause.TheVariants as cause
@@ -70,6 +71,10 @@ is_among keys (Some k) = contains dn_key_cmp keys k
 abbrev pub IsPut : DnKeys → Content → Dir → Dir → Option Content → Type 0
 IsPut k e old new None = IsTrue (has_parent old k) × (new ≡ put_entry old k e)
 IsPut k e old new (Some back) = (back ≡ e) × (has_parent old k ≡ false) × (new ≡ old)
+
+-- there is an entry already, or memory ran out
+abbrev pub IsNotPut : ℕ → Option Content → ToolFault → Type 0
+IsNotPut line there fault = (fault ≡ tool.Memory) ⊎ ((fault ≡ tool.BadCopy line (cause.Code EntryAlreadyExists)) × IsSome there)
 
 -- an entry is sound, at its place and within the limits
 abbrev pub IsSoundAt : List TypeRow → DnKeys → DnKeys → Content → Type 0

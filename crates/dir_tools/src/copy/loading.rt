@@ -1,7 +1,7 @@
 //! A copy as far as it was read.
 
 ghost use Rattle.std.specs.Prelude.{◌≡◌, Err, IfErr, IfOk, None, Ok, OnOk};
-ghost use Rattle.dir_tools.specs.Inside.Loading.{IsPut, copy_fault};
+ghost use Rattle.dir_tools.specs.Inside.Loading.{IsNotPut, IsPut, copy_fault};
 ghost use Rattle.dir_tools.specs.CompleteRecords.{CompleteRecordsLoad, GaveBytesTo, IsReaderFault};
 ghost use Rattle.dir_tools.specs.ReadCalls.{GaveAtLeast};
 ghost use Rattle.dir_ldif.specs.declared.faults.StreamFault.TheVariants as StreamFault;
@@ -15,7 +15,7 @@ use crate::{Cause, Input, ToolFault};
 use dir_change::{Refusal, ResultCode};
 use dir_ldif::{Record, RecordFault, RecordReader, Source, StreamFault};
 use dir_names::{Dn, DnKey, Lines, NameFault, Schema};
-use dir_tree::{Directory, Entry, EntryMaker, may_stand, own_rdns};
+use dir_tree::{Directory, Entry, EntryMaker, NotAdded, own_rdns};
 use std::alloc::Global;
 use std::collections::BTreeMap;
 
@@ -100,7 +100,7 @@ impl<D: Directory + Drop> Loading<D> {
         if !key.at_or_below(self.directory.suffix()) {
             return Err(refused(line, ResultCode::NoSuchObject));
         }
-        if self.directory.get(&key).is_some() || self.waiting.contains_key(&key) {
+        if self.waiting.contains_key(&key) {
             return Err(refused(line, ResultCode::EntryAlreadyExists));
         }
         let is_suffix = key == *self.directory.suffix();
@@ -110,13 +110,17 @@ impl<D: Directory + Drop> Loading<D> {
         {
             Ok(entry) => entry,
             Err(fault) => {
+                // A place that is taken is told before a fault of the entry.
+                if self.directory.get(&key).is_some() {
+                    return Err(refused(line, ResultCode::EntryAlreadyExists));
+                }
                 return Err(match Refusal::from(fault) {
                     Refusal::Code(code) => refused(line, code),
                     Refusal::Memory => ToolFault::Memory,
                 });
             }
         };
-        if let Some(entry) = put(alloc, &mut self.directory, &key, entry)? {
+        if let Some(entry) = put(&mut self.directory, line, &key, entry)? {
             self.waiting.insert(key, Waiting { line, entry })?;
         }
         Ok(())
@@ -139,11 +143,8 @@ impl<D: Directory + Drop> Loading<D> {
         let mut orphans = Orphans::new(alloc);
         for (key, waiting) in waiting {
             let Waiting { line, entry } = waiting;
-            // Never so: no entry waits for its parent at a place that is taken.
-            if directory.get(&key).is_some() {
-                return Err(refused(line, ResultCode::EntryAlreadyExists));
-            }
-            if put(alloc, &mut directory, &key, entry)?.is_some() {
+            // No entry waits at a place that is taken, so that none is refused here.
+            if put(&mut directory, line, &key, entry)?.is_some() {
                 orphans.add(alloc, key, line)?;
             }
         }
@@ -184,24 +185,23 @@ impl<D: Directory + Drop> Taker for Loading<D> {
     }
 }
 
-/// Puts an entry at a free key. It comes back where its parent is missing.
+/// Puts an entry into a directory. It comes back where its parent is missing.
 fn put<D: Directory>(
-    alloc: Global,
     directory: &mut D,
+    line: u64,
     key: &DnKey,
     entry: Entry,
 ) -> Result<Option<Entry>, ToolFault>
-    requires { entry_at (D.state directory.old) key.now ≡ None }
     ensures suffix { (D.state directory.new).suffix ≡ (D.state directory.old).suffix }
+    ensures free { OnOk result (entry_at (D.state directory.old) key.now ≡ None) }
     ensures put { IfOk result (IsPut key.now entry (D.state directory.old) (D.state directory.new)) }
-    ensures fault { IfErr result (λ fault. fault ≡ ToolFault.Memory) }
+    ensures fault { IfErr result (IsNotPut line (entry_at (D.state directory.old) key.now)) }
 {
-    if !may_stand(alloc, directory, key).map_err(|_| ToolFault::Memory)? {
-        return Ok(Some(entry));
-    }
-    match directory.insert(key, entry) {
+    match directory.add(key, entry) {
         Ok(()) => Ok(None),
-        Err(_) => Err(ToolFault::Memory),
+        Err(NotAdded::NoParent(entry)) => Ok(Some(entry)),
+        Err(NotAdded::Taken) => Err(refused(line, ResultCode::EntryAlreadyExists)),
+        Err(NotAdded::Memory) => Err(ToolFault::Memory),
     }
 }
 

@@ -1,3 +1,4 @@
+use Rattle.std.proofs.lemmas.Result.{err_from_is_err_and}
 use Rattle.std.proofs.Common.{◌≡◌, rules, cond, take, true, false, None, Some, Ok, is_some, refl, sym, ap, subst, ◌∙◌, true≢false}
 use Rattle.std.specs.BTreeMap.{get}
 use Rattle.std.specs.FinMap as fin
@@ -13,9 +14,9 @@ use Rattle.dir_change.specs.Refusals.{entry_refusal}
 use Rattle.dir_change.proofs.Conditions.{below_false, below_true}
 use Rattle.dir_tools.specs.CopyOf.{with_content}
 use Rattle.dir_tools.specs.Inside.Loading.{AllWait, IsCopyFault, IsMadeOf, waiting_or}
-use Rattle.dir_tools.proofs.CopyFaults.{makes_none, outside, some_copied, some_there, taken_place, unmade, waits_there}
+use Rattle.dir_tools.proofs.CopyFaults.{makes_none, not_put_at, outside, some_copied, some_there, taken_place, unmade, waits_there}
 use Rattle.dir_tools.proofs.CopyLemmas.{all_standing, all_waiting, key_named, made_standing, made_waiting, none_copied, nothing, placed_ok, put_back, put_there}
-use Rattle.dir_tools.proofs.copy.loading.Loading.take_entry.Goals.{in-Code, in-Memory, then-is_some-via-then-is_some, then-is_some-via-else-is_some+then-contains_key}
+use Rattle.dir_tools.proofs.copy.loading.Loading.take_entry.Goals.{in-Code, in-Memory}
 use Rattle.dir_tools.proofs.copy.loading.Loading.take_entry.Goals as goal
 
 pub returns-then-not-at_or_below-clause-cause : goal.returns-then-not-at_or_below-clause-cause
@@ -28,6 +29,17 @@ returns-then-not-at_or_below-clause-cause g c m was =
     subst (IsCopyFault (with_content rows m c.args.line c.args.name c.args.lines (name_key rows c.args.name))) (sym c.refused-then-not-at_or_below.ensures)
     (outside rows m c.args.line c.args.name c.args.lines (name_key rows c.args.name) k named out)
 
+pub returns-then-contains_key-clause-cause : goal.returns-then-contains_key-clause-cause
+returns-then-contains_key-clause-cause g c m was =
+    let d = g.D.Directory.state c.args.self.now.directory in
+    let k = c.in-Ok.key in
+    let rows = c.args.schema.now in
+    let named : name_key rows c.args.name ≡ Some k = key_named (name_key rows c.args.name) k c.in-Ok.ensures in
+    let inside : is_at_or_below k m.entries.suffix ≡ true = ap (is_at_or_below k) was.0.0 ∙ below_true k d.suffix (subst (λ z. IsAtOrBelow k z) c.suffix.ensures.key (c.if-not-at_or_below.ensures.0 refl)) in
+    let there : is_some (entry_at m.entries k) ≡ true = waits_there m d (get dn_key_cmp c.args.self.now.waiting) k was.0 (sym c.if-contains_key.ensures) in
+    subst (IsCopyFault (with_content rows m c.args.line c.args.name c.args.lines (name_key rows c.args.name))) (sym c.refused-then-contains_key.ensures)
+    (taken_place rows m c.args.line c.args.name c.args.lines (name_key rows c.args.name) k named inside there)
+
 pub returns-then-is_some-clause-cause : goal.returns-then-is_some-clause-cause
 returns-then-is_some-clause-cause g c m was =
     let d = g.D.Directory.state c.args.self.now.directory in
@@ -35,11 +47,7 @@ returns-then-is_some-clause-cause g c m was =
     let rows = c.args.schema.now in
     let named : name_key rows c.args.name ≡ Some k = key_named (name_key rows c.args.name) k c.in-Ok.ensures in
     let inside : is_at_or_below k m.entries.suffix ≡ true = ap (is_at_or_below k) was.0.0 ∙ below_true k d.suffix (subst (λ z. IsAtOrBelow k z) c.suffix.ensures.key (c.if-not-at_or_below.ensures.0 refl)) in
-    let there : is_some (entry_at m.entries k) ≡ true =
-    elim c.then-is_some.branch [
-      | then-is_some-via-then-is_some w ↦ some_there m d (get dn_key_cmp c.args.self.now.waiting) k was.0 (sym (ap is_some c.get.ensures) ∙ some_copied c.get.result (sym w.if-is_some.ensures))
-      | then-is_some-via-else-is_some+then-contains_key w ↦ waits_there m d (get dn_key_cmp c.args.self.now.waiting) k was.0 (sym w.if-contains_key.ensures)
-    ] in
+    let there : is_some (entry_at m.entries k) ≡ true = some_there m d (get dn_key_cmp c.args.self.now.waiting) k was.0 (sym (ap is_some c.get.ensures) ∙ some_copied c.get.result (sym c.if-is_some.ensures)) in
     subst (IsCopyFault (with_content rows m c.args.line c.args.name c.args.lines (name_key rows c.args.name))) (sym c.refused-then-is_some.ensures)
     (taken_place rows m c.args.line c.args.name c.args.lines (name_key rows c.args.name) k named inside there)
 
@@ -72,7 +80,7 @@ returns-in_ok-insert-clause-reads g c m was =
     let rows = c.args.schema.now in
     let named : name_key rows c.args.name ≡ Some k = key_named (name_key rows c.args.name) k c.in-Ok.ensures in
     let inside : is_at_or_below k m.entries.suffix ≡ true = ap (is_at_or_below k) was.0.0 ∙ below_true k d.suffix (subst (λ z. IsAtOrBelow k z) c.suffix.ensures.key (c.if-not-at_or_below.ensures.0 refl)) in
-    let no_entry : entry_at d k ≡ None = sym c.get.ensures ∙ none_copied c.get.result (sym c.if-is_some.ensures) in
+    let no_entry : entry_at d k ≡ None = c.in_ok-entry.ensures.free in
     let none_waits : get dn_key_cmp c.args.self.now.waiting k ≡ None = nothing _ (sym c.if-contains_key.ensures) in
     let free : entry_at m.entries k ≡ None = was.0.2 k ∙ (λ i. waiting_or (none_waits i) (no_entry i)) in
     let own : c.own_rdns.result.items ≡ own_rdns m.entries.suffix k c.args.name =
@@ -98,7 +106,7 @@ returns-in_default-clause-reads g c m was =
     let rows = c.args.schema.now in
     let named : name_key rows c.args.name ≡ Some k = key_named (name_key rows c.args.name) k c.in-Ok.ensures in
     let inside : is_at_or_below k m.entries.suffix ≡ true = ap (is_at_or_below k) was.0.0 ∙ below_true k d.suffix (subst (λ z. IsAtOrBelow k z) c.suffix.ensures.key (c.if-not-at_or_below.ensures.0 refl)) in
-    let no_entry : entry_at d k ≡ None = sym c.get.ensures ∙ none_copied c.get.result (sym c.if-is_some.ensures) in
+    let no_entry : entry_at d k ≡ None = c.in_ok-entry.ensures.free in
     let none_waits : get dn_key_cmp c.args.self.now.waiting k ≡ None = nothing _ (sym c.if-contains_key.ensures) in
     let free : entry_at m.entries k ≡ None = was.0.2 k ∙ (λ i. waiting_or (none_waits i) (no_entry i)) in
     let own : c.own_rdns.result.items ≡ own_rdns m.entries.suffix k c.args.name =
@@ -114,3 +122,16 @@ returns-in_default-clause-reads g c m was =
         all_standing m d d' (get dn_key_cmp c.args.self.now.waiting) k c.in-Ok-make.entry c.args.line none_waits put.1 was.1,
       ),
     )
+
+pub returns-in_err-entry-clause-cause : goal.returns-in_err-entry-clause-cause
+returns-in_err-entry-clause-cause g c =
+    let d = g.D.Directory.state c.args.self.now.directory in
+    let k = c.in-Ok.key in
+    let rows = c.args.schema.now in
+    let named : name_key rows c.args.name ≡ Some k = key_named (name_key rows c.args.name) k c.in-Ok.ensures in
+    let below : is_at_or_below k d.suffix ≡ true = below_true k d.suffix (subst (λ z. IsAtOrBelow k z) c.suffix.ensures.key (c.if-not-at_or_below.ensures.0 refl)) in
+    let e = err_from_is_err_and c.from_residual.result c.from_residual.ensures.1 in
+    rw (e.1, e.2) (λ m was.
+    not_put_at (with_content rows m c.args.line c.args.name c.args.lines (name_key rows c.args.name)) c.args.line (entry_at d k) c.in_err-entry.field-0.0 c.in_err-entry.ensures.fault
+    (λ there. taken_place rows m c.args.line c.args.name c.args.lines (name_key rows c.args.name) k named (ap (is_at_or_below k) was.0.0 ∙ below)
+    (some_there m d (get dn_key_cmp c.args.self.now.waiting) k was.0 there)))
