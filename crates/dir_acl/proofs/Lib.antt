@@ -8,5 +8,6 @@ pub mod RunningSets
 pub mod SlapdAccess
 pub mod SlapdConf
 pub mod Stacks
+pub mod FoundRules
 pub mod Tested
 pub mod Truths

@@ -9,5 +9,6 @@ pub mod Privileges
 pub mod Rules
 pub mod Signs
 pub mod Substrings
+pub mod TargetRules
 pub mod Tests
 pub mod Truth

@@ -3,6 +3,7 @@
 pub(crate) mod decision;
 pub(crate) mod requester;
 pub(crate) mod target;
+pub(crate) mod target_rules;
 
 use crate::{Filter, Privileges};
 use dir_names::{AttrKey, DnKey, ValueKey};

@@ -1,13 +1,14 @@
 //! The configuration of a slapd.conf (slapd.conf(5)): the suffix and the rootdn of its database, and its access rules.
 //! `lines` cuts the text, `arguments` its lines, `directives` reads these, and `access_rules` the rules among them.
 
-ghost use Rattle.std.specs.Prelude.{◌≡◌};
+ghost use Rattle.std.specs.Prelude.{◌≡◌, option_copied};
 ghost use Rattle.dir_acl.specs.Config.{config_of, of_suffix};
 ghost use Rattle.dir_acl.specs.Decision.{is_granted};
 ghost use Rattle.dir_acl.specs.Inside.ReadingConfig.{configuration_of, settings_of};
 ghost use Rattle.dir_acl.specs.Inside.Requests.{question_of};
 ghost use Rattle.dir_acl.specs.Outcome.{GivesConfig};
 ghost use Rattle.dir_acl.specs.Privileges.{has};
+ghost use Rattle.dir_acl.specs.Rules.{rules_of};
 ghost use Rattle.dir_acl.specs.declared.privileges.Privilege.{Privilege};
 
 mod access_rules;
@@ -21,9 +22,9 @@ mod whos;
 
 use crate::config::directives::Settings;
 use crate::config::lines::read_lines;
-use crate::{ConfigCause, ConfigFault, Privileges, Request, Rule, privileges_under};
-use dir_names::{DnKey, Schema};
-use dir_tree::Directory;
+use crate::{ConfigCause, ConfigFault, Privileges, Request, Rule, TargetRules, privileges_under};
+use dir_names::{DnKey, Memory, Schema};
+use dir_tree::{Directory, Entry};
 use std::alloc::Global;
 
 /// The greatest number of bytes of a configuration.
@@ -73,6 +74,18 @@ impl Config {
             directory,
             request,
         )
+    }
+
+    pub(crate) fn root(&self) -> Option<&DnKey>
+        ensures { option_copied result ≡ (configuration_of self.now).root }
+    {
+        self.root.as_ref()
+    }
+
+    pub(crate) fn rules(&self) -> &[Rule]
+        ensures { rules_of result.now ≡ (configuration_of self.now).rules }
+    {
+        self.rules.as_slice()
     }
 }
 

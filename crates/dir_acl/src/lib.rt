@@ -11,6 +11,7 @@ mod laws;
 mod privileges;
 
 pub use access::decision::privileges_under;
+pub use access::target_rules::TargetRules;
 pub use access::{Asked, Clause, Control, Edit, Request, Rule, Style, What, Who};
 pub use config::{Config, MAX_CONFIG};
 pub use fault::{ConfigCause, ConfigFault, FilterFault};

@@ -138,7 +138,15 @@ fn granted(
         asked: asked(rt, alloc, wanted),
         target: target.try_clone(alloc).expect(rt, "memory"),
     };
-    config.privileges(&directory, &request)
+    let held = config.privileges(&directory, &request);
+    let rules = config
+        .rules_for(alloc, &target, request.entry)
+        .expect(rt, "memory");
+    assert!(rt;
+        rules.privileges(&directory, &request) == held,
+        "the rules for {wanted}"
+    );
+    held
 }
 
 pub(crate) fn assert_text(rt: &impl Abort, alloc: Global, privileges: Privileges, want: &str) {

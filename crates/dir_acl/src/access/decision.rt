@@ -32,7 +32,7 @@ pub fn privileges_under<D: Directory>(
     under_rules(rules, directory, request)
 }
 
-fn is_root(root: Option<&DnKey>, request: &Request<'_>) -> bool
+pub(crate) fn is_root(root: Option<&DnKey>, request: &Request<'_>) -> bool
     ensures { result ≡ is_root_for (option_copied root.entry) (named request.now.requester) }
 {
     match (root, request.named()) {
@@ -61,7 +61,7 @@ fn under_rules<D: Directory>(rules: &[Rule], directory: &D, request: &Request<'_
 
 /// The privileges after the clauses that apply, and whether they end in `break`.
 #[tactic(auto, using(crate::proofs::RunningSets::clause_rules))]
-fn after_clauses<D: Directory>(
+pub(crate) fn after_clauses<D: Directory>(
     clauses: &[Clause],
     directory: &D,
     request: &Request<'_>,

@@ -1,16 +1,19 @@
 //! Which targets a rule is for: its `<what>`.
 
 ghost use Rattle.std.specs.List.{list_any, starts_with};
-ghost use Rattle.std.specs.Prelude.{◌≡◌};
+ghost use Rattle.std.specs.Prelude.{◌≡◌, option_copied};
 ghost use Rattle.dir_names.specs.Orders.{rdn_key_eq};
 ghost use Rattle.dir_acl.specs.Decision.{fits, is_asked, is_of_style, rule_fits};
+ghost use Rattle.dir_acl.specs.Inside.Fakes.{attributes_of};
 ghost use Rattle.dir_acl.specs.Inside.Requests.{question_of};
 ghost use Rattle.dir_acl.specs.Rules.{restriction_of, rule_of};
+ghost use Rattle.dir_acl.specs.TargetRules.{allows_asked, is_for, rule_allows_asked, rule_is_for};
 ghost use Rattle.dir_acl.specs.Truth.{is_true};
 
 use crate::access::{Asked, Request, Rule, Style, What};
 use crate::filter::truth::Truth;
 use dir_names::DnKey;
+use dir_tree::Entry;
 
 impl Rule {
     /// Whether the rule is for the target and what is asked of it.
@@ -24,9 +27,52 @@ impl Rule {
         }
         true
     }
+
+    /// Whether the rule is for the target, whatever of it is asked for.
+    pub(crate) fn is_for(&self, target: &DnKey, entry: Option<&Entry>) -> bool
+        ensures { result ≡ rule_is_for target.now (attributes_of (option_copied entry.entry)) (rule_of self.now) }
+    {
+        for what in &self.what {
+            if !what.is_for(target, entry) {
+                return false;
+            }
+        }
+        true
+    }
+
+    /// Whether a rule that is for the target is for what is asked of it.
+    pub(crate) fn allows_asked(&self, asked: &Asked) -> bool
+        ensures { result ≡ rule_allows_asked asked.now (rule_of self.now) }
+    {
+        for what in &self.what {
+            if !what.allows_asked(asked) {
+                return false;
+            }
+        }
+        true
+    }
 }
 
 impl What {
+    fn is_for(&self, target: &DnKey, entry: Option<&Entry>) -> bool
+        ensures { result ≡ is_for target.now (attributes_of (option_copied entry.entry)) (restriction_of self.now) }
+    {
+        match self {
+            What::Dn(style, name) => style.has(name, target),
+            What::Filter(filter) => is_true(filter.truth_on(entry)),
+            What::Attrs(_) => true,
+        }
+    }
+
+    fn allows_asked(&self, asked: &Asked) -> bool
+        ensures { result ≡ allows_asked asked.now (restriction_of self.now) }
+    {
+        match self {
+            What::Dn(..) | What::Filter(_) => true,
+            What::Attrs(items) => is_any_asked(items, asked),
+        }
+    }
+
     fn fits(&self, request: &Request<'_>) -> bool
         ensures { result ≡ fits (question_of request.now) (restriction_of self.now) }
     {
