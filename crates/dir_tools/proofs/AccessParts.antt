@@ -2,12 +2,16 @@
 use Rattle.std.proofs.Common.{◌≡◌, ℕ, suc, ◌+◌, ◌<◌, ◌≤◌, Bool, true, false, cond, List, [], ◌∷◌, ◌++◌, length, take, drop, get_or, Option, None, Some, Result, Ok, Err, refl, sym, ap, ◌∙◌, append_assoc, length-append, arith}
 use Rattle.std.specs.List.{before_first}
 use Rattle.std.specs.Prelude.{◌==◌, ok_or, option_and_then, option_map}
+use Rattle.std.specs.Result.{result_ok}
 use Rattle.std.proofs.lemmas.List.{length-take}
 use Rattle.std.proofs.Math.Seq.{drop-cons}
 use Rattle.dir_names.specs.declared.schema.TypeRow.{TypeRow}
 use Rattle.dir_names.specs.Below.{is_at_or_below}
 use Rattle.dir_names.specs.Cut.{after_first_separator}
 use Rattle.dir_names.specs.Keys.{DnKeys}
+use Rattle.dir_names.specs.NameKeys.{name_key, name_value_key}
+use Rattle.dir_names.specs.Names.{SpelledName}
+use Rattle.dir_names.specs.Names.Reading.{name_within_limits}
 use Rattle.dir_names.specs.Results.{and_then}
 use Rattle.dir_tree.specs.Content.{Content}
 use Rattle.dir_tree.specs.Dir.{Dir, entry_at}
@@ -16,7 +20,8 @@ use Rattle.dir_acl.specs.declared.privileges.Level.{Level}
 use Rattle.dir_tools.specs.declared.fault.Item.TheVariants as item
 use Rattle.dir_tools.specs.declared.fault.ToolFault.{ToolFault}
 use Rattle.dir_tools.specs.declared.fault.ToolFault.TheVariants as tool
-use Rattle.dir_tools.specs.AccessReport.{Word, access_of, asked_of, ok_or_no_entry, slash, target_of, without_value, word_at, word_of, words_from}
+use Rattle.dir_tools.specs.Inside.Asking.{IsPartFault}
+use Rattle.dir_tools.specs.AccessReport.{AccessTerms, NamedKey, Word, access_of, asked_of, ok_or_no_entry, slash, target_of, without_value, word_at, word_of, words_from, named_key, parts_of, requester_of, words_of}
 
 -- ---- words
 
@@ -102,3 +107,32 @@ module _ (fake : Bool) (d : Dir) (base : DnKeys) where
 -- a piece of the buffer after a text that is not too long
 pub piece_fits : (text buffer : List ℕ) (n : ℕ) → length text ≤ 16777216 → n ≤ length buffer → length buffer ≡ 8192 → length (text ++ take n buffer) ≤ 16785408
 piece_fits text buffer n short within size = omega (arith, length-append text (take n buffer), length-take n buffer)
+
+-- ---- the parts
+
+with_key : (name other : SpelledName) (key : DnKeys) (o : Option DnKeys) → option_map {U = NamedKey} (λ k. (other, k)) o ≡ Some (name, key) → o ≡ Some key
+with_key name other key None is = absurd (cc)
+with_key name other key (Some k) is = ap (option_map {U = DnKeys} (λ named. named.1)) is
+
+-- the name of the base has a key
+pub named_base : (rows : List TypeRow) (text : List ℕ) (name : SpelledName) (key : DnKeys) → named_key rows text ≡ Some (name, key) → name_value_key rows text ≡ Some key
+named_base rows text name key is = by (result_ok (name_within_limits text)) is
+  where
+    by : (o : Option SpelledName) → option_and_then {U = NamedKey} (λ n. option_map {U = NamedKey} (λ k. (n, k)) (name_key rows n)) o ≡ Some (name, key) → option_and_then (name_key rows) o ≡ Some key
+    by None h = absurd (cc)
+    by (Some n) h = with_key name n key (name_key rows n) h
+
+-- the fault of the words is that of the question
+pub words_fault : (t : AccessTerms) (base : DnKeys) (requester : Option NamedKey) (fault : ToolFault) → name_value_key t.rows t.question.base ≡ Some base → requester_of t.rows t.question.authc ≡ Some requester
+    → IsPartFault fault (words_of t.rows t.question.words) → IsPartFault fault (parts_of t)
+words_fault t base requester (tool.BadQuestion part) named asked bad = λ i.
+    and_then (ok_or (named i) (tool.BadQuestion item.Base)) (λ base.
+    and_then (ok_or (asked i) (tool.BadQuestion item.Authc)) (λ requester.
+    and_then (bad i) (λ words. Ok (record { base = base; requester = requester; words = words }))))
+words_fault t base requester tool.Memory named asked bad = tt
+words_fault t base requester (tool.BadCopy line why) named asked bad = absurd (bad)
+words_fault t base requester (tool.Read input) named asked bad = absurd (bad)
+words_fault t base requester (tool.Write output) named asked bad = absurd (bad)
+words_fault t base requester (tool.BadChanges fault) named asked bad = absurd (bad)
+words_fault t base requester (tool.Config fault) named asked bad = absurd (bad)
+words_fault t base requester tool.NoEntry named asked bad = absurd (bad)

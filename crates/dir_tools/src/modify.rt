@@ -6,7 +6,8 @@ ghost use Rattle.dir_tools.specs.Headline.{RunOutput, terms};
 ghost use Rattle.dir_tools.specs.Inside.RunTexts.{AreTexts, is_dry, texts_of};
 ghost use Rattle.dir_tools.specs.RunAnswers.{AnswersRun, IsCausedBy, IsStatedRun, IsWholeRun, sources};
 ghost use Rattle.dir_tools.specs.StoppedReading.{HeldBefore};
-ghost use Rattle.dir_tools.specs.Suffix.{IsNoSuffix, suffix_of};
+ghost use Rattle.dir_names.specs.NameKeys.{name_key};
+ghost use Rattle.dir_tools.specs.Suffix.{IsNoSuffix, nonempty_key, suffix_of};
 ghost use Rattle.dir_tools.specs.Writing.{FlushedInOrder, IsWriteFault, WroteInOrder};
 ghost use Rattle.dir_tools.specs.declared.fault.Input.TheVariants as Input;
 ghost use Rattle.dir_tools.specs.declared.fault.Output.TheVariants as Output;
@@ -140,6 +141,14 @@ fn suffix_key(alloc: Global, schema: &Schema, text: &[u8]) -> Result<DnKey, Tool
         Err(NameFault::Memory) => return Err(ToolFault::Memory),
         Err(_) => return Err(ToolFault::BadQuestion(Item::Suffix)),
     };
+    key_with_rdn(alloc, schema, &name)
+}
+
+/// The key of a name of at least one RDN.
+fn key_with_rdn(alloc: Global, schema: &Schema, name: &Dn) -> Result<DnKey, ToolFault>
+    ensures ok { IfOk result (λ key. nonempty_key (name_key schema.now name.now) ≡ Some key) }
+    ensures blamed { IfErr result (IsNoSuffix (nonempty_key (name_key schema.now name.now))) }
+{
     match name.key(alloc, schema) {
         Ok(key) => {
             if key.depth() == 0 {
