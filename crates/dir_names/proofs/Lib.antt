@@ -32,3 +32,4 @@ pub mod SoundLemmas
 pub mod SpellsReads
 pub mod Tidy
 pub mod ValueSteps
+pub mod Words

@@ -45,12 +45,14 @@ single (b ∷ bs) =
     (λ i. cond (same_space b i && begins bs i) (single bs i) (to_ascii_lowercase b ∷ single bs i))
     ∙ choose (b == 32 && begins_with_space bs) (with_single_spaces bs) (b ∷ with_single_spaces bs)
 
-pub stays_tidy : (bs : List ℕ) → without_extra_spaces bs ≡ bs → without_extra_spaces (str_to_ascii_lowercase bs) ≡ str_to_ascii_lowercase bs
-stays_tidy bs e =
+pub lowercase_words : (bs : List ℕ) → without_extra_spaces (str_to_ascii_lowercase bs) ≡ str_to_ascii_lowercase (without_extra_spaces bs)
+lowercase_words bs =
     ap (λ l. without_trailing_spaces (without_leading_spaces l)) (single bs)
     ∙ ap without_trailing_spaces (leading (with_single_spaces bs))
     ∙ trailing (without_leading_spaces (with_single_spaces bs))
-    ∙ ap str_to_ascii_lowercase e
+
+pub stays_tidy : (bs : List ℕ) → without_extra_spaces bs ≡ bs → without_extra_spaces (str_to_ascii_lowercase bs) ≡ str_to_ascii_lowercase bs
+stays_tidy bs e = lowercase_words bs ∙ ap str_to_ascii_lowercase e
 
 -- ---- the bytes
 

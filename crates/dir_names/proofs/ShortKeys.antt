@@ -1,4 +1,4 @@
--- The keys of ASCII values without extra spaces.
+-- The keys of values that are found without their rule's work.
 use Rattle.std.proofs.Common.{◌≡◌, ℕ, Bool, true, false, List, [], ◌∷◌, length, Ok, refl, ap, sym, ◌∙◌, arith}
 use Rattle.std.specs.Prelude.{◌==◌, ◌||◌, ◌&&◌, cond, not}
 use Rattle.std.specs.Char.{is_ascii_uppercase, to_ascii_lowercase}
@@ -9,7 +9,6 @@ use Rattle.dir_names.specs.declared.schema.Rule.TheVariants.{CaseIgnore, Ia5Case
 use Rattle.dir_names.specs.ValueKeys.{is_ascii, is_integer, is_object_id, key_if, text_key_of}
 use Rattle.dir_names.specs.ValueKeys.Spaces.{without_extra_spaces, without_spaces_and_hyphens}
 use Rattle.dir_names.proofs.AsciiFolding.{ascii_from_test, ascii_text_key, ascii_utf8, folded_text-ascii}
-use Rattle.dir_names.proofs.LowercaseKeys.{stays_tidy}
 
 -- a text without capital letters is in lower case
 pub no_capital : (bs : List ℕ) → list_any is_ascii_uppercase bs ≡ false → str_to_ascii_lowercase bs ≡ bs
@@ -20,15 +19,15 @@ no_capital (b ∷ bs) e = by (is_ascii_uppercase b) refl e (no_capital bs)
     by true q h rest = absurd (cc)
     by false q h rest = let same : to_ascii_lowercase b ≡ b = grind (arith, nat_tests) in λ i. same i ∷ rest h i
 
-module _ (value : List ℕ) (ascii : is_ascii value ≡ true) (tidy : without_extra_spaces value ≡ value) where
-  pub case_key : false ≡ (length value == 0) → text_key_of CaseIgnore value ≡ Ok (str_to_ascii_lowercase value)
-  case_key some = sym (ascii_text_key value some ascii) ∙ ap Ok (stays_tidy value tidy)
+module _ (value : List ℕ) (ascii : is_ascii value ≡ true) where
+  pub case_key : false ≡ (length value == 0) → text_key_of CaseIgnore value ≡ Ok (without_extra_spaces (str_to_ascii_lowercase value))
+  case_key some = sym (ascii_text_key value some ascii)
 
-  pub ia5_key : text_key_of Ia5CaseIgnore value ≡ Ok (str_to_ascii_lowercase value)
-  ia5_key = (λ i. key_if (ascii i) (without_extra_spaces (str_to_ascii_lowercase value))) ∙ ap Ok (stays_tidy value tidy)
+  pub ia5_key : text_key_of Ia5CaseIgnore value ≡ Ok (without_extra_spaces (str_to_ascii_lowercase value))
+  ia5_key = λ i. key_if (ascii i) (without_extra_spaces (str_to_ascii_lowercase value))
 
-  pub ia5_exact_key : text_key_of Ia5CaseExact value ≡ Ok value
-  ia5_exact_key = (λ i. key_if (ascii i) (without_extra_spaces value)) ∙ ap Ok tidy
+  pub ia5_exact_key : without_extra_spaces value ≡ value → text_key_of Ia5CaseExact value ≡ Ok value
+  ia5_exact_key tidy = (λ i. key_if (ascii i) (without_extra_spaces value)) ∙ ap Ok tidy
 
 pub integer_key : (value : List ℕ) → is_integer value ≡ true → text_key_of Integer value ≡ Ok value
 integer_key value e = ap (λ t. key_if t value) e

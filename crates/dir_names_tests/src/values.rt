@@ -6,10 +6,17 @@ use std::alloc::Global;
 use std::process::Abort;
 
 /// Values with the texts of their keys.
-const KEYS: [(&str, &[u8], &[u8]); 8] = [
+const KEYS: [(&str, &[u8], &[u8]); 15] = [
     ("cn", b"  A  b ", b"a b"),
     ("cn", b"Stra\xc3\x9fe", b"strasse"),
     ("cn", b" ", b""),
+    ("cn", b"   ", b""),
+    ("cn", b" LEE", b"lee"),
+    ("cn", b"Lee ", b"lee"),
+    ("cn", b"Ann   Lee", b"ann lee"),
+    ("cn", b"  A BC  D ", b"a bc d"),
+    ("mail", b"  A@Org ", b"a@org"),
+    ("mail", b"  ", b""),
     ("telephoneNumber", b"+1 555-01", b"+155501"),
     ("uidNumber", b"-7", b"-7"),
     ("cn", b"\xef\xbc\xa1\xef\xac\x81", b"afi"),
@@ -84,6 +91,16 @@ fn assert_pushed(rt: &impl Abort, alloc: Global, attr_type: &str, value: &[u8], 
         is_pushed(&pushed, text.as_slice(), value, want),
         "{attr_type}"
     );
+}
+
+#[test]
+fn a_pushed_key_follows_the_text_before_it(rt: HostRuntime) {
+    let alloc = rt.alloc();
+    let attr = attr_key(&rt, alloc, "cn");
+    let mut text = b" X ".to_vec(alloc).expect(&rt, "memory");
+    let pushed = schema(&rt, alloc).push_value_key(alloc, &attr, b" A  B ", &mut text);
+    assert!(rt; matches!(&pushed, Ok(PushedKey::Appended)));
+    assert!(rt; text.as_slice() == b" X a b".as_slice());
 }
 
 /// Whether the key of a value is in its place, and this one.

@@ -13,7 +13,7 @@ ghost use Rattle.dir_names.specs.ValueKeys.Spaces.{without_extra_spaces, without
 
 use crate::key::sorting::put_lowercase;
 use crate::value::folding::is_ascii;
-use crate::value::spaces::has_no_extra_space;
+use crate::value::spaces::{has_no_extra_space, put_words};
 use crate::value::{is_integer, is_object_id, text_key};
 use crate::{AttrKey, DnSortKey, NameFault, RecentNames, Rule, Schema};
 use std::alloc::Global;
@@ -35,6 +35,8 @@ enum Way {
     Same,
     /// It is the value in lower case.
     Lowercase,
+    /// It is the value in lower case, without extra spaces.
+    Squeezed,
     /// It is the value in lower case, without spaces and hyphens.
     Dialed,
     /// By its rule.
@@ -112,6 +114,10 @@ fn push_text_key(
             put_lowercase(value, text)?;
             Ok(PushedKey::Appended)
         }
+        Way::Squeezed => {
+            put_squeezed(value, text)?;
+            Ok(PushedKey::Appended)
+        }
         Way::Dialed => {
             put_dialed(value, text)?;
             Ok(PushedKey::Appended)
@@ -143,13 +149,23 @@ fn way_of(rule: Rule, value: &[u8]) -> Way
 {
     match rule {
         Rule::Octet => Way::Same,
-        Rule::CaseIgnore if !value.is_empty() && is_tidy(value) => way_to_lowercase(value),
+        Rule::CaseIgnore if !value.is_empty() && is_ascii(value) => way_to_squeezed(value),
         Rule::Telephone if !value.is_empty() && is_ascii(value) => way_to_dialed(value),
-        Rule::Ia5CaseIgnore if is_tidy(value) => way_to_lowercase(value),
+        Rule::Ia5CaseIgnore if is_ascii(value) => way_to_squeezed(value),
         Rule::Ia5CaseExact if is_tidy(value) => Way::Same,
         Rule::ObjectId if is_object_id(value) => way_to_lowercase(value),
         Rule::Integer if is_integer(value) => Way::Same,
         _ => Way::ByRule,
+    }
+}
+
+fn way_to_squeezed(value: &[u8]) -> Way
+    ensures { IsKeyByWay (Ok (without_extra_spaces (str_to_ascii_lowercase value.now))) value.now result }
+{
+    if has_no_extra_space(value) {
+        way_to_lowercase(value)
+    } else {
+        Way::Squeezed
     }
 }
 
@@ -180,6 +196,16 @@ fn has_undialed(value: &[u8]) -> bool
     value
         .iter()
         .any(|b| *b == b' ' || *b == b'-' || b.is_ascii_uppercase())
+}
+
+/// Appends a text in lower case, without extra spaces.
+fn put_squeezed(value: &[u8], text: &mut Vec<u8>) -> Result<(), NameFault>
+    ensures { Gives (λ _. text.new.items) result (Ok (text.old.items ++ without_extra_spaces (str_to_ascii_lowercase value.now))) }
+{
+    let start = text.len();
+    put_words(value, text)?;
+    text.as_mut_slice()[start..].make_ascii_lowercase();
+    Ok(())
 }
 
 /// Appends a text in lower case, without its spaces and hyphens.

@@ -1,10 +1,12 @@
 //! Spaces that don't count in a comparison (RFC 4518, section 2.6.1).
 
-ghost use Rattle.std.specs.Prelude.{◌≡◌, [], ◌∷◌, ◌++◌, cond, Ok, IsTrue};
+ghost use Rattle.std.specs.List.{position_or_len};
+ghost use Rattle.std.specs.Prelude.{◌≡◌, ◌==◌, ◌≤◌, [], ◌∷◌, ◌++◌, cond, length, Ok, IsTrue};
 ghost use Rattle.dir_names.specs.Outcome.{Gives};
 ghost use Rattle.dir_names.specs.ValueKeys.Spaces.{without_leading_spaces, without_trailing_spaces, without_extra_spaces, without_spaces_and_hyphens};
 
 use crate::NameFault;
+use crate::attribute::position_of;
 use std::alloc::Global;
 
 /// The text without spaces at its ends, and with one space for each run of spaces.
@@ -62,6 +64,41 @@ fn push_after_space(out: &mut Vec<u8>, is_waiting: bool, b: u8) -> Result<(), Na
         out.push(b' ')?;
     }
     out.push(b)?;
+    Ok(())
+}
+
+/// Appends the words of a text, with one space between them.
+pub(crate) fn put_words(text: &[u8], out: &mut Vec<u8>) -> Result<(), NameFault>
+    ensures { Gives (λ _. out.new.items) result (Ok (out.old.items ++ without_extra_spaces text.now)) }
+{
+    let mut rest = without_leading_spaces(text);
+    while !rest.is_empty() {
+        let end = word_len(rest);
+        out.extend_from_slice(&rest[..end])?;
+        rest = without_leading_spaces(&rest[end..]);
+        put_space_before(rest, out)?;
+    }
+    Ok(())
+}
+
+/// Where the first space is, or the length of the text if it has none.
+fn word_len(text: &[u8]) -> usize
+    ensures value { result ≡ position_or_len (λ b. b == 32) text.now }
+    ensures within { result ≤ length text.now }
+{
+    match position_of(text, b' ') {
+        Some(end) => end,
+        None => text.len(),
+    }
+}
+
+/// Appends a space if more text is to follow.
+fn put_space_before(rest: &[u8], out: &mut Vec<u8>) -> Result<(), NameFault>
+    ensures { Gives (λ _. out.new.items) result (Ok (out.old.items ++ cond (length rest.now == 0) [] (32 ∷ []))) }
+{
+    if !rest.is_empty() {
+        out.push(b' ')?;
+    }
     Ok(())
 }
 
