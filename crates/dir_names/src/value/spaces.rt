@@ -42,29 +42,9 @@ fn are_spaces_apart(text: &[u8]) -> bool
 fn copy_without_extra_spaces(alloc: Global, text: &[u8]) -> Result<Vec<u8>, NameFault>
     ensures { Gives (λ tidy. tidy.items) result (Ok (without_extra_spaces text.now)) }
 {
-    let rest = without_leading_spaces(text);
-    let mut out = Vec::with_capacity(alloc, rest.len())?;
-    let mut is_waiting = false;
-    for b in rest {
-        if *b == b' ' {
-            is_waiting = true;
-        } else {
-            push_after_space(&mut out, is_waiting, *b)?;
-            is_waiting = false;
-        }
-    }
+    let mut out = Vec::with_capacity(alloc, text.len())?;
+    put_words(text, &mut out)?;
     Ok(out)
-}
-
-/// Appends a byte, after a space if one is waiting.
-fn push_after_space(out: &mut Vec<u8>, is_waiting: bool, b: u8) -> Result<(), NameFault>
-    ensures { Gives (λ _. out.new.items) result (Ok (out.old.items ++ cond is_waiting (32 ∷ b ∷ []) (b ∷ []))) }
-{
-    if is_waiting {
-        out.push(b' ')?;
-    }
-    out.push(b)?;
-    Ok(())
 }
 
 /// Appends the words of a text, with one space between them.
