@@ -8,6 +8,7 @@ use Rattle.std.specs.Cmp.{unsigned_ties}
 use Rattle.std.specs.Prelude.{[]}
 use Rattle.std.proofs.lemmas.Bool.{ltb-true, lt-ltb}
 use Rattle.dir_names.specs.Attr.{Attr}
+use Rattle.dir_names.specs.Covers.{covers}
 use Rattle.dir_names.specs.Inside.Ranks.{ranked_types, ranked_attr, HasRank, IsTextAt}
 use Rattle.dir_names.specs.Orders.{attr_cmp, attr_eq, attr_cmp_ties}
 use Rattle.dir_names.proofs.Placed.{first, second}
@@ -62,6 +63,12 @@ cmp_by_rank a b r s g h =
 
 pub eq_by_rank : (a b : Attr) (r s : ℕ) → HasRank a r → HasRank b s → (r == s) ≡ attr_eq a b
 eq_by_rank a b r s g h = unsigned_ties r s ∙ ap is_eq (cmp_by_rank a b r s g h) ∙ sym (attr_cmp_ties a b)
+
+-- without options, a key covers another if they are the same
+pub covers_by_rank : (a b : Attr) (r s : ℕ) → HasRank a r → HasRank b s → (r == s) ≡ covers a b
+covers_by_rank a b r s g h =
+    let same : attr_eq (ranked_attr r) (ranked_attr s) ≡ covers (ranked_attr r) (ranked_attr s) = refl in
+    eq_by_rank a b r s g h ∙ (λ i. attr_eq (g.1 i) (h.1 i)) ∙ same ∙ (λ i. covers (sym g.1 i) (sym h.1 i))
 
 pub placed_rank : (attr : Attr) (r : ℕ) → attr.options ≡ [] → IsTextAt ranked_types attr.attr_type r → HasRank attr r
 unfolding ranked_types

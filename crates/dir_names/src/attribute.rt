@@ -88,8 +88,10 @@ impl AttrKey {
         ensures value { result ≡ covers self.now other.now }
         ensures meaning { IsTrue result ↔ Covers self.now other.now }
     {
-        self.shared.attr_type() == other.shared.attr_type()
-            && is_subset(self.options(), other.options())
+        match (self.rank(), other.rank()) {
+            (Some(rank), Some(covered)) => rank == covered,
+            _ => self.covers_by_text(other),
+        }
     }
 
     /// The same key, in the same memory. The one fault is `Memory`, if no more copies can be counted.
@@ -140,6 +142,14 @@ impl AttrKey {
         ensures { IfSome result (HasRank self.now) }
     {
         self.shared.rank()
+    }
+
+    #[inline(never)]
+    fn covers_by_text(&self, other: &AttrKey) -> bool
+        ensures { result ≡ covers self.now other.now }
+    {
+        self.shared.attr_type() == other.shared.attr_type()
+            && is_subset(self.options(), other.options())
     }
 
     #[inline(never)]

@@ -40,6 +40,18 @@ fn a_description_covers_those_with_more_options(rt: HostRuntime) {
     assert!(rt; !english.covers(&plain));
 }
 
+#[test]
+fn a_type_without_options_covers_itself_alone(rt: HostRuntime) {
+    let alloc = rt.alloc();
+    let name = attr_key(&rt, alloc, "cn");
+    let surname = attr_key(&rt, alloc, "sn");
+    let unknown = attr_key(&rt, alloc, "x-unknown");
+    assert!(rt; name.covers(&attr_key(&rt, alloc, "commonName")));
+    assert!(rt; unknown.covers(&attr_key(&rt, alloc, "X-Unknown")));
+    assert!(rt; !name.covers(&surname) && !surname.covers(&name));
+    assert!(rt; !name.covers(&unknown) && !unknown.covers(&name));
+}
+
 /// Texts that are read as descriptions.
 const READ: [&str; 4] = ["1.2", "0.0.1", "x-y-", "a1"];
 
