@@ -38,15 +38,6 @@ module _ (separator : ℕ) (text : List ℕ) where
   at_first : (i : ℕ) → Some i ≡ position (λ b. b == separator) text → (nat_lt (position_or_len (λ b. b == separator) text) (length text) ≡ true) × (position_or_len (λ b. b == separator) text ≡ i)
   at_first i e = inside _ _ i (sym e)
 
-  pub at_found : (i : ℕ) → Some i ≡ position (λ b. b == separator) text → i ≡ position_or_len (λ b. b == separator) text
-  at_found i e = sym (at_first i e).1
-
-  pub at_end : None ≡ position (λ b. b == separator) text → length text ≡ position_or_len (λ b. b == separator) text
-  at_end e =
-      let past : length text ≤ position_or_len (λ b. b == separator) text = ltb-false _ _ (outside _ (position_or_len (λ b. b == separator) text) (sym e)) in
-      let most : position_or_len (λ b. b == separator) text ≤ length text = prefix_len-le-length _ text in
-      omega arith
-
   pub before_found : (i : ℕ) → Some i ≡ position (λ b. b == separator) text → take i text ≡ before_first (λ b. b == separator) text
   before_found i e = ap (λ n. take n text) (sym (at_first i e).1)
 

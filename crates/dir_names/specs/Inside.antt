@@ -11,3 +11,4 @@ pub mod ShortKeys
 pub mod SortKeys
 pub mod SortTexts
 pub mod Steps
+pub mod TidyRuns

@@ -449,7 +449,7 @@ pub(crate) fn split_once(text: &[u8], separator: u8) -> (&[u8], Option<&[u8]>)
     }
 }
 
-pub(crate) fn position_of(text: &[u8], separator: u8) -> Option<usize>
+fn position_of(text: &[u8], separator: u8) -> Option<usize>
     ensures { result ≡ position (λ b. b == separator) text.now }
 {
     text.iter().position(|b| *b == separator)

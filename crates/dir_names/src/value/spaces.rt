@@ -1,12 +1,11 @@
 //! Spaces that don't count in a comparison (RFC 4518, section 2.6.1).
 
-ghost use Rattle.std.specs.List.{position_or_len};
-ghost use Rattle.std.specs.Prelude.{◌≡◌, ◌==◌, ◌≤◌, [], ◌∷◌, ◌++◌, cond, length, Ok, IsTrue};
+ghost use Rattle.std.specs.Prelude.{◌≡◌, ◌==◌, ◌≤◌, ◌&&◌, [], ◌∷◌, ◌++◌, cond, length, Ok, IsTrue};
+ghost use Rattle.dir_names.specs.Inside.TidyRuns.{is_end_or_space, tidy_len};
 ghost use Rattle.dir_names.specs.Outcome.{Gives};
 ghost use Rattle.dir_names.specs.ValueKeys.Spaces.{without_leading_spaces, without_trailing_spaces, without_extra_spaces, without_spaces_and_hyphens};
 
 use crate::NameFault;
-use crate::attribute::position_of;
 use std::alloc::Global;
 
 /// The text without spaces at its ends, and with one space for each run of spaces.
@@ -47,13 +46,13 @@ fn copy_without_extra_spaces(alloc: Global, text: &[u8]) -> Result<Vec<u8>, Name
     Ok(out)
 }
 
-/// Appends the words of a text, with one space between them.
+/// Appends the words of a text, with one space between them: in runs that have no extra space.
 pub(crate) fn put_words(text: &[u8], out: &mut Vec<u8>) -> Result<(), NameFault>
     ensures { Gives (λ _. out.new.items) result (Ok (out.old.items ++ without_extra_spaces text.now)) }
 {
     let mut rest = without_leading_spaces(text);
     while !rest.is_empty() {
-        let end = word_len(rest);
+        let end = tidy_len(rest);
         out.extend_from_slice(&rest[..end])?;
         rest = without_leading_spaces(&rest[end..]);
         put_space_before(rest, out)?;
@@ -61,14 +60,32 @@ pub(crate) fn put_words(text: &[u8], out: &mut Vec<u8>) -> Result<(), NameFault>
     Ok(())
 }
 
-/// Where the first space is, or the length of the text if it has none.
-fn word_len(text: &[u8]) -> usize
-    ensures value { result ≡ position_or_len (λ b. b == 32) text.now }
+/// Where the first extra space is, or the length of the text if it has none.
+fn tidy_len(text: &[u8]) -> usize
+    ensures value { result ≡ tidy_len text.now }
     ensures within { result ≤ length text.now }
 {
-    match position_of(text, b' ') {
-        Some(end) => end,
-        None => text.len(),
+    for (i, b) in text.iter().enumerate() {
+        if is_extra_space(*b, &text[i + 1..]) {
+            return i;
+        }
+    }
+    text.len()
+}
+
+/// Whether this is a space at the end or before another one.
+fn is_extra_space(b: u8, rest: &[u8]) -> bool
+    ensures { result ≡ (b == 32 && is_end_or_space rest.now) }
+{
+    b == b' ' && is_end_or_space(rest)
+}
+
+fn is_end_or_space(text: &[u8]) -> bool
+    ensures { result ≡ is_end_or_space text.now }
+{
+    match text.first() {
+        Some(b) => *b == b' ',
+        None => true,
     }
 }
 

@@ -1,7 +1,8 @@
 use Rattle.std.proofs.Common.{◌≡◌, ℕ, ◌<◌, ◌==◌, List, [], ◌∷◌, ◌++◌, cond, length, take, drop, ap, sym, ◌∙◌, append_assoc, rules}
 use Rattle.std.proofs.lemmas.List.{take_rest}
+use Rattle.dir_names.specs.Inside.TidyRuns.{tidy_len}
 use Rattle.dir_names.specs.ValueKeys.Spaces.{without_leading_spaces, without_extra_spaces}
-use Rattle.dir_names.proofs.Words.{word_len, all_words, begins_with_word, next_word, next_shorter}
+use Rattle.dir_names.proofs.Words.{all_words, begins_with_word, next_run, next_shorter}
 use Rattle.dir_names.proofs.value.spaces.put_words.Goals as goal
 
 regroup : (a b c d : List ℕ) → a ++ (b ++ (c ++ d)) ≡ ((a ++ b) ++ c) ++ d
@@ -16,23 +17,23 @@ loop-rest-init c =
 pub loop-rest-smaller : goal.loop-rest-smaller
 loop-rest-smaller c =
     let rest = c.loop-rest.rest.now in
-    let at : c.word_len-end.result ≡ word_len rest = search rules in
-    let next : c.without_leading_spaces-rest-in-loop-rest.result.now ≡ without_leading_spaces (drop c.word_len-end.result rest) = c.without_leading_spaces-rest-in-loop-rest.ensures ∙ ap without_leading_spaces (take_rest rest _) in
+    let at : c.tidy_len-end.result ≡ tidy_len rest = search rules in
+    let next : c.without_leading_spaces-rest-in-loop-rest.result.now ≡ without_leading_spaces (drop c.tidy_len-end.result rest) = c.without_leading_spaces-rest-in-loop-rest.ensures ∙ ap without_leading_spaces (take_rest rest _) in
     let some : 0 < length rest = search rules in
     next_shorter rest _ _ c.loop-rest.invariant.0 some at next
 
 pub loop-rest-preserved : goal.loop-rest-preserved
 loop-rest-preserved c =
     let rest = c.loop-rest.rest.now in
-    let at : c.word_len-end.result ≡ word_len rest = search rules in
-    let next : c.without_leading_spaces-rest-in-loop-rest.result.now ≡ without_leading_spaces (drop c.word_len-end.result rest) = c.without_leading_spaces-rest-in-loop-rest.ensures ∙ ap without_leading_spaces (take_rest rest _) in
-    let word : c.extend_from_slice.new.self.items ≡ c.loop-rest.out.items ++ take c.word_len-end.result rest = search rules in
+    let at : c.tidy_len-end.result ≡ tidy_len rest = search rules in
+    let next : c.without_leading_spaces-rest-in-loop-rest.result.now ≡ without_leading_spaces (drop c.tidy_len-end.result rest) = c.without_leading_spaces-rest-in-loop-rest.ensures ∙ ap without_leading_spaces (take_rest rest _) in
+    let word : c.extend_from_slice.new.self.items ≡ c.loop-rest.out.items ++ take c.tidy_len-end.result rest = search rules in
     let space = cond (length c.without_leading_spaces-rest-in-loop-rest.result.now == 0) [] (32 ∷ []) in
     let put : c.put_space_before.new.out.items ≡ c.extend_from_slice.new.self.items ++ space = search rules in
     let all = put ∙ ap (λ l. l ++ space) word in (
-      rw next (begins_with_word (drop c.word_len-end.result rest)),
+      rw next (begins_with_word (drop c.tidy_len-end.result rest)),
       c.loop-rest.invariant.1
-          ∙ ap (λ l. c.loop-rest.out.items ++ l) (next_word rest _ _ c.loop-rest.invariant.0 at next)
-          ∙ regroup c.loop-rest.out.items (take c.word_len-end.result rest) space _
+          ∙ ap (λ l. c.loop-rest.out.items ++ l) (next_run rest _ _ c.loop-rest.invariant.0 at next)
+          ∙ regroup c.loop-rest.out.items (take c.tidy_len-end.result rest) space _
           ∙ ap (λ l. l ++ without_extra_spaces c.without_leading_spaces-rest-in-loop-rest.result.now) (sym all),
     )
