@@ -17,7 +17,6 @@ ghost use Rattle.dir_tree.specs.NewEntry.{IsTwiceFaultOf, exceeds_single_value, 
 ghost use Rattle.dir_tree.specs.declared.fault.EntryFault.TheVariants as EntryFault;
 
 use crate::EntryFault;
-use crate::list::ListIter;
 use crate::packed::PackedAttributes;
 use crate::search::Sought;
 use crate::values::{ValueMap, Values};
@@ -145,20 +144,6 @@ impl Attribute {
         ensures rest { self.new ≡ record { key = self.old.key; stored = record { spelling = self.old.stored.spelling; values = fin.remove self.old.stored.values key.now } } }
     {
         self.values.remove(alloc, key)
-    }
-
-    /// How many values there are. The call takes no time by them.
-    pub(crate) fn len(&self) -> usize
-        ensures { result ≡ fin.len self.now.stored.values }
-    {
-        self.values.len()
-    }
-
-    /// The values as they are stored, in order of their keys.
-    pub(crate) fn stored(&self) -> ListIter<'_>
-        ensures { result ≡ fin.entries self.now.stored.values }
-    {
-        self.values.stored()
     }
 
     /// Whether there is more than one value.

@@ -8,6 +8,7 @@ ghost use Rattle.dir_names.specs.declared.value.ValueKey.TheVariants.{Text};
 ghost use Rattle.dir_tree.specs.ChangedEntry.{content_of};
 ghost use Rattle.dir_tree.specs.Content.{has_value};
 ghost use Rattle.dir_tree.specs.NewEntry.{Makes, new_entry};
+ghost use Rattle.dir_tree.specs.Slots.{with_slots};
 ghost use Rattle.dir_tree.specs.declared.fault.EntryFault.TheVariants as EntryFault;
 
 use crate::EntryFault;
@@ -126,6 +127,38 @@ impl Entry {
         self.attributes.to_map(alloc)
     }
 
+    /// The attributes with what a part has under these keys. None where the entry is not small, or memory runs out: then
+    /// they are to be opened.
+    pub fn with_part(
+        &self,
+        alloc: Global,
+        keys: &[AttrKey],
+        part: &AttributeMap,
+    ) -> Option<KeptAttributes>
+        ensures { IfSome result (λ attributes. attributes ≡ with_slots self.now.attributes keys.now part.now) }
+    {
+        self.attributes.with_part(alloc, keys, part)
+    }
+
+    /// The entry with other attributes, in memory of its own.
+    pub fn with_attributes(
+        &self,
+        alloc: Global,
+        attributes: KeptAttributes,
+    ) -> Result<Entry, Memory>
+        ensures { IfOk result (λ e. e ≡ record { own = self.now.own; key = self.now.key; attributes = attributes }) }
+    {
+        let own = clones(alloc, self.own.as_slice())?;
+        let Ok(key) = self.key.try_clone(alloc) else {
+            return Err(Memory);
+        };
+        Ok(Entry {
+            own,
+            key,
+            attributes,
+        })
+    }
+
     /// The entry in little memory, at this key: it shares what the key and the entries before have too.
     pub(crate) fn settled(self, alloc: Global, key: &RdnKey, shared: &mut Shared) -> Entry
         ensures { result ≡ self }
@@ -181,22 +214,23 @@ impl Entry {
     pub fn try_clone(&self, alloc: Global) -> Result<Entry, Memory>
         ensures { IfOk result (λ e. e ≡ self.now) }
     {
-        let mut own = Vec::with_capacity(alloc, self.own.len())?;
-        for rdn in self.own.as_slice() {
-            let Ok(rdn) = rdn.try_clone(alloc) else {
-                return Err(Memory);
-            };
-            own.push(rdn)?;
-        }
-        let Ok(key) = self.key.try_clone(alloc) else {
+        let attributes = KeptAttributes::of(self.attributes.to_map(alloc)?);
+        self.with_attributes(alloc, attributes)
+    }
+}
+
+/// The same RDNs in memory of their own.
+fn clones(alloc: Global, rdns: &[Rdn]) -> Result<Vec<Rdn>, Memory>
+    ensures { IfOk result (λ copy. copy.items ≡ rdns.now) }
+{
+    let mut copy = Vec::with_capacity(alloc, rdns.len())?;
+    for rdn in rdns {
+        let Ok(rdn) = rdn.try_clone(alloc) else {
             return Err(Memory);
         };
-        Ok(Entry {
-            own,
-            key,
-            attributes: KeptAttributes::of(self.attributes.to_map(alloc)?),
-        })
+        copy.push(rdn)?;
     }
+    Ok(copy)
 }
 
 /// The key of an entry's own RDN.

@@ -1,17 +1,20 @@
 //! The attributes of an entry as it keeps them: packed, from when it is made until it is changed.
 
-ghost use Rattle.std.specs.Prelude.{◌≡◌, IfErr, IfOk, IfSome, Ok, Some, false};
+ghost use Rattle.std.specs.Prelude.{◌≡◌, IfErr, IfOk, IfSome, IsTrue, Ok, Some, false};
 ghost use Rattle.std.specs.Option.{option_map};
 ghost use Rattle.std.specs.FinMap as fin;
 ghost use Rattle.dir_names.specs.NameKeys.{rdn_key};
 ghost use Rattle.dir_names.specs.Names.{SpelledRdn};
 ghost use Rattle.dir_names.specs.declared.value.ValueKey.TheVariants.{Text};
 ghost use Rattle.dir_tree.specs.Content.{has_value};
+ghost use Rattle.dir_tree.specs.Inside.Stored.{attributes_in, attributes_rise};
+ghost use Rattle.dir_tree.specs.Slots.{with_slots};
 ghost use Rattle.dir_tree.specs.NewEntry.{attributes_of, exceeds_single_value, rdn_lines, with_missing_of};
 
-use crate::attributes::{Attribute, AttributeMap, Attributes};
+use crate::attributes::{AttributeMap, Attributes};
+use crate::lent::LentAttributes;
 use crate::packed::pattern::Pattern;
-use crate::packed::{PackedAttributes, PackedViews, Rooms, Shared};
+use crate::packed::{PackedAttributes, PackedViews, Shared};
 use crate::parts::has_each;
 use crate::views::AttributeView;
 use dir_names::{AttrKey, Bytes, Description, Memory, RdnKey, RecentNames, Schema, ValueKey};
@@ -64,6 +67,16 @@ impl KeptAttributes {
         }
     }
 
+    /// These attributes, which are packed.
+    pub(crate) fn of_packed(packed: PackedAttributes) -> KeptAttributes
+        requires { IsTrue (attributes_rise packed) }
+        ensures { result ≡ attributes_in packed }
+    {
+        KeptAttributes {
+            form: Form::Packed(packed),
+        }
+    }
+
     /// The attributes of a new entry whose lines are arranged in a pattern, and have all values of its own RDN. None
     /// where this is not so, a line is at fault, an attribute of a single type has several values, or memory runs out.
     pub(crate) fn made(
@@ -110,16 +123,28 @@ impl KeptAttributes {
     fn packed_up_to(alloc: Global, map: AttributeMap, most: usize) -> KeptAttributes
         ensures { result ≡ map }
     {
-        if count_of(map.as_slice()) > most {
-            return KeptAttributes::of(map);
+        match packed_map(alloc, &map, most) {
+            Some(packed) => packed,
+            None => KeptAttributes::of(map),
         }
-        let rooms = Rooms::of(map.as_slice());
-        match PackedAttributes::of(alloc, map.as_slice(), rooms) {
-            Ok(packed) => KeptAttributes {
-                form: Form::Packed(packed),
-            },
-            Err(_) => KeptAttributes::of(map),
-        }
+    }
+
+    /// The attributes with what a part has under these keys. None where they are not packed, would have many values, or
+    /// memory runs out.
+    pub(crate) fn with_part(
+        &self,
+        alloc: Global,
+        keys: &[AttrKey],
+        part: &AttributeMap,
+    ) -> Option<KeptAttributes>
+        ensures { IfSome result (λ new. new ≡ with_slots self.now keys.now part.now) }
+    {
+        let Form::Packed(packed) = &self.form else {
+            return None;
+        };
+        let mut attributes = LentAttributes::of_packed(alloc, packed).ok()?;
+        attributes.set_all(keys, part).ok()?;
+        attributes.packed_up_to(alloc, MOST_PACKED_AGAIN)
     }
 
     /// Shares the memory of what entries before have too.
@@ -224,13 +249,13 @@ impl KeptAttributes {
     }
 }
 
-/// How many values attributes have in all.
-fn count_of(attributes: &[Attribute]) -> usize {
-    let mut count: usize = 0;
-    for attribute in attributes {
-        count = count.saturating_add(attribute.len());
-    }
-    count
+/// The attributes of a map in little memory, unless they have more values than that, or there is no memory for it.
+fn packed_map(alloc: Global, map: &AttributeMap, most: usize) -> Option<KeptAttributes>
+    ensures { IfSome result (λ kept. kept ≡ map.now) }
+{
+    LentAttributes::of_map(alloc, map)
+        .ok()?
+        .packed_up_to(alloc, most)
 }
 
 /// The attributes of an entry, lent, in order of their keys.

@@ -8,6 +8,7 @@ mod fault;
 mod flat;
 mod kept;
 mod laws;
+mod lent;
 mod lines;
 mod list;
 mod maker;

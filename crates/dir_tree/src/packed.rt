@@ -7,7 +7,7 @@ ghost use Rattle.std.specs.FinMap as fin;
 ghost use Rattle.std.specs.Option.{option_map};
 ghost use Rattle.dir_names.specs.Sorted.{place};
 ghost use Rattle.dir_names.specs.Values.{value_key_cmp};
-ghost use Rattle.dir_tree.specs.Lent.{lent_key};
+ghost use Rattle.dir_tree.specs.Lent.{key_or_value, lent_key};
 ghost use Rattle.dir_tree.specs.Inside.Packed.{IsInside, IsKeyInside, IsPacked, key_in, packed_attribute, packed_value, part_of, values_of};
 ghost use Rattle.dir_tree.specs.Inside.Searches.{sought_key};
 ghost use Rattle.dir_tree.specs.Inside.Stored.{are_rising, attributes_in, attributes_rise, value_pair};
@@ -15,11 +15,10 @@ ghost use Rattle.std.specs.List.Sorted.{IsSearchInRange};
 
 pub(crate) mod pattern;
 
-use crate::attributes::Attribute;
 use crate::search::{Sought, cmp_lent};
-use crate::stored::StoredValue;
-use crate::views::{AttributeView, KeyView};
-use dir_names::{AttrKey, Description, DnSortKey, Memory, ValueKey};
+use crate::values::ValueMap;
+use crate::views::{AttributeView, KeyView, LentValues};
+use dir_names::{AttrKey, Description, DnSortKey, Memory};
 use std::alloc::Global;
 use std::cmp::Ordering;
 use std::marker::Model;
@@ -47,27 +46,33 @@ impl Room {
     }
 
     /// The room for the values of one attribute more.
-    fn with_values(self, attribute: &Attribute) -> Room {
+    fn with_values(self, attribute: &AttributeView<'_>) -> Room {
         let mut room = self;
-        for value in attribute.stored() {
-            room = room.with(value);
+        match attribute.lent() {
+            LentValues::Open(values) => {
+                for value in values.stored() {
+                    room = room.with(value.bytes().as_slice().len(), value.own_key());
+                }
+            }
+            LentValues::Packed(values) => {
+                for value in values.values {
+                    room = room.with(value.bytes(values.pool).len(), value.own_key(values.pool));
+                }
+            }
         }
         room
     }
 
-    /// The room for one value more.
-    fn with(self, value: &StoredValue) -> Room {
-        let (own, names) = match value.key() {
-            ValueKey::Text(own) if !value.is_own_key() => (own.as_slice().len(), 0),
-            ValueKey::Text(_) => (0, 0),
-            ValueKey::Name(_) => (0, 1),
+    /// The room for one value more, of so many bytes, with the key that is not the value itself.
+    fn with(self, bytes: usize, key: Option<KeyView<'_>>) -> Room {
+        let (own, names) = match key {
+            None => (0, 0),
+            Some(KeyView::Text(own)) => (own.len(), 0),
+            Some(KeyView::Name(_)) => (0, 1),
         };
         Room {
             values: self.values.saturating_add(1),
-            text: self
-                .text
-                .saturating_add(value.bytes().as_slice().len())
-                .saturating_add(own),
+            text: self.text.saturating_add(bytes).saturating_add(own),
             names: self.names.saturating_add(names),
         }
     }
@@ -82,7 +87,7 @@ pub(crate) struct Rooms {
 
 impl Rooms {
     /// The room for the values of these attributes.
-    pub(crate) fn of(attributes: &[Attribute]) -> Rooms {
+    pub(crate) fn of(attributes: &[AttributeView<'_>]) -> Rooms {
         let mut rooms = Rooms {
             common: Room::none(),
             own: Room::none(),
@@ -139,12 +144,22 @@ impl PackedValue {
     fn key<'a>(&self, pool: PoolView<'a>) -> KeyView<'a>
         ensures { lent_key result ≡ (packed_value pool.entry.text.now pool.entry.names.now self.now).0 }
     {
+        match self.own_key(pool) {
+            Some(key) => key,
+            None => KeyView::Text(self.bytes(pool)),
+        }
+    }
+
+    /// The key, unless it is the value itself.
+    fn own_key<'a>(&self, pool: PoolView<'a>) -> Option<KeyView<'a>>
+        ensures { key_or_value result (packed_value pool.entry.text.now pool.entry.names.now self.now).1 ≡ (packed_value pool.entry.text.now pool.entry.names.now self.now).0 }
+    {
         match &self.key {
-            PackedKey::Same => KeyView::Text(part_of(pool.text, self.start, self.end)),
-            PackedKey::Text(to) => KeyView::Text(part_of(pool.text, self.end, *to)),
+            PackedKey::Same => None,
+            PackedKey::Text(to) => Some(KeyView::Text(part_of(pool.text, self.end, *to))),
             PackedKey::Name(at) => match pool.names.get(*at as usize) {
-                Some(name) => KeyView::Name(name),
-                None => KeyView::Text(&[]),
+                Some(name) => Some(KeyView::Name(name)),
+                None => Some(KeyView::Text(&[])),
             },
         }
     }
@@ -223,12 +238,17 @@ impl PackedValues {
         })
     }
 
-    /// The values and one more.
-    fn with_value(self, alloc: Global, value: &StoredValue) -> Result<PackedValues, Memory>
-        ensures { IfOk result (λ p. p ≡ self ++ value.now ∷ []) }
+    /// The values and one more, with its key unless that is the value itself.
+    fn with_value(
+        self,
+        alloc: Global,
+        bytes: &[u8],
+        key: Option<KeyView<'_>>,
+    ) -> Result<PackedValues, Memory>
+        ensures { IfOk result (λ p. p ≡ self ++ (key_or_value key.entry bytes.now, bytes.now) ∷ []) }
     {
         let PackedValues { mut values, pool } = self;
-        match pooled(alloc, pool, value) {
+        match pooled(alloc, pool, bytes, key) {
             Ok((pool, value)) => match values.push(value) {
                 Ok(()) => Ok(PackedValues { values, pool }),
                 Err(_) => Err(Memory),
@@ -241,7 +261,7 @@ impl PackedValues {
     fn with_values_at(
         self,
         alloc: Global,
-        attribute: &Attribute,
+        attribute: &AttributeView<'_>,
     ) -> Result<(PackedValues, u16, u16), Memory>
         ensures values { IfOk result (λ with. with.0 ≡ self ++ fin.entries attribute.now.stored.values) }
         ensures start { IfOk result (λ with. with.1 ≡ length self) }
@@ -254,12 +274,38 @@ impl PackedValues {
     }
 
     /// The values and those of an attribute.
-    fn with_values(self, alloc: Global, attribute: &Attribute) -> Result<PackedValues, Memory>
+    fn with_values(
+        self,
+        alloc: Global,
+        attribute: &AttributeView<'_>,
+    ) -> Result<PackedValues, Memory>
         ensures { IfOk result (λ p. p ≡ self ++ fin.entries attribute.now.stored.values) }
     {
+        match attribute.lent() {
+            LentValues::Open(values) => self.with_map(alloc, values),
+            LentValues::Packed(values) => self.with_packed(alloc, values),
+        }
+    }
+
+    /// The values and those of a map.
+    fn with_map(self, alloc: Global, map: &ValueMap) -> Result<PackedValues, Memory>
+        ensures { IfOk result (λ p. p ≡ self ++ fin.entries map.now) }
+    {
         let mut packed = self;
-        for value in attribute.stored() {
-            packed = packed.with_value(alloc, value)?;
+        for value in map.stored() {
+            packed = packed.with_value(alloc, value.bytes().as_slice(), value.own_key())?;
+        }
+        Ok(packed)
+    }
+
+    /// The values and others that are packed.
+    fn with_packed(self, alloc: Global, others: PackedSlice<'_>) -> Result<PackedValues, Memory>
+        ensures { IfOk result (λ p. p ≡ self ++ values_of others.entry) }
+    {
+        let mut packed = self;
+        for value in others.values {
+            let bytes = value.bytes(others.pool);
+            packed = packed.with_value(alloc, bytes, value.own_key(others.pool))?;
         }
         Ok(packed)
     }
@@ -283,42 +329,51 @@ impl PackedValues {
     }
 }
 
-/// The pool with the bytes and the key of a value, and where they are.
-fn pooled(alloc: Global, pool: Pool, value: &StoredValue) -> Result<(Pool, PackedValue), Memory>
-    ensures value { IfOk result (λ with. packed_value with.0.text.items with.0.names.items with.1 ≡ value.now) }
+/// The pool with a value and its key, unless that is the value itself, and where they are.
+fn pooled(
+    alloc: Global,
+    pool: Pool,
+    bytes: &[u8],
+    key: Option<KeyView<'_>>,
+) -> Result<(Pool, PackedValue), Memory>
+    ensures value { IfOk result (λ with. packed_value with.0.text.items with.0.names.items with.1 ≡ (key_or_value key.entry bytes.now, bytes.now)) }
     ensures inside { IfOk result (λ with. IsInside with.0.text.items with.0.names.items with.1) }
     ensures text { IfOk result (λ with. (more : List ℕ) × (with.0.text.items ≡ pool.text.items ++ more)) }
     ensures names { IfOk result (λ with. (more : List DnKeys) × (with.0.names.items ≡ pool.names.items ++ more)) }
 {
     let Pool { mut text, names } = pool;
     let start = index(text.len())?;
-    text.extend_from_slice(value.bytes().as_slice())?;
+    text.extend_from_slice(bytes)?;
     let end = index(text.len())?;
-    let (pool, key) = pooled_key(alloc, Pool { text, names }, value)?;
+    let (pool, key) = pooled_key(alloc, Pool { text, names }, key)?;
     Ok((pool, PackedValue { start, end, key }))
 }
 
-/// The pool, whose text ends with a value, with the value's key, unless they are the same.
-fn pooled_key(alloc: Global, pool: Pool, value: &StoredValue) -> Result<(Pool, PackedKey), Memory>
-    ensures key { IfOk result (λ with. (start : ℕ) → part_of pool.text.items start (length pool.text.items) ≡ value.now.1 → key_in with.0.text.items with.0.names.items start (length pool.text.items) with.1 ≡ value.now.0) }
+/// The pool, whose text ends with a value, with the value's key, unless that is the value itself.
+fn pooled_key(
+    alloc: Global,
+    pool: Pool,
+    key: Option<KeyView<'_>>,
+) -> Result<(Pool, PackedKey), Memory>
+    ensures key { IfOk result (λ with. (start : ℕ) → key_in with.0.text.items with.0.names.items start (length pool.text.items) with.1 ≡ key_or_value key.entry (part_of pool.text.items start (length pool.text.items))) }
     ensures inside { IfOk result (λ with. IsKeyInside with.0.text.items with.0.names.items with.1) }
     ensures text { IfOk result (λ with. (more : List ℕ) × (with.0.text.items ≡ pool.text.items ++ more)) }
     ensures names { IfOk result (λ with. (more : List DnKeys) × (with.0.names.items ≡ pool.names.items ++ more)) }
 {
-    if value.is_own_key() {
+    let Some(key) = key else {
         return Ok((pool, PackedKey::Same));
-    }
+    };
     let Pool {
         mut text,
         mut names,
     } = pool;
-    match value.key() {
-        ValueKey::Text(own) => {
-            text.extend_from_slice(own.as_slice())?;
+    match key {
+        KeyView::Text(own) => {
+            text.extend_from_slice(own)?;
             let end = index(text.len())?;
             Ok((Pool { text, names }, PackedKey::Text(end)))
         }
-        ValueKey::Name(name) => {
+        KeyView::Name(name) => {
             let at = index(names.len())?;
             match name.try_clone(alloc) {
                 Ok(name) => match names.push(name) {
@@ -442,7 +497,7 @@ impl<'a> Model for PackedIter<'a> {
 
 impl<'a> Iterator for PackedIter<'a> {
     ghost use Rattle.std.specs.Iterator.{YieldsFirstBy, item_count};
-    ghost use Rattle.dir_tree.specs.Lent.{lent_key};
+    ghost use Rattle.dir_tree.specs.Lent.{key_or_value, lent_key};
 
     type Item = (KeyView<'a>, &'a [u8]);
 
@@ -492,7 +547,7 @@ impl Model for Packing {
 
 impl Packing {
     /// The attributes and one more.
-    fn with_attribute(self, alloc: Global, attribute: &Attribute) -> Result<Packing, Memory>
+    fn with_attribute(self, alloc: Global, attribute: &AttributeView<'_>) -> Result<Packing, Memory>
         ensures { IfOk result (λ p. p ≡ self ++ attribute.now ∷ []) }
     {
         let Packing {
@@ -569,7 +624,7 @@ impl PackedAttributes {
     /// These attributes, whose values take so much room.
     pub(crate) fn of(
         alloc: Global,
-        attributes: &[Attribute],
+        attributes: &[AttributeView<'_>],
         rooms: Rooms,
     ) -> Result<PackedAttributes, Memory>
         ensures { IfOk result (λ p. p ≡ attributes.now) }

@@ -3,7 +3,7 @@
 ghost use Rattle.std.specs.Prelude.{◌≡◌, IfOk, IsTrue, None, true};
 ghost use Rattle.dir_names.specs.declared.value.ValueKey.TheVariants.{Text};
 ghost use Rattle.dir_tree.specs.Inside.Stored.{kept_bytes, has_bytes};
-ghost use Rattle.dir_tree.specs.Lent.{lent_key};
+ghost use Rattle.dir_tree.specs.Lent.{key_or_value, lent_key};
 
 use crate::pieces::Pieces;
 use crate::views::KeyView;
@@ -88,13 +88,13 @@ impl StoredValue {
         }
     }
 
-    /// Whether the value is its own key.
-    pub(crate) fn is_own_key(&self) -> bool
-        ensures { IsTrue result → self.now.0 ≡ Text self.now.1 }
+    /// The key, unless it is the value itself.
+    pub(crate) fn own_key(&self) -> Option<KeyView<'_>>
+        ensures { key_or_value result self.now.1 ≡ self.now.0 }
     {
         match &self.bytes {
-            Some(_) => false,
-            None => true,
+            Some(_) => Some(KeyView::of(&self.key)),
+            None => None,
         }
     }
 

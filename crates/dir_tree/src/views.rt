@@ -5,6 +5,7 @@ ghost use Rattle.std.specs.FinMap as fin;
 ghost use Rattle.dir_names.specs.Values.{text_of};
 ghost use Rattle.dir_names.specs.declared.value.ValueKey.TheVariants.{Name, Text};
 ghost use Rattle.dir_tree.specs.Lent.{lent_key};
+ghost use Rattle.dir_tree.specs.Inside.Lent.{AreInOrder, lent_values};
 ghost use Rattle.dir_tree.specs.Inside.Packed.{values_of};
 ghost use Rattle.dir_tree.specs.Inside.Searches.{sought_key};
 ghost use Rattle.dir_tree.specs.Inside.Stored.{are_rising, values_in};
@@ -117,6 +118,14 @@ impl<'a> AttributeView<'a> {
         self.description
     }
 
+    /// The values in the form in which they are lent.
+    pub(crate) fn lent(&self) -> LentValues<'a>
+        ensures values { lent_values result ≡ self.now.stored.values }
+        ensures order { AreInOrder result }
+    {
+        self.values
+    }
+
     /// The values, in order of their keys.
     pub fn values(&self) -> ValueViews<'a>
         ensures { result ≡ fin.entries self.now.stored.values }
@@ -176,6 +185,16 @@ impl<'a> AttributeView<'a> {
         match self.values {
             LentValues::Open(values) => values.has_sought(sought),
             LentValues::Packed(values) => values.find(sought).is_ok(),
+        }
+    }
+
+    /// How many values there are. The call takes no time by them.
+    pub fn len(&self) -> usize
+        ensures { result ≡ fin.len self.now.stored.values }
+    {
+        match self.values {
+            LentValues::Open(values) => values.len(),
+            LentValues::Packed(values) => values.len(),
         }
     }
 

@@ -112,7 +112,7 @@ fn entries_that_are_alike_keep_their_own_values(rt: HostRuntime) {
 }
 
 /// The entry with its attributes opened.
-fn opened(rt: &impl Abort, alloc: Global, entry: Entry) -> Entry {
+pub(crate) fn opened(rt: &impl Abort, alloc: Global, entry: Entry) -> Entry {
     let Parts {
         own,
         key,

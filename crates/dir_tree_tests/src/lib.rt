@@ -9,6 +9,8 @@ mod directories;
 #[cfg(test)]
 mod entries;
 #[cfg(test)]
+mod exchanged_parts;
+#[cfg(test)]
 mod exchanges;
 #[cfg(test)]
 mod faults;

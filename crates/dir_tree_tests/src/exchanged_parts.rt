@@ -1,0 +1,114 @@
+//! Attributes of an entry exchanged for those of a part.
+
+use crate::alike::{assert_lines, opened};
+use crate::make::{bytes, description, made, value};
+use dir_names::AttrKey;
+use dir_tree::{Attribute, AttributeMap, Entry};
+use std::alloc::Global;
+use std::process::Abort;
+
+fn kim(rt: &impl Abort, alloc: Global) -> Entry {
+    made(
+        rt,
+        alloc,
+        "cn=Kim Park",
+        &[
+            ("objectClass", "person"),
+            ("title", "Head  of Staff"),
+            ("title", "lead"),
+            ("telephoneNumber", "+1 555-0100"),
+            ("manager", "CN=Lee,DC=Example"),
+            ("uidNumber", "7"),
+        ],
+    )
+}
+
+/// An attribute of this type with this value.
+fn attribute(rt: &impl Abort, alloc: Global, attr_type: &str, text: &str) -> Attribute {
+    let mut attribute = Attribute::new(alloc, description(rt, alloc, attr_type));
+    let key = value(rt, alloc, attr_type, text);
+    attribute
+        .add(alloc, key, bytes(rt, alloc, text))
+        .expect(rt, "a value");
+    attribute
+}
+
+/// A title, a description and no number.
+fn part(rt: &impl Abort, alloc: Global) -> AttributeMap {
+    let mut part = AttributeMap::empty(alloc);
+    for (attr_type, text) in &[("title", "Boss"), ("description", "New  one")] {
+        part.put(attribute(rt, alloc, attr_type, text))
+            .expect(rt, "memory");
+    }
+    part
+}
+
+/// The keys of these types.
+fn keys(rt: &impl Abort, alloc: Global, types: &[&str]) -> Vec<AttrKey> {
+    let mut keys = Vec::new(alloc);
+    for attr_type in types {
+        let key = description(rt, alloc, attr_type)
+            .key()
+            .try_clone(alloc)
+            .expect(rt, "memory");
+        keys.push(key).expect(rt, "memory");
+    }
+    keys
+}
+
+#[test]
+fn a_small_entry_gets_the_attributes_of_a_part(rt: HostRuntime) {
+    let alloc = rt.alloc();
+    let entry = kim(&rt, alloc);
+    let keys = keys(&rt, alloc, &["title", "uidNumber", "description"]);
+    let attributes = entry
+        .with_part(alloc, keys.as_slice(), &part(&rt, alloc))
+        .expect(&rt, "a small entry");
+    assert!(rt; attributes.iter().count() == 6);
+    let changed = entry
+        .with_attributes(alloc, attributes)
+        .expect(&rt, "memory");
+    assert!(rt; changed.own() == entry.own() && changed.key() == entry.key());
+    assert_lines(
+        &rt,
+        alloc,
+        &changed,
+        &[
+            ("cn", "Kim Park"),
+            ("objectClass", "person"),
+            ("title", "Boss"),
+            ("telephoneNumber", "+1 555-0100"),
+            ("manager", "CN=Lee,DC=Example"),
+            ("description", "New  one"),
+        ],
+    );
+    let title = description(&rt, alloc, "title");
+    let title = changed.attribute(title.key()).expect(&rt, "a title");
+    assert!(rt; title.len() == 1);
+}
+
+#[test]
+fn what_a_part_has_under_other_keys_is_left_out(rt: HostRuntime) {
+    let alloc = rt.alloc();
+    let entry = kim(&rt, alloc);
+    let keys = keys(&rt, alloc, &["uidNumber"]);
+    let attributes = entry
+        .with_part(alloc, keys.as_slice(), &part(&rt, alloc))
+        .expect(&rt, "a small entry");
+    assert!(rt; attributes.iter().count() == 5);
+    let title = description(&rt, alloc, "title");
+    let title = attributes.get(title.key()).expect(&rt, "a title");
+    assert!(rt; title.len() == 2);
+}
+
+#[test]
+fn an_open_entry_is_left_to_be_changed_in_place(rt: HostRuntime) {
+    let alloc = rt.alloc();
+    let entry = opened(&rt, alloc, kim(&rt, alloc));
+    let keys = keys(&rt, alloc, &["title"]);
+    assert!(rt;
+        entry
+            .with_part(alloc, keys.as_slice(), &part(&rt, alloc))
+            .is_none()
+    );
+}
