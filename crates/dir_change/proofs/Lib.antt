@@ -35,5 +35,6 @@ pub mod SlotBack
 pub mod StaysWellFormed
 pub mod StaysWithinLimits
 pub mod TakenBack
+pub mod TouchedParts
 pub mod Undoing
 pub mod ValueSets

@@ -4,4 +4,5 @@ pub mod Looked
 pub mod Overlaid
 pub mod Patched
 pub mod Planned
+pub mod Touched
 pub mod ValuesInTurn

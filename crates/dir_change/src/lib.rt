@@ -13,6 +13,7 @@ mod modify;
 mod operation;
 mod rename;
 mod result_code;
+mod touched;
 mod undo;
 
 pub use history::History;
