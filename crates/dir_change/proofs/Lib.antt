@@ -30,11 +30,13 @@ pub mod RenameBack
 pub mod RenameStays
 pub mod RenameUndo
 pub mod RenamedEntry
+pub mod RenamedSlots
 pub mod RenamedValues
 pub mod SlotBack
 pub mod StaysWellFormed
 pub mod StaysWithinLimits
 pub mod TakenBack
+pub mod TouchedDifference
 pub mod TouchedParts
 pub mod Undoing
 pub mod ValueSets

@@ -18,10 +18,11 @@ use Rattle.dir_tree.proofs.MoveLemmas.{IsClear, Place, clear_place, moved_here, 
 use Rattle.dir_tree.proofs.RestBelow.{rest_is}
 use Rattle.dir_tree.proofs.SpelledLemmas.{spelled_short}
 use Rattle.dir_tree.proofs.SpelledMoves.{spelled_moved, spelled_stays}
+use Rattle.dir_change.specs.Inside.Touched.{AreSameApartFrom}
 use Rattle.dir_change.specs.Rename.{place_at, renamed_entry, superior_at, superior_key}
 use Rattle.dir_change.specs.Undo.{is_parent, joined_key, rename_back, rename_back_in, spelled_name_or_empty, superior_back, undo_of, undo_of_rename}
 use Rattle.dir_change.proofs.RenameAccepted.{RenamedAt, new_key, place_is, renamed_by}
-use Rattle.dir_change.proofs.RenamedEntry.{renamed_is}
+use Rattle.dir_change.proofs.RenamedEntry.{renamed_is, renamed_stays}
 
 module _ (rows : List TypeRow) (d : Dir) (closed : IsClosed d) (k : DnKeys) (rdn : SpelledRdn) (delete_old : Bool) (superior : Option SpelledName) (new : Dir) (known : RenamedAt rows d k rdn delete_old superior new) where
   abbrev to : DnKeys
@@ -103,6 +104,7 @@ pub record Built (rows : List TypeRow) (d : Dir) (k : DnKeys) (rdn : SpelledRdn)
   pub parent_there : (q : DnKeys) → parent_of k ≡ Some q → is_some (entry_at d q) ≡ true
   pub group : undo_of rows d (move_subtree d k n y) k (kind.Rename rdn delete_old superior) ≡
       rename_back_in rows d k p y e
+  pub same : AreSameApartFrom e.key y.key y.attributes e.attributes
 
 pub built : (rows : List TypeRow) (d : Dir) → IsClosed d → (k : DnKeys) (rdn : SpelledRdn) (delete_old : Bool) (superior : Option SpelledName) (e : Content) → entry_at d k ≡ Some e → dn_key_eq k d.suffix ≡ false
     → (p : DnKeys) → superior_at d k (superior_key rows k superior) ≡ Ok p → (key : RdnKeys) → rdn_key rows rdn ≡ Some key → (n : DnKeys) → n ≡ p ++ key ∷ [] → place_at d k n ≡ Ok n
@@ -121,4 +123,5 @@ built rows d closed k rdn delete_old superior e there apart p above key named n 
       has_parent_key = has_parent_key rows d closed k rdn delete_old superior new known;
       parent_there = parent_is_there rows d closed k rdn delete_old superior new known;
       group = group_form rows d closed k rdn delete_old superior new known;
+      same = renamed_stays rows e rdn key delete_old y named renamed;
     })

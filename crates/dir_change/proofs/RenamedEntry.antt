@@ -27,6 +27,7 @@ use Rattle.dir_tree.proofs.GainedValues.{gained_apart, gained_sound, has_gained,
 use Rattle.dir_tree.proofs.OwnValues.{by_rdn_key, each_passes, own_values}
 use Rattle.dir_tree.proofs.SoundMade.{each_get}
 use Rattle.dir_change.specs.Difference.{difference}
+use Rattle.dir_change.specs.Inside.Touched.{AreSameApartFrom, has_type}
 use Rattle.dir_change.specs.Modify.{KeyedValues, are_distinct, entry_after, is_given, with_attributes}
 use Rattle.dir_change.specs.Refusals.{entry_or_code}
 use Rattle.dir_change.specs.Rename.{pairs_missing_in, renamed, renamed_attributes, renamed_entry}
@@ -208,6 +209,13 @@ module _ (rows : List TypeRow) where
       by : (b : Bool) → exceeds_single_value rows (renamed_attributes rows e.attributes e.key rdn key delete_old) ≡ b → entry_or_code (cond b (Err Single) (Ok (renamed rows e rdn key delete_old))) ≡ Ok y → (y ≡ renamed rows e rdn key delete_old) × (exceeds_single_value rows y.attributes ≡ false)
       by true t h = absurd (cc)
       by false t h = let same : renamed rows e rdn key delete_old ≡ y = cc in (sym same, ap (λ (z : Content). exceeds_single_value rows z.attributes) (sym same) ∙ t)
+
+  -- an attribute that neither RDN names stays
+  pub renamed_stays : (e : Content) (rdn : SpelledRdn) (key : RdnKeys) (delete_old : Bool) (y : Content) → rdn_key rows rdn ≡ Some key → renamed_entry rows e rdn key delete_old ≡ Ok y → AreSameApartFrom e.key y.key y.attributes e.attributes
+  renamed_stays e rdn key delete_old y named is q apart apart_new =
+      let known = (renamed_is e rdn key delete_old y is).0 in
+      ap (λ (z : Content). fin.get z.attributes q) known
+      ∙ renamed_apart rows e.attributes e.key rdn key named delete_old q apart (ap (λ (z : Content). has_type z.key q) (sym known) ∙ apart_new)
 
   pub renamed_sound : (e : Content) (rdn : SpelledRdn) (key : RdnKeys) (delete_old : Bool) (y : Content) → rdn_key rows rdn ≡ Some key → Each IsLegalPair rdn → IsSoundEntry rows e → renamed_entry rows e rdn key delete_old ≡ Ok y → IsSoundEntry rows y
   renamed_sound e rdn key delete_old y named legal sound is =

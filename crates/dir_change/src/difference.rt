@@ -1,7 +1,6 @@
 //! The modifications that lead from one attribute, or some, to others.
 
 ghost use Rattle.std.specs.Prelude.{◌≡◌, ◌++◌, IfErr, IfOk, IfSome, IsTrue, OnOk, Some, [], ◌∷◌, map};
-ghost use Rattle.std.specs.List.{fold};
 ghost use Rattle.std.specs.Option.{option_map};
 ghost use Rattle.std.specs.FinMap as fin;
 ghost use Rattle.dir_names.specs.Attr.{Attr};
@@ -34,37 +33,6 @@ pub(crate) fn difference(
     Ok(mods)
 }
 
-/// The keys of some attributes and of others, in order, each once.
-pub(crate) fn all_keys(
-    alloc: Global,
-    some: &AttributeMap,
-    others: &AttributeMap,
-) -> Result<Vec<AttrKey>, Refusal>
-    ensures ok { IfOk result (λ keys. keys.items ≡ set_of attr_cmp (fin.keys some.now ++ fin.keys others.now)) }
-    ensures memory { IfErr result (λ e. e ≡ refusal.Memory) }
-{
-    let mut keys = Vec::new(alloc);
-    insert_keys(alloc, &mut keys, some)?;
-    insert_keys(alloc, &mut keys, others)?;
-    Ok(keys)
-}
-
-fn insert_keys(
-    alloc: Global,
-    keys: &mut Vec<AttrKey>,
-    attributes: &AttributeMap,
-) -> Result<(), Refusal>
-    requires { IsTrue (rises attr_cmp keys.old.items) }
-    ensures ok { OnOk result (keys.new.items ≡ fold (λ set k. with_member attr_cmp k set) keys.old.items (fin.keys attributes.now)) }
-    ensures rises { OnOk result (IsTrue (rises attr_cmp keys.new.items)) }
-    ensures memory { IfErr result (λ e. e ≡ refusal.Memory) }
-{
-    for (key, _) in attributes.iter() {
-        insert_key(alloc, keys, key)?;
-    }
-    Ok(())
-}
-
 /// The keys that modifications name, in order, each once.
 pub(crate) fn named_keys(alloc: Global, mods: &[Mod]) -> Result<Vec<AttrKey>, Refusal>
     ensures ok { IfOk result (λ keys. keys.items ≡ set_of attr_cmp (map (λ m. m.description.key) mods.now)) }
@@ -77,7 +45,11 @@ pub(crate) fn named_keys(alloc: Global, mods: &[Mod]) -> Result<Vec<AttrKey>, Re
     Ok(keys)
 }
 
-fn insert_key(alloc: Global, keys: &mut Vec<AttrKey>, key: &AttrKey) -> Result<(), Refusal>
+pub(crate) fn insert_key(
+    alloc: Global,
+    keys: &mut Vec<AttrKey>,
+    key: &AttrKey,
+) -> Result<(), Refusal>
     requires { IsTrue (rises attr_cmp keys.old.items) }
     ensures ok { OnOk result (keys.new.items ≡ with_member attr_cmp key.now keys.old.items) }
     ensures memory { IfErr result (λ e. e ≡ refusal.Memory) }

@@ -1,26 +1,29 @@
 //! The modify DN operation (RFC 4511, section 4.9), which moves an entry with all that is below it, and the
 //! changes that take it back: a rename, and a modify of what is left.
 
-ghost use Rattle.std.specs.Prelude.{◌≡◌, [], ◌∷◌, ◌++◌, ◌+◌, ◌≤◌, IfErr, IfOk, IfSome, IsSome, None, Ok, OnErr, OnOk, Some, length, nat_lt, true};
-ghost use Rattle.std.specs.List.{list_any};
+ghost use Rattle.std.specs.Prelude.{◌≡◌, [], ◌∷◌, ◌++◌, ◌+◌, ◌≤◌, IfErr, IfOk, IfSome, IsSome, IsTrue, None, Ok, OnErr, OnOk, Some, length, nat_lt, true};
+ghost use Rattle.std.specs.List.{fold, list_any};
 ghost use Rattle.std.specs.Option.{option_map};
 ghost use Rattle.dir_ldif.specs.declared.records.ChangeKind.TheVariants as kind;
 ghost use Rattle.dir_names.specs.NameKeys.{rdn_key};
 ghost use Rattle.dir_names.specs.Keys.{DnKeys, parent_of};
-ghost use Rattle.dir_names.specs.Orders.{pair_eq};
+ghost use Rattle.dir_names.specs.Orders.{attr_cmp, pair_eq};
+ghost use Rattle.dir_names.specs.Sorted.{rises, set_of, with_member};
 ghost use Rattle.dir_tree.specs.Dir.{entry_at};
 ghost use Rattle.dir_tree.specs.Moves.{IsShallow, height_below};
 ghost use Rattle.dir_tree.specs.NewEntry.{leaf_key, leaf_of};
 ghost use Rattle.dir_tree.specs.SpelledNames.{spelled_name};
 ghost use Rattle.dir_change.specs.Difference.{difference};
+ghost use Rattle.dir_change.specs.Inside.Touched.{AreSameApartFrom, types_of};
 ghost use Rattle.dir_change.specs.Operation.{IsRefused};
 ghost use Rattle.dir_change.specs.Rename.{directory_after_rename, pairs_missing_in, place_at, renamed_attributes, renamed_entry, slot_without_value, superior_at, superior_key, without_pair, without_pairs};
 ghost use Rattle.dir_change.specs.Undo.{rename_back_in, rename_to, superior_back_in, undo_of};
 ghost use Rattle.dir_change.specs.declared.operation.Refusal.TheVariants as refusal;
 
 use crate::add::joined_name;
-use crate::difference::{all_keys, difference};
+use crate::difference::{difference, insert_key};
 use crate::modify::if_any;
+use crate::touched::attributes_at;
 use crate::{Refusal, ResultCode, Undo};
 use dir_ldif::{Change, ChangeKind, Mod};
 use dir_names::{AttrKey, Bytes, Dn, DnKey, NameFault, Rdn, RdnKey, Schema, ValueKey};
@@ -85,6 +88,7 @@ fn undo_of_rename<D: Directory>(
     requires has_parent { IsSome (parent_of key.now) }
     requires parent { (p : DnKeys) → parent_of key.now ≡ Some p → IsSome (entry_at (D.state directory.now) p) }
     requires fits { length renamed.now.own + length (spelled_name (D.state directory.now) superior.now) ≤ length place.now }
+    requires same { AreSameApartFrom entry.now.key renamed.now.key renamed.now.attributes entry.now.attributes }
     ensures ok { IfOk result (λ undo. undo ≡ rename_back_in schema.now (D.state directory.now) key.now superior.now renamed.now entry.now) }
     ensures memory { IfErr result (λ e. e ≡ refusal.Memory) }
 {
@@ -360,25 +364,73 @@ fn left_by_rename_back(
     after: &Entry,
     before: &Entry,
 ) -> Result<Option<Vec<Mod>>, Refusal>
+    requires { AreSameApartFrom before.now.key after.now.key after.now.attributes before.now.attributes }
     ensures ok { IfOk result (λ mods. option_map (λ items. items.items) mods ≡ option_map (λ key. difference (renamed_attributes schema.now after.now.attributes after.now.key leaf.now key true) before.now.attributes) (rdn_key schema.now leaf.now)) }
     ensures memory { IfErr result (λ e. e ≡ refusal.Memory) }
 {
-    let Some(key) = key_of(alloc, schema, leaf)? else {
-        return Ok(None);
-    };
+    match key_of(alloc, schema, leaf)? {
+        Some(key) => Ok(Some(difference_left(alloc, schema, leaf, &key, after, before)?)),
+        None => Ok(None),
+    }
+}
+
+/// The modifications that take back what the rename back to an RDN of this key leaves. Only the attributes of the
+/// RDNs' types can differ.
+fn difference_left(
+    alloc: Global,
+    schema: &Schema,
+    leaf: &Rdn,
+    key: &RdnKey,
+    after: &Entry,
+    before: &Entry,
+) -> Result<Vec<Mod>, Refusal>
+    requires key { rdn_key schema.now leaf.now ≡ Some key.now }
+    requires same { AreSameApartFrom before.now.key after.now.key after.now.attributes before.now.attributes }
+    ensures ok { IfOk result (λ mods. mods.items ≡ difference (renamed_attributes schema.now after.now.attributes after.now.key leaf.now key.now true) before.now.attributes) }
+    ensures memory { IfErr result (λ e. e ≡ refusal.Memory) }
+{
+    let types = types_of_all(alloc, key, after.key(), before.key())?;
+    let types = types.as_slice();
     let left = renamed_attributes(
         alloc,
         schema,
-        after.to_map(alloc)?,
+        attributes_at(alloc, after, types)?,
         after.key(),
         leaf,
-        &key,
+        key,
         true,
     )?;
-    let before = before.to_map(alloc)?;
-    let keys = all_keys(alloc, &left, &before)?;
-    let mods = difference(alloc, keys.as_slice(), &left, &before)?;
-    Ok(Some(mods))
+    let before = attributes_at(alloc, before, types)?;
+    difference(alloc, types, &left, &before)
+}
+
+/// The types of three RDNs, in order, each once.
+fn types_of_all(
+    alloc: Global,
+    first: &RdnKey,
+    second: &RdnKey,
+    third: &RdnKey,
+) -> Result<Vec<AttrKey>, Refusal>
+    ensures ok { IfOk result (λ types. types.items ≡ set_of attr_cmp (types_of first.now ++ types_of second.now ++ types_of third.now)) }
+    ensures memory { IfErr result (λ e. e ≡ refusal.Memory) }
+{
+    let mut types = Vec::new(alloc);
+    insert_types(alloc, &mut types, first)?;
+    insert_types(alloc, &mut types, second)?;
+    insert_types(alloc, &mut types, third)?;
+    Ok(types)
+}
+
+fn insert_types(alloc: Global, types: &mut Vec<AttrKey>, rdn: &RdnKey) -> Result<(), Refusal>
+    requires { IsTrue (rises attr_cmp types.old.items) }
+    ensures ok { OnOk result (types.new.items ≡ fold (λ set k. with_member attr_cmp k set) types.old.items (types_of rdn.now)) }
+    ensures rises { OnOk result (IsTrue (rises attr_cmp types.new.items)) }
+    ensures memory { IfErr result (λ e. e ≡ refusal.Memory) }
+{
+    for pair in rdn.pairs() {
+        insert_key(alloc, types, &pair.0)?;
+    }
+    Ok(())
 }
 
 /// The key of an RDN, if it has one.

@@ -93,7 +93,7 @@ fn assert_accepted(
     }
 }
 
-/// Applies a change, and gives what takes it back: one record at most.
+/// Applies a change, and gives what takes it back: two records at most.
 fn undo_of(
     rt: &impl Abort,
     alloc: Global,
@@ -104,7 +104,7 @@ fn undo_of(
     let Ok(undo) = apply(alloc, schema, directory, change) else {
         panic!(rt; "refused");
     };
-    assert!(rt; undo.records().len() <= 1, "more than one record");
+    assert!(rt; undo.records().len() <= 2, "more than two records");
     undo
 }
 
@@ -210,6 +210,21 @@ fn a_rename_to_the_own_key_is_taken_back(rt: HostRuntime) {
     let text = "dn: cn=x,dc=com\nchangetype: moddn\nnewrdn: CN=X\ndeleteoldrdn: 0\n";
     let want =
         "version: 1\n\ndn: CN=X,dc=com\nchangetype: modrdn\nnewrdn: cn=x\ndeleteoldrdn: 1\n\n";
+    assert_undo_text(&rt, rt.alloc(), &[TOP, entry], text, want);
+}
+
+#[test]
+fn a_rename_is_taken_back_with_the_values_and_spellings_before(rt: HostRuntime) {
+    let entry = "dn: cn=a,dc=com\nchangetype: add\nCN: A\ncn: B\nsn: Z\nuid: u\n";
+    let text = "dn: cn=a,dc=com\nchangetype: modrdn\nnewrdn: sn=y+CN=b\ndeleteoldrdn: 1\n";
+    let want = "version: 1\n\ndn: sn=y+CN=b,dc=com\nchangetype: modrdn\nnewrdn: cn=a\n\
+        deleteoldrdn: 1\n\ndn: cn=a,dc=com\nchangetype: modify\ndelete: CN\nCN: a\n-\n\
+        add: CN\nCN: A\nCN: B\n-\n\n";
+    assert_undo_text(&rt, rt.alloc(), &[TOP, entry], text, want);
+    let entry = "dn: uid=u,dc=com\nchangetype: add\nUID: u\nmail: m\n";
+    let text = "dn: uid=u,dc=com\nchangetype: modrdn\nnewrdn: cn=x\ndeleteoldrdn: 1\n";
+    let want = "version: 1\n\ndn: cn=x,dc=com\nchangetype: modrdn\nnewrdn: uid=u\n\
+        deleteoldrdn: 1\n\ndn: uid=u,dc=com\nchangetype: modify\nreplace: UID\nUID: u\n-\n\n";
     assert_undo_text(&rt, rt.alloc(), &[TOP, entry], text, want);
 }
 

@@ -30,6 +30,9 @@ undo_of_rename-requires-clause-parent g c = (known g (goal.at.undo_of_rename-req
 pub undo_of_rename-requires-clause-fits : goal.undo_of_rename-requires-clause-fits
 undo_of_rename-requires-clause-fits g c = (known g (goal.at.undo_of_rename-requires-clause-fits g c).In_ok-renamed).name_fits
 
+pub undo_of_rename-requires-clause-same : goal.undo_of_rename-requires-clause-same
+undo_of_rename-requires-clause-same g c = (known g (goal.at.undo_of_rename-requires-clause-same g c).In_ok-renamed).same
+
 pub move_subtree-requires-clause-inner : goal.move_subtree-requires-clause-inner
 move_subtree-requires-clause-inner g c = (known g (goal.at.move_subtree-requires-clause-inner g c).In_ok-renamed).inner
 
