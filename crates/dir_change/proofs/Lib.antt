@@ -40,3 +40,4 @@ pub mod TouchedDifference
 pub mod TouchedParts
 pub mod Undoing
 pub mod ValueSets
+pub mod WholeParts

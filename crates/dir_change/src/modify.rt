@@ -1,13 +1,15 @@
 //! The modify operation (RFC 4511, section 4.6) and the modify that takes it back.
 
-ghost use Rattle.std.specs.Prelude.{◌≡◌, IfErr, IfOk, IfSome, Ok, OnErr, OnOk, Option, Some, is_none, not, true};
+ghost use Rattle.std.specs.Prelude.{◌≡◌, IfErr, IfOk, IfSome, IsTrue, Ok, OnErr, OnOk, Option, Some, is_none, not, true};
 ghost use Rattle.std.specs.Option.{option_map};
 ghost use Rattle.std.specs.FinMap as fin;
 ghost use Rattle.dir_ldif.specs.declared.records.ChangeKind.TheVariants as kind;
 ghost use Rattle.dir_ldif.specs.declared.records.ModOp.TheVariants as op;
 ghost use Rattle.dir_tree.specs.Content.{Stored};
-ghost use Rattle.dir_tree.specs.Slots.{slot_of, spelling_or, values_of};
+ghost use Rattle.dir_tree.specs.Slots.{slot_of, spelling_or, values_of, with_slots};
 ghost use Rattle.dir_change.specs.Inside.Exchanged.{FitAttributes};
+ghost use Rattle.dir_change.specs.Inside.Looked.{AreLooks};
+ghost use Rattle.dir_change.specs.Inside.Touched.{IsPartAt};
 ghost use Rattle.dir_change.specs.Inside.Planned.{AreExchanged, IsPlan};
 ghost use Rattle.dir_change.specs.Inside.ValuesInTurn.{are_new, are_there, without_each};
 ghost use Rattle.dir_change.specs.Modify.{attributes_after, attributes_after_one, entry_after, keyed_value, keyed_values, slot_after, slot_after_op, values_with, with_attributes};
@@ -21,11 +23,15 @@ use crate::difference::{difference, named_keys};
 use crate::exchange::exchange;
 use crate::judged::judge;
 use crate::looked::looked_at;
+use crate::touched::attributes_at;
 use crate::{Refusal, ResultCode, Undo};
 use dir_ldif::{Mod, ModOp};
 use dir_names::{AttrKey, Bytes, DnKey, NameFault, Schema, ValueKey};
 use dir_tree::{Attribute, AttributeMap, Directory, Entry, KeptAttributes, Parts};
 use std::alloc::Global;
+
+/// Of an attribute with more values than this, only the values are copied that modifications look at.
+const MOST_COPIED: usize = 64;
 
 /// Modifies an entry (RFC 4511, section 4.6): 32 where it is missing; then the first refusal of a
 /// modification; then 67 where a value of the own RDN is missing, and 19 where a single type has more than
@@ -46,17 +52,41 @@ pub(crate) fn modify<D: Directory>(
         return Err(Refusal::Code(ResultCode::NoSuchObject));
     };
     let Plan {
+        keys,
+        is_whole,
         before,
         after,
         back,
     } = planned(alloc, schema, entry, mods)?;
-    let stand_in = stand_in(alloc, entry)?;
     let undo = Undo::modify(alloc, directory.spelled(key)?, back)?;
+    if let Some(entry) = modified_copy(alloc, entry, is_whole, keys.as_slice(), &after) {
+        let _ = directory.replace(key, entry);
+        return Ok(undo);
+    }
+    let stand_in = stand_in(alloc, entry)?;
     let entry = directory.replace(key, stand_in);
     let (entry, exchanged) = exchanged_entry(alloc, entry, &before, after);
     let _ = directory.replace(key, entry);
     exchanged?;
     Ok(undo)
+}
+
+/// The entry with what a part has under these keys, if it is small and the part is of whole attributes.
+fn modified_copy(
+    alloc: Global,
+    entry: &Entry,
+    is_whole: bool,
+    keys: &[AttrKey],
+    part: &AttributeMap,
+) -> Option<Entry>
+    ensures whole { IfSome result (λ _. IsTrue is_whole) }
+    ensures modified { IfSome result (λ e. e ≡ with_attributes entry.now (with_slots entry.now.attributes keys.now part.now)) }
+{
+    if !is_whole {
+        return None;
+    }
+    let attributes = entry.with_part(alloc, keys, part)?;
+    entry.with_attributes(alloc, attributes).ok()
 }
 
 /// The entry with a part of its attributes exchanged for another, if memory suffices; else as it was.
@@ -111,6 +141,9 @@ fn exchanged_map(
 /// what takes this back.
 #[derive(Drop)]
 struct Plan {
+    keys: Vec<AttrKey>,
+    /// Whether whole attributes are exchanged.
+    is_whole: bool,
     before: AttributeMap,
     after: AttributeMap,
     back: Vec<Mod>,
@@ -119,19 +152,55 @@ struct Plan {
 /// The exchange that all modifications come to, if none of them, nor the entry after them, is refused.
 fn planned(alloc: Global, schema: &Schema, entry: &Entry, mods: &[Mod]) -> Result<Plan, Refusal>
     ensures ok { IfOk result (λ plan. IsPlan schema.now entry.now mods.now plan.before plan.after plan.back.items) }
+    ensures whole { IfOk result (λ plan. IsTrue plan.is_whole → AreExchanged entry.now.attributes plan.before plan.after (with_slots entry.now.attributes plan.keys.items plan.after)) }
     ensures refused { IfErr result (λ e. IsRefused e (entry_after schema.now entry.now mods.now)) }
 {
     let keys = named_keys(alloc, mods)?;
-    let before = looked_at(alloc, schema, entry, keys.as_slice(), mods)?;
+    let is_whole = are_small(entry, keys.as_slice());
+    let before = looks(alloc, schema, entry, keys.as_slice(), mods, is_whole)?;
     let mut after = before.try_clone(alloc)?;
     apply_all(alloc, schema, &mut after, mods)?;
     judge(schema, entry, keys.as_slice(), &after)?;
     let back = difference(alloc, keys.as_slice(), &after, &before)?;
     Ok(Plan {
+        keys,
+        is_whole,
         before,
         after,
         back,
     })
+}
+
+/// What modifications look at under the keys that they name: whole attributes if asked, else no more than they need.
+fn looks(
+    alloc: Global,
+    schema: &Schema,
+    entry: &Entry,
+    keys: &[AttrKey],
+    mods: &[Mod],
+    is_whole: bool,
+) -> Result<AttributeMap, Refusal>
+    ensures ok { IfOk result (λ before. AreLooks schema.now entry.now mods.now keys.now before) }
+    ensures whole { IfOk result (λ before. IsTrue is_whole → IsPartAt keys.now entry.now.attributes before) }
+    ensures memory { IfErr result (λ e. e ≡ refusal.Memory) }
+{
+    if is_whole {
+        attributes_at(alloc, entry, keys)
+    } else {
+        looked_at(alloc, schema, entry, keys, mods)
+    }
+}
+
+/// Whether the attributes under these keys have few values each.
+fn are_small(entry: &Entry, keys: &[AttrKey]) -> bool {
+    for key in keys {
+        if let Some(attribute) = entry.attribute(key) {
+            if attribute.len() > MOST_COPIED {
+                return false;
+            }
+        }
+    }
+    true
 }
 
 /// An entry without attributes, in the place of one that is changed.
