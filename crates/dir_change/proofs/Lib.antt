@@ -30,6 +30,7 @@ pub mod RenameBack
 pub mod RenameStays
 pub mod RenameUndo
 pub mod RenamedEntry
+pub mod RenamedParts
 pub mod RenamedSlots
 pub mod RenamedValues
 pub mod SlotBack

@@ -87,7 +87,7 @@ pub among_types : (q : Attr) (rdn : RdnKeys) → is_among q (types_of rdn) ≡ h
 among_types q [] = refl
 among_types q (p ∷ ps) = λ i. turned p.0 q i || among_types q ps i
 
-none_or : (a b : Bool) → (a || b) ≡ false → (a ≡ false) × (b ≡ false)
+pub none_or : (a b : Bool) → (a || b) ≡ false → (a ≡ false) × (b ≡ false)
 none_or false false h = (refl, refl)
 none_or false true h = absurd (true≢false h)
 none_or true b h = absurd (true≢false h)

@@ -197,23 +197,72 @@ fn renamed_entry(
     ensures ok { IfOk result (λ renamed. renamed_entry schema.now entry.now rdn.now key delete_old ≡ Ok renamed) }
     ensures refused { IfErr result (λ e. IsRefused e (renamed_entry schema.now entry.now rdn.now key delete_old)) }
 {
-    let attributes = renamed_attributes(
-        alloc,
-        schema,
-        entry.to_map(alloc)?,
-        entry.key(),
-        rdn,
-        &key,
-        delete_old,
-    )?;
+    let attributes = attributes_with_rdn(alloc, schema, entry, rdn, &key, delete_old)?;
     if attributes.exceeds_single_value(schema) {
         return Err(Refusal::Code(ResultCode::ConstraintViolation));
     }
     Ok(Entry::of(Parts {
         own: one_rdn(alloc, rdn)?,
         key,
-        attributes: KeptAttributes::of(attributes),
+        attributes,
     }))
+}
+
+/// The attributes of the entry with the new RDN.
+fn attributes_with_rdn(
+    alloc: Global,
+    schema: &Schema,
+    entry: &Entry,
+    rdn: &Rdn,
+    key: &RdnKey,
+    delete_old: bool,
+) -> Result<KeptAttributes, Refusal>
+    requires { rdn_key schema.now rdn.now ≡ Some key.now }
+    ensures ok { IfOk result (λ renamed. renamed ≡ renamed_attributes schema.now entry.now.attributes entry.now.key rdn.now key.now delete_old) }
+    ensures memory { IfErr result (λ e. e ≡ refusal.Memory) }
+{
+    match renamed_by_part(alloc, schema, entry, rdn, key, delete_old)? {
+        Some(attributes) => Ok(attributes),
+        None => renamed_whole(alloc, schema, entry, rdn, key, delete_old),
+    }
+}
+
+/// The same, where only the attributes of the two RDNs' types are copied to be changed. None where all have to be.
+fn renamed_by_part(
+    alloc: Global,
+    schema: &Schema,
+    entry: &Entry,
+    rdn: &Rdn,
+    key: &RdnKey,
+    delete_old: bool,
+) -> Result<Option<KeptAttributes>, Refusal>
+    requires { rdn_key schema.now rdn.now ≡ Some key.now }
+    ensures ok { IfOk result (λ renamed. IfSome renamed (λ renamed. renamed ≡ renamed_attributes schema.now entry.now.attributes entry.now.key rdn.now key.now delete_old)) }
+    ensures memory { IfErr result (λ e. e ≡ refusal.Memory) }
+{
+    let types = types_of_both(alloc, entry.key(), key)?;
+    let types = types.as_slice();
+    let part = attributes_at(alloc, entry, types)?;
+    let part = renamed_attributes(alloc, schema, part, entry.key(), rdn, key, delete_old)?;
+    Ok(entry.with_part(alloc, types, &part))
+}
+
+/// The same, where all attributes are copied.
+fn renamed_whole(
+    alloc: Global,
+    schema: &Schema,
+    entry: &Entry,
+    rdn: &Rdn,
+    key: &RdnKey,
+    delete_old: bool,
+) -> Result<KeptAttributes, Refusal>
+    requires { rdn_key schema.now rdn.now ≡ Some key.now }
+    ensures ok { IfOk result (λ renamed. renamed ≡ renamed_attributes schema.now entry.now.attributes entry.now.key rdn.now key.now delete_old) }
+    ensures memory { IfErr result (λ e. e ≡ refusal.Memory) }
+{
+    let attributes = entry.to_map(alloc)?;
+    let renamed = renamed_attributes(alloc, schema, attributes, entry.key(), rdn, key, delete_old)?;
+    Ok(KeptAttributes::of(renamed))
 }
 
 fn one_rdn(alloc: Global, rdn: &Rdn) -> Result<Vec<Rdn>, Refusal>
@@ -402,6 +451,17 @@ fn difference_left(
     )?;
     let before = attributes_at(alloc, before, types)?;
     difference(alloc, types, &left, &before)
+}
+
+/// The types of two RDNs, in order, each once.
+fn types_of_both(alloc: Global, first: &RdnKey, second: &RdnKey) -> Result<Vec<AttrKey>, Refusal>
+    ensures ok { IfOk result (λ types. types.items ≡ set_of attr_cmp (types_of first.now ++ types_of second.now)) }
+    ensures memory { IfErr result (λ e. e ≡ refusal.Memory) }
+{
+    let mut types = Vec::new(alloc);
+    insert_types(alloc, &mut types, first)?;
+    insert_types(alloc, &mut types, second)?;
+    Ok(types)
 }
 
 /// The types of three RDNs, in order, each once.
