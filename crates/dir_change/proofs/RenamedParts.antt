@@ -1,7 +1,6 @@
 -- A rename of the attributes of the RDNs' types, set into all attributes, is a rename of all.
-use Rattle.std.proofs.Common.{◌≡◌, Bool, true, false, cond, ◌||◌, List, [], ◌∷◌, ◌++◌, Some, None, refl, sym, ap, ◌∙◌}
+use Rattle.std.proofs.Common.{◌≡◌, Bool, true, false, cond, ◌||◌, List, ◌++◌, Some, None, refl, sym, ap, ◌∙◌}
 use Rattle.std.specs.FinMap as fin
-use Rattle.std.specs.Ordering.{eq_by_cmp}
 use Rattle.dir_names.specs.declared.schema.TypeRow.{TypeRow}
 use Rattle.dir_names.specs.Attr.{Attr}
 use Rattle.dir_names.specs.Keys.{RdnKeys}
@@ -10,27 +9,16 @@ use Rattle.dir_names.specs.NameKeys.{rdn_key}
 use Rattle.dir_names.specs.Orders.{attr_cmp}
 use Rattle.dir_names.specs.Sorted.{set_of}
 use Rattle.dir_tree.specs.Content.{StoredAttributes}
-use Rattle.dir_tree.specs.Slots.{with_slot, with_slots}
+use Rattle.dir_tree.specs.Slots.{with_slots}
 use Rattle.dir_change.specs.Inside.Looked.{is_one_of}
 use Rattle.dir_change.specs.Inside.Touched.{IsPartAt, has_type, types_of}
 use Rattle.dir_change.specs.Rename.{renamed_attributes}
-use Rattle.dir_change.proofs.AttributesBack.{get_slot, same_attributes}
-use Rattle.dir_change.proofs.KeysInOrder.{among_append, is_among, same_attr, set_among}
+use Rattle.dir_change.proofs.AttributesBack.{same_attributes}
+use Rattle.dir_change.proofs.KeysInOrder.{among_append, is_among, set_among}
 use Rattle.dir_change.proofs.RenamedEntry.{renamed_apart}
 use Rattle.dir_change.proofs.RenamedSlots.{renamed_alike}
 use Rattle.dir_change.proofs.TouchedDifference.{among_types, none_or}
-
-get_slots : (keys : List Attr) (xs part : StoredAttributes) (q : Attr) → fin.get (with_slots xs keys part) q ≡ cond (is_one_of q keys) (fin.get part q) (fin.get xs q)
-get_slots [] xs part q = refl
-get_slots (k ∷ ks) xs part q =
-    get_slots ks (with_slot xs k (fin.get part k)) part q
-    ∙ ap (cond (is_one_of q ks) (fin.get part q)) (get_slot xs k (fin.get part k) q)
-    ∙ by (eq_by_cmp attr_cmp q k) refl (is_one_of q ks)
-  where
-    by : (b : Bool) → eq_by_cmp attr_cmp q k ≡ b → (c : Bool) → cond c (fin.get part q) (cond b (fin.get part k) (fin.get xs q)) ≡ cond (b || c) (fin.get part q) (fin.get xs q)
-    by true t true = refl
-    by true t false = ap (fin.get part) (sym (same_attr q k t))
-    by false t c = refl
+use Rattle.dir_change.proofs.WholeParts.{get_slots}
 
 module _ (rows : List TypeRow) (xs fs : StoredAttributes) (old : RdnKeys) (rdn : SpelledRdn) (new : RdnKeys) (named : rdn_key rows rdn ≡ Some new) (delete_old : Bool)
     (keys : List Attr) (are : keys ≡ set_of attr_cmp (types_of old ++ types_of new)) (part : IsPartAt keys xs fs) where
@@ -45,7 +33,7 @@ module _ (rows : List TypeRow) (xs fs : StoredAttributes) (old : RdnKeys) (rdn :
           ∙ (λ i. among_types q old i || among_types q new i)
 
   pub renamed_by_part : with_slots xs keys (renamed_attributes rows fs old rdn new delete_old) ≡ renamed_attributes rows xs old rdn new delete_old
-  renamed_by_part = same_attributes _ _ (λ q. get_slots keys xs (renamed_attributes rows fs old rdn new delete_old) q ∙ by q (is_one_of q keys) refl)
+  renamed_by_part = same_attributes _ _ (λ q. get_slots xs keys (renamed_attributes rows fs old rdn new delete_old) q ∙ by q (is_one_of q keys) refl)
     where
       by : (q : Attr) (b : Bool) → is_one_of q keys ≡ b → cond b (fin.get (renamed_attributes rows fs old rdn new delete_old) q) (fin.get xs q) ≡ fin.get (renamed_attributes rows xs old rdn new delete_old) q
       by q true t = renamed_alike q rows old rdn new delete_old fs xs (part q ∙ ap (λ b. cond b (fin.get xs q) None) t)
