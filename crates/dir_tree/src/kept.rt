@@ -4,12 +4,12 @@ ghost use Rattle.std.specs.Prelude.{◌≡◌, IfErr, IfOk, IfSome, IsTrue, Ok, 
 ghost use Rattle.std.specs.Option.{option_map};
 ghost use Rattle.std.specs.FinMap as fin;
 ghost use Rattle.dir_names.specs.NameKeys.{rdn_key};
-ghost use Rattle.dir_names.specs.Names.{SpelledRdn};
 ghost use Rattle.dir_names.specs.declared.value.ValueKey.TheVariants.{Text};
 ghost use Rattle.dir_tree.specs.Content.{has_value};
 ghost use Rattle.dir_tree.specs.Inside.Stored.{attributes_in, attributes_rise};
 ghost use Rattle.dir_tree.specs.Slots.{with_slots};
-ghost use Rattle.dir_tree.specs.NewEntry.{attributes_of, exceeds_single_value, rdn_lines, with_missing_of};
+ghost use Rattle.dir_tree.specs.Inside.Patterns.{attributes_named};
+ghost use Rattle.dir_tree.specs.NewEntry.{exceeds_single_value, rdn_lines, with_missing_of};
 
 use crate::attributes::{AttributeMap, Attributes};
 use crate::lent::LentAttributes;
@@ -17,7 +17,7 @@ use crate::packed::pattern::Pattern;
 use crate::packed::{PackedAttributes, PackedViews, Shared};
 use crate::parts::has_each;
 use crate::views::AttributeView;
-use dir_names::{AttrKey, Bytes, Description, Memory, RdnKey, RecentNames, Schema, ValueKey};
+use dir_names::{AttrKey, Bytes, Description, Memory, Rdn, RdnKey, RecentNames, Schema, ValueKey};
 use std::alloc::Global;
 use std::marker::Model;
 
@@ -77,27 +77,47 @@ impl KeptAttributes {
         }
     }
 
-    /// The attributes of a new entry whose lines are arranged in a pattern, and have all values of its own RDN. None
-    /// where this is not so, a line is at fault, an attribute of a single type has several values, or memory runs out.
+    /// The attributes of a new entry whose lines are arranged in a pattern, with the values of its own RDN that no line
+    /// gives. None where this is not so, a line is at fault, an attribute of a single type has several values, or memory
+    /// runs out.
     pub(crate) fn made(
         alloc: Global,
         schema: &Schema,
         recent: &mut RecentNames,
+        leaf: &Rdn,
         key: &RdnKey,
         lines: &[(Description, Bytes)],
         pattern: &Pattern,
     ) -> Option<KeptAttributes>
-        ensures lines { IfSome result (λ made. attributes_of schema.now lines.now ≡ Ok made) }
-        ensures own { IfSome result (λ made. (rdn : SpelledRdn) → rdn_key schema.now rdn ≡ Some key.now → with_missing_of made (rdn_lines schema.now rdn) ≡ made) }
+        requires { rdn_key schema.now leaf.now ≡ Some key.now }
+        ensures made { IfSome result (λ made. attributes_named schema.now leaf.now lines.now ≡ Ok made) }
         ensures single { IfSome result (λ made. exceeds_single_value schema.now made ≡ false) }
     {
-        let made = KeptAttributes {
-            form: Form::Packed(pattern.packed(alloc, schema, recent, lines)?),
-        };
-        if !has_each(&made, key.pairs()) || made.exceeds_single_value(schema) {
+        let lines = pattern.packed(alloc, schema, recent, lines)?;
+        let made = KeptAttributes::of_packed(lines).with_missing(alloc, schema, leaf, key)?;
+        if made.exceeds_single_value(schema) {
             return None;
         }
         Some(made)
+    }
+
+    /// The attributes with the values of an RDN of this key that are missing. None where memory runs out.
+    fn with_missing(
+        self,
+        alloc: Global,
+        schema: &Schema,
+        rdn: &Rdn,
+        key: &RdnKey,
+    ) -> Option<KeptAttributes>
+        requires { rdn_key schema.now rdn.now ≡ Some key.now }
+        ensures { IfSome result (λ all. all ≡ with_missing_of self (rdn_lines schema.now rdn.now)) }
+    {
+        if has_each(&self, key.pairs()) {
+            return Some(self);
+        }
+        let mut map = self.open(alloc).ok()?;
+        map.add_missing(alloc, schema, rdn).ok()?;
+        Some(KeptAttributes::packed(alloc, map))
     }
 
     /// The attributes of a map in little memory, unless they have many values, or there is no memory for that.

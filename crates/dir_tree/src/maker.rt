@@ -2,8 +2,8 @@
 
 ghost use Rattle.std.specs.Prelude.{◌≡◌, IfSome, Ok, Some, false};
 ghost use Rattle.dir_names.specs.NameKeys.{rdn_key};
-ghost use Rattle.dir_names.specs.Names.{SpelledRdn};
-ghost use Rattle.dir_tree.specs.NewEntry.{Makes, attributes_of, exceeds_single_value, new_entry, rdn_lines, with_missing_of};
+ghost use Rattle.dir_tree.specs.Inside.Patterns.{attributes_named};
+ghost use Rattle.dir_tree.specs.NewEntry.{Makes, exceeds_single_value, new_entry};
 
 use crate::EntryFault;
 use crate::entry::{Entry, leaf_key};
@@ -56,7 +56,7 @@ impl EntryMaker {
             return Err(EntryFault::NotNamed);
         };
         let key = leaf_key(alloc, schema, leaf)?;
-        match self.made(alloc, schema, &key, values.as_slice()) {
+        match self.made(alloc, schema, leaf, &key, values.as_slice()) {
             Some(attributes) => Ok(Entry::of(Parts {
                 own,
                 key,
@@ -67,17 +67,17 @@ impl EntryMaker {
     }
 
     /// The attributes of a new entry whose own RDN has this key, packed at once by the pattern of an entry before, or
-    /// else by their own, which is remembered. None where there are many lines, where an add would be refused, or where
-    /// the lines lack a value of the own RDN.
+    /// else by their own, which is remembered. None where there are many lines, or where an add would be refused.
     fn made(
         &mut self,
         alloc: Global,
         schema: &Schema,
+        leaf: &Rdn,
         key: &RdnKey,
         lines: &[(Description, Bytes)],
     ) -> Option<KeptAttributes>
-        ensures lines { IfSome result (λ made. attributes_of schema.now lines.now ≡ Ok made) }
-        ensures own { IfSome result (λ made. (rdn : SpelledRdn) → rdn_key schema.now rdn ≡ Some key.now → with_missing_of made (rdn_lines schema.now rdn) ≡ made) }
+        requires { rdn_key schema.now leaf.now ≡ Some key.now }
+        ensures made { IfSome result (λ made. attributes_named schema.now leaf.now lines.now ≡ Ok made) }
         ensures single { IfSome result (λ made. exceeds_single_value schema.now made ≡ false) }
     {
         if lines.len() > MOST_LINES {
@@ -88,6 +88,7 @@ impl EntryMaker {
                 alloc,
                 schema,
                 &mut self.names,
+                leaf,
                 key,
                 lines,
                 &self.patterns[at],
@@ -97,7 +98,15 @@ impl EntryMaker {
             }
         }
         let pattern = Pattern::of(alloc, lines)?;
-        let made = KeptAttributes::made(alloc, schema, &mut self.names, key, lines, &pattern)?;
+        let made = KeptAttributes::made(
+            alloc,
+            schema,
+            &mut self.names,
+            leaf,
+            key,
+            lines,
+            &pattern,
+        )?;
         self.remember(pattern);
         Some(made)
     }

@@ -1,19 +1,22 @@
 -- How the lines of an entry are arranged, and what an attribute's lines add to values.
-use Rattle.std.specs.Prelude.{◌≡◌, ◌<◌, ◌≤◌, ℕ, true, nat_eq, List, [], ◌++◌, Ok, Some, IsTrue, length, map, slice_get}
+use Rattle.std.specs.Prelude.{◌≡◌, ◌<◌, ◌≤◌, ℕ, true, nat_eq, List, [], ◌++◌, Ok, Result, Some, IsTrue, length, map, slice_get}
 use Rattle.std.specs.FinMap as fin
 use Rattle.std.specs.List.{All, flat_map, insert, list_any}
 use Rattle.std.specs.List.Sorted.{IsPermutation}
 use Rattle.dir_names.specs.Attr.{Attr}
 use Rattle.dir_names.specs.Described.{Described}
 use Rattle.dir_names.specs.NameKeys.{value_key_of}
+use Rattle.dir_names.specs.Names.{SpelledRdn}
+use Rattle.dir_names.specs.Results.{and_then}
 use Rattle.dir_names.specs.declared.schema.TypeRow.{TypeRow}
 use Rattle.dir_names.specs.declared.value.ValueKey.{ValueKey}
+use Rattle.dir_tree.specs.declared.fault.EntryFault.{EntryFault}
 use Rattle.dir_tree.specs.declared.lines.KeyedLine.{KeyedLine}
 use Rattle.dir_tree.specs.declared.packed.PackedAttribute.{PackedAttribute}
-use Rattle.dir_tree.specs.Content.{Keyed}
+use Rattle.dir_tree.specs.Content.{Keyed, StoredAttributes}
 use Rattle.dir_tree.specs.Inside.Packed.{IsPacked, packed_attribute}
 use Rattle.dir_tree.specs.Inside.Stored.{are_rising}
-use Rattle.dir_tree.specs.NewEntry.{keyed_lines}
+use Rattle.dir_tree.specs.NewEntry.{attributes_of, keyed_lines, rdn_lines, with_missing_of}
 
 -- each number below the length of the list is in it
 abbrev pub HasEach : List ℕ → Type 0
@@ -76,3 +79,7 @@ pub record Gathers (rows : List TypeRow) (lines : List (Described × List ℕ)) 
   pub same : IsPermutation made (lines_of (map (packed_attribute common own) attrs))
   pub packed : All (IsPacked common own) attrs
   pub some : All HasValues (map (packed_attribute common own) attrs)
+
+-- the attributes that lines give, with the values of an RDN that no line gives
+abbrev pub attributes_named : List TypeRow → SpelledRdn → List (Described × List ℕ) → Result StoredAttributes EntryFault
+attributes_named rows rdn lines = and_then (attributes_of rows lines) (λ xs. Ok (with_missing_of xs (rdn_lines rows rdn)))
