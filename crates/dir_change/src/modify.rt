@@ -31,7 +31,7 @@ use dir_tree::{Attribute, AttributeMap, Directory, Entry, KeptAttributes, Parts}
 use std::alloc::Global;
 
 /// Of an attribute with more values than this, only the values are copied that modifications look at.
-const MOST_COPIED: usize = 64;
+const MOST_COPIED: usize = 16;
 
 /// Modifies an entry (RFC 4511, section 4.6): 32 where it is missing; then the first refusal of a
 /// modification; then 67 where a value of the own RDN is missing, and 19 where a single type has more than
