@@ -168,7 +168,7 @@ def main():
     signatures = {}
     for text in sources.values():
         for function, signature, _, _ in functions_of(text, code_of(text)):
-            if "-> Result<" in signature:
+            if re.search(r"->.*\bResult\b", signature):
                 signatures.setdefault(function, []).append(signature)
     only_memory = {name for name, given in signatures.items() if all(map(may_only_lack_memory, given))}
 

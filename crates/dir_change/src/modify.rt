@@ -23,15 +23,12 @@ use crate::difference::{difference, named_keys};
 use crate::exchange::exchange;
 use crate::judged::judge;
 use crate::looked::looked_at;
-use crate::touched::attributes_at;
+use crate::touched::{attributes_at, is_cheap_to_copy};
 use crate::{Refusal, ResultCode, Undo};
 use dir_ldif::{Mod, ModOp};
 use dir_names::{AttrKey, Bytes, DnKey, NameFault, Schema, ValueKey};
 use dir_tree::{Attribute, AttributeMap, Directory, Entry, KeptAttributes, Parts};
 use std::alloc::Global;
-
-/// Of an attribute with more values than this, only the values are copied that modifications look at.
-const MOST_COPIED: usize = 16;
 
 /// Modifies an entry (RFC 4511, section 4.6): 32 where it is missing; then the first refusal of a
 /// modification; then 67 where a value of the own RDN is missing, and 19 where a single type has more than
@@ -156,7 +153,7 @@ fn planned(alloc: Global, schema: &Schema, entry: &Entry, mods: &[Mod]) -> Resul
     ensures refused { IfErr result (λ e. IsRefused e (entry_after schema.now entry.now mods.now)) }
 {
     let keys = named_keys(alloc, mods)?;
-    let is_whole = are_small(entry, keys.as_slice());
+    let is_whole = is_cheap_to_copy(entry, keys.as_slice());
     let before = looks(alloc, schema, entry, keys.as_slice(), mods, is_whole)?;
     let mut after = before.try_clone(alloc)?;
     apply_all(alloc, schema, &mut after, mods)?;
@@ -189,18 +186,6 @@ fn looks(
     } else {
         looked_at(alloc, schema, entry, keys, mods)
     }
-}
-
-/// Whether the attributes under these keys have few values each.
-fn are_small(entry: &Entry, keys: &[AttrKey]) -> bool {
-    for key in keys {
-        if let Some(attribute) = entry.attribute(key) {
-            if attribute.len() > MOST_COPIED {
-                return false;
-            }
-        }
-    }
-    true
 }
 
 /// An entry without attributes, in the place of one that is changed.

@@ -23,7 +23,7 @@ ghost use Rattle.dir_change.specs.declared.operation.Refusal.TheVariants as refu
 use crate::add::joined_name;
 use crate::difference::{difference, insert_key};
 use crate::modify::if_any;
-use crate::touched::attributes_at;
+use crate::touched::{attributes_at, is_cheap_to_copy};
 use crate::{Refusal, ResultCode, Undo};
 use dir_ldif::{Change, ChangeKind, Mod};
 use dir_names::{AttrKey, Bytes, Dn, DnKey, NameFault, Rdn, RdnKey, Schema, ValueKey};
@@ -242,6 +242,9 @@ fn renamed_by_part(
 {
     let types = types_of_both(alloc, entry.key(), key)?;
     let types = types.as_slice();
+    if !is_cheap_to_copy(entry, types) {
+        return Ok(None);
+    }
     let part = attributes_at(alloc, entry, types)?;
     let part = renamed_attributes(alloc, schema, part, entry.key(), rdn, key, delete_old)?;
     Ok(entry.with_part(alloc, types, &part))

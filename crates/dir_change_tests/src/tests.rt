@@ -93,8 +93,21 @@ fn assert_accepted(
     }
 }
 
-/// Applies a change, and gives what takes it back: two records at most.
+/// Applies a change, and gives what takes it back: one record at most.
 fn undo_of(
+    rt: &impl Abort,
+    alloc: Global,
+    schema: &Schema,
+    directory: &mut FlatDirectory,
+    change: &Change,
+) -> Undo {
+    let undo = any_undo_of(rt, alloc, schema, directory, change);
+    assert!(rt; undo.records().len() <= 1, "more than one record");
+    undo
+}
+
+/// Applies a change, and gives what takes it back.
+fn any_undo_of(
     rt: &impl Abort,
     alloc: Global,
     schema: &Schema,
@@ -104,7 +117,6 @@ fn undo_of(
     let Ok(undo) = apply(alloc, schema, directory, change) else {
         panic!(rt; "refused");
     };
-    assert!(rt; undo.records().len() <= 2, "more than two records");
     undo
 }
 
@@ -213,6 +225,22 @@ fn a_rename_to_the_own_key_is_taken_back(rt: HostRuntime) {
     assert_undo_text(&rt, rt.alloc(), &[TOP, entry], text, want);
 }
 
+/// Asserts the text of two records that take back a rename of an entry.
+fn assert_rename_undo(rt: &impl Abort, alloc: Global, entry: &str, text: &str, want: &str) {
+    let schema = Schema::builtin(alloc).expect(rt, "a schema");
+    let mut directory = empty(rt, alloc, &schema, b"dc=com");
+    for earlier in [TOP, entry] {
+        let _ = history_of(rt, alloc, &schema, &mut directory, earlier);
+    }
+    let changes = changes(rt, alloc, &schema, text);
+    let undo = any_undo_of(rt, alloc, &schema, &mut directory, &changes.as_slice()[0]);
+    assert!(rt; undo.records().len() == 2, "two records");
+    let mut history = History::new(alloc);
+    history.push(undo).expect(rt, "memory");
+    let undo = history.undo_text(alloc).expect(rt, "memory");
+    assert_text(rt, undo.as_slice(), want);
+}
+
 #[test]
 fn a_rename_is_taken_back_with_the_values_and_spellings_before(rt: HostRuntime) {
     let entry = "dn: cn=a,dc=com\nchangetype: add\nCN: A\ncn: B\nsn: Z\nuid: u\n";
@@ -220,12 +248,12 @@ fn a_rename_is_taken_back_with_the_values_and_spellings_before(rt: HostRuntime) 
     let want = "version: 1\n\ndn: sn=y+CN=b,dc=com\nchangetype: modrdn\nnewrdn: cn=a\n\
         deleteoldrdn: 1\n\ndn: cn=a,dc=com\nchangetype: modify\ndelete: CN\nCN: a\n-\n\
         add: CN\nCN: A\nCN: B\n-\n\n";
-    assert_undo_text(&rt, rt.alloc(), &[TOP, entry], text, want);
+    assert_rename_undo(&rt, rt.alloc(), entry, text, want);
     let entry = "dn: uid=u,dc=com\nchangetype: add\nUID: u\nmail: m\n";
     let text = "dn: uid=u,dc=com\nchangetype: modrdn\nnewrdn: cn=x\ndeleteoldrdn: 1\n";
     let want = "version: 1\n\ndn: cn=x,dc=com\nchangetype: modrdn\nnewrdn: uid=u\n\
         deleteoldrdn: 1\n\ndn: uid=u,dc=com\nchangetype: modify\nreplace: UID\nUID: u\n-\n\n";
-    assert_undo_text(&rt, rt.alloc(), &[TOP, entry], text, want);
+    assert_rename_undo(&rt, rt.alloc(), entry, text, want);
 }
 
 /// Changes, some of which are refused.

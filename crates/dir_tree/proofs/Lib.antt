@@ -1,5 +1,6 @@
 pub mod Adjacent
 pub mod Alike
+pub mod BelowAll
 pub mod Climb
 pub mod DirLemmas
 pub mod EachEntry

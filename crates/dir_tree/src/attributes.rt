@@ -185,6 +185,15 @@ impl AttributeMap {
         }
     }
 
+    /// How many values the attributes have in all.
+    pub(crate) fn value_count(&self) -> usize {
+        let mut count: usize = 0;
+        for attribute in self.items.as_slice() {
+            count = count.saturating_add(attribute.values.len());
+        }
+        count
+    }
+
     /// These attributes in a form that can be changed.
     pub(crate) fn unpacked(alloc: Global, packed: &PackedAttributes) -> Result<AttributeMap, Memory>
         requires { IsTrue (attributes_rise packed.now) }

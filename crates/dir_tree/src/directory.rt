@@ -67,18 +67,37 @@ pub trait Directory {
         ensures err { OnErr result (state self.new ≡ state self.old) }
         ensures value_returned { IfErr result (λ e. e ≡ entry) };
 
-    /// Puts an entry at a key, if that has none, and is the suffix or has its parent in the map. It is looked up once,
-    /// where `get`, `may_stand` and `insert` look three times.
+    /// Puts an entry at a key, if that has none, and is the suffix or has its parent in the map. This way looks three
+    /// times; a directory that can do it by one look has its own.
     ///
     /// # Errors
     ///
     /// Why the entry was not added. Then the map is as it was.
-    fn add(&mut self, key: &DnKey, entry: Entry) -> Result<(), NotAdded>
+    fn add(&mut self, alloc: Global, key: &DnKey, entry: Entry) -> Result<(), NotAdded>
         ensures ok { OnOk result (state self.new ≡ put_entry (state self.old) key.now entry) }
         ensures free { OnOk result (entry_at (state self.old) key.now ≡ None) }
         ensures parent { OnOk result (IsTrue (has_parent (state self.old) key.now)) }
         ensures err { OnErr result (state self.new ≡ state self.old) }
-        ensures cause { IfErr result (IsNotAdded (state self.old) key.now entry) };
+        ensures cause { IfErr result (IsNotAdded (state self.old) key.now entry) }
+    {
+        if self.get(key).is_some() {
+            return Err(NotAdded::Taken);
+        }
+        if key != self.suffix() {
+            let parent = match key.parent(alloc) {
+                Ok(Some(parent)) => parent,
+                Ok(None) => return Err(NotAdded::NoParent(entry)),
+                Err(_) => return Err(NotAdded::Memory),
+            };
+            if self.get(&parent).is_none() {
+                return Err(NotAdded::NoParent(entry));
+            }
+        }
+        match self.insert(key, entry) {
+            Ok(()) => Ok(()),
+            Err(_) => Err(NotAdded::Memory),
+        }
+    }
 
     /// By how many RDNs the longest key at or below this one is longer: 0 for an entry without children.
     /// There must be an entry.

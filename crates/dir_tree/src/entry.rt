@@ -127,6 +127,11 @@ impl Entry {
         self.attributes.to_map(alloc)
     }
 
+    /// Whether the entry is packed and has few values, so that `with_part` answers where there is memory.
+    pub fn is_small(&self) -> bool {
+        self.attributes.are_small()
+    }
+
     /// The attributes with what a part has under these keys. None where the entry is not small, or memory runs out: then
     /// they are to be opened.
     pub fn with_part(

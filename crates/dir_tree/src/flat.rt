@@ -8,11 +8,11 @@ ghost use Rattle.std.specs.declared.cmp.Ordering.TheVariants.{Less};
 ghost use Rattle.dir_names.specs.Keys.{DnKeys};
 ghost use Rattle.dir_names.specs.Orders.{dn_key_cmp};
 ghost use Rattle.std.specs.FinMap as fin;
-ghost use Rattle.dir_tree.specs.Dir.{IsClosed, dir_over, has_parent};
+ghost use Rattle.dir_tree.specs.Dir.{IsClosed, dir_over};
 ghost use Rattle.dir_tree.specs.Moves.{IsShallow, greatest, length_or_zero, moved_key, rest_below};
 ghost use Rattle.dir_tree.specs.SpelledNames.{named_entries};
 
-use crate::{Directory, Entry, NotAdded, spelled_own};
+use crate::{Directory, Entry, spelled_own};
 use dir_names::{Dn, DnKey, Memory, NameFault, Rdn};
 use std::alloc::Global;
 use std::collections::BTreeMap;
@@ -53,22 +53,6 @@ impl FlatDirectory {
             entries: BTreeMap::new(alloc),
         }
     }
-
-    /// Whether a key is the suffix, or its parent is in the map.
-    fn has_parent(&self, key: &DnKey) -> Result<bool, Memory>
-        ensures { IfOk result (λ b. b ≡ has_parent self.now key.now) }
-    {
-        if *key == self.suffix {
-            return Ok(true);
-        }
-        let Ok(parent) = key.parent(self.alloc) else {
-            return Err(Memory);
-        };
-        match parent {
-            Some(parent) => Ok(self.entries.contains_key(&parent)),
-            None => Ok(false),
-        }
-    }
 }
 
 impl Directory for FlatDirectory {
@@ -106,26 +90,6 @@ impl Directory for FlatDirectory {
         match self.entries.insert(key, entry) {
             Ok(_) => Ok(()),
             Err(refused) => Err(refused.value.1),
-        }
-    }
-
-    fn add(&mut self, key: &DnKey, entry: Entry) -> Result<(), NotAdded> {
-        let depth = key.depth();
-        prove!(depth <= 64);
-        if self.entries.contains_key(key) {
-            return Err(NotAdded::Taken);
-        }
-        match self.has_parent(key) {
-            Ok(true) => (),
-            Ok(false) => return Err(NotAdded::NoParent(entry)),
-            Err(_) => return Err(NotAdded::Memory),
-        }
-        let Ok(key) = key.try_clone(self.alloc) else {
-            return Err(NotAdded::Memory);
-        };
-        match self.entries.insert(key, entry) {
-            Ok(_) => Ok(()),
-            Err(_) => Err(NotAdded::Memory),
         }
     }
 

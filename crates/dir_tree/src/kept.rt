@@ -149,6 +149,14 @@ impl KeptAttributes {
         }
     }
 
+    /// Whether the attributes are packed and not many, so that `with_part` may exchange some.
+    pub(crate) fn are_small(&self) -> bool {
+        match &self.form {
+            Form::Open(_) => false,
+            Form::Packed(packed) => packed.value_count() <= MOST_PACKED_AGAIN,
+        }
+    }
+
     /// The attributes with what a part has under these keys. None where they are not packed, would have many values, or
     /// memory runs out.
     pub(crate) fn with_part(
@@ -159,6 +167,9 @@ impl KeptAttributes {
     ) -> Option<KeptAttributes>
         ensures { IfSome result (λ new. new ≡ with_slots self.now keys.now part.now) }
     {
+        if !self.are_small() {
+            return None;
+        }
         let Form::Packed(packed) = &self.form else {
             return None;
         };
@@ -273,6 +284,9 @@ impl KeptAttributes {
 fn packed_map(alloc: Global, map: &AttributeMap, most: usize) -> Option<KeptAttributes>
     ensures { IfSome result (λ kept. kept ≡ map.now) }
 {
+    if map.value_count() > most {
+        return None;
+    }
     LentAttributes::of_map(alloc, map)
         .ok()?
         .packed_up_to(alloc, most)

@@ -2,7 +2,7 @@
 
 ghost use Rattle.std.specs.List.{insert, remove};
 ghost use Rattle.std.specs.List.Sorted.{IsSearchInRange};
-ghost use Rattle.std.specs.Prelude.{◌≡◌, ◌≤◌, ◌<◌, ℕ, List, [], ◌∷◌, ◌++◌, IfErr, IfOk, IsTrue, OnErr, OnOk, get_or, length, map, set};
+ghost use Rattle.std.specs.Prelude.{◌≡◌, ◌≤◌, ◌<◌, ℕ, List, [], ◌∷◌, ◌++◌, Err, IfErr, IfOk, IsTrue, OnErr, OnOk, get_or, length, map, set, true};
 ghost use Rattle.dir_names.specs.Sorted.{place};
 ghost use Rattle.dir_names.specs.Values.{value_key_cmp};
 ghost use Rattle.dir_names.specs.declared.value.ValueKey.{ValueKey};
@@ -13,7 +13,7 @@ ghost use Rattle.dir_tree.specs.Inside.ValueLists.{list_values};
 
 use crate::packed::PackedSlice;
 use crate::pieces::{MOST, Pieces};
-use crate::search::{Sought, place_of};
+use crate::search::{Sought, are_below, place_of};
 use crate::stored::{OneOrMany, StoredValue, clones};
 use dir_names::{Bytes, Memory};
 use std::alloc::Global;
@@ -98,6 +98,30 @@ impl ValueList {
             OneOrMany::One(value) => place_of(slice::from_ref(value), sought),
             OneOrMany::Many(values) => place_of(values.as_slice(), sought),
             OneOrMany::InPieces(pieces) => pieces.find(sought),
+        }
+    }
+
+    /// `find` for a key that is to be inserted. The last value is asked first, since most values come in their order.
+    pub(crate) fn place_for(&self, sought: &Sought<'_>) -> Result<usize, usize>
+        requires { IsTrue (are_rising self.now) }
+        ensures range { IsSearchInRange result (length self.now) }
+        ensures place { result ≡ place value_key_cmp (sought_key sought.now) (map (λ value. (value_pair value).0) self.now) }
+    {
+        if self.is_below(sought) {
+            return Err(self.len());
+        }
+        self.find(sought)
+    }
+
+    /// Whether all values are below the key that is sought, which then would be inserted at the end.
+    fn is_below(&self, sought: &Sought<'_>) -> bool
+        requires { IsTrue (are_rising self.now) }
+        ensures { result ≡ true → place value_key_cmp (sought_key sought.now) (map (λ value. (value_pair value).0) self.now) ≡ Err (length self.now) }
+    {
+        match &self.kept {
+            OneOrMany::One(value) => are_below(slice::from_ref(value), sought),
+            OneOrMany::Many(values) => are_below(values.as_slice(), sought),
+            OneOrMany::InPieces(pieces) => pieces.is_below(sought),
         }
     }
 

@@ -655,6 +655,12 @@ impl PackedAttributes {
         self.attributes.len()
     }
 
+    /// How many values the attributes have in all.
+    pub(crate) fn value_count(&self) -> usize {
+        let common = self.common.as_slice().len();
+        common.saturating_add(self.own.as_slice().len())
+    }
+
     /// The attribute with this description key.
     pub(crate) fn get(&self, key: &AttrKey) -> Option<AttributeView<'_>>
         requires { IsTrue (attributes_rise self.now) }

@@ -2,7 +2,7 @@
 
 ghost use Rattle.std.specs.List.{insert, remove};
 ghost use Rattle.std.specs.List.Sorted.{IsSearchInRange};
-ghost use Rattle.std.specs.Prelude.{◌≡◌, ◌+◌, ◌^◌, ◌≤◌, ◌<◌, ◌-◌, ◌∷◌, ◌++◌, ℕ, List, [], IfErr, IfOk, IsTrue, OnErr, OnOk, false, get_or, length, map, set, slice_index_or, take};
+ghost use Rattle.std.specs.Prelude.{◌≡◌, ◌+◌, ◌^◌, ◌≤◌, ◌<◌, ◌-◌, ◌∷◌, ◌++◌, ℕ, List, [], Err, IfErr, IfOk, IsTrue, OnErr, OnOk, false, get_or, length, map, set, slice_index_or, take, true};
 ghost use Rattle.std.specs.Ordering.{is_lt};
 ghost use Rattle.dir_names.specs.Sorted.{place};
 ghost use Rattle.dir_names.specs.Values.{value_key_cmp};
@@ -11,7 +11,7 @@ ghost use Rattle.dir_tree.specs.Inside.Searches.{sought_key};
 ghost use Rattle.dir_tree.specs.Inside.Stored.{are_rising, value_pair};
 ghost use Rattle.dir_tree.specs.Inside.ValuePieces.{AreFilled, IsInside, IsPieceFor, IsPlace, IsSplitAt, joined};
 
-use crate::search::{Sought, cmp_sought, place_of};
+use crate::search::{Sought, ends_below, place_of};
 use crate::stored::{StoredValue, clones};
 use dir_names::{Bytes, Memory};
 use std::alloc::Global;
@@ -93,6 +93,15 @@ impl Pieces {
             Ok(within) => Ok(before + within),
             Err(within) => Err(before + within),
         }
+    }
+
+    /// Whether all values are below the key that is sought, which then would be inserted at the end.
+    pub(crate) fn is_below(&self, sought: &Sought<'_>) -> bool
+        requires { IsTrue (are_rising self.now) }
+        ensures { result ≡ true → place value_key_cmp (sought_key sought.now) (map (λ value. (value_pair value).0) self.now) ≡ Err (length self.now) }
+    {
+        let pieces = self.pieces.as_slice();
+        pieces.is_empty() || ends_below(pieces[pieces.len() - 1].as_slice(), sought)
     }
 
     /// The value at an index.
@@ -190,14 +199,6 @@ fn piece_for(pieces: &[Vec<StoredValue>], sought: &Sought<'_>) -> usize
         }
     }
     low
-}
-
-/// Whether the last value of a piece is below the key that is sought.
-fn ends_below(piece: &[StoredValue], sought: &Sought<'_>) -> bool
-    requires { 0 < length piece.now }
-    ensures { (value : ValueKey × List ℕ) → result ≡ is_lt (value_key_cmp (slice_index_or piece.now (length piece.now - 1) value).0 (sought_key sought.now)) }
-{
-    cmp_sought(piece[piece.len() - 1].key(), sought).is_lt()
 }
 
 /// How many values the pieces have together.

@@ -1,9 +1,11 @@
 //! Searches among the values of an attribute, by a key or by what a key is made of.
 
-ghost use Rattle.std.specs.Prelude.{◌≡◌, IfOk, IsTrue, length, map};
+ghost use Rattle.std.specs.Prelude.{◌≡◌, ◌-◌, ◌<◌, ℕ, List, Err, IfOk, IsTrue, length, map, slice_index_or, true};
 ghost use Rattle.std.specs.List.Sorted.{IsSearchInRange};
 ghost use Rattle.dir_names.specs.Sorted.{place};
 ghost use Rattle.dir_names.specs.Values.{value_key_cmp};
+ghost use Rattle.std.specs.Ordering.{is_lt};
+ghost use Rattle.dir_names.specs.declared.value.ValueKey.{ValueKey};
 ghost use Rattle.dir_names.specs.declared.value.ValueKey.TheVariants.{Name};
 ghost use Rattle.dir_tree.specs.Lent.{lent_key};
 ghost use Rattle.dir_tree.specs.Inside.Searches.{sought_key};
@@ -28,6 +30,22 @@ pub(crate) fn place_of(items: &[StoredValue], sought: &Sought<'_>) -> Result<usi
     ensures place { result ≡ place value_key_cmp (sought_key sought.now) (map (λ value. (value_pair value).0) items.now) }
 {
     items.binary_search_by(|value| cmp_sought(value.key(), sought))
+}
+
+/// Whether all values are below the key that is sought, which then would be inserted after them.
+pub(crate) fn are_below(items: &[StoredValue], sought: &Sought<'_>) -> bool
+    requires { IsTrue (are_rising items.now) }
+    ensures { result ≡ true → place value_key_cmp (sought_key sought.now) (map (λ value. (value_pair value).0) items.now) ≡ Err (length items.now) }
+{
+    items.is_empty() || ends_below(items, sought)
+}
+
+/// Whether the last value is below the key that is sought.
+pub(crate) fn ends_below(items: &[StoredValue], sought: &Sought<'_>) -> bool
+    requires { 0 < length items.now }
+    ensures { (value : ValueKey × List ℕ) → result ≡ is_lt (value_key_cmp (slice_index_or items.now (length items.now - 1) value).0 (sought_key sought.now)) }
+{
+    cmp_sought(items[items.len() - 1].key(), sought).is_lt()
 }
 
 /// How a key compares to the one that is sought.

@@ -126,8 +126,7 @@ impl Directory for TreeDirectory {
         }
     }
 
-    fn add(&mut self, key: &DnKey, entry: Entry) -> Result<(), NotAdded> {
-        let entry = settled(self.alloc, &mut self.shared, key, entry);
+    fn add(&mut self, _alloc: Global, key: &DnKey, entry: Entry) -> Result<(), NotAdded> {
         let Some(path) = path_below(&self.suffix, key) else {
             return Err(NotAdded::NoParent(entry));
         };
@@ -138,6 +137,7 @@ impl Directory for TreeDirectory {
                     let _entry = root.entry();
                     return Err(NotAdded::Taken);
                 }
+                let entry = settled(self.alloc, &mut self.shared, key, entry);
                 self.root = Some(Node::leaf(self.alloc, entry));
                 Ok(())
             }
@@ -145,7 +145,7 @@ impl Directory for TreeDirectory {
                 let Some(root) = &mut self.root else {
                     return Err(NotAdded::NoParent(entry));
                 };
-                root.add_at(self.alloc, first, rest, entry)
+                root.add_at(self.alloc, &mut self.shared, first, rest, entry)
             }
         }
     }

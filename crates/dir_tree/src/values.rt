@@ -121,7 +121,7 @@ impl ValueMap {
         ensures err { OnErr result (self.new ≡ self.old) }
         ensures fault { IfErr result (λ e. IsTwiceFaultOf e (fin.contains_key self.old key)) }
     {
-        match self.items.find(&Sought::Key(KeyView::of(&key))) {
+        match self.items.place_for(&Sought::Key(KeyView::of(&key))) {
             Ok(_) => Err(EntryFault::Twice),
             Err(at) => {
                 self.items.insert(alloc, at, StoredValue::new(key, bytes))?;

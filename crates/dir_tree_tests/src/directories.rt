@@ -134,7 +134,7 @@ fn add<D: Directory>(
 ) -> &'static str {
     let key = key_of(rt, alloc, text);
     let entry = bare(rt, alloc, name(rt, alloc, text), false);
-    match directory.add(&key, entry) {
+    match directory.add(alloc, &key, entry) {
         Ok(()) => "added",
         Err(NotAdded::Taken) => "taken",
         Err(NotAdded::NoParent(entry)) => {

@@ -1,6 +1,6 @@
 //! A copy as far as it was read.
 
-ghost use Rattle.std.specs.Prelude.{◌≡◌, Err, IfErr, IfOk, None, Ok, OnOk};
+ghost use Rattle.std.specs.Prelude.{◌≡◌, Err, IfErr, IfOk, None, Ok, OnOk, is_some, true};
 ghost use Rattle.dir_tools.specs.Inside.Loading.{IsNotPut, IsPut, copy_fault};
 ghost use Rattle.dir_tools.specs.CompleteRecords.{CompleteRecordsLoad, GaveBytesTo, IsReaderFault};
 ghost use Rattle.dir_tools.specs.ReadCalls.{GaveAtLeast};
@@ -18,6 +18,12 @@ use dir_names::{Dn, DnKey, Lines, NameFault, Schema};
 use dir_tree::{Directory, Entry, EntryMaker, NotAdded, own_rdns};
 use std::alloc::Global;
 use std::collections::BTreeMap;
+
+/// An entry with more lines than this is large.
+const FEW_LINES: usize = 64;
+
+/// An entry whose values have more bytes than this is large.
+const FEW_BYTES: usize = 4096;
 
 /// A copy as far as it was read: the entries whose parents were there, and those that wait for theirs.
 #[derive(Drop)]
@@ -103,6 +109,9 @@ impl<D: Directory + Drop> Loading<D> {
         if self.waiting.contains_key(&key) {
             return Err(refused(line, ResultCode::EntryAlreadyExists));
         }
+        if is_taken_from_large(&self.directory, &key, &lines) {
+            return Err(refused(line, ResultCode::EntryAlreadyExists));
+        }
         let is_suffix = key == *self.directory.suffix();
         let entry = match self
             .maker
@@ -120,7 +129,7 @@ impl<D: Directory + Drop> Loading<D> {
                 });
             }
         };
-        if let Some(entry) = put(&mut self.directory, line, &key, entry)? {
+        if let Some(entry) = put(alloc, &mut self.directory, line, &key, entry)? {
             self.waiting.insert(key, Waiting { line, entry })?;
         }
         Ok(())
@@ -144,7 +153,7 @@ impl<D: Directory + Drop> Loading<D> {
         for (key, waiting) in waiting {
             let Waiting { line, entry } = waiting;
             // No entry waits at a place that is taken, so that none is refused here.
-            if put(&mut directory, line, &key, entry)?.is_some() {
+            if put(alloc, &mut directory, line, &key, entry)?.is_some() {
                 orphans.add(alloc, key, line)?;
             }
         }
@@ -185,8 +194,29 @@ impl<D: Directory + Drop> Taker for Loading<D> {
     }
 }
 
+/// Whether the place of a large entry is taken, so that it is not made in vain. That of another is found once, by `put`.
+fn is_taken_from_large<D: Directory>(directory: &D, key: &DnKey, lines: &Lines) -> bool
+    ensures { result ≡ true → is_some (entry_at (D.state directory.now) key.now) ≡ true }
+{
+    is_large(lines) && directory.get(key).is_some()
+}
+
+/// Whether lines are many or have many bytes.
+fn is_large(lines: &Lines) -> bool {
+    let lines = lines.as_slice();
+    if lines.len() > FEW_LINES {
+        return true;
+    }
+    let mut bytes: usize = 0;
+    for (_, value) in lines {
+        bytes = bytes.saturating_add(value.as_slice().len());
+    }
+    bytes > FEW_BYTES
+}
+
 /// Puts an entry into a directory. It comes back where its parent is missing.
 fn put<D: Directory>(
+    alloc: Global,
     directory: &mut D,
     line: u64,
     key: &DnKey,
@@ -197,7 +227,7 @@ fn put<D: Directory>(
     ensures put { IfOk result (IsPut key.now entry (D.state directory.old) (D.state directory.new)) }
     ensures fault { IfErr result (IsNotPut line (entry_at (D.state directory.old) key.now)) }
 {
-    match directory.add(key, entry) {
+    match directory.add(alloc, key, entry) {
         Ok(()) => Ok(None),
         Err(NotAdded::NoParent(entry)) => Ok(Some(entry)),
         Err(NotAdded::Taken) => Err(refused(line, ResultCode::EntryAlreadyExists)),

@@ -11,6 +11,7 @@ ghost use Rattle.dir_tree.specs.Inside.TreeNames.{name_in, named_places};
 ghost use Rattle.dir_tree.specs.Inside.TreePlaces.{HasPlace, IsAt, IsGraft, IsMove, entry_on, place_map};
 
 use crate::flat::push_clones;
+use crate::packed::Shared;
 use crate::{Entry, NotAdded};
 use dir_names::{Dn, Memory, Rdn, RdnKey};
 use std::alloc::Global;
@@ -162,7 +163,8 @@ impl Node {
         }
     }
 
-    /// Adds an entry at a path below this node, if there is none, and there is a node above it.
+    /// Adds an entry at a path below this node, if there is none, and there is a node above it. It shares what entries
+    /// before have too.
     ///
     /// # Errors
     ///
@@ -170,6 +172,7 @@ impl Node {
     pub(crate) fn add_at(
         &mut self,
         alloc: Global,
+        shared: &mut Shared,
         first: &RdnKey,
         rest: &[RdnKey],
         entry: Entry,
@@ -181,13 +184,13 @@ impl Node {
         ensures cause { IfErr result (IsNotAddedOn self.old first.now rest.now entry) }
     {
         let Some((second, rest)) = rest.split_first() else {
-            return self.add_child(alloc, first, entry);
+            return self.add_child(alloc, shared, first, entry);
         };
         let Some(place) = self.place_if(first) else {
             return Err(NotAdded::NoParent(entry));
         };
         match place {
-            Some(child) => child.add_at(alloc, second, rest, entry),
+            Some(child) => child.add_at(alloc, shared, second, rest, entry),
             None => Err(NotAdded::NoParent(entry)),
         }
     }
@@ -197,7 +200,13 @@ impl Node {
     /// # Errors
     ///
     /// As for `add_at`.
-    fn add_child(&mut self, alloc: Global, part: &RdnKey, entry: Entry) -> Result<(), NotAdded>
+    fn add_child(
+        &mut self,
+        alloc: Global,
+        shared: &mut Shared,
+        part: &RdnKey,
+        entry: Entry,
+    ) -> Result<(), NotAdded>
         ensures ok { OnOk result (IsGraft self.old (part.now ∷ []) (fin.get (leaf_places entry)) self.new) }
         ensures free { OnOk result (entry_on self.old (part.now ∷ []) ≡ None) }
         ensures parent { IsSome (entry_on self.old []) }
@@ -210,6 +219,7 @@ impl Node {
             let _entry = child.entry();
             return Err(NotAdded::Taken);
         }
+        let entry = entry.settled(alloc, part, shared);
         match self.grow_at(alloc, part, &[], Some(Node::leaf(alloc, entry))) {
             Ok(()) => Ok(()),
             Err(_) => Err(NotAdded::Memory),

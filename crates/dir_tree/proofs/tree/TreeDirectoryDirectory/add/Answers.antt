@@ -1,4 +1,4 @@
-use Rattle.std.proofs.Common.{◌≡◌, [], ◌∷◌, None, Err, Ok, OnOk, Result, Some, is_some, sym, ap, subst, ◌∙◌}
+use Rattle.std.proofs.Common.{◌≡◌, [], ◌∷◌, None, Err, Ok, OnOk, Result, Some, is_some, refl, sym, ap, subst, ◌∙◌}
 use Rattle.std.specs.Bool.{IsFalse, IsTrue}
 use Rattle.std.specs.FinMap as fin
 use Rattle.dir_tree.specs.Added.{IsNotAdded}
@@ -20,7 +20,7 @@ on_ok (Err e) f p = p
 pub returns-in_default-clause-cause : goal.returns-in_default-clause-cause
 returns-in_default-clause-cause c =
     let none = none_outside c.self.inside.suffix c.self.inside.root c.args.key.now c.self.invariant.closed (sym c.in_default.ensures.value) in (
-      c.settled-entry.ensures,
+      refl,
       ap (λ d. entry_at d c.args.key.now) (sym c.self.view_is) ∙ none.0,
       subst (λ d. IsFalse (has_parent d c.args.key.now)) c.self.view_is none.1,
     )
@@ -31,8 +31,8 @@ returns-in-Some-root-clause-cause c =
     let at_root = ap (entry_on c.in-Some-root.root) (no_length c.in-Some.path.now c.in-None.ensures.cases) ∙ ap entry_in c.entry-entry.ensures in
     ap is_some (ap (λ d. entry_at d c.args.key.now) (sym c.self.view_is) ∙ there ∙ at_root)
 
-pub invariant_of-self-in-None : goal.invariant_of-self-in-None
-invariant_of-self-in-None c =
+pub invariant_of-self : goal.invariant_of-self
+invariant_of-self c =
     let s = c.self.inside.suffix in
     let k = c.args.key.now in
     let same : k ≡ s = suffix_key s k c.in-Some.path.now c.in-Some.ensures.value c.in-None.ensures.cases in
@@ -60,7 +60,7 @@ pub returns-in_default-root-2-clause-cause : goal.returns-in_default-root-2-clau
 returns-in_default-root-2-clause-cause c =
     let s = c.self.inside.suffix in
     let k = c.args.key.now in (
-      c.settled-entry.ensures,
+      refl,
       ap (λ d. entry_at d k) (sym c.self.view_is) ∙ none_at s c.self.inside.root c.in_default-root-2.is k,
       subst (λ d. IsFalse (has_parent d k)) c.self.view_is
           (none_above s c.self.inside.root c.self.invariant.closed c.in_default-root-2.is k c.in-Some-split_first.first.now c.in-Some-split_first.rest.now (ap (λ path. Some path) (sym c.in-Some-split_first.ensures.cases.0) ∙ c.in-Some.ensures.value)),
@@ -72,13 +72,13 @@ spot c is = record { root_is = c.in-Some-root-2.is; path_is = ap (λ path. Some 
 pub invariant_of-self-in-Some-split_first : goal.invariant_of-self-in-Some-split_first
 invariant_of-self-in-Some-split_first c =
     added_tree c.self.inside.suffix c.self.inside.root c.self.invariant.closed c.args.key.now c.in-Some-root-2.root c.in-Some-split_first.first.now c.in-Some-split_first.rest.now (spot c c.in-Some.ensures.value)
-    c.self.invariant c.settled-entry.result c.add_at.new.self c.add_at.result c.add_at.ensures.ok c.add_at.ensures.free c.add_at.ensures.parent c.add_at.ensures.err c.in-Some.ensures.within_limit
+    c.self.invariant c.args.entry c.add_at.new.self c.add_at.result c.add_at.ensures.ok c.add_at.ensures.free c.add_at.ensures.parent c.add_at.ensures.err c.in-Some.ensures.within_limit
 
 pub returns-in-Some-root-2-clause-ok : goal.returns-in-Some-root-2-clause-ok
 returns-in-Some-root-2-clause-ok c =
-    on_ok c.add_at.result (λ (put : tree_dir c.self.inside.suffix (Some c.add_at.new.self) ≡ put_entry (tree_dir c.self.inside.suffix c.self.inside.root) c.args.key.now c.settled-entry.result). put ∙ (λ i. put_entry (c.self.view_is i) c.args.key.now (c.settled-entry.ensures i)))
+    on_ok c.add_at.result (λ (put : tree_dir c.self.inside.suffix (Some c.add_at.new.self) ≡ put_entry (tree_dir c.self.inside.suffix c.self.inside.root) c.args.key.now c.args.entry). put ∙ ap (λ d. put_entry d c.args.key.now c.args.entry) c.self.view_is)
     (added_put c.self.inside.suffix c.self.inside.root c.self.invariant.closed c.args.key.now c.in-Some-root-2.root c.in-Some-split_first.first.now c.in-Some-split_first.rest.now (spot c c.in-Some.ensures.value)
-    c.self.invariant c.settled-entry.result c.add_at.new.self c.add_at.result c.add_at.ensures.ok c.add_at.ensures.free)
+    c.self.invariant c.args.entry c.add_at.new.self c.add_at.result c.add_at.ensures.ok c.add_at.ensures.free)
 
 pub returns-in-Some-root-2-clause-free : goal.returns-in-Some-root-2-clause-free
 returns-in-Some-root-2-clause-free c =
@@ -95,8 +95,7 @@ returns-in-Some-root-2-clause-cause c =
     let s = c.self.inside.suffix in
     let k = c.args.key.now in
     if_err c.add_at.result
-    (λ e (why : IsNotAddedOn c.in-Some-root-2.root c.in-Some-split_first.first.now c.in-Some-split_first.rest.now c.settled-entry.result e).
+    (λ e (why : IsNotAddedOn c.in-Some-root-2.root c.in-Some-split_first.first.now c.in-Some-split_first.rest.now c.args.entry e).
     subst (λ d. IsNotAdded d k c.args.entry e) c.self.view_is
-    (subst (λ entry. IsNotAdded (tree_dir s c.self.inside.root) k entry e) c.settled-entry.ensures
-    (cause_on s c.self.inside.root c.self.invariant.closed k c.in-Some-root-2.root c.in-Some-split_first.first.now c.in-Some-split_first.rest.now (spot c c.in-Some.ensures.value) c.settled-entry.result e why)))
+    (cause_on s c.self.inside.root c.self.invariant.closed k c.in-Some-root-2.root c.in-Some-split_first.first.now c.in-Some-split_first.rest.now (spot c c.in-Some.ensures.value) c.args.entry e why))
     c.add_at.ensures.cause

@@ -40,6 +40,17 @@ returns-then-contains_key-clause-cause g c m was =
     subst (IsCopyFault (with_content rows m c.args.line c.args.name c.args.lines (name_key rows c.args.name))) (sym c.refused-then-contains_key.ensures)
     (taken_place rows m c.args.line c.args.name c.args.lines (name_key rows c.args.name) k named inside there)
 
+pub returns-then-is_taken_from_large-clause-cause : goal.returns-then-is_taken_from_large-clause-cause
+returns-then-is_taken_from_large-clause-cause g c m was =
+    let d = g.D.Directory.state c.args.self.now.directory in
+    let k = c.in-Ok.key in
+    let rows = c.args.schema.now in
+    let named : name_key rows c.args.name ≡ Some k = key_named (name_key rows c.args.name) k c.in-Ok.ensures in
+    let inside : is_at_or_below k m.entries.suffix ≡ true = ap (is_at_or_below k) was.0.0 ∙ below_true k d.suffix (subst (λ z. IsAtOrBelow k z) c.suffix.ensures.key (c.if-not-at_or_below.ensures.0 refl)) in
+    let there : is_some (entry_at m.entries k) ≡ true = some_there m d (get dn_key_cmp c.args.self.now.waiting) k was.0 (c.is_taken_from_large.ensures c.if-is_taken_from_large.true) in
+    subst (IsCopyFault (with_content rows m c.args.line c.args.name c.args.lines (name_key rows c.args.name))) (sym c.refused-then-is_taken_from_large.ensures)
+    (taken_place rows m c.args.line c.args.name c.args.lines (name_key rows c.args.name) k named inside there)
+
 pub returns-then-is_some-clause-cause : goal.returns-then-is_some-clause-cause
 returns-then-is_some-clause-cause g c m was =
     let d = g.D.Directory.state c.args.self.now.directory in
