@@ -9,6 +9,7 @@ ghost use Rattle.dir_names.specs.Inside.SortTexts.{name_sort, rdn_sort};
 ghost use Rattle.dir_names.specs.NameKeys.{name_key, name_value_key, rdn_key};
 
 use crate::key::plain::put_plain_name;
+use crate::key::plain_parent::RecentParent;
 use crate::key::sorting::{put_part, put_set};
 use crate::name::pair_key;
 use crate::{Bytes, Dn, DnKey, NameFault, Rdn, Schema};
@@ -79,6 +80,35 @@ impl DnSortKey {
         text.extend_from_slice(value)?;
         let spelled = Snapshot::of(&text);
         match put_name(alloc, schema, value, &mut text) {
+            Ok(()) => DnSortKey::of(
+                alloc,
+                SortText {
+                    text,
+                    schema: Snapshot::of(schema),
+                    value: spelled,
+                },
+            ),
+            Err(fault) => Err(fault),
+        }
+    }
+
+    /// `read` of a value whose name may have the parent of the one before it.
+    pub(crate) fn read_after(
+        alloc: Global,
+        schema: &Schema,
+        value: &[u8],
+        parent: &mut RecentParent,
+    ) -> Result<DnSortKey, NameFault>
+        ensures { Gives (λ key. key) result (ok_or_bad_value (name_value_key schema.now value.now)) }
+    {
+        let len = match parent.child_sort_len(value) {
+            Some(len) => len,
+            None => sort_len(value),
+        };
+        let mut text = Vec::with_capacity(alloc, len)?;
+        text.extend_from_slice(value)?;
+        let spelled = Snapshot::of(&text);
+        match put_name_after(alloc, schema, value, parent, &mut text) {
             Ok(()) => DnSortKey::of(
                 alloc,
                 SortText {
@@ -195,6 +225,34 @@ fn put_name(
     if put_plain_name(alloc, schema, value, out) {
         return Ok(());
     }
+    put_any_name(alloc, schema, value, out)
+}
+
+/// `put_name`, which may take the key of the parent from the name before.
+fn put_name_after(
+    alloc: Global,
+    schema: &Schema,
+    value: &[u8],
+    parent: &mut RecentParent,
+    out: &mut Vec<u8>,
+) -> Result<(), NameFault>
+    ensures { Gives (λ _. out.new.items) result (ok_or_bad_value (option_map name_sort (name_value_key schema.now value.now))) }
+{
+    if parent.put_plain_name(alloc, schema, value, out) {
+        return Ok(());
+    }
+    put_any_name(alloc, schema, value, out)
+}
+
+/// `put_name` of a name that may be spelled in any way.
+fn put_any_name(
+    alloc: Global,
+    schema: &Schema,
+    value: &[u8],
+    out: &mut Vec<u8>,
+) -> Result<(), NameFault>
+    ensures { Gives (λ _. out.new.items) result (ok_or_bad_value (option_map name_sort (name_value_key schema.now value.now))) }
+{
     match Dn::read(alloc, value) {
         Ok(name) => match put_rdns(alloc, schema, name.rdns(), out) {
             Ok(()) => Ok(()),
