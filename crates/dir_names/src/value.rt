@@ -148,13 +148,13 @@ impl RecentNames {
         alloc: Global,
         schema: &Schema,
         attr: &AttrKey,
-        bytes: &[u8],
+        value: &[u8],
     ) -> Result<ValueKey, NameFault>
-        ensures { Gives (λ key. key) result (value_key_of schema.now attr.now bytes.now) }
+        ensures { Gives (λ key. key) result (value_key_of schema.now attr.now value.now) }
     {
         match schema.rule(attr) {
-            Rule::Name => Ok(ValueKey::Name(self.read(alloc, schema, bytes)?)),
-            rule => Ok(ValueKey::Text(text_key(alloc, rule, bytes)?)),
+            Rule::Name => Ok(ValueKey::Name(self.read(alloc, schema, value)?)),
+            rule => Ok(ValueKey::Text(text_key(alloc, rule, value)?)),
         }
     }
 }
