@@ -1,4 +1,4 @@
-//! The parent of the name that was last read as a value.
+//! Parents of names that were read as values before.
 
 use crate::make::{attr_key, repeated, schema};
 use dir_names::{Dn, DnKey, NameFault, RecentNames};
@@ -114,11 +114,11 @@ fn a_leaf_has_at_most_4096_bytes_below_a_parent(rt: HostRuntime) {
     }
 }
 
-/// The text of a parent that is remembered has at most 512 bytes.
+/// The text of a parent that is remembered has at most 256 bytes.
 #[test]
 fn a_parent_of_a_value_may_have_a_long_text(rt: HostRuntime) {
     let mut names = RecentNames::new();
-    for count in [509, 510, 509, 510] {
+    for count in [253, 254, 253, 254] {
         let one = repeated(&rt, rt.alloc(), "cn=a,o=", "x", count, "");
         assert_same(&rt, rt.alloc(), &mut names, one.as_slice());
         let other = repeated(&rt, rt.alloc(), "cn=b,o=", "x", count, "");

@@ -156,6 +156,18 @@ fn cut_at_last_comma(text: &[u8]) -> (Option<&[u8]>, &[u8])
     (None, text)
 }
 
+/// The text before the first comma, and the rest.
+pub(crate) fn cut_at_first_comma(text: &[u8]) -> Option<(&[u8], &[u8])>
+    ensures { IfSome result (λ cut. text.now ≡ cut.0.now ++ cut.1.now) }
+{
+    for (at, b) in text.iter().enumerate() {
+        if *b == b',' {
+            return Some((&text[..at], &text[at..]));
+        }
+    }
+    None
+}
+
 /// The texts before and after the first equals sign.
 fn cut_at_equals(text: &[u8]) -> Option<(&[u8], &[u8])>
     ensures { IfSome result (λ cut. text.now ≡ cut.0.now ++ equals_sign ∷ cut.1.now) }

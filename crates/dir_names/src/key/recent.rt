@@ -5,7 +5,7 @@ ghost use Rattle.dir_names.specs.NameKeys.{name_value_key};
 ghost use Rattle.dir_names.specs.Outcome.{Gives, ok_or_bad_value};
 ghost use Rattle.dir_names.specs.Table.Builtin.{builtin_rows};
 
-use crate::key::plain_parent::RecentParent;
+use crate::key::plain_parents::PlainParents;
 use crate::{DnSortKey, NameFault, Schema};
 use std::alloc::Global;
 use std::mem;
@@ -14,12 +14,12 @@ use std::mem;
 const MOST_BYTES: usize = 512;
 
 /// The last two names that were read as values, with their keys, which are the same under each schema. A value of the
-/// same bytes as one of them is not read again, and of a value below the same parent only the leaf is read.
+/// same bytes as one of them is not read again, and of a value below a parent of others mostly only the leaf is read.
 #[derive(Drop)]
 pub struct RecentNames {
     last: Option<RecentName>,
     before: Option<RecentName>,
-    parent: RecentParent,
+    parents: PlainParents,
 }
 
 #[derive(Drop)]
@@ -34,7 +34,7 @@ impl RecentNames {
         RecentNames {
             last: None,
             before: None,
-            parent: RecentParent::none(),
+            parents: PlainParents::none(),
         }
     }
 
@@ -74,7 +74,7 @@ impl RecentNames {
             mem::swap(&mut self.last, &mut self.before);
             return Ok(key);
         }
-        let key = DnSortKey::read_after(alloc, schema, value, &mut self.parent)?;
+        let key = DnSortKey::read_after(alloc, schema, value, &mut self.parents)?;
         if value.len() <= MOST_BYTES {
             self.keep(alloc, value, &key);
         }

@@ -1,5 +1,5 @@
 use Rattle.dir_names.proofs.PlainParents.{leaf_read}
-use Rattle.dir_names.proofs.key.plain_parent.RecentParent.put_other.Goals as goal
+use Rattle.dir_names.proofs.key.plain_parents.PlainParents.put_plain_name.Goals as goal
 
 pub returns-in-Some : goal.returns-in-Some
 returns-in-Some c e =
