@@ -13,8 +13,9 @@ use std::mem;
 /// A name of more bytes is not remembered.
 const MOST_BYTES: usize = 512;
 
-/// The last two names that were read as values, with their keys, which are the same under each schema. A value of the
-/// same bytes as one of them is not read again, and of a value below a parent of others mostly only the leaf is read.
+/// The last two names that were read as values, with their keys, and the parents of names that were read. What is
+/// remembered is the same under each schema. A value of the same bytes as one of the two is not read again, and of a
+/// plain name below one of the parents only the leaf is read.
 #[derive(Drop)]
 pub struct RecentNames {
     last: Option<RecentName>,
