@@ -16,6 +16,7 @@ pub mod Pairs
 pub mod PieceLemmas
 pub mod Placed
 pub mod PlainNames
+pub mod PlainParents
 pub mod PlusLemmas
 pub mod PrintLemmas
 pub mod PrintedLengths

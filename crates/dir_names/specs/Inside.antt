@@ -5,6 +5,7 @@ pub mod Frequent
 pub mod KnownKeys
 pub mod Left
 pub mod Parents
+pub mod PlainParents
 pub mod Ranks
 pub mod Rows
 pub mod ShortKeys

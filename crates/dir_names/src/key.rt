@@ -12,6 +12,7 @@ ghost use Rattle.dir_names.specs.Outcome.{Gives};
 ghost use Rattle.dir_names.specs.declared.fault.NameFault.TheVariants.{NameLimit};
 
 mod plain;
+pub(crate) mod plain_parents;
 pub(crate) mod recent;
 pub(crate) mod sort_key;
 pub(crate) mod sorting;

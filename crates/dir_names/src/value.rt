@@ -20,7 +20,7 @@ pub(crate) mod spaces;
 use crate::attribute::{are_digits, lowercase_bytes};
 use crate::value::folding::{folded_text, is_ascii, lowercase_copy};
 use crate::value::spaces::{without_extra_spaces, without_spaces_and_hyphens};
-use crate::{AttrKey, Bytes, DnSortKey, NameFault, Rule, Schema};
+use crate::{AttrKey, Bytes, DnSortKey, NameFault, RecentNames, Rule, Schema};
 use std::alloc::Global;
 use std::cmp::Ordering;
 use std::str;
@@ -131,6 +131,30 @@ impl Schema {
         match self.rule(attr) {
             Rule::Name => Ok(ValueKey::Name(DnSortKey::read(alloc, self, bytes)?)),
             rule => Ok(ValueKey::Text(text_key(alloc, rule, bytes)?)),
+        }
+    }
+}
+
+impl RecentNames {
+    ghost use Rattle.dir_names.specs.NameKeys.{value_key_of};
+
+    /// The key of a value, as `Schema::value_key` answers it. A name that is one of the last is not read again.
+    ///
+    /// # Errors
+    ///
+    /// As for `Schema::value_key`.
+    pub fn value_key(
+        &mut self,
+        alloc: Global,
+        schema: &Schema,
+        attr: &AttrKey,
+        value: &[u8],
+    ) -> Result<ValueKey, NameFault>
+        ensures { Gives (λ key. key) result (value_key_of schema.now attr.now value.now) }
+    {
+        match schema.rule(attr) {
+            Rule::Name => Ok(ValueKey::Name(self.read(alloc, schema, value)?)),
+            rule => Ok(ValueKey::Text(text_key(alloc, rule, value)?)),
         }
     }
 }

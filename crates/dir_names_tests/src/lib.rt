@@ -21,4 +21,6 @@ mod reader;
 #[cfg(test)]
 mod recent;
 #[cfg(test)]
+mod recent_parents;
+#[cfg(test)]
 mod values;

@@ -4,6 +4,7 @@
 ghost use Rattle.std.specs.List.{list_all};
 ghost use Rattle.std.specs.Prelude.{◌≡◌, ◌++◌, ◌∷◌, ◌&&◌, nat_lt, IfSome, Some, option_copied, option_map, true};
 ghost use Rattle.dir_names.specs.Ascii.{equals_sign};
+ghost use Rattle.dir_names.specs.Inside.PlainParents.{IsPlainParent};
 ghost use Rattle.dir_names.specs.Inside.SortKeys.{IsKeyLowercase, IsPairPut, IsPlainRdn, with_piece};
 ghost use Rattle.dir_names.specs.Inside.SortTexts.{name_sort};
 ghost use Rattle.dir_names.specs.NameKeys.{name_value_key};
@@ -28,25 +29,43 @@ pub(crate) fn put_plain_name(
 ) -> bool
     ensures { result ≡ true → option_map name_sort (name_value_key schema.now value.now) ≡ Some out.new.items }
 {
+    match put_plain_parent(alloc, schema, value, out) {
+        Some((leaf, _)) => put_plain_rdn(alloc, schema, leaf, out),
+        None => false,
+    }
+}
+
+/// Writes the text of the key of the parent of the name that a value spells, and answers the text of the leaf and
+/// the text after it. At `None` some text may have been written.
+pub(crate) fn put_plain_parent<'a>(
+    alloc: Global,
+    schema: &Schema,
+    value: &'a [u8],
+    out: &mut Vec<u8>,
+) -> Option<(&'a [u8], &'a [u8])>
+    ensures { IfSome result (λ cut. (value.now ≡ cut.0.now ++ cut.1.now) × IsPlainParent schema.now cut.1.now out.new.items) }
+{
     out.clear();
     let mut rest = value;
     let mut room = MAX_RDNS;
     while room > 0 {
         room -= 1;
         let (before, piece) = cut_at_last_comma(rest);
-        if !put_plain_rdn(alloc, schema, piece, out) {
-            return false;
-        }
         match before {
-            Some(before) => rest = before,
-            None => return true,
+            Some(before) => {
+                if !put_plain_rdn(alloc, schema, piece, out) {
+                    return None;
+                }
+                rest = before;
+            }
+            None => return Some(value.split_at(rest.len())),
         }
     }
-    false
+    None
 }
 
 /// Appends the text of the key of an RDN, and tells whether it has.
-fn put_plain_rdn(alloc: Global, schema: &Schema, piece: &[u8], out: &mut Vec<u8>) -> bool
+pub(crate) fn put_plain_rdn(alloc: Global, schema: &Schema, piece: &[u8], out: &mut Vec<u8>) -> bool
     ensures { result ≡ true → IsPlainRdn schema.now piece.now out.old.items out.new.items }
 {
     let Some((attr_type, value)) = cut_at_equals(piece) else {
@@ -135,6 +154,18 @@ fn cut_at_last_comma(text: &[u8]) -> (Option<&[u8]>, &[u8])
         }
     }
     (None, text)
+}
+
+/// The text before the first comma, and the rest.
+pub(crate) fn cut_at_first_comma(text: &[u8]) -> Option<(&[u8], &[u8])>
+    ensures { IfSome result (λ cut. text.now ≡ cut.0.now ++ cut.1.now) }
+{
+    for (at, b) in text.iter().enumerate() {
+        if *b == b',' {
+            return Some((&text[..at], &text[at..]));
+        }
+    }
+    None
 }
 
 /// The texts before and after the first equals sign.

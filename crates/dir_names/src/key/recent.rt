@@ -5,6 +5,7 @@ ghost use Rattle.dir_names.specs.NameKeys.{name_value_key};
 ghost use Rattle.dir_names.specs.Outcome.{Gives, ok_or_bad_value};
 ghost use Rattle.dir_names.specs.Table.Builtin.{builtin_rows};
 
+use crate::key::plain_parents::PlainParents;
 use crate::{DnSortKey, NameFault, Schema};
 use std::alloc::Global;
 use std::mem;
@@ -12,12 +13,14 @@ use std::mem;
 /// A name of more bytes is not remembered.
 const MOST_BYTES: usize = 512;
 
-/// The last two names that were read as values, with their keys, which are the same under each schema. A value of the
-/// same bytes as one of them is not read again.
+/// The last two names that were read as values, with their keys, and the parents of names that were read. What is
+/// remembered is the same under each schema. A value of the same bytes as one of the two is not read again, and of a
+/// plain name below one of the parents only the leaf is read.
 #[derive(Drop)]
 pub struct RecentNames {
     last: Option<RecentName>,
     before: Option<RecentName>,
+    parents: PlainParents,
 }
 
 #[derive(Drop)]
@@ -32,6 +35,7 @@ impl RecentNames {
         RecentNames {
             last: None,
             before: None,
+            parents: PlainParents::none(),
         }
     }
 
@@ -71,7 +75,7 @@ impl RecentNames {
             mem::swap(&mut self.last, &mut self.before);
             return Ok(key);
         }
-        let key = DnSortKey::read(alloc, schema, value)?;
+        let key = DnSortKey::read_after(alloc, schema, value, &mut self.parents)?;
         if value.len() <= MOST_BYTES {
             self.keep(alloc, value, &key);
         }

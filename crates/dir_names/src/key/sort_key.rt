@@ -2,13 +2,14 @@
 
 ghost use Rattle.std.specs.Cmp.{partial_order_from_agreeing_total};
 ghost use Rattle.std.specs.Ordering.{as_partial_cmp};
-ghost use Rattle.std.specs.Prelude.{◌≡◌, ◌++◌, ◌∷◌, [], Ok, option_map, refl};
+ghost use Rattle.std.specs.Prelude.{◌≡◌, ◌++◌, ◌∷◌, [], IfSome, Ok, Some, option_map, refl};
 ghost use Rattle.dir_names.specs.Orders.{dn_key_cmp, dn_key_eq, dn_key_cmp_total, dn_key_cmp_ties, tied_equiv, tied_per};
 ghost use Rattle.dir_names.specs.Outcome.{Gives, ok_or_bad_dn, ok_or_bad_value};
 ghost use Rattle.dir_names.specs.Inside.SortTexts.{name_sort, rdn_sort};
 ghost use Rattle.dir_names.specs.NameKeys.{name_key, name_value_key, rdn_key};
 
-use crate::key::plain::put_plain_name;
+use crate::key::plain::{cut_at_first_comma, put_plain_name};
+use crate::key::plain_parents::PlainParents;
 use crate::key::sorting::{put_part, put_set};
 use crate::name::pair_key;
 use crate::{Bytes, Dn, DnKey, NameFault, Rdn, Schema};
@@ -79,6 +80,73 @@ impl DnSortKey {
         text.extend_from_slice(value)?;
         let spelled = Snapshot::of(&text);
         match put_name(alloc, schema, value, &mut text) {
+            Ok(()) => DnSortKey::of(
+                alloc,
+                SortText {
+                    text,
+                    schema: Snapshot::of(schema),
+                    value: spelled,
+                },
+            ),
+            Err(fault) => Err(fault),
+        }
+    }
+
+    /// `read`, by the parents of the names that were read before.
+    pub(crate) fn read_after(
+        alloc: Global,
+        schema: &Schema,
+        value: &[u8],
+        parents: &mut PlainParents,
+    ) -> Result<DnSortKey, NameFault>
+        ensures { Gives (λ key. key) result (ok_or_bad_value (name_value_key schema.now value.now)) }
+    {
+        match DnSortKey::read_child(alloc, schema, value, parents) {
+            Some(key) => Ok(key),
+            None => DnSortKey::read_other(alloc, schema, value, parents),
+        }
+    }
+
+    /// The key of the name that a value spells, if it is a plain leaf below one of these parents, and there is memory
+    /// for it.
+    fn read_child(
+        alloc: Global,
+        schema: &Schema,
+        value: &[u8],
+        parents: &PlainParents,
+    ) -> Option<DnSortKey>
+        ensures { IfSome result (λ key. name_value_key schema.now value.now ≡ Some key) }
+    {
+        let (leaf, above) = cut_at_first_comma(value)?;
+        let parent = parents.parent(above)?;
+        let mut text = Vec::with_capacity(alloc, parent.child_sort_len(leaf)).ok()?;
+        text.extend_from_slice(value).ok()?;
+        let spelled = Snapshot::of(&text);
+        if !parent.put_child(alloc, schema, leaf, &mut text) {
+            return None;
+        }
+        let kept = SortText {
+            text,
+            schema: Snapshot::of(schema),
+            value: spelled,
+        };
+        DnSortKey::of(alloc, kept).ok()
+    }
+
+    /// `read`, which remembers the parent of the name.
+    #[inline(never)]
+    fn read_other(
+        alloc: Global,
+        schema: &Schema,
+        value: &[u8],
+        parents: &mut PlainParents,
+    ) -> Result<DnSortKey, NameFault>
+        ensures { Gives (λ key. key) result (ok_or_bad_value (name_value_key schema.now value.now)) }
+    {
+        let mut text = Vec::with_capacity(alloc, sort_len(value))?;
+        text.extend_from_slice(value)?;
+        let spelled = Snapshot::of(&text);
+        match put_name_below(alloc, schema, value, parents, &mut text) {
             Ok(()) => DnSortKey::of(
                 alloc,
                 SortText {
@@ -195,6 +263,34 @@ fn put_name(
     if put_plain_name(alloc, schema, value, out) {
         return Ok(());
     }
+    put_any_name(alloc, schema, value, out)
+}
+
+/// `put_name`, which remembers the parent of the name.
+fn put_name_below(
+    alloc: Global,
+    schema: &Schema,
+    value: &[u8],
+    parents: &mut PlainParents,
+    out: &mut Vec<u8>,
+) -> Result<(), NameFault>
+    ensures { Gives (λ _. out.new.items) result (ok_or_bad_value (option_map name_sort (name_value_key schema.now value.now))) }
+{
+    if parents.put_plain_name(alloc, schema, value, out) {
+        return Ok(());
+    }
+    put_any_name(alloc, schema, value, out)
+}
+
+/// `put_name` of a name that may be spelled in any way.
+fn put_any_name(
+    alloc: Global,
+    schema: &Schema,
+    value: &[u8],
+    out: &mut Vec<u8>,
+) -> Result<(), NameFault>
+    ensures { Gives (λ _. out.new.items) result (ok_or_bad_value (option_map name_sort (name_value_key schema.now value.now))) }
+{
     match Dn::read(alloc, value) {
         Ok(name) => match put_rdns(alloc, schema, name.rdns(), out) {
             Ok(()) => Ok(()),

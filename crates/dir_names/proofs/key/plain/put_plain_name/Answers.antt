@@ -1,28 +1,7 @@
-use Rattle.std.proofs.Common.{◌≡◌, ℕ, ◌+◌, ◌-◌, [], ap, subst, ◌∙◌, arith, rules}
-use Rattle.std.specs.Option.{option_copied}
-use Rattle.dir_names.specs.Inside.SortKeys.{with_piece}
-use Rattle.dir_names.proofs.PlainNames.{IsReadFrom, nothing_read, rdn_read, last_read}
+use Rattle.dir_names.proofs.PlainParents.{leaf_read}
 use Rattle.dir_names.proofs.key.plain.put_plain_name.Goals as goal
 
-pub loop-room-init : goal.loop-room-init
-loop-room-init c =
-    let empty : c.clear.new.self.items ≡ [] = search rules in
-    rw empty (nothing_read c.args.schema.now c.args.value.now)
-
-pub loop-room-preserved : goal.loop-room-preserved
-loop-room-preserved c =
-    let test = c.loop-room-test.true in
-    let room : c.loop-room.room ≡ (c.loop-room.room - 1) + 1 = omega (arith, test) in
-    let so_far = subst (λ (n : ℕ). IsReadFrom c.args.schema.now c.args.value.now c.loop-room.rest.now n c.loop-room.out.items) room c.loop-room.invariant in
-    let piece = c.cut_at_last_comma.result.1.now in
-    let cut = c.cut_at_last_comma.ensures ∙ ap (λ o. with_piece (option_copied o) piece) c.in-Some.is in
-    rdn_read c.args.schema.now c.args.value.now (c.loop-room.room - 1) c.loop-room.out.items c.put_plain_rdn.new.out.items piece (c.put_plain_rdn.ensures c.if-not-put_plain_rdn.false) c.in-Some.before.now c.loop-room.rest.now cut so_far
-
-pub returns-in-None : goal.returns-in-None
-returns-in-None c =
-    let test = c.loop-room-test.true in
-    let room : c.loop-room.room ≡ (c.loop-room.room - 1) + 1 = omega (arith, test) in
-    let so_far = subst (λ (n : ℕ). IsReadFrom c.args.schema.now c.args.value.now c.loop-room.rest.now n c.loop-room.out.items) room c.loop-room.invariant in
-    let piece = c.cut_at_last_comma.result.1.now in
-    let cut = c.cut_at_last_comma.ensures ∙ ap (λ o. with_piece (option_copied o) piece) c.in-None.is in
-    λ _. last_read c.args.schema.now c.args.value.now (c.loop-room.room - 1) c.loop-room.out.items c.put_plain_rdn.new.out.items piece (c.put_plain_rdn.ensures c.if-not-put_plain_rdn.false) c.loop-room.rest.now cut so_far
+pub returns-in-Some : goal.returns-in-Some
+returns-in-Some c e =
+    let cut = c.in-Some.ensures in
+    leaf_read c.args.schema.now c.args.value.now c.in-Some.leaf.now c.put_plain_parent.new.out.items c.in-Some.field-0-1.now c.put_plain_rdn.new.out.items cut.0 cut.1 (c.put_plain_rdn.ensures e)

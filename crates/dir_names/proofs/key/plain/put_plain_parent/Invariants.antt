@@ -1,5 +1,5 @@
 use Rattle.dir_names.proofs.PlainNames.{IsReadFrom}
-use Rattle.dir_names.proofs.key.plain.put_plain_name.Given as goal
+use Rattle.dir_names.proofs.key.plain.put_plain_parent.Given as goal
 
 abbrev pub invariant-loop-room : goal.invariant-loop-room
 invariant-loop-room l = IsReadFrom l.schema l.value l.rest l.room l.out.items

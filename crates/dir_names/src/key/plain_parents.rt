@@ -1,0 +1,142 @@
+//! The parents of the names that were read as values. Of a name below one of them only the leaf is read.
+
+ghost use Rattle.std.specs.Prelude.{◌≡◌, ◌++◌, IfSome, Some, option_map, true};
+ghost use Rattle.dir_names.specs.Inside.PlainParents.{IsPlainParent};
+ghost use Rattle.dir_names.specs.Inside.SortTexts.{name_sort};
+ghost use Rattle.dir_names.specs.NameKeys.{name_value_key};
+ghost use Rattle.dir_names.specs.Table.Builtin.{builtin_rows};
+
+use crate::key::plain::{put_plain_parent, put_plain_rdn};
+use crate::name::reader::hash_of;
+use crate::{NameFault, Schema};
+use std::alloc::Global;
+
+/// The greatest number of parents that are remembered.
+const SLOTS: usize = 4096;
+
+/// A parent whose text has more bytes is not remembered.
+const MOST_BYTES: usize = 256;
+
+/// A parent whose key has a text of more bytes is not remembered.
+const MOST_SORT_BYTES: usize = 512;
+
+/// By how many bytes the text of the key of a plain RDN is longer than the RDN, if its type is spelled as in the key.
+const MARKS: usize = 5;
+
+/// The parents of the plain names that were read.
+#[derive(Drop)]
+pub(crate) struct PlainParents {
+    /// Each parent, in the slot of its text. There are no slots before the first parent.
+    slots: Option<Vec<Option<Box<PlainParent>>>>,
+}
+
+/// The text after the leaf of a plain name, and the text of the key of the parent, which is the same under each schema.
+#[derive(Drop)]
+pub(crate) struct PlainParent {
+    text: Vec<u8>,
+    sort_text: Vec<u8>,
+    ghost is_parent: { ∥ IsPlainParent builtin_rows text.items sort_text.items ∥₁ },
+}
+
+impl PlainParents {
+    pub(crate) fn none() -> PlainParents {
+        PlainParents { slots: None }
+    }
+
+    /// The parent with this text after the leaf of each child, if it is remembered.
+    pub(crate) fn parent(&self, text: &[u8]) -> Option<&PlainParent>
+        ensures { IfSome result (λ parent. parent.now.text.items ≡ text.now) }
+    {
+        match self.slots.as_ref()?.get(slot_of(text)) {
+            Some(Some(parent)) if parent.text.as_slice() == text => Some(parent),
+            _ => None,
+        }
+    }
+
+    /// Does what `put_plain_name` does, and remembers the parent.
+    pub(crate) fn put_plain_name(
+        &mut self,
+        alloc: Global,
+        schema: &Schema,
+        value: &[u8],
+        out: &mut Vec<u8>,
+    ) -> bool
+        ensures { result ≡ true → option_map name_sort (name_value_key schema.now value.now) ≡ Some out.new.items }
+    {
+        schema.has_builtin_rows();
+        match put_plain_parent(alloc, schema, value, out) {
+            Some((leaf, above)) => {
+                self.remember(alloc, above, out.as_slice());
+                put_plain_rdn(alloc, schema, leaf, out)
+            }
+            None => false,
+        }
+    }
+
+    /// Puts a parent into its slot, if it has RDNs and short texts, and there is memory for it.
+    fn remember(&mut self, alloc: Global, text: &[u8], sort_text: &[u8])
+        requires { IsPlainParent builtin_rows text.now sort_text.now }
+    {
+        if text.is_empty() || text.len() > MOST_BYTES || sort_text.len() > MOST_SORT_BYTES {
+            return;
+        }
+        let Ok(parent) = PlainParent::boxed(alloc, text, sort_text) else {
+            return;
+        };
+        if self.slots.is_none() {
+            self.slots = empty_slots(alloc).ok();
+        }
+        if let Some(slots) = &mut self.slots {
+            if let Some(slot) = slots.get_mut(slot_of(text)) {
+                *slot = Some(parent);
+            }
+        }
+    }
+}
+
+impl PlainParent {
+    fn boxed(alloc: Global, text: &[u8], sort_text: &[u8]) -> Result<Box<PlainParent>, NameFault>
+        requires { IsPlainParent builtin_rows text.now sort_text.now }
+    {
+        let text = text.to_vec(alloc)?;
+        let sort_text = sort_text.to_vec(alloc)?;
+        Ok(Box::new(alloc, PlainParent { text, sort_text })?)
+    }
+
+    /// How long the text of the key of a child is, if its leaf is plain.
+    pub(crate) fn child_sort_len(&self, leaf: &[u8]) -> usize {
+        let len = self.sort_text.len().saturating_add(leaf.len());
+        len.saturating_add(MARKS)
+    }
+
+    /// Writes the text of the key of a child whose leaf has this text, and tells whether it has.
+    pub(crate) fn put_child(
+        &self,
+        alloc: Global,
+        schema: &Schema,
+        leaf: &[u8],
+        out: &mut Vec<u8>,
+    ) -> bool
+        ensures { result ≡ true → option_map name_sort (name_value_key schema.now (leaf.now ++ self.now.text.items)) ≡ Some out.new.items }
+    {
+        schema.has_builtin_rows();
+        out.clear();
+        match out.extend_from_slice(self.sort_text.as_slice()) {
+            Ok(()) => put_plain_rdn(alloc, schema, leaf, out),
+            Err(_) => false,
+        }
+    }
+}
+
+/// Slots without parents.
+fn empty_slots(alloc: Global) -> Result<Vec<Option<Box<PlainParent>>>, NameFault> {
+    let mut slots = Vec::with_capacity(alloc, SLOTS)?;
+    for _ in 0..SLOTS {
+        slots.push(None)?;
+    }
+    Ok(slots)
+}
+
+fn slot_of(text: &[u8]) -> usize {
+    hash_of(text) % SLOTS
+}
