@@ -18,7 +18,9 @@ use crate::lines::attributes_of;
 use crate::packed::Shared;
 use crate::parts::Parts;
 use crate::views::AttributeView;
-use dir_names::{AttrKey, Dn, Lines, Memory, NameFault, Rdn, RdnKey, Schema, ValueKey};
+use dir_names::{
+    AttrKey, Dn, Lines, Memory, NameFault, Rdn, RdnKey, RecentNames, Schema, ValueKey,
+};
 use std::alloc::Global;
 use std::marker::Model;
 
@@ -59,13 +61,26 @@ impl Entry {
     ) -> Result<Entry, EntryFault>
         ensures { Makes (λ entry. entry) result (new_entry schema.now spelled.items values) }
     {
+        Entry::make_by(alloc, schema, &mut RecentNames::new(), spelled, values)
+    }
+
+    /// `make`, by the names that were read before.
+    pub(crate) fn make_by(
+        alloc: Global,
+        schema: &Schema,
+        names: &mut RecentNames,
+        spelled: Vec<Rdn>,
+        values: Lines,
+    ) -> Result<Entry, EntryFault>
+        ensures { Makes (λ entry. entry) result (new_entry schema.now spelled.items values) }
+    {
         let mut own = spelled;
         own.shrink_to_fit();
         let Some(leaf) = own.first() else {
             return Err(EntryFault::NotNamed);
         };
         let key = leaf_key(alloc, schema, leaf)?;
-        let mut attributes = attributes_of(alloc, schema, values)?;
+        let mut attributes = attributes_of(alloc, schema, names, values)?;
         attributes.add_missing(alloc, schema, leaf)?;
         if attributes.exceeds_single_value(schema) {
             return Err(EntryFault::Single);

@@ -1,19 +1,17 @@
 //! The attributes that the lines of an add give.
 
-ghost use Rattle.std.specs.Prelude.{◌≡◌, IfErr, IfOk, IfSome, IsTrue, OnOk, not, ok_or};
+ghost use Rattle.std.specs.Prelude.{◌≡◌, IfErr, IfOk, IsTrue, OnOk, not, ok_or};
 ghost use Rattle.std.specs.List.{filter};
 ghost use Rattle.dir_names.specs.Attr.{Attr};
-ghost use Rattle.dir_names.specs.NameKeys.{value_key_of};
-ghost use Rattle.dir_names.specs.Outcome.{Gives};
 ghost use Rattle.dir_names.specs.declared.value.ValueKey.{ValueKey};
-ghost use Rattle.dir_tree.specs.Inside.Arranged.{HasKey, IsArranged, have_new_values, with_descriptions};
+ghost use Rattle.dir_tree.specs.Inside.Arranged.{IsArranged, have_new_values, with_descriptions};
 ghost use Rattle.dir_tree.specs.NewEntryLaw.{has_value_key, is_line_of};
 ghost use Rattle.dir_tree.specs.NewEntry.{IsTwiceFaultOf, Makes, attributes_if_distinct, attributes_of, keyed_lines, with_lines};
 ghost use Rattle.dir_tree.specs.declared.fault.EntryFault.TheVariants as EntryFault;
 
 use crate::EntryFault;
 use crate::attributes::AttributeMap;
-use dir_names::{AttrKey, Bytes, Description, Lines, NameFault, Rule, Schema, ValueKey};
+use dir_names::{Bytes, Description, Lines, RecentNames, Schema, ValueKey};
 use std::alloc::Global;
 
 /// If an entry has more lines than this, they are sorted before they are added, so that each value goes
@@ -36,31 +34,26 @@ pub(crate) struct KeyedLine {
 pub(crate) fn attributes_of(
     alloc: Global,
     schema: &Schema,
+    names: &mut RecentNames,
     lines: Lines,
 ) -> Result<AttributeMap, EntryFault>
     ensures { Makes (λ attributes. attributes) result (attributes_of schema.now lines) }
 {
-    attributes_if_distinct(alloc, keyed_lines(alloc, schema, lines)?)
+    attributes_if_distinct(alloc, keyed_lines(alloc, schema, names, lines)?)
 }
 
-fn keyed_lines(alloc: Global, schema: &Schema, lines: Lines) -> Result<Vec<KeyedLine>, EntryFault>
+fn keyed_lines(
+    alloc: Global,
+    schema: &Schema,
+    names: &mut RecentNames,
+    lines: Lines,
+) -> Result<Vec<KeyedLine>, EntryFault>
     ensures { Makes (λ keyed. keyed.items) result (ok_or (keyed_lines schema.now lines) EntryFault.BadValue) }
 {
     let items = lines.into_items();
     let mut keyed = Vec::with_capacity(alloc, items.len())?;
-    // The last line whose key is that of a name, or the first line.
-    let mut last_name = 0;
     for (description, bytes) in items {
-        let key = line_key(
-            alloc,
-            schema,
-            description.key(),
-            &bytes,
-            keyed.as_slice().get(last_name),
-        )?;
-        if let ValueKey::Name(_) = key {
-            last_name = keyed.len();
-        }
+        let key = names.value_key(alloc, schema, description.key(), bytes.as_slice())?;
         keyed.push(KeyedLine {
             description,
             key,
@@ -68,27 +61,6 @@ fn keyed_lines(alloc: Global, schema: &Schema, lines: Lines) -> Result<Vec<Keyed
         })?;
     }
     Ok(keyed)
-}
-
-/// The key of a value. A name that a line before has shares that line's key: modifiersName mostly is creatorsName.
-fn line_key(
-    alloc: Global,
-    schema: &Schema,
-    attr: &AttrKey,
-    bytes: &Bytes,
-    before: Option<&KeyedLine>,
-) -> Result<ValueKey, NameFault>
-    requires { IfSome before (λ line. HasKey schema.now line.now) }
-    ensures { Gives (λ key. key) result (value_key_of schema.now attr.now bytes.now) }
-{
-    if let Some(line) = before {
-        if let ValueKey::Name(name) = &line.key {
-            if schema.rule(attr) == Rule::Name && &line.bytes == bytes {
-                return Ok(ValueKey::Name(name.try_clone(alloc)?));
-            }
-        }
-    }
-    schema.value_key(alloc, attr, bytes.as_slice())
 }
 
 fn attributes_if_distinct(alloc: Global, lines: Vec<KeyedLine>) -> Result<AttributeMap, EntryFault>

@@ -62,7 +62,7 @@ impl EntryMaker {
                 key,
                 attributes,
             })),
-            None => Entry::make(alloc, schema, own, values),
+            None => Entry::make_by(alloc, schema, &mut self.names, own, values),
         }
     }
 

@@ -7,12 +7,14 @@ ghost use Rattle.dir_names.specs.NameKeys.{name_value_key};
 ghost use Rattle.dir_names.specs.Table.Builtin.{builtin_rows};
 
 use crate::key::plain::{put_plain_parent, put_plain_rdn};
-use crate::name::reader::hash_of;
 use crate::{NameFault, Schema};
 use std::alloc::Global;
 
 /// The greatest number of parents that are remembered.
-const SLOTS: usize = 4096;
+const SLOTS: usize = 1024;
+
+/// So many names are read before parents are remembered, so that a few names cost no slots.
+const FIRST_NAMES: usize = 64;
 
 /// A parent whose text has more bytes is not remembered.
 const MOST_BYTES: usize = 256;
@@ -23,11 +25,21 @@ const MOST_SORT_BYTES: usize = 512;
 /// By how many bytes the text of the key of a plain RDN is longer than the RDN, if its type is spelled as in the key.
 const MARKS: usize = 5;
 
-/// The parents of the plain names that were read.
+/// Parents of the plain names that were read: those that were met again.
 #[derive(Drop)]
 pub(crate) struct PlainParents {
-    /// Each parent, in the slot of its text. There are no slots before the first parent.
-    slots: Option<Vec<Option<Box<PlainParent>>>>,
+    /// How many names have been read before there are slots.
+    names: usize,
+    /// The slots of the parents' texts.
+    slots: Option<Vec<Slot>>,
+}
+
+/// A place for a parent.
+#[derive(Drop)]
+struct Slot {
+    /// The hash of the text that was last sought here in vain.
+    sought: usize,
+    parent: Option<Box<PlainParent>>,
 }
 
 /// The text after the leaf of a plain name, and the text of the key of the parent, which is the same under each schema.
@@ -40,7 +52,10 @@ pub(crate) struct PlainParent {
 
 impl PlainParents {
     pub(crate) fn none() -> PlainParents {
-        PlainParents { slots: None }
+        PlainParents {
+            names: 0,
+            slots: None,
+        }
     }
 
     /// The parent with this text after the leaf of each child, if it is remembered.
@@ -48,7 +63,12 @@ impl PlainParents {
         ensures { IfSome result (λ parent. parent.now.text.items ≡ text.now) }
     {
         match self.slots.as_ref()?.get(slot_of(text)) {
-            Some(Some(parent)) if parent.text.as_slice() == text => Some(parent),
+            Some(
+                Slot {
+                    parent: Some(parent),
+                    ..
+                },
+            ) if parent.text.as_slice() == text => Some(parent),
             _ => None,
         }
     }
@@ -73,23 +93,33 @@ impl PlainParents {
         }
     }
 
-    /// Puts a parent into its slot, if it has RDNs and short texts, and there is memory for it.
+    /// Puts a parent into its slot, if it has RDNs and short texts, was sought there the last time too, and there is memory
+    /// for it.
     fn remember(&mut self, alloc: Global, text: &[u8], sort_text: &[u8])
         requires { IsPlainParent builtin_rows text.now sort_text.now }
     {
         if text.is_empty() || text.len() > MOST_BYTES || sort_text.len() > MOST_SORT_BYTES {
             return;
         }
-        let Ok(parent) = PlainParent::boxed(alloc, text, sort_text) else {
+        if self.names < FIRST_NAMES {
+            self.names += 1;
             return;
-        };
+        }
         if self.slots.is_none() {
             self.slots = empty_slots(alloc).ok();
         }
-        if let Some(slots) = &mut self.slots {
-            if let Some(slot) = slots.get_mut(slot_of(text)) {
-                *slot = Some(parent);
-            }
+        let hash = hash_of(text);
+        let Some(slot) = self
+            .slots
+            .as_mut()
+            .and_then(|slots| slots.get_mut(hash % SLOTS))
+        else {
+            return;
+        };
+        if slot.sought != hash {
+            slot.sought = hash;
+        } else if let Ok(parent) = PlainParent::boxed(alloc, text, sort_text) {
+            slot.parent = Some(parent);
         }
     }
 }
@@ -129,14 +159,25 @@ impl PlainParent {
 }
 
 /// Slots without parents.
-fn empty_slots(alloc: Global) -> Result<Vec<Option<Box<PlainParent>>>, NameFault> {
+fn empty_slots(alloc: Global) -> Result<Vec<Slot>, NameFault> {
     let mut slots = Vec::with_capacity(alloc, SLOTS)?;
     for _ in 0..SLOTS {
-        slots.push(None)?;
+        slots.push(Slot {
+            sought: 0,
+            parent: None,
+        })?;
     }
     Ok(slots)
 }
 
 fn slot_of(text: &[u8]) -> usize {
     hash_of(text) % SLOTS
+}
+
+fn hash_of(text: &[u8]) -> usize {
+    let mut hash = text.len();
+    for b in text {
+        hash = hash.wrapping_mul(31).wrapping_add(usize::from(*b));
+    }
+    hash
 }

@@ -23,8 +23,8 @@ const MAX_PARENT_TEXT: usize = 256;
 /// The greatest number of RDNs of a parent that is remembered.
 const MAX_PARENT_RDNS: usize = 8;
 
-/// The number of bytes of a text that decide on its hash.
-const HASHED_BYTES: usize = 24;
+/// The number of bytes of a text that decide on its slot.
+const SLOT_TEXT: usize = 24;
 
 /// Reads names one after the other. It remembers the parents of the names that it read: a name below one
 /// of them is read in less time.
@@ -122,16 +122,11 @@ fn empty_slots(alloc: Global) -> Result<Vec<Option<Box<KnownParent>>>, NameFault
 
 /// The slot of a parent's text.
 fn slot_of(text: &[u8]) -> usize {
-    hash_of(text) % SLOTS
-}
-
-/// A number made of the length of a text and its first bytes.
-pub(crate) fn hash_of(text: &[u8]) -> usize {
-    let mut hash = text.len();
-    for b in &text[..text.len().min(HASHED_BYTES)] {
-        hash = hash.wrapping_mul(31).wrapping_add(usize::from(*b));
+    let mut slot = text.len();
+    for b in &text[..text.len().min(SLOT_TEXT)] {
+        slot = slot.wrapping_mul(31).wrapping_add(usize::from(*b));
     }
-    hash
+    slot % SLOTS
 }
 
 /// The name that a text spells, and the key of the name.

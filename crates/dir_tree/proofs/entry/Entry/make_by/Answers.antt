@@ -5,7 +5,7 @@ use Rattle.dir_tree.specs.declared.fault.EntryFault.TheVariants.{NotNamed}
 use Rattle.std.specs.Option.{ok_or}
 use Rattle.dir_tree.specs.NewEntry.{}
 use Rattle.dir_tree.proofs.OwnLines.{keyed_rdn}
-use Rattle.dir_tree.proofs.entry.Entry.make.Goals as goal
+use Rattle.dir_tree.proofs.entry.Entry.make_by.Goals as goal
 
 there : (o : Option RdnKeys) (key : RdnKeys) → ok_or o NotNamed ≡ Ok key → is_some o ≡ true
 there None key e = absurd (cc)
