@@ -93,8 +93,12 @@ impl TargetRules<'_> {
         let mut held = Privileges::none();
         for (index, rule) in rules.iter().enumerate() {
             if self.fits(index, rule, request) {
-                let (after, goes_on) =
-                    after_clauses(rule.clauses.as_slice(), directory, request, held);
+                let (after, goes_on) = after_clauses(
+                    rule.clauses.as_slice(),
+                    directory,
+                    request,
+                    held,
+                );
                 if !goes_on {
                     return after;
                 }
