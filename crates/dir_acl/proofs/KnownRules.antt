@@ -1,5 +1,5 @@
 -- A decision by rules that are tried on its target once.
-use Rattle.std.proofs.Common.{◌≡◌, ℕ, zero, suc, length, map, take, Bool, true, false, List, [], ◌∷◌, ◌++◌, Option, Some, None, refl, sym, subst, ap, ◌∙◌}
+use Rattle.std.proofs.Common.{◌≡◌, ℕ, zero, suc, length, Bool, true, false, List, [], ◌∷◌, ◌++◌, Some, refl, sym, subst, ap, ◌∙◌}
 use Rattle.std.specs.Prelude.{◌&&◌, if◌then◌else◌, slice_get}
 use Rattle.std.specs.List.{list_all}
 use Rattle.dir_acl.specs.Decision.{Question, fits, rule_fits}

@@ -1,4 +1,4 @@
-use Rattle.std.proofs.Common.{◌≡◌, true, false, sym, subst, ◌∙◌}
+use Rattle.std.proofs.Common.{◌≡◌, true, false, sym, ◌∙◌}
 use Rattle.dir_acl.specs.Inside.Requests.{question_of}
 use Rattle.dir_acl.specs.Rules.{rule_of}
 use Rattle.dir_acl.specs.TargetRules.{rule_is_for}

@@ -1,4 +1,4 @@
-use Rattle.std.proofs.Common.{◌≡◌, true, false, ap, sym, subst, ◌∙◌}
+use Rattle.std.proofs.Common.{◌≡◌, false, ap, sym, subst, ◌∙◌}
 use Rattle.dir_acl.specs.Decision.{is_granted, is_root_for, named}
 use Rattle.dir_acl.specs.Inside.ReadingConfig.{configuration_of}
 use Rattle.dir_acl.specs.Inside.Requests.{question_of}
