@@ -3,11 +3,11 @@ pub mod Digits
 pub mod EscapeSteps
 pub mod Grammar
 pub mod Groups
+pub mod KnownRules
 pub mod NoAttributes
 pub mod RunningSets
 pub mod SlapdAccess
 pub mod SlapdConf
 pub mod Stacks
-pub mod FoundRules
 pub mod Tested
 pub mod Truths

@@ -7,6 +7,7 @@ pub mod Integers
 pub mod Outcome
 pub mod Privileges
 pub mod Rules
+pub mod RulesFor
 pub mod Signs
 pub mod Substrings
 pub mod TargetRules

@@ -1,13 +1,11 @@
--- The rules that are for one target, whatever of it is asked for: what is left of a decision is which of them are for what is asked.
-use Rattle.std.specs.Prelude.{◌≡◌, Bool, true, filter, map, List}
+-- What a <what> says of the target alone, and what of that which is asked for.
+use Rattle.std.specs.Prelude.{◌≡◌, Bool, true, length, map, take, List}
 use Rattle.std.specs.List.{list_all, list_any}
 use Rattle.dir_names.specs.Keys.{DnKeys}
 use Rattle.dir_tree.specs.Content.{StoredAttributes}
 use Rattle.dir_acl.specs.declared.access.Asked.{Asked}
-use Rattle.dir_acl.specs.declared.access.target_rules.TargetRules.{TargetRules}
 use Rattle.dir_acl.specs.Decision.{is_asked, is_of_style}
-use Rattle.dir_acl.specs.Inside.ReadingConfig.{configuration_of}
-use Rattle.dir_acl.specs.Rules.{AccessRule, Restriction, rule_of, to_names, to_filter, to_attrs}
+use Rattle.dir_acl.specs.Rules.{AccessRule, Restriction, to_names, to_filter, to_attrs}
 use Rattle.dir_acl.specs.Truth.{is_true, tree_truth}
 
 -- what a part of a <what> says of the target alone
@@ -28,6 +26,6 @@ rule_is_for target attributes rule = list_all (is_for target attributes) rule.wh
 abbrev pub rule_allows_asked : Asked → AccessRule → Bool
 rule_allows_asked asked rule = list_all (allows_asked asked) rule.what
 
--- the rules of its configuration that are for this target
-abbrev pub IsRulesFor : DnKeys → StoredAttributes → TargetRules → Type 0
-IsRulesFor target attributes found = map (λ rule. rule_of rule.now) found.rules.items ≡ filter (rule_is_for target attributes) (configuration_of found.config.now).rules
+-- the answers for the first rules, and for no others
+abbrev pub AreFirstOf : (AccessRule → Bool) → List AccessRule → List Bool → Type 0
+AreFirstOf is_for rules known = known ≡ map is_for (take (length known) rules)

@@ -22,9 +22,9 @@ mod whos;
 
 use crate::config::directives::Settings;
 use crate::config::lines::read_lines;
-use crate::{ConfigCause, ConfigFault, Privileges, Request, Rule, TargetRules, privileges_under};
-use dir_names::{DnKey, Memory, Schema};
-use dir_tree::{Directory, Entry};
+use crate::{ConfigCause, ConfigFault, Privileges, Request, Rule, privileges_under};
+use dir_names::{DnKey, Schema};
+use dir_tree::Directory;
 use std::alloc::Global;
 
 /// The greatest number of bytes of a configuration.

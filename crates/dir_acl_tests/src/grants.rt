@@ -139,9 +139,7 @@ fn granted(
         target: target.try_clone(alloc).expect(rt, "memory"),
     };
     let held = config.privileges(&directory, &request);
-    let rules = config
-        .rules_for(alloc, &target, request.entry)
-        .expect(rt, "memory");
+    let mut rules = config.rules_for(alloc, &target, request.entry);
     assert!(rt;
         rules.privileges(&directory, &request) == held,
         "the rules for {wanted}"
@@ -152,6 +150,98 @@ fn granted(
 pub(crate) fn assert_text(rt: &impl Abort, alloc: Global, privileges: Privileges, want: &str) {
     let text = privileges.text(alloc).expect(rt, "memory");
     assert!(rt; text.as_slice() == want.as_bytes(), "{want}");
+}
+
+/// Rules with lists of attributes, styles and filters, of which some go on with the later ones.
+const MANY: &str = "database mdb\nsuffix dc=com\nrootdn cn=r,dc=com\n\
+    access to attrs=telephoneNumber by self write by * break\n\
+    access to filter=(sn=none) by * =m\n\
+    access to dn.children=dc=com filter=(sn=S) attrs=sn,entry by users +r continue by * +s break\n\
+    access to dn.one=dc=com attrs=sn,manager by anonymous =x by * =rs break\n\
+    access to attrs=children by * none stop\n\
+    access to dn=dc=com by * read\n\
+    access to * by * +c continue by users +d\n";
+
+const FIRST_ANSWERS: &str = "database mdb\nsuffix dc=com\n\
+    access to * by * read\naccess to filter=(sn=S) by * write\naccess to dn.one=dc=com by * none\n";
+
+const NONE_ANSWERS: &str = "database mdb\nsuffix dc=com\n\
+    access to filter=(sn=none) by * read\naccess to dn.children=cn=t,dc=com by * read\n\
+    access to attrs=uid by * read\n";
+
+/// A configuration, a requester and a target.
+type Asking<'a> = (&'a str, &'a str, &'a str);
+
+const ASKINGS: [Asking<'static>; 12] = [
+    (MANY, "cn=u,dc=com", "cn=t,dc=com"),
+    (MANY, "cn=t,dc=com", "cn=t,dc=com"),
+    (MANY, "", "cn=t,dc=com"),
+    (MANY, "cn=u,dc=com", "dc=com"),
+    (MANY, "cn=r,dc=com", "cn=t,dc=com"),
+    // an entry that is made up
+    (MANY, "cn=u,dc=com", "cn=x,dc=com"),
+    (FIRST_ANSWERS, "cn=u,dc=com", "cn=t,dc=com"),
+    (NONE_ANSWERS, "cn=u,dc=com", "cn=t,dc=com"),
+    (NO_RULES, "cn=u,dc=com", "cn=t,dc=com"),
+    (ROOT, "cn=u,dc=com", "dc=com"),
+    (BREAK, "cn=u,dc=com", "dc=com"),
+    (PHONES, "cn=m,dc=com", "cn=t,dc=com"),
+];
+
+const WORDS: [&str; 8] = [
+    "telephoneNumber",
+    "cn",
+    "sn",
+    "",
+    "manager",
+    "sn",
+    "uid",
+    "telephoneNumber",
+];
+
+const BACKWARDS: [&str; 8] = [
+    "telephoneNumber",
+    "uid",
+    "sn",
+    "manager",
+    "",
+    "sn",
+    "cn",
+    "telephoneNumber",
+];
+
+#[test]
+fn one_target_is_asked_for_many_words(rt: HostRuntime) {
+    for asking in &ASKINGS {
+        assert_alike(&rt, rt.alloc(), asking, &WORDS);
+    }
+}
+
+#[test]
+fn words_may_come_in_any_order(rt: HostRuntime) {
+    for asking in &ASKINGS {
+        assert_alike(&rt, rt.alloc(), asking, &BACKWARDS);
+    }
+}
+
+/// The rules for a target answer each word as the configuration does.
+fn assert_alike(rt: &impl Abort, alloc: Global, asking: &Asking<'_>, words: &[&str]) {
+    let (text, requester, target) = asking;
+    let config = config(rt, alloc, text);
+    let directory = directory(rt, alloc);
+    let target = key(rt, alloc, target);
+    let entry = directory.get(&target);
+    let mut rules = config.rules_for(alloc, &target, entry);
+    for word in words {
+        let request = Request {
+            requester: Some(key(rt, alloc, requester)),
+            target: target.try_clone(alloc).expect(rt, "memory"),
+            entry,
+            asked: asked(rt, alloc, word),
+        };
+        let want = config.privileges(&directory, &request);
+        assert!(rt; rules.privileges(&directory, &request) == want, "{word}");
+    }
 }
 
 #[test]

@@ -27,7 +27,7 @@ pub(super) fn report_text<D: Directory>(
     if verbose {
         push_requester(alloc, &mut text, &parts.requester)?;
     }
-    let rules = config.rules_for(alloc, &parts.base, target)?;
+    let mut rules = config.rules_for(alloc, &parts.base, target);
     for word in parts.words.as_slice() {
         let request = request_for(alloc, parts, target, &word.asked)?;
         let held = rules.privileges(directory, &request);
