@@ -410,7 +410,7 @@ impl DnKey {
     }
 
     /// The text that the key is ordered by.
-    fn sort_text(&self) -> &[u8]
+    pub(crate) fn sort_text(&self) -> &[u8]
         ensures { result.now ≡ name_sort self.now }
     {
         if self.is_above {
