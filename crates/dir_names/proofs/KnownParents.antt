@@ -1,19 +1,16 @@
 -- A name that is read below a parent that is known.
-use Rattle.std.proofs.Common.{◌≡◌, ◌<◌, ℕ, Bool, true, false, cond, List, [], ◌∷◌, ◌++◌, length, reverse, Option, Some, None, is_some, Result, Ok, Err, refl, sym, ap, ◌∙◌, arith}
+use Rattle.std.proofs.Common.{◌≡◌, ◌<◌, ℕ, Bool, true, false, cond, List, [], ◌∷◌, ◌++◌, length, reverse, Option, Some, None, Result, Ok, Err, refl, sym, ap, ◌∙◌, arith}
 use Rattle.std.proofs.lemmas.List.{length-reverse, reverse-append}
 use Rattle.dir_names.specs.declared.fault.NameFault.{NameFault}
 use Rattle.dir_names.specs.declared.fault.NameFault.TheVariants.{NameLimit}
 use Rattle.dir_names.specs.declared.schema.TypeRow.{TypeRow}
-use Rattle.dir_names.specs.KeyedNames.{keyed_name}
 use Rattle.dir_names.specs.Keys.{DnKeys, RdnKeys}
 use Rattle.dir_names.specs.NameKeys.{name_key, rdn_key}
 use Rattle.dir_names.specs.Names.{SpelledName, SpelledRdn}
 use Rattle.dir_names.specs.Names.Limits.{is_within_limits, ok_if_within}
 use Rattle.dir_names.specs.Names.Reading.{name_of, name_within_limits, pieces, rdn_of}
-use Rattle.dir_names.specs.Outcome.{ok_or_bad_dn}
-use Rattle.dir_names.specs.Results.{and_then, option_collect, option_cons}
+use Rattle.dir_names.specs.Results.{option_collect, option_cons}
 use Rattle.dir_names.proofs.Collected.{collect_append, collect_length}
-use Rattle.dir_names.proofs.ReadNames.{some_text}
 
 -- what is within the limits was spelled
 pub within_spelled : {A : Type 0} (p : A → Bool) (o : Option A) (x : A) → ok_if_within p o ≡ Ok x → o ≡ Some x
@@ -49,14 +46,3 @@ module _ (rows : List TypeRow) where
 
   pub key_length : (name : SpelledName) (key : DnKeys) → name_key rows name ≡ Some key → length name ≡ length key
   key_length name key e = sym (length-reverse name) ∙ collect_length (rdn_key rows) (reverse name) key e
-
-  -- a name that a text spells, within the limits and with a key
-  pub keyed_text : (text : List ℕ) (parts : List (List ℕ)) (name : SpelledName) → pieces 44 false text ≡ parts → option_collect rdn_of parts ≡ Some name → is_within_limits name ≡ true → is_some (name_key rows name) ≡ true → keyed_name rows text ≡ Ok name
-  keyed_text text parts name cut spelled within keyed =
-      ap (λ r. and_then r (λ n. and_then (ok_or_bad_dn (name_key rows n)) (λ _. Ok n)))
-      (ap (ok_if_within is_within_limits) (some_text text name (ap (option_collect rdn_of) cut ∙ spelled)) ∙ ap (λ b. cond b (Ok name) (Err NameLimit)) within)
-      ∙ by (name_key rows name) keyed
-    where
-      by : (o : Option DnKeys) → is_some o ≡ true → and_then (ok_or_bad_dn o) (λ _. Ok name) ≡ Ok name
-      by None e = absurd (cc)
-      by (Some key) e = refl

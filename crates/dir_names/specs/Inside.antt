@@ -1,5 +1,6 @@
 -- The views of private structs, enums and loop states. A reader of the public contracts needs none of them, but for `Steps`, which computes what
 -- `SpellsByte` and `SpellsBytes` of `Names.Spells` say as a grammar.
+pub mod Children
 pub mod Few
 pub mod Frequent
 pub mod KnownKeys

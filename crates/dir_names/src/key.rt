@@ -17,7 +17,7 @@ pub(crate) mod recent;
 pub(crate) mod sort_key;
 pub(crate) mod sorting;
 
-use crate::key::sorting::{put_name, put_part};
+use crate::key::sorting::{part_len, put_name, put_part};
 use crate::limits::MAX_RDNS;
 use crate::list::few::Few;
 use crate::list::short::cmp_short;
@@ -26,9 +26,6 @@ use std::alloc::Global;
 use std::cmp::Ordering;
 use std::marker::Model;
 use std::rc::Rc;
-
-/// The room that is made for the text of a leaf, in bytes.
-const LEAF_ROOM: usize = 48;
 
 /// The pairs of attribute and value key of an RDN, in order.
 #[derive(Debug, Drop)]
@@ -267,9 +264,10 @@ impl NameKey {
         ensures { Gives (λ key. key) result (Ok (parts.now ++ leaf.now ∷ [])) }
     {
         let above = sort.len();
-        let mut whole = Vec::with_capacity(alloc, above.saturating_add(LEAF_ROOM))?;
+        let mut whole = Vec::with_capacity(alloc, above.saturating_add(part_len(leaf)))?;
         whole.extend_from_slice(sort)?;
         put_part(leaf, &mut whole)?;
+        whole.shrink_to_fit();
         let mut parts = cloned_parts(alloc, parts, 1)?;
         parts.push(leaf.try_clone(alloc)?)?;
         Ok(NameKey {
@@ -413,7 +411,7 @@ impl DnKey {
     }
 
     /// The text that the key is ordered by.
-    fn sort_text(&self) -> &[u8]
+    pub(crate) fn sort_text(&self) -> &[u8]
         ensures { result.now ≡ name_sort self.now }
     {
         if self.is_above {

@@ -29,6 +29,7 @@ use crate::name::reading::{read_name, read_one_rdn};
 use crate::value::{has_text_key, text_key};
 use crate::{Bytes, DnKey, NameFault, RdnKey, Schema};
 use std::alloc::Global;
+use std::fmt;
 use std::marker::Model;
 use std::rc::Rc;
 
@@ -189,7 +190,7 @@ pub(crate) fn type_and_value_key(
 
 /// A distinguished name as spelled: its RDNs, leaf first. It keeps neither the spaces around separators
 /// nor the choice of escapes.
-#[derive(Debug, Drop)]
+#[derive(Drop)]
 pub struct Dn {
     rdns: Vec<Rdn>,
     /// The key of the name, if it is known.
@@ -397,6 +398,13 @@ impl Dn {
         }
         let key = cloned_key(alloc, self.known_key())?;
         Ok(Dn { rdns, key })
+    }
+}
+
+/// Shows the RDNs alone.
+impl fmt::Debug for Dn {
+    fn fmt<W: fmt::Write>(&self, f: &mut fmt::Formatter<W>) -> fmt::Result {
+        f.debug_struct("Dn").field("rdns", &self.rdns).finish()
     }
 }
 

@@ -15,6 +15,8 @@ mod make;
 #[cfg(test)]
 mod names;
 #[cfg(test)]
+mod parents;
+#[cfg(test)]
 mod rdns;
 #[cfg(test)]
 mod reader;

@@ -61,6 +61,25 @@ pub(crate) fn assert_printed(rt: &impl Abort, alloc: Global, name: &Dn, want: &s
     assert!(rt; printed.as_slice() == want.as_bytes(), "{want}");
 }
 
+/// How a name of one RDN is shown, and how it is laid out.
+const SHOWN: &str =
+    "Dn { rdns: [Rdn { pairs: One((Bytes { items: [108] }, Bytes { items: [98] })) }] }";
+
+const LAID_OUT: &str =
+    "Dn {\n    rdns: [\n        Rdn {\n            pairs: One(\n                (\n                    Bytes {\n                        items: [\n                            108,\n                        ],\n                    },\n                    Bytes {\n                        items: [\n                            98,\n                        ],\n                    },\n                ),\n            ),\n        },\n    ],\n}";
+
+#[test]
+fn a_name_is_shown(rt: HostRuntime) {
+    let one = name(&rt, rt.alloc(), "l=b");
+    let shown = format!(in rt.alloc(); "{one:?}").expect(&rt, "memory");
+    assert!(rt; shown.as_str() == SHOWN, "{shown}");
+    let laid_out = format!(in rt.alloc(); "{one:#?}").expect(&rt, "memory");
+    assert!(rt; laid_out.as_str() == LAID_OUT, "{laid_out}");
+    let empty = name(&rt, rt.alloc(), "");
+    let shown = format!(in rt.alloc(); "{empty:?}").expect(&rt, "memory");
+    assert!(rt; shown.as_str() == "Dn { rdns: [] }", "{shown}");
+}
+
 fn assert_reads(rt: &impl Abort, alloc: Global, text: &str, want: &Dn) {
     let name = Dn::read_text(alloc, text.as_bytes());
     assert!(rt; name.expect(rt, "a name") == *want, "{text}");

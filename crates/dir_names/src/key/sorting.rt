@@ -25,6 +25,25 @@ pub(crate) fn put_part(part: &RdnKey, out: &mut Vec<u8>) -> Result<(), NameFault
     put_set(part.pairs(), out)
 }
 
+/// The length of the text of one RDN. It is longer if a byte in it has to be marked.
+pub(crate) fn part_len(part: &RdnKey) -> usize {
+    let mut len = 2usize;
+    for pair in part.pairs() {
+        len = len.saturating_add(pair_len(pair));
+    }
+    len
+}
+
+fn pair_len(pair: &(AttrKey, Bytes)) -> usize {
+    let mut len = pair.0.attr_type().len().saturating_add(4);
+    for option in pair.0.options() {
+        len = len
+            .saturating_add(option.as_slice().len())
+            .saturating_add(2);
+    }
+    len.saturating_add(pair.1.as_slice().len())
+}
+
 /// Appends the text of the RDN that has these pairs.
 pub(crate) fn put_set(pairs: &[(AttrKey, Bytes)], out: &mut Vec<u8>) -> Result<(), NameFault>
     ensures { Gives (λ _. out.new.items) result (Ok (out.old.items ++ 1 ∷ rdn_sort pairs.now)) }

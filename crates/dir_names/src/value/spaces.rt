@@ -41,8 +41,9 @@ fn are_spaces_apart(text: &[u8]) -> bool
 fn copy_without_extra_spaces(alloc: Global, text: &[u8]) -> Result<Vec<u8>, NameFault>
     ensures { Gives (λ tidy. tidy.items) result (Ok (without_extra_spaces text.now)) }
 {
-    let mut out = Vec::with_capacity(alloc, text.len())?;
-    put_words(text, &mut out)?;
+    let rest = without_leading_spaces(text);
+    let mut out = Vec::with_capacity(alloc, rest.len())?;
+    put_words(rest, &mut out)?;
     Ok(out)
 }
 
@@ -53,9 +54,20 @@ pub(crate) fn put_words(text: &[u8], out: &mut Vec<u8>) -> Result<(), NameFault>
     let mut rest = without_leading_spaces(text);
     while !rest.is_empty() {
         let end = tidy_len(rest);
-        out.extend_from_slice(&rest[..end])?;
+        put_run(&rest[..end], out)?;
         rest = without_leading_spaces(&rest[end..]);
         put_space_before(rest, out)?;
+    }
+    Ok(())
+}
+
+/// Appends a run. One byte alone takes less time by itself.
+fn put_run(run: &[u8], out: &mut Vec<u8>) -> Result<(), NameFault>
+    ensures { Gives (λ _. out.new.items) result (Ok (out.old.items ++ run.now)) }
+{
+    match run {
+        [b] => out.push(*b)?,
+        _ => out.extend_from_slice(run)?,
     }
     Ok(())
 }
@@ -66,18 +78,11 @@ fn tidy_len(text: &[u8]) -> usize
     ensures within { result ≤ length text.now }
 {
     for (i, b) in text.iter().enumerate() {
-        if is_extra_space(*b, &text[i + 1..]) {
+        if *b == b' ' && is_end_or_space(&text[i + 1..]) {
             return i;
         }
     }
     text.len()
-}
-
-/// Whether this is a space at the end or before another one.
-fn is_extra_space(b: u8, rest: &[u8]) -> bool
-    ensures { result ≡ (b == 32 && is_end_or_space rest.now) }
-{
-    b == b' ' && is_end_or_space(rest)
 }
 
 fn is_end_or_space(text: &[u8]) -> bool

@@ -27,9 +27,9 @@ loop-rest-preserved c =
     let rest = c.loop-rest.rest.now in
     let at : c.tidy_len-end.result ≡ tidy_len rest = search rules in
     let next : c.without_leading_spaces-rest-in-loop-rest.result.now ≡ without_leading_spaces (drop c.tidy_len-end.result rest) = c.without_leading_spaces-rest-in-loop-rest.ensures ∙ ap without_leading_spaces (take_rest rest _) in
-    let word : c.extend_from_slice.new.self.items ≡ c.loop-rest.out.items ++ take c.tidy_len-end.result rest = search rules in
+    let word : c.put_run.new.out.items ≡ c.loop-rest.out.items ++ take c.tidy_len-end.result rest = search rules in
     let space = cond (length c.without_leading_spaces-rest-in-loop-rest.result.now == 0) [] (32 ∷ []) in
-    let put : c.put_space_before.new.out.items ≡ c.extend_from_slice.new.self.items ++ space = search rules in
+    let put : c.put_space_before.new.out.items ≡ c.put_run.new.out.items ++ space = search rules in
     let all = put ∙ ap (λ l. l ++ space) word in (
       rw next (begins_with_word (drop c.tidy_len-end.result rest)),
       c.loop-rest.invariant.1
