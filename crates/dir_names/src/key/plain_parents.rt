@@ -7,10 +7,11 @@ ghost use Rattle.dir_names.specs.NameKeys.{name_value_key};
 ghost use Rattle.dir_names.specs.Table.Builtin.{builtin_rows};
 
 use crate::key::plain::{put_plain_parent, put_plain_rdn};
+use crate::name::reader::hash_of;
 use crate::{NameFault, Schema};
 use std::alloc::Global;
 
-/// The greatest number of parents that are remembered.
+/// The number of slots, each of which remembers one parent: as many as 10 bits tell apart.
 const SLOTS: usize = 1024;
 
 /// So many names are read before parents are remembered, so that a few names cost no slots.
@@ -38,7 +39,7 @@ pub(crate) struct PlainParents {
 #[derive(Drop)]
 struct Slot {
     /// The hash of the text that was last sought here in vain.
-    sought: usize,
+    sought: u64,
     parent: Option<Box<PlainParent>>,
 }
 
@@ -62,7 +63,7 @@ impl PlainParents {
     pub(crate) fn parent(&self, text: &[u8]) -> Option<&PlainParent>
         ensures { IfSome result (λ parent. parent.now.text.items ≡ text.now) }
     {
-        match self.slots.as_ref()?.get(slot_of(text)) {
+        match self.slots.as_ref()?.get(slot_of(hash_of(text))) {
             Some(
                 Slot {
                     parent: Some(parent),
@@ -112,7 +113,7 @@ impl PlainParents {
         let Some(slot) = self
             .slots
             .as_mut()
-            .and_then(|slots| slots.get_mut(hash % SLOTS))
+            .and_then(|slots| slots.get_mut(slot_of(hash)))
         else {
             return;
         };
@@ -170,14 +171,6 @@ fn empty_slots(alloc: Global) -> Result<Vec<Slot>, NameFault> {
     Ok(slots)
 }
 
-fn slot_of(text: &[u8]) -> usize {
-    hash_of(text) % SLOTS
-}
-
-fn hash_of(text: &[u8]) -> usize {
-    let mut hash = text.len();
-    for b in text {
-        hash = hash.wrapping_mul(31).wrapping_add(usize::from(*b));
-    }
-    hash
+fn slot_of(hash: u64) -> usize {
+    (hash >> 54) as usize
 }

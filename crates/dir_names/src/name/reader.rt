@@ -117,7 +117,7 @@ fn empty_slots(alloc: Global) -> Result<Vec<Slot>, NameFault> {
 }
 
 /// A number for a text, of which each byte of the text changes the highest bits.
-fn hash_of(text: &[u8]) -> u64 {
+pub(crate) fn hash_of(text: &[u8]) -> u64 {
     let (words, rest) = text.as_chunks::<8>();
     let mut hash = 0u64;
     for word in words {
