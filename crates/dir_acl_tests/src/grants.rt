@@ -4,6 +4,7 @@ use crate::make::{attr, directory, key, schema};
 use dir_acl::{
     Asked, Config, Privileges, Request, cuts_are_found, privileges_under, reading_is_the_grammar,
 };
+use dir_names::DnKey;
 use dir_tree::Directory;
 use std::alloc::Global;
 use std::process::Abort;
@@ -224,14 +225,31 @@ fn words_may_come_in_any_order(rt: HostRuntime) {
     }
 }
 
-/// The rules for a target answer each word as the configuration does.
 fn assert_alike(rt: &impl Abort, alloc: Global, asking: &Asking<'_>, words: &[&str]) {
     let (text, requester, target) = asking;
     let config = config(rt, alloc, text);
+    assert_answers(
+        rt,
+        alloc,
+        &config,
+        requester,
+        &key(rt, alloc, target),
+        words,
+    );
+}
+
+/// The rules for a target answer each word as the configuration does.
+fn assert_answers(
+    rt: &impl Abort,
+    alloc: Global,
+    config: &Config,
+    requester: &str,
+    target: &DnKey,
+    words: &[&str],
+) {
     let directory = directory(rt, alloc);
-    let target = key(rt, alloc, target);
-    let entry = directory.get(&target);
-    let mut rules = config.rules_for(alloc, &target, entry);
+    let entry = directory.get(target);
+    let mut rules = config.rules_for(alloc, target, entry);
     for word in words {
         let request = Request {
             requester: Some(key(rt, alloc, requester)),
