@@ -233,7 +233,8 @@ fn assert_rename_undo(rt: &impl Abort, alloc: Global, entry: &str, text: &str, w
         let _ = history_of(rt, alloc, &schema, &mut directory, earlier);
     }
     let changes = changes(rt, alloc, &schema, text);
-    let undo = any_undo_of(rt, alloc, &schema, &mut directory, &changes.as_slice()[0]);
+    let change = changes.as_slice().first().expect(rt, "a change");
+    let undo = any_undo_of(rt, alloc, &schema, &mut directory, change);
     assert!(rt; undo.records().len() == 2, "two records");
     let mut history = History::new(alloc);
     history.push(undo).expect(rt, "memory");
