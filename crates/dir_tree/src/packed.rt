@@ -1,107 +1,30 @@
 //! The attributes of an entry in little memory: the texts of all values in one, and where in it each of them is.
 
-ghost use Rattle.std.specs.Prelude.{◌≡◌, ◌++◌, ◌∷◌, ◌<◌, ℕ, List, [], IfOk, IfSome, IsTrue, OnOk, drop, get_or, length, map};
-ghost use Rattle.dir_names.specs.Keys.{DnKeys};
+ghost use Rattle.std.specs.Prelude.{◌≡◌, ◌<◌, ℕ, List, [], IfSome, IsTrue, drop, get_or, length, map};
 ghost use Rattle.dir_names.specs.declared.value.ValueKey.{ValueKey};
 ghost use Rattle.std.specs.FinMap as fin;
 ghost use Rattle.std.specs.Option.{option_map};
 ghost use Rattle.dir_names.specs.Sorted.{place};
 ghost use Rattle.dir_names.specs.Values.{value_key_cmp};
 ghost use Rattle.dir_tree.specs.Lent.{key_or_value, lent_key};
-ghost use Rattle.dir_tree.specs.Inside.Packed.{IsInside, IsKeyInside, IsPacked, key_in, packed_attribute, packed_value, part_of, values_of};
+ghost use Rattle.dir_tree.specs.Inside.Packed.{IsPacked, packed_attribute, packed_value, part_of, values_of};
 ghost use Rattle.dir_tree.specs.Inside.Searches.{sought_key};
 ghost use Rattle.dir_tree.specs.Inside.Stored.{are_rising, attributes_in, attributes_rise, value_pair};
 ghost use Rattle.std.specs.List.Sorted.{IsSearchInRange};
 
+mod packing;
 pub(crate) mod pattern;
+mod sharing;
 
 use crate::search::{Sought, cmp_lent};
-use crate::values::ValueMap;
-use crate::views::{AttributeView, KeyView, LentValues};
-use dir_names::{AttrKey, Description, DnSortKey, Memory};
-use std::alloc::Global;
+use crate::views::{AttributeView, KeyView};
+use dir_names::{AttrKey, Description, DnSortKey};
+pub(crate) use packing::Rooms;
+pub(crate) use sharing::Shared;
 use std::cmp::Ordering;
 use std::marker::Model;
 use std::rc::Rc;
 use std::slice;
-
-/// How many lists of attributes, and how many keys of names, are kept to be shared.
-const MOST_RECENT: usize = 8;
-
-/// How much room some values take when they are packed.
-#[derive(Clone, Copy)]
-struct Room {
-    values: usize,
-    text: usize,
-    names: usize,
-}
-
-impl Room {
-    fn none() -> Room {
-        Room {
-            values: 0,
-            text: 0,
-            names: 0,
-        }
-    }
-
-    /// The room for the values of one attribute more.
-    fn with_values(self, attribute: &AttributeView<'_>) -> Room {
-        let mut room = self;
-        match attribute.lent() {
-            LentValues::Open(values) => {
-                for value in values.stored() {
-                    room = room.with(value.bytes().as_slice().len(), value.own_key());
-                }
-            }
-            LentValues::Packed(values) => {
-                for value in values.values {
-                    room = room.with(value.bytes(values.pool).len(), value.own_key(values.pool));
-                }
-            }
-        }
-        room
-    }
-
-    /// The room for one value more, of so many bytes, with the key that is not the value itself.
-    fn with(self, bytes: usize, key: Option<KeyView<'_>>) -> Room {
-        let (own, names) = match key {
-            None => (0, 0),
-            Some(KeyView::Text(own)) => (own.len(), 0),
-            Some(KeyView::Name(_)) => (0, 1),
-        };
-        Room {
-            values: self.values.saturating_add(1),
-            text: self.text.saturating_add(bytes).saturating_add(own),
-            names: self.names.saturating_add(names),
-        }
-    }
-}
-
-/// How much room the values of an entry take: those that many entries have, and its own.
-#[derive(Clone, Copy)]
-pub(crate) struct Rooms {
-    common: Room,
-    own: Room,
-}
-
-impl Rooms {
-    /// The room for the values of these attributes.
-    pub(crate) fn of(attributes: &[AttributeView<'_>]) -> Rooms {
-        let mut rooms = Rooms {
-            common: Room::none(),
-            own: Room::none(),
-        };
-        for attribute in attributes {
-            if is_common(attribute.description()) {
-                rooms.common = rooms.common.with_values(attribute);
-            } else {
-                rooms.own = rooms.own.with_values(attribute);
-            }
-        }
-        rooms
-    }
-}
 
 /// Whether the values of an attribute are likely to be the same in many entries.
 fn is_common(description: &Description) -> bool {
@@ -173,13 +96,6 @@ struct Pool {
 }
 
 impl Pool {
-    fn with_room(alloc: Global, room: Room) -> Result<Pool, Memory> {
-        Ok(Pool {
-            text: Vec::with_capacity(alloc, room.text)?,
-            names: Vec::with_capacity(alloc, room.names)?,
-        })
-    }
-
     fn lend(&self) -> PoolView<'_>
         ensures text { result.text.now ≡ self.now.text.items }
         ensures names { result.names.now ≡ self.now.names.items }
@@ -228,88 +144,6 @@ impl Model for PackedValues {
 }
 
 impl PackedValues {
-    /// No values, with room for so many.
-    fn with_room(alloc: Global, room: Room) -> Result<PackedValues, Memory>
-        ensures { IfOk result (λ p. p ≡ []) }
-    {
-        Ok(PackedValues {
-            values: Vec::with_capacity(alloc, room.values)?,
-            pool: Pool::with_room(alloc, room)?,
-        })
-    }
-
-    /// The values and one more, with its key unless that is the value itself.
-    fn with_value(
-        self,
-        alloc: Global,
-        bytes: &[u8],
-        key: Option<KeyView<'_>>,
-    ) -> Result<PackedValues, Memory>
-        ensures { IfOk result (λ p. p ≡ self ++ (key_or_value key.entry bytes.now, bytes.now) ∷ []) }
-    {
-        let PackedValues { mut values, pool } = self;
-        match pooled(alloc, pool, bytes, key) {
-            Ok((pool, value)) => match values.push(value) {
-                Ok(()) => Ok(PackedValues { values, pool }),
-                Err(_) => Err(Memory),
-            },
-            Err(_) => Err(Memory),
-        }
-    }
-
-    /// The values and those of an attribute, which are between two indices.
-    fn with_values_at(
-        self,
-        alloc: Global,
-        attribute: &AttributeView<'_>,
-    ) -> Result<(PackedValues, u16, u16), Memory>
-        ensures values { IfOk result (λ with. with.0 ≡ self ++ fin.entries attribute.now.stored.values) }
-        ensures start { IfOk result (λ with. with.1 ≡ length self) }
-        ensures end { IfOk result (λ with. with.2 ≡ length with.0) }
-    {
-        let start = index(self.values.len())?;
-        let packed = self.with_values(alloc, attribute)?;
-        let end = index(packed.values.len())?;
-        Ok((packed, start, end))
-    }
-
-    /// The values and those of an attribute.
-    fn with_values(
-        self,
-        alloc: Global,
-        attribute: &AttributeView<'_>,
-    ) -> Result<PackedValues, Memory>
-        ensures { IfOk result (λ p. p ≡ self ++ fin.entries attribute.now.stored.values) }
-    {
-        match attribute.lent() {
-            LentValues::Open(values) => self.with_map(alloc, values),
-            LentValues::Packed(values) => self.with_packed(alloc, values),
-        }
-    }
-
-    /// The values and those of a map.
-    fn with_map(self, alloc: Global, map: &ValueMap) -> Result<PackedValues, Memory>
-        ensures { IfOk result (λ p. p ≡ self ++ fin.entries map.now) }
-    {
-        let mut packed = self;
-        for value in map.stored() {
-            packed = packed.with_value(alloc, value.bytes().as_slice(), value.own_key())?;
-        }
-        Ok(packed)
-    }
-
-    /// The values and others that are packed.
-    fn with_packed(self, alloc: Global, others: PackedSlice<'_>) -> Result<PackedValues, Memory>
-        ensures { IfOk result (λ p. p ≡ self ++ values_of others.entry) }
-    {
-        let mut packed = self;
-        for value in others.values {
-            let bytes = value.bytes(others.pool);
-            packed = packed.with_value(alloc, bytes, value.own_key(others.pool))?;
-        }
-        Ok(packed)
-    }
-
     /// Whether these values are made of the same parts as the others.
     fn is_like(&self, other: &PackedValues) -> bool
         ensures { IsTrue result → self.now ≡ other.now }
@@ -327,70 +161,6 @@ impl PackedValues {
             pool: self.pool.lend(),
         }
     }
-}
-
-/// The pool with a value and its key, unless that is the value itself, and where they are.
-fn pooled(
-    alloc: Global,
-    pool: Pool,
-    bytes: &[u8],
-    key: Option<KeyView<'_>>,
-) -> Result<(Pool, PackedValue), Memory>
-    ensures value { IfOk result (λ with. packed_value with.0.text.items with.0.names.items with.1 ≡ (key_or_value key.entry bytes.now, bytes.now)) }
-    ensures inside { IfOk result (λ with. IsInside with.0.text.items with.0.names.items with.1) }
-    ensures text { IfOk result (λ with. (more : List ℕ) × (with.0.text.items ≡ pool.text.items ++ more)) }
-    ensures names { IfOk result (λ with. (more : List DnKeys) × (with.0.names.items ≡ pool.names.items ++ more)) }
-{
-    let Pool { mut text, names } = pool;
-    let start = index(text.len())?;
-    text.extend_from_slice(bytes)?;
-    let end = index(text.len())?;
-    let (pool, key) = pooled_key(alloc, Pool { text, names }, key)?;
-    Ok((pool, PackedValue { start, end, key }))
-}
-
-/// The pool, whose text ends with a value, with the value's key, unless that is the value itself.
-fn pooled_key(
-    alloc: Global,
-    pool: Pool,
-    key: Option<KeyView<'_>>,
-) -> Result<(Pool, PackedKey), Memory>
-    ensures key { IfOk result (λ with. (start : ℕ) → key_in with.0.text.items with.0.names.items start (length pool.text.items) with.1 ≡ key_or_value key.entry (part_of pool.text.items start (length pool.text.items))) }
-    ensures inside { IfOk result (λ with. IsKeyInside with.0.text.items with.0.names.items with.1) }
-    ensures text { IfOk result (λ with. (more : List ℕ) × (with.0.text.items ≡ pool.text.items ++ more)) }
-    ensures names { IfOk result (λ with. (more : List DnKeys) × (with.0.names.items ≡ pool.names.items ++ more)) }
-{
-    let Some(key) = key else {
-        return Ok((pool, PackedKey::Same));
-    };
-    let Pool {
-        mut text,
-        mut names,
-    } = pool;
-    match key {
-        KeyView::Text(own) => {
-            text.extend_from_slice(own)?;
-            let end = index(text.len())?;
-            Ok((Pool { text, names }, PackedKey::Text(end)))
-        }
-        KeyView::Name(name) => {
-            let at = index(names.len())?;
-            match name.try_clone(alloc) {
-                Ok(name) => match names.push(name) {
-                    Ok(()) => Ok((Pool { text, names }, PackedKey::Name(at))),
-                    Err(_) => Err(Memory),
-                },
-                Err(_) => Err(Memory),
-            }
-        }
-    }
-}
-
-/// An index of a text or a list, if that is short enough to be packed.
-fn index(at: usize) -> Result<u16, Memory>
-    ensures { IfOk result (λ n. n ≡ at) }
-{
-    u16::try_from(at).map_err(|_| Memory)
 }
 
 /// Values in a text, lent.
@@ -520,81 +290,6 @@ pub(crate) struct PackedAttribute {
     description: Description,
 }
 
-/// Attributes that are being packed.
-#[derive(Drop)]
-struct Packing {
-    attributes: Vec<PackedAttribute>,
-    common: PackedValues,
-    own: PackedValues,
-}
-
-impl Model for Packing {
-    ghost use Rattle.std.specs.Prelude.{List, map};
-    ghost use Rattle.std.specs.List.{All};
-    ghost use Rattle.std.specs.Coded.{coded_list};
-    ghost use Rattle.dir_tree.specs.Content.{Keyed};
-    ghost use Rattle.dir_tree.specs.Inside.Codes.{keyed_code};
-    ghost use Rattle.dir_tree.specs.Inside.Packed.{IsPacked, packed_attribute};
-
-    ghost Value = { List Keyed };
-
-    ghost coded = { coded_list keyed_code };
-
-    ghost view = { λ p. map (packed_attribute p.common p.own) p.attributes.items };
-
-    ghost invariant = { λ p. All (IsPacked p.common p.own) p.attributes.items };
-}
-
-impl Packing {
-    /// The attributes and one more.
-    fn with_attribute(self, alloc: Global, attribute: &AttributeView<'_>) -> Result<Packing, Memory>
-        ensures { IfOk result (λ p. p ≡ self ++ attribute.now ∷ []) }
-    {
-        let Packing {
-            mut attributes,
-            common,
-            own,
-        } = self;
-        let Ok(description) = attribute.description().try_clone(alloc) else {
-            return Err(Memory);
-        };
-        let is_common = is_common(attribute.description());
-        let (common, own, start, end) = if is_common {
-            let (common, start, end) = common.with_values_at(alloc, attribute)?;
-            (common, own, start, end)
-        } else {
-            let (own, start, end) = own.with_values_at(alloc, attribute)?;
-            (common, own, start, end)
-        };
-        attributes.push(PackedAttribute {
-            is_common,
-            start,
-            end,
-            description,
-        })?;
-        Ok(Packing {
-            attributes,
-            common,
-            own,
-        })
-    }
-
-    fn finish(self, alloc: Global) -> Result<PackedAttributes, Memory>
-        ensures { IfOk result (λ p. p ≡ self) }
-    {
-        let Packing {
-            attributes,
-            common,
-            own,
-        } = self;
-        Ok(PackedAttributes {
-            attributes: Rc::new(alloc, attributes)?,
-            common: Rc::new(alloc, common)?,
-            own,
-        })
-    }
-}
-
 /// Attributes with their values. Entries that are alike share the list of attributes, and the values that many have.
 #[derive(Debug, Drop)]
 pub(crate) struct PackedAttributes {
@@ -621,34 +316,6 @@ impl Model for PackedAttributes {
 }
 
 impl PackedAttributes {
-    /// These attributes, whose values take so much room.
-    pub(crate) fn of(
-        alloc: Global,
-        attributes: &[AttributeView<'_>],
-        rooms: Rooms,
-    ) -> Result<PackedAttributes, Memory>
-        ensures { IfOk result (λ p. p ≡ attributes.now) }
-    {
-        let mut packing = Packing {
-            attributes: Vec::with_capacity(alloc, attributes.len())?,
-            common: PackedValues::with_room(alloc, rooms.common)?,
-            own: PackedValues::with_room(alloc, rooms.own)?,
-        };
-        for attribute in attributes {
-            packing = packing.with_attribute(alloc, attribute)?;
-        }
-        packing.finish(alloc)
-    }
-
-    /// Shares the memory of the list of attributes, of common values and of the keys of names with entries before.
-    pub(crate) fn share(&mut self, alloc: Global, shared: &mut Shared)
-        ensures { self.new ≡ self.old }
-    {
-        share_shape(&mut self.attributes, &mut shared.shapes);
-        share_values(&mut self.common, &mut shared.values);
-        share_names(alloc, &mut self.own.pool.names, &mut shared.names);
-    }
-
     pub(crate) fn len(&self) -> usize
         ensures { result ≡ length self.now }
     {
@@ -757,152 +424,5 @@ impl<'a> Iterator for PackedViews<'a> {
     fn next(&mut self) -> Option<AttributeView<'a>> {
         let attribute = self.attributes.next()?;
         Some(view_of(attribute, self.common, self.own))
-    }
-}
-
-/// What entries have that others after them may share.
-#[derive(Drop)]
-pub(crate) struct Shared {
-    shapes: Recent<Rc<Vec<PackedAttribute>>>,
-    values: Recent<Rc<PackedValues>>,
-    names: Recent<DnSortKey>,
-}
-
-impl Shared {
-    pub(crate) fn new(alloc: Global) -> Shared {
-        Shared {
-            shapes: Recent::new(alloc),
-            values: Recent::new(alloc),
-            names: Recent::new(alloc),
-        }
-    }
-}
-
-/// Exchanges a list of attributes for one that is alike, if one was met not long ago.
-fn share_shape(shape: &mut Rc<Vec<PackedAttribute>>, recent: &mut Recent<Rc<Vec<PackedAttribute>>>)
-    ensures { shape.new.value.items ≡ shape.old.value.items }
-{
-    if is_shared(recent.as_slice(), shape) {
-        return;
-    }
-    if let Some(alike) = find_shape(recent.as_slice(), shape.as_slice()) {
-        if let Ok(alike) = alike.clone() {
-            *shape = alike;
-        }
-    } else if let Ok(shape) = shape.clone() {
-        recent.add(shape);
-    }
-}
-
-/// Whether a list is in the memory of one of these.
-fn is_shared(shapes: &[Rc<Vec<PackedAttribute>>], shape: &Rc<Vec<PackedAttribute>>) -> bool {
-    shapes.iter().any(|known| Rc::ptr_eq(known, shape))
-}
-
-/// A list that has the same attributes, if there is one.
-fn find_shape<'a>(
-    shapes: &'a [Rc<Vec<PackedAttribute>>],
-    attributes: &[PackedAttribute],
-) -> Option<&'a Rc<Vec<PackedAttribute>>>
-    ensures { IfSome result (λ shape. shape.now.value.items ≡ attributes.now) }
-{
-    for shape in shapes {
-        if shape.as_slice() == attributes {
-            return Some(shape);
-        }
-    }
-    None
-}
-
-/// Exchanges values for the same ones, if they were met not long ago.
-fn share_values(values: &mut Rc<PackedValues>, recent: &mut Recent<Rc<PackedValues>>)
-    ensures { values.new.value ≡ values.old.value }
-{
-    if let Some(same) = find_values(recent.as_slice(), values) {
-        if let Ok(same) = same.clone() {
-            *values = same;
-        }
-    } else if let Ok(values) = values.clone() {
-        recent.add(values);
-    }
-}
-
-/// The same values, if they are there.
-fn find_values<'a>(
-    recent: &'a [Rc<PackedValues>],
-    values: &PackedValues,
-) -> Option<&'a Rc<PackedValues>>
-    ensures { IfSome result (λ found. found.now.value ≡ values.now) }
-{
-    for found in recent {
-        if found.is_like(values) {
-            return Some(found);
-        }
-    }
-    None
-}
-
-/// Exchanges keys of names for the same ones, where they were met not long ago.
-fn share_names(alloc: Global, names: &mut Vec<DnSortKey>, recent: &mut Recent<DnSortKey>)
-    ensures { names.new.items ≡ names.old.items }
-{
-    for at in 0..names.len() {
-        share_name(alloc, &mut names[at], recent);
-    }
-}
-
-/// Exchanges the key of a name for the same one, if it was met not long ago.
-fn share_name(alloc: Global, name: &mut DnSortKey, recent: &mut Recent<DnSortKey>)
-    ensures { name.new ≡ name.old }
-{
-    if let Some(same) = find_name(recent.as_slice(), name) {
-        if let Ok(same) = same.try_clone(alloc) {
-            *name = same;
-        }
-    } else if let Ok(name) = name.try_clone(alloc) {
-        recent.add(name);
-    }
-}
-
-/// The same key, if it is there.
-fn find_name<'a>(names: &'a [DnSortKey], name: &DnSortKey) -> Option<&'a DnSortKey>
-    ensures { IfSome result (λ found. found.now ≡ name.now) }
-{
-    for found in names {
-        if found == name {
-            return Some(found);
-        }
-    }
-    None
-}
-
-/// The last few items that were added.
-#[derive(Drop)]
-struct Recent<T> {
-    items: Vec<T>,
-    oldest: usize,
-}
-
-impl<T: Drop> Recent<T> {
-    fn new(alloc: Global) -> Recent<T> {
-        Recent {
-            items: Vec::new(alloc),
-            oldest: 0,
-        }
-    }
-
-    fn as_slice(&self) -> &[T] {
-        self.items.as_slice()
-    }
-
-    /// Adds an item, in place of the oldest if there are many. Where memory runs out it is not added.
-    fn add(&mut self, item: T) {
-        if self.items.len() < MOST_RECENT {
-            let _ = self.items.push(item);
-            return;
-        }
-        let oldest = self.oldest % MOST_RECENT;
-        self.items[oldest] = item;
-        self.oldest = oldest + 1;
     }
 }

@@ -10,9 +10,10 @@ ghost use Rattle.dir_tree.specs.Inside.Patterns.{AddsLines, HasEach, InsertsValu
 ghost use Rattle.dir_tree.specs.Inside.Stored.{attributes_in, attributes_rise};
 ghost use Rattle.dir_tree.specs.NewEntry.{attributes_of};
 
+use crate::packed::packing::{Room, index};
 use crate::packed::{
-    PackedAttribute, PackedAttributes, PackedKey, PackedValue, PackedValues, Pool, PoolView, Room,
-    index, is_common,
+    PackedAttribute, PackedAttributes, PackedKey, PackedValue, PackedValues, Pool, PoolView,
+    is_common,
 };
 use crate::search::{Sought, cmp_lent};
 use dir_names::{AttrKey, Bytes, Description, PushedKey, RecentNames, Schema};

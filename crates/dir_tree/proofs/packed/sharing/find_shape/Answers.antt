@@ -1,7 +1,7 @@
 use Rattle.std.proofs.Common.{ap, sym, ◌∙◌}
 use Rattle.std.proofs.lemmas.Slice.Eq.{slice_eq-Decides}
 use Rattle.dir_tree.proofs.Alike.{attribute_eq_decides}
-use Rattle.dir_tree.proofs.packed.find_shape.Goals as goal
+use Rattle.dir_tree.proofs.packed.sharing.find_shape.Goals as goal
 
 pub returns-then-eq : goal.returns-then-eq
 returns-then-eq c =

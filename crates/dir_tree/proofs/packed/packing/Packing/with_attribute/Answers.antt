@@ -3,8 +3,8 @@ use Rattle.std.specs.FinMap as fin
 use Rattle.std.specs.List.{All}
 use Rattle.dir_tree.specs.Inside.Packed.{IsPacked, packed_attribute}
 use Rattle.dir_tree.proofs.PackedLists.{Added, added_common, added_own, attributes-push, packed-push}
-use Rattle.dir_tree.proofs.packed.Packing.with_attribute.Goals as goal
-use Rattle.dir_tree.proofs.packed.Packing.with_attribute.Goals.{In_ok-push, then-is_common+in_ok-common, else-is_common+in_ok-own}
+use Rattle.dir_tree.proofs.packed.packing.Packing.with_attribute.Goals as goal
+use Rattle.dir_tree.proofs.packed.packing.Packing.with_attribute.Goals.{In_ok-push, then-is_common+in_ok-common, else-is_common+in_ok-own}
 
 added : (c : In_ok-push) → Added c.self.inside.common c.self.inside.own (fin.entries c.args.attribute.now.stored.values) c.is_common-is_common.result c.if-is_common.common.0 c.if-is_common.common.1 c.if-is_common.common.2 c.if-is_common.common.3
 added c =
