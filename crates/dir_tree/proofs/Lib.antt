@@ -6,6 +6,7 @@ pub mod DirLemmas
 pub mod EachEntry
 pub mod EachLine
 pub mod Examples
+pub mod ExchangedAttributes
 pub mod Faults
 pub mod FoundInPieces
 pub mod GainedValues

@@ -173,6 +173,9 @@ impl KeptAttributes {
         let Form::Packed(packed) = &self.form else {
             return None;
         };
+        if let Some(exchanged) = exchanged(alloc, packed, keys, part).ok()? {
+            return Some(exchanged);
+        }
         let mut attributes = LentAttributes::of_packed(alloc, packed).ok()?;
         attributes.set_all(keys, part).ok()?;
         attributes.packed_up_to(alloc, MOST_PACKED_AGAIN)
@@ -277,6 +280,28 @@ impl KeptAttributes {
             }
         }
         false
+    }
+}
+
+/// Packed attributes with what a part has under these keys, if that is one attribute in place of one with as many values.
+fn exchanged(
+    alloc: Global,
+    packed: &PackedAttributes,
+    keys: &[AttrKey],
+    part: &AttributeMap,
+) -> Result<Option<KeptAttributes>, Memory>
+    requires { IsTrue (attributes_rise packed.now) }
+    ensures { IfOk result (λ new. IfSome new (λ all. all ≡ with_slots (attributes_in packed.now) keys.now part.now)) }
+{
+    let [key] = keys else {
+        return Ok(None);
+    };
+    let Some(attribute) = part.get(key) else {
+        return Ok(None);
+    };
+    match packed.with_exchanged(alloc, attribute)? {
+        Some(new) => Ok(Some(KeptAttributes::of_packed(new))),
+        None => Ok(None),
     }
 }
 

@@ -1,6 +1,6 @@
 //! The attributes of an entry in little memory: the texts of all values in one, and where in it each of them is.
 
-ghost use Rattle.std.specs.Prelude.{◌≡◌, ◌<◌, ℕ, List, [], IfSome, IsTrue, drop, get_or, length, map};
+ghost use Rattle.std.specs.Prelude.{◌≡◌, ◌-◌, ◌<◌, ℕ, List, [], IfSome, IsTrue, drop, get_or, length, map};
 ghost use Rattle.dir_names.specs.declared.value.ValueKey.{ValueKey};
 ghost use Rattle.std.specs.FinMap as fin;
 ghost use Rattle.std.specs.Option.{option_map};
@@ -12,6 +12,7 @@ ghost use Rattle.dir_tree.specs.Inside.Searches.{sought_key};
 ghost use Rattle.dir_tree.specs.Inside.Stored.{are_rising, attributes_in, attributes_rise, value_pair};
 ghost use Rattle.std.specs.List.Sorted.{IsSearchInRange};
 
+mod exchanging;
 mod packing;
 pub(crate) mod pattern;
 mod sharing;
@@ -288,6 +289,15 @@ pub(crate) struct PackedAttribute {
     start: u16,
     end: u16,
     description: Description,
+}
+
+impl PackedAttribute {
+    /// How many values it has.
+    fn len(&self) -> usize
+        ensures { result ≡ self.now.end - self.now.start }
+    {
+        usize::from(self.end.saturating_sub(self.start))
+    }
 }
 
 /// Attributes with their values. Entries that are alike share the list of attributes, and the values that many have.

@@ -87,6 +87,64 @@ fn a_small_entry_gets_the_attributes_of_a_part(rt: HostRuntime) {
     assert!(rt; title.len() == 1);
 }
 
+/// What takes the place of one attribute of the entry: as many values or not, of its own or such as many entries have, a
+/// name, spelled otherwise, and an attribute that it lacks.
+const ATTRIBUTES: [(&str, &str); 8] = [
+    ("cn", "Kim Lee"),
+    ("telephoneNumber", "+1 555-0199, by day"),
+    ("manager", "CN=Ann, DC=Example"),
+    ("uidNumber", "8"),
+    ("title", "Boss"),
+    ("objectClass", "device"),
+    ("UIDNUMBER", "9"),
+    ("description", "New  one"),
+];
+
+/// The attributes of an entry in memory of their own, with this one in the place of that of its key.
+fn exchanged(rt: &impl Abort, alloc: Global, entry: &Entry, new: Attribute) -> AttributeMap {
+    let mut attributes = entry.to_map(alloc).expect(rt, "memory");
+    let _ = attributes.take(new.description().key());
+    attributes.put(new).expect(rt, "memory");
+    attributes
+}
+
+/// That an entry has the attributes of a map, and no others.
+fn assert_attributes(rt: &impl Abort, entry: &Entry, attributes: &AttributeMap) {
+    assert!(rt; entry.attributes().count() == attributes.iter().count());
+    for (key, attribute) in attributes.iter() {
+        let found = entry.attribute(key).expect(rt, "the attribute");
+        assert!(rt; found.description() == attribute.description());
+        assert!(rt; found.len() == attribute.values().count());
+        for (value, bytes) in attribute.values() {
+            assert!(rt; found.get(value).expect(rt, "the value") == bytes.as_slice());
+        }
+    }
+}
+
+#[test]
+fn one_attribute_takes_the_place_of_another(rt: HostRuntime) {
+    let alloc = rt.alloc();
+    let mut entry = kim(&rt, alloc);
+    for (attr_type, text) in &ATTRIBUTES {
+        let new = attribute(&rt, alloc, attr_type, text);
+        let expected = exchanged(
+            &rt,
+            alloc,
+            &entry,
+            new.try_clone(alloc).expect(&rt, "memory"),
+        );
+        let mut part = AttributeMap::empty(alloc);
+        part.put(new).expect(&rt, "memory");
+        let attributes = entry
+            .with_part(alloc, keys(&rt, alloc, &[*attr_type]).as_slice(), &part)
+            .expect(&rt, "a small entry");
+        entry = entry
+            .with_attributes(alloc, attributes)
+            .expect(&rt, "memory");
+        assert_attributes(&rt, &entry, &expected);
+    }
+}
+
 #[test]
 fn what_a_part_has_under_other_keys_is_left_out(rt: HostRuntime) {
     let alloc = rt.alloc();

@@ -1,5 +1,5 @@
 -- Attributes whose values are kept in one text.
-use Rattle.std.specs.Prelude.{ℕ, ◌-◌, ◌<◌, ◌≤◌, List, [], Option, Some, None, cond, drop, length, map, slice_get, take, IsTrue, ⊤}
+use Rattle.std.specs.Prelude.{◌≡◌, ◌≢◌, ◌⊎◌, ℕ, ◌-◌, ◌<◌, ◌≤◌, List, [], Option, Some, None, cond, drop, false, get_or, length, map, slice_get, take, true, IsTrue, ⊤}
 use Rattle.dir_names.specs.Keys.{DnKeys}
 use Rattle.dir_names.specs.declared.value.ValueKey.{ValueKey}
 use Rattle.dir_names.specs.declared.value.ValueKey.TheVariants as value_key
@@ -51,3 +51,11 @@ packed_attribute common own a = record { key = a.description.key; stored = recor
 -- its values are among these, and in strictly rising order of their keys
 abbrev pub IsPacked : List (ValueKey × List ℕ) → List (ValueKey × List ℕ) → PackedAttribute → Type 0
 IsPacked common own a = (a.end ≤ length (cond a.is_common common own)) × IsTrue (are_rising (part_of (cond a.is_common common own) a.start a.end))
+
+-- the values of another attribute are none of an attribute's own
+abbrev pub IsApart : PackedAttribute → PackedAttribute → Type 0
+IsApart a other = (other.is_common ≡ true) ⊎ ((other.end ≤ a.start) ⊎ (a.end ≤ other.start))
+
+-- the values of an attribute are an entry's own, and none of them are those of another than the one at this index
+abbrev pub IsAlone : PackedAttribute → ℕ → List PackedAttribute → Type 0
+IsAlone a at attributes = (a.is_common ≡ false) × (a.start ≤ a.end) × ((i : ℕ) (d : PackedAttribute) → i < length attributes → i ≢ at → IsApart a (get_or attributes i d))

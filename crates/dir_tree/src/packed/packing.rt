@@ -1,6 +1,6 @@
 //! How attributes are packed.
 
-ghost use Rattle.std.specs.Prelude.{◌≡◌, ◌++◌, ◌∷◌, ℕ, List, [], IfOk, length, map};
+ghost use Rattle.std.specs.Prelude.{◌≡◌, ◌++◌, ◌∷◌, ℕ, List, [], IfOk, drop, length, map};
 ghost use Rattle.dir_names.specs.Keys.{DnKeys};
 ghost use Rattle.std.specs.FinMap as fin;
 ghost use Rattle.dir_tree.specs.Lent.{key_or_value};
@@ -36,20 +36,46 @@ impl Room {
 
     /// The room for the values of one attribute more.
     fn with_values(self, attribute: &AttributeView<'_>) -> Room {
-        let mut room = self;
         match attribute.lent() {
-            LentValues::Open(values) => {
-                for value in values.stored() {
-                    room = room.with(value.bytes().as_slice().len(), value.own_key());
-                }
-            }
-            LentValues::Packed(values) => {
-                for value in values.values {
-                    room = room.with(value.bytes(values.pool).len(), value.own_key(values.pool));
-                }
-            }
+            LentValues::Open(values) => self.with_map(values),
+            LentValues::Packed(values) => self.with_packed(values),
+        }
+    }
+
+    /// The room for the values of a map more.
+    fn with_map(self, values: &ValueMap) -> Room {
+        let mut room = self;
+        for value in values.stored() {
+            room = room.with(value.bytes().as_slice().len(), value.own_key());
         }
         room
+    }
+
+    /// The room for more values, which are packed.
+    fn with_packed(self, values: PackedSlice<'_>) -> Room {
+        let mut room = self;
+        for value in values.values {
+            room = room.with(value.bytes(values.pool).len(), value.own_key(values.pool));
+        }
+        room
+    }
+
+    /// This room with room for some values in place of room for others.
+    fn exchanged(self, others: Room, new: Room) -> Room {
+        Room {
+            values: self
+                .values
+                .saturating_sub(others.values)
+                .saturating_add(new.values),
+            text: self
+                .text
+                .saturating_sub(others.text)
+                .saturating_add(new.text),
+            names: self
+                .names
+                .saturating_sub(others.names)
+                .saturating_add(new.names),
+        }
     }
 
     /// The room for one value more, of so many bytes, with the key that is not the value itself.
@@ -215,6 +241,36 @@ impl PackedValues {
                 Err(_) => Err(Memory),
             },
             Err(_) => Err(Memory),
+        }
+    }
+
+    /// The values with those of a map in place of those from one index up to another.
+    pub(super) fn with_exchanged(
+        &self,
+        alloc: Global,
+        start: u16,
+        end: u16,
+        map: &ValueMap,
+    ) -> Result<PackedValues, Memory>
+        ensures { IfOk result (λ p. p ≡ (part_of self.now 0 start ++ fin.entries map.now) ++ drop end self.now) }
+    {
+        let values = self.as_slice();
+        let room = self.room().exchanged(
+            Room::none().with_packed(values.part(start, end)),
+            Room::none().with_map(map),
+        );
+        PackedValues::with_room(alloc, room)?
+            .with_packed(alloc, values.part(0, start))?
+            .with_map(alloc, map)?
+            .with_packed(alloc, values.after(usize::from(end)))
+    }
+
+    /// The room that these values take.
+    fn room(&self) -> Room {
+        Room {
+            values: self.values.len(),
+            text: self.pool.text.len(),
+            names: self.pool.names.len(),
         }
     }
 

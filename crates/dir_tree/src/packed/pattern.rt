@@ -198,13 +198,6 @@ impl Room {
     }
 }
 
-impl PackedAttribute {
-    /// How many values it has.
-    fn len(&self) -> usize {
-        usize::from(self.end.saturating_sub(self.start))
-    }
-}
-
 impl PackedValues {
     /// The values and those of an attribute, which the lines with these numbers give.
     fn with_lines(

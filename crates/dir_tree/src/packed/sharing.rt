@@ -55,9 +55,9 @@ fn share_shape(shape: &mut Rc<Vec<PackedAttribute>>, recent: &mut Recent<Rc<Vec<
     }
 }
 
-/// Whether a list is in the memory of one of these.
-fn is_shared(shapes: &[Rc<Vec<PackedAttribute>>], shape: &Rc<Vec<PackedAttribute>>) -> bool {
-    shapes.iter().any(|known| Rc::ptr_eq(known, shape))
+/// Whether something is in the memory of one of these.
+fn is_shared<T: Drop>(recent: &[Rc<T>], item: &Rc<T>) -> bool {
+    recent.iter().any(|known| Rc::ptr_eq(known, item))
 }
 
 /// A list that has the same attributes, if there is one.
@@ -79,6 +79,9 @@ fn find_shape<'a>(
 fn share_values(values: &mut Rc<PackedValues>, recent: &mut Recent<Rc<PackedValues>>)
     ensures { values.new.value ≡ values.old.value }
 {
+    if is_shared(recent.as_slice(), values) {
+        return;
+    }
     if let Some(same) = find_values(recent.as_slice(), values) {
         if let Ok(same) = same.clone() {
             *values = same;
@@ -103,8 +106,8 @@ fn find_values<'a>(
     None
 }
 
-/// Exchanges keys of names for the same ones, where they were met not long ago. More names than are kept share nothing:
-/// of the members of a group none would be met again before the next ones have taken its place.
+/// Exchanges keys of names for the same ones, where they were met not long ago. More names than are kept share nothing,
+/// since they would take the place of all that are kept.
 fn share_names(alloc: Global, names: &mut Vec<DnSortKey>, recent: &mut Recent<DnSortKey>)
     ensures { names.new.items ≡ names.old.items }
 {
