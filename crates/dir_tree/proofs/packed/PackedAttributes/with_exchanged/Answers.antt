@@ -23,7 +23,6 @@ is_same : (b r : Bool) → r ≡ not b → r ≡ false → b ≡ true
 is_same true r e f = refl
 is_same false r e f = absurd (true≢false (sym e ∙ f))
 
-
 exchanges : (c : In_ok-common) → Exchanges c.self.inside.common.value c.self.inside.own c.self.inside.attributes.value.items c.in-Some.at c.index-listed-at.result c.args.attribute.now
 exchanges c =
     let items = c.self.inside.attributes.value.items in
