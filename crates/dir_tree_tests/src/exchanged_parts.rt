@@ -122,26 +122,28 @@ fn assert_attributes(rt: &impl Abort, entry: &Entry, attributes: &AttributeMap) 
     }
 }
 
+/// The entry with this attribute in the place of that of its key, by a part.
+fn with_one(rt: &impl Abort, alloc: Global, entry: &Entry, attr_type: &str, text: &str) -> Entry {
+    let mut part = AttributeMap::empty(alloc);
+    part.put(attribute(rt, alloc, attr_type, text))
+        .expect(rt, "memory");
+    let keys = keys(rt, alloc, &[attr_type]);
+    let attributes = entry
+        .with_part(alloc, keys.as_slice(), &part)
+        .expect(rt, "a small entry");
+    entry
+        .with_attributes(alloc, attributes)
+        .expect(rt, "memory")
+}
+
 #[test]
 fn one_attribute_takes_the_place_of_another(rt: HostRuntime) {
     let alloc = rt.alloc();
     let mut entry = kim(&rt, alloc);
     for (attr_type, text) in &ATTRIBUTES {
         let new = attribute(&rt, alloc, attr_type, text);
-        let expected = exchanged(
-            &rt,
-            alloc,
-            &entry,
-            new.try_clone(alloc).expect(&rt, "memory"),
-        );
-        let mut part = AttributeMap::empty(alloc);
-        part.put(new).expect(&rt, "memory");
-        let attributes = entry
-            .with_part(alloc, keys(&rt, alloc, &[*attr_type]).as_slice(), &part)
-            .expect(&rt, "a small entry");
-        entry = entry
-            .with_attributes(alloc, attributes)
-            .expect(&rt, "memory");
+        let expected = exchanged(&rt, alloc, &entry, new);
+        entry = with_one(&rt, alloc, &entry, attr_type, text);
         assert_attributes(&rt, &entry, &expected);
     }
 }
