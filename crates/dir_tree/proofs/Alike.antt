@@ -1,5 +1,5 @@
--- `==` of packed attributes and of packed values says that they are equal.
-use Rattle.std.proofs.Common.{◌≡◌, ◌&&◌, Bool, true, ap, nat_eq, refl, subst, sym, true≢false}
+-- `==` of packed attributes and of packed values says that they are equal, and so does a `!=` that is false.
+use Rattle.std.proofs.Common.{◌≡◌, ◌∙◌, ◌&&◌, Bool, true, false, not, ap, nat_eq, refl, subst, sym, true≢false}
 use Rattle.std.specs.Prelude.{Decides}
 use Rattle.std.specs.Cmp.{booleans_Decides, first_so, second_so}
 use Rattle.std.proofs.Math.Bool.{beq}
@@ -10,6 +10,11 @@ use Rattle.dir_tree.specs.declared.packed.PackedKey.{PackedKey}
 use Rattle.dir_tree.specs.declared.packed.PackedKey.TheVariants as packed_key
 use Rattle.dir_tree.specs.declared.packed.PackedValue.{PackedValue}
 use Rattle.dir_tree.specs.contracts.packed.PackedKeyPartialEq.TheImpl as key_impl
+
+-- what `!=` answers
+pub is_same : (b r : Bool) → r ≡ not b → r ≡ false → b ≡ true
+is_same true r e f = refl
+is_same false r e f = absurd (true≢false (sym e ∙ f))
 
 pub attribute_eq_decides : (a b : PackedAttribute) → Decides (beq a.is_common b.is_common && (nat_eq a.start b.start && (nat_eq a.end b.end && described_eq a.description b.description))) (a ≡ b)
 attribute_eq_decides a b =

@@ -4,7 +4,8 @@ ghost use Rattle.std.specs.Prelude.{◌≡◌, ◌-◌, ◌<◌, ℕ, List, [], 
 ghost use Rattle.dir_names.specs.declared.value.ValueKey.{ValueKey};
 ghost use Rattle.std.specs.FinMap as fin;
 ghost use Rattle.std.specs.Option.{option_map};
-ghost use Rattle.dir_names.specs.Sorted.{place};
+ghost use Rattle.dir_names.specs.Orders.{attr_cmp};
+ghost use Rattle.dir_names.specs.Sorted.{place, rises};
 ghost use Rattle.dir_names.specs.Values.{value_key_cmp};
 ghost use Rattle.dir_tree.specs.Lent.{key_or_value, lent_key};
 ghost use Rattle.dir_tree.specs.Inside.Packed.{IsPacked, packed_attribute, packed_value, part_of, values_of};
@@ -344,10 +345,7 @@ impl PackedAttributes {
         ensures value { option_map (λ a. a.stored) result ≡ fin.get (attributes_in self.now) key.now }
         ensures key { IfSome result (λ a. a.key ≡ key.now) }
     {
-        match self
-            .attributes
-            .binary_search_by(|attribute| attribute.description.key().cmp(key))
-        {
+        match place_of(self.attributes.as_slice(), key) {
             Ok(at) => Some(view_of(
                 &self.attributes[at],
                 self.common.as_slice(),
@@ -366,6 +364,15 @@ impl PackedAttributes {
             own: self.own.as_slice(),
         }
     }
+}
+
+/// The index of the attribute with this key, or the index at which it would be inserted.
+fn place_of(attributes: &[PackedAttribute], key: &AttrKey) -> Result<usize, usize>
+    requires { IsTrue (rises attr_cmp (map (λ a. a.description.key) attributes.now)) }
+    ensures range { IsSearchInRange result (length attributes.now) }
+    ensures place { result ≡ place attr_cmp key.now (map (λ a. a.description.key) attributes.now) }
+{
+    attributes.binary_search_by(|attribute| attribute.description.key().cmp(key))
 }
 
 /// An attribute whose values are some of a list, lent.

@@ -1,15 +1,13 @@
 //! How one attribute of a packed entry is exchanged, with as little work as the others allow.
 
-ghost use Rattle.std.specs.Prelude.{◌≡◌, ◌<◌, IfOk, IfSome, IsTrue, Ok, length, map};
+ghost use Rattle.std.specs.Prelude.{◌≡◌, IfOk, IfSome, IsTrue};
 ghost use Rattle.std.specs.FinMap as fin;
-ghost use Rattle.dir_names.specs.Orders.{attr_cmp};
-ghost use Rattle.dir_names.specs.Sorted.{place, rises};
 ghost use Rattle.dir_tree.specs.Inside.Packed.{IsAlone, IsApart};
 ghost use Rattle.dir_tree.specs.Inside.Stored.{attributes_in, attributes_rise};
 
 use crate::attributes::Attribute;
-use crate::packed::{PackedAttribute, PackedAttributes};
-use dir_names::{AttrKey, Memory};
+use crate::packed::{PackedAttribute, PackedAttributes, place_of};
+use dir_names::Memory;
 use std::alloc::Global;
 
 impl PackedAttributes {
@@ -26,7 +24,7 @@ impl PackedAttributes {
         ensures rise { IfOk result (λ new. IfSome new (λ all. IsTrue (attributes_rise all))) }
     {
         let listed = self.attributes.as_slice();
-        let Some(at) = place_of(listed, attribute.description().key()) else {
+        let Ok(at) = place_of(listed, attribute.description().key()) else {
             return Ok(None);
         };
         let old = &listed[at];
@@ -46,17 +44,6 @@ impl PackedAttributes {
             own,
         }))
     }
-}
-
-/// The index of the attribute with this key.
-fn place_of(attributes: &[PackedAttribute], key: &AttrKey) -> Option<usize>
-    requires { IsTrue (rises attr_cmp (map (λ a. a.description.key) attributes.now)) }
-    ensures place { IfSome result (λ at. place attr_cmp key.now (map (λ a. a.description.key) attributes.now) ≡ Ok at) }
-    ensures inside { IfSome result (λ at. at < length attributes.now) }
-{
-    attributes
-        .binary_search_by(|attribute| attribute.description.key().cmp(key))
-        .ok()
 }
 
 impl PackedAttribute {

@@ -1,4 +1,4 @@
-use Rattle.std.proofs.Common.{rules, ◌≡◌, ◌∙◌, Bool, true, false, not, refl, sym, ap, subst, true≢false, IsTrue, Ok, ◌<◌, ◌++◌, length, get_or, drop, map}
+use Rattle.std.proofs.Common.{rules, ◌≡◌, ◌∙◌, false, sym, ap, subst, IsTrue, Ok, ◌<◌, ◌++◌, length, get_or, drop, map}
 use Rattle.std.specs.FinMap as fin
 use Rattle.std.specs.FinMap.{len-entries}
 use Rattle.std.specs.List.{All}
@@ -9,6 +9,7 @@ use Rattle.dir_names.specs.Orders.{attr_cmp}
 use Rattle.dir_names.specs.Sorted.{place, rises}
 use Rattle.dir_tree.specs.Inside.Packed.{IsAlone, IsPacked, packed_attribute, part_of}
 use Rattle.dir_tree.specs.Inside.Stored.{attribute_pair, attributes_in, attributes_rise}
+use Rattle.dir_tree.proofs.Alike.{is_same}
 use Rattle.dir_tree.proofs.ExchangedAttributes.{Exchanges, map_exchanged, own_is, own_now, packed_exchanged, rise_exchanged}
 use Rattle.dir_tree.proofs.packed.PackedAttributes.with_exchanged.Goals as goal
 use Rattle.dir_tree.proofs.packed.PackedAttributes.with_exchanged.Goals.{In_ok-common}
@@ -19,17 +20,13 @@ place_of-requires c =
     (subst (λ keys. IsTrue (rises attr_cmp keys)) (map-map (λ a. (attribute_pair a).0) (packed_attribute c.self.inside.common.value c.self.inside.own) c.self.inside.attributes.value.items)
     (ap (λ all. rises attr_cmp (map (λ a. (attribute_pair a).0) all)) c.self.view_is ∙ c.requires))
 
-is_same : (b r : Bool) → r ≡ not b → r ≡ false → b ≡ true
-is_same true r e f = refl
-is_same false r e f = absurd (true≢false (sym e ∙ f))
-
-exchanges : (c : In_ok-common) → Exchanges c.self.inside.common.value c.self.inside.own c.self.inside.attributes.value.items c.in-Some.at c.index-listed-at.result c.args.attribute.now
+exchanges : (c : In_ok-common) → Exchanges c.self.inside.common.value c.self.inside.own c.self.inside.attributes.value.items c.in-Ok.at c.index-listed-at.result c.args.attribute.now
 exchanges c =
     let items = c.self.inside.attributes.value.items in
     let a = c.index-listed-at.result in
-    let at = c.in-Some.at in
+    let at = c.in-Ok.at in
     let listed : c.as_slice-listed.result.now ≡ items = c.as_slice-listed.ensures.value ∙ ap (λ v. v.items) c.deref.ensures in
-    let within : at < length items = subst (λ xs. at < length xs) listed c.in-Some.ensures.inside in
+    let within : at < length items = subst (λ xs. at < length xs) listed c.in-Ok.ensures.range in
     let count : c.len.result ≡ c.len-else-ne.result = search rules in
     let values : c.value_map-values.result.now ≡ c.args.attribute.now.stored.values = search rules in
     let is_alone : IsTrue c.is_alone.result = search rules in
@@ -42,12 +39,12 @@ exchanges c =
       as_many = sym (len-entries c.args.attribute.now.stored.values) ∙ ap fin.len (sym values) ∙ sym c.len-else-ne.ensures ∙ sym count ∙ c.len.ensures;
     }
 
-now_own : (c : In_ok-common) → c.in_ok-own.own ≡ own_now c.self.inside.common.value c.self.inside.own c.self.inside.attributes.value.items c.in-Some.at c.index-listed-at.result c.args.attribute.now (exchanges c)
+now_own : (c : In_ok-common) → c.in_ok-own.own ≡ own_now c.self.inside.common.value c.self.inside.own c.self.inside.attributes.value.items c.in-Ok.at c.index-listed-at.result c.args.attribute.now (exchanges c)
 now_own c =
     let values : c.value_map-values.result.now ≡ c.args.attribute.now.stored.values = search rules in
     c.in_ok-own.ensures
     ∙ ap (λ m. (part_of c.self.inside.own 0 c.index-listed-at.result.start ++ fin.entries m) ++ drop c.index-listed-at.result.end c.self.inside.own) values
-    ∙ own_is c.self.inside.common.value c.self.inside.own c.self.inside.attributes.value.items c.in-Some.at c.index-listed-at.result c.args.attribute.now (exchanges c)
+    ∙ own_is c.self.inside.common.value c.self.inside.own c.self.inside.attributes.value.items c.in-Ok.at c.index-listed-at.result c.args.attribute.now (exchanges c)
 
 same_list : (c : In_ok-common) → c.in_ok-attributes.attributes.value.items ≡ c.self.inside.attributes.value.items
 same_list c = search rules
@@ -59,31 +56,31 @@ pub invariant_of-result : goal.invariant_of-result
 invariant_of-result c =
     subst (λ values. All (IsPacked values c.in_ok-own.own) c.in_ok-attributes.attributes.value.items) (sym (same_common c))
     (subst (λ values. All (IsPacked c.self.inside.common.value values) c.in_ok-attributes.attributes.value.items) (sym (now_own c))
-    (subst (All (IsPacked c.self.inside.common.value (own_now c.self.inside.common.value c.self.inside.own c.self.inside.attributes.value.items c.in-Some.at c.index-listed-at.result c.args.attribute.now (exchanges c)))) (sym (same_list c))
-    (packed_exchanged c.self.inside.common.value c.self.inside.own c.self.inside.attributes.value.items c.in-Some.at c.index-listed-at.result c.args.attribute.now (exchanges c))))
+    (subst (All (IsPacked c.self.inside.common.value (own_now c.self.inside.common.value c.self.inside.own c.self.inside.attributes.value.items c.in-Ok.at c.index-listed-at.result c.args.attribute.now (exchanges c)))) (sym (same_list c))
+    (packed_exchanged c.self.inside.common.value c.self.inside.own c.self.inside.attributes.value.items c.in-Ok.at c.index-listed-at.result c.args.attribute.now (exchanges c))))
 
 -- what the attributes are that are answered
-answered : (c : In_ok-common) → map (packed_attribute c.in_ok-common.common.value c.in_ok-own.own) c.in_ok-attributes.attributes.value.items ≡ map (packed_attribute c.self.inside.common.value (own_now c.self.inside.common.value c.self.inside.own c.self.inside.attributes.value.items c.in-Some.at c.index-listed-at.result c.args.attribute.now (exchanges c))) c.self.inside.attributes.value.items
+answered : (c : In_ok-common) → map (packed_attribute c.in_ok-common.common.value c.in_ok-own.own) c.in_ok-attributes.attributes.value.items ≡ map (packed_attribute c.self.inside.common.value (own_now c.self.inside.common.value c.self.inside.own c.self.inside.attributes.value.items c.in-Ok.at c.index-listed-at.result c.args.attribute.now (exchanges c))) c.self.inside.attributes.value.items
 answered c = λ i. map (packed_attribute (same_common c i) (now_own c i)) (same_list c i)
 
 in_order : (c : In_ok-common) → IsTrue (attributes_rise (map (packed_attribute c.self.inside.common.value c.self.inside.own) c.self.inside.attributes.value.items))
 in_order c = ap attributes_rise c.self.view_is ∙ c.requires
 
-placed : (c : In_ok-common) → place attr_cmp c.args.attribute.now.key (map (λ b. b.description.key) c.self.inside.attributes.value.items) ≡ Ok c.in-Some.at
+placed : (c : In_ok-common) → place attr_cmp c.args.attribute.now.key (map (λ b. b.description.key) c.self.inside.attributes.value.items) ≡ Ok c.in-Ok.at
 placed c =
     let key : c.key.result.now ≡ c.args.attribute.now.key = search rules in
     let listed : c.as_slice-listed.result.now ≡ c.self.inside.attributes.value.items = c.as_slice-listed.ensures.value ∙ ap (λ v. v.items) c.deref.ensures in
-    (λ i. place attr_cmp (sym key i) (map (λ b. b.description.key) (sym listed i))) ∙ c.in-Some.ensures.place
+    (λ i. place attr_cmp (sym key i) (map (λ b. b.description.key) (sym listed i))) ∙ sym c.in-Ok.ensures.place
 
 pub returns-clause-value : goal.returns-clause-value
 returns-clause-value r =
     let c = (goal.at.returns-clause-value r).In_ok-common in
     ap attributes_in (answered c)
-    ∙ map_exchanged c.self.inside.common.value c.self.inside.own c.self.inside.attributes.value.items c.in-Some.at c.index-listed-at.result c.args.attribute.now (exchanges c) (in_order c) (placed c)
+    ∙ map_exchanged c.self.inside.common.value c.self.inside.own c.self.inside.attributes.value.items c.in-Ok.at c.index-listed-at.result c.args.attribute.now (exchanges c) (in_order c) (placed c)
     ∙ ap (λ all. fin.insert (attributes_in all) c.args.attribute.now.key c.args.attribute.now.stored) c.self.view_is
 
 pub returns-clause-rise : goal.returns-clause-rise
 returns-clause-rise r =
     let c = (goal.at.returns-clause-rise r).In_ok-common in
     ap attributes_rise (answered c)
-    ∙ rise_exchanged c.self.inside.common.value c.self.inside.own c.self.inside.attributes.value.items c.in-Some.at c.index-listed-at.result c.args.attribute.now (exchanges c) (in_order c) (placed c)
+    ∙ rise_exchanged c.self.inside.common.value c.self.inside.own c.self.inside.attributes.value.items c.in-Ok.at c.index-listed-at.result c.args.attribute.now (exchanges c) (in_order c) (placed c)

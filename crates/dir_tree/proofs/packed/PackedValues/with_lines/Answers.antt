@@ -1,4 +1,4 @@
-use Rattle.std.proofs.Common.{◌≡◌, Bool, true, false, not, length, take, drop, get_or, slice_get, Some, IsTrue, refl, sym, ap, subst, ◌∙◌, true≢false, arith, rules}
+use Rattle.std.proofs.Common.{◌≡◌, false, length, take, drop, get_or, slice_get, Some, IsTrue, sym, ap, subst, ◌∙◌, true≢false, arith, rules}
 use Rattle.std.specs.Bool.{◌==◌}
 use Rattle.dir_names.specs.Described.{described_eq_decides}
 use Rattle.std.proofs.lemmas.List.{take_all, take_more}
@@ -6,6 +6,7 @@ use Rattle.std.proofs.Math.Seq.{drop-append_seam}
 use Rattle.dir_tree.specs.Inside.Packed.{values_of}
 use Rattle.dir_tree.specs.Inside.Patterns.{InsertsValue, TakesLines}
 use Rattle.dir_tree.specs.Inside.Stored.{are_rising}
+use Rattle.dir_tree.proofs.Alike.{is_same}
 use Rattle.dir_tree.proofs.PatternLines.{adds_all, item_at, takes_more, takes_none}
 use Rattle.dir_tree.proofs.packed.PackedValues.with_lines.Goals as goal
 
@@ -13,11 +14,6 @@ pub loop-number-init : goal.loop-number-init
 loop-number-init c =
     let start : c.len-start.result ≡ length c.args.self = search rules in
     (start, takes_none c.args.schema.now c.args.lines.now c.args.attribute.now c.args.self)
-
--- what `!=` answers
-is_same : (b r : Bool) → r ≡ not b → r ≡ false → b ≡ true
-is_same true r e f = refl
-is_same false r e f = absurd (true≢false (sym e ∙ f))
 
 pub loop-number-preserved : goal.loop-number-preserved
 loop-number-preserved c =
