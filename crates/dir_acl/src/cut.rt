@@ -5,6 +5,8 @@ ghost use Rattle.std.specs.Prelude.{◌≡◌, ◌∷◌, ◌==◌, option_copie
 ghost use Rattle.dir_names.specs.Cut.{after_first_separator, parts_at};
 ghost use Rattle.dir_names.specs.Inside.Left.{parts_left};
 
+use memchr::memchr;
+
 /// The text before the first separator, and the text after it if there is one.
 pub(crate) fn split_once(text: &[u8], separator: u8) -> (&[u8], Option<&[u8]>)
     ensures before { result.0.now ≡ before_first (λ b. b == separator) text.now }
@@ -20,5 +22,5 @@ pub(crate) fn split_once(text: &[u8], separator: u8) -> (&[u8], Option<&[u8]>)
 fn position_of(text: &[u8], separator: u8) -> Option<usize>
     ensures { result ≡ position (λ b. b == separator) text.now }
 {
-    text.iter().position(|b| *b == separator)
+    memchr(separator, text)
 }

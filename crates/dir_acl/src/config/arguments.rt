@@ -1,7 +1,7 @@
 //! The arguments of a line (slapd.conf(5), "GENERAL FORMAT").
 
-ghost use Rattle.std.specs.Prelude.{◌≡◌, ◌++◌, Ok};
-ghost use Rattle.dir_acl.specs.Config.Arguments.{arguments_of, last_argument, step_in_argument, step_of};
+ghost use Rattle.std.specs.Prelude.{◌≡◌, ◌≤◌, ◌++◌, ℕ, List, Ok, drop, length, take, true};
+ghost use Rattle.dir_acl.specs.Config.Arguments.{arguments_from, arguments_of, last_argument, step_in_argument, step_of};
 ghost use Rattle.dir_acl.specs.Outcome.{GivesPart};
 
 use crate::ConfigCause;
@@ -42,17 +42,24 @@ pub(crate) fn read_arguments(alloc: Global, line: &[u8]) -> Result<Vec<Option<By
     let mut arguments = Vec::new(alloc);
     let mut item = Vec::new(alloc);
     let mut spot = Spot::Between;
-    for b in line {
+    let mut rest = line;
+    while let [b, more @ ..] = rest {
         match step_at(spot, *b) {
-            Step::Skip(next) => spot = next,
-            Step::Take(next) => {
-                item.push(*b)?;
+            Step::Skip(next) => {
                 spot = next;
+                rest = more;
+            }
+            Step::Take(next) => {
+                let (run, after) = rest.split_at(1 + taken_at(next, more));
+                item.extend_from_slice(run)?;
+                spot = next;
+                rest = after;
             }
             Step::Close => {
                 arguments.push(Some(Bytes::new(item)))?;
                 item = Vec::new(alloc);
                 spot = Spot::Between;
+                rest = more;
             }
         }
     }
@@ -91,6 +98,30 @@ fn step_at(spot: Spot, b: u8) -> Step
         },
         Spot::PlainEscape => Step::Take(Spot::Plain),
         Spot::QuotedEscape => Step::Take(Spot::Quoted),
+    }
+}
+
+/// How many bytes at the beginning of a text are taken one after the other, from a spot and to the same.
+fn taken_at(spot: Spot, text: &[u8]) -> usize
+    ensures within { result ≤ length text.now }
+    ensures same { (item : List ℕ) → arguments_from spot item text.now ≡ arguments_from spot (item ++ take result text.now) (drop result text.now) }
+{
+    for (at, b) in text.iter().enumerate() {
+        if !stays_at(spot, *b) {
+            return at;
+        }
+    }
+    text.len()
+}
+
+/// Whether a byte is taken at a spot, and the next one is read at the same.
+fn stays_at(spot: Spot, b: u8) -> bool
+    ensures { result ≡ true → step_of spot b ≡ Step.Take spot }
+{
+    match spot {
+        Spot::Plain if is_white(b) => false,
+        Spot::Plain | Spot::Quoted => !matches!(b, b'\\' | b'"'),
+        Spot::Between | Spot::PlainEscape | Spot::QuotedEscape => false,
     }
 }
 

@@ -1,12 +1,14 @@
 //! The filter that a text spells (RFC 4515, section 3), read from left to right. The filters that are still open are in a
 //! `Vec`, so that no depth of a text takes the stack.
 
-ghost use Rattle.std.specs.Prelude.{◌≡◌, [], ◌∷◌, ◌++◌, Ok};
+ghost use Rattle.std.specs.Prelude.{◌≡◌, ◌≤◌, [], ◌∷◌, ◌++◌, List, IfErr, IfOk, Ok, length};
+ghost use Rattle.dir_names.specs.declared.schema.TypeRow.{TypeRow};
 ghost use Rattle.dir_acl.specs.Filters.{begins_with_parenthesis, in_parentheses, tree_of};
 ghost use Rattle.dir_acl.specs.Filters.Reading.{after_list, at_start, filter_from, filter_of, one_deeper, step_after_parenthesis, step_at, step_in_test, with_filter};
 ghost use Rattle.dir_acl.specs.Inside.Stack.{open_of, place_of, stack_of, state_of};
 ghost use Rattle.dir_acl.specs.Outcome.{Reads};
 
+use crate::cut::split_once;
 use crate::filter::assertion::read_test;
 use crate::{Filter, FilterFault};
 use dir_names::Schema;
@@ -90,8 +92,10 @@ fn read_whole(alloc: Global, schema: &Schema, text: &[u8]) -> Result<Filter, Fil
         stack: Vec::new(alloc),
         place: Place::BeforeFilter,
     };
-    for b in text {
+    let mut rest = text;
+    while let [b, more @ ..] = rest {
         state = step(alloc, schema, state, *b)?;
+        (state, rest) = with_run(state, more)?;
     }
     let State { stack: _, place } = state;
     match place {
@@ -195,6 +199,25 @@ fn after_list(alloc: Global, stack: Vec<Open>) -> Result<State, FilterFault>
         Some(Open::And(filters)) => with_filter(stack, Filter::And(filters)),
         Some(Open::Or(filters)) => with_filter(stack, Filter::Or(filters)),
         Some(Open::Not) | None => Err(FilterFault::BadFilter),
+    }
+}
+
+/// In a test, the state after the bytes before the next `)`, and the text from there on. Elsewhere both as they are.
+fn with_run(state: State, text: &[u8]) -> Result<(State, &[u8]), FilterFault>
+    ensures ok { IfOk result (λ r. (rows : List TypeRow) → filter_from rows (state_of state) text.now ≡ filter_from rows (state_of r.0) r.1.now) }
+    ensures shorter { IfOk result (λ r. length r.1.now ≤ length text.now) }
+    ensures memory { IfErr result (λ fault. fault ≡ FilterFault.Memory) }
+{
+    let State { stack, place } = state;
+    match place {
+        Place::InTest(item) => {
+            let mut item = item;
+            let (run, after) = text.split_at(split_once(text, b')').0.len());
+            item.extend_from_slice(run)?;
+            let place = Place::InTest(item);
+            Ok((State { stack, place }, after))
+        }
+        place => Ok((State { stack, place }, text)),
     }
 }
 

@@ -1,0 +1,83 @@
+-- Bytes that a reader takes one after the other may be taken at once, and a search by `memchr` finds where they end.
+use Rattle.std.proofs.Common.{◌≡◌, ℕ, zero, suc, ◌+◌, ◌<◌, Bool, true, false, not, cond, List, [], ◌∷◌, ◌++◌, length, take, drop, get_or, Option, Some, None, Result, Ok, refl, sym, ap, subst, ◌∙◌, arith}
+use Rattle.std.specs.Prelude.{◌==◌, nat_lt, position}
+use Rattle.std.specs.List.{position_or_len}
+use Rattle.std.proofs.lemmas.Bool.{false_from_ne_true}
+use Rattle.std.proofs.lemmas.List.{append-nil, append_assoc}
+use Rattle.memchr.specs.Find.{IsFirstByte}
+use Rattle.dir_names.specs.Results.{and_then}
+use Rattle.dir_names.specs.declared.schema.TypeRow.{TypeRow}
+use Rattle.dir_acl.specs.Config.Arguments.{after_step, arguments_from, step_of}
+use Rattle.dir_acl.specs.Filters.{Tree}
+use Rattle.dir_acl.specs.Filters.Reading.{Open, after_test, filter_from, in_test}
+use Rattle.dir_acl.specs.Tests.{test_of}
+use Rattle.dir_acl.specs.declared.config.arguments.Spot.{Spot}
+use Rattle.dir_acl.specs.declared.config.arguments.Step.TheVariants.{Take}
+use Rattle.dir_acl.specs.declared.fault.FilterFault.{FilterFault}
+
+-- a byte of an argument that is taken, after those of a run
+pub takes_more : (spot : Spot) (b : ℕ) (item run rest : List ℕ) → step_of spot b ≡ Take spot → arguments_from spot (item ++ run) (b ∷ rest) ≡ arguments_from spot (item ++ (run ++ b ∷ [])) rest
+takes_more spot b item run rest is =
+    ap (λ step. after_step step b (item ++ run) (λ next bytes. arguments_from next bytes rest)) is
+    ∙ ap (λ bytes. arguments_from spot bytes rest) (append_assoc item run (b ∷ []))
+
+module _ (test : ℕ → Bool) where
+  first_is : (xs : List ℕ) (k : ℕ) → k < length xs → test (get_or xs k 0) ≡ true → ((j : ℕ) → j < k → test (get_or xs j 0) ≡ false) → position_or_len test xs ≡ k
+  first_is [] k lt e h = absurd (omega arith)
+  first_is (x ∷ xs) zero lt e h = ap (λ t. cond (not t) (1 + position_or_len test xs) 0) e
+  first_is (x ∷ xs) (suc k) lt e h =
+      let later = first_is xs k (omega arith) e (λ j l. h (suc j) (omega arith)) in
+      ap (λ t. cond (not t) (1 + position_or_len test xs) 0) (h 0 (omega arith)) ∙ omega (arith, later)
+
+  none_is : (xs : List ℕ) → ((j : ℕ) → j < length xs → test (get_or xs j 0) ≡ false) → position_or_len test xs ≡ length xs
+  none_is [] h = refl
+  none_is (x ∷ xs) h =
+      let later = none_is xs (λ j l. h (suc j) (omega arith)) in
+      ap (λ t. cond (not t) (1 + position_or_len test xs) 0) (h 0 (omega arith)) ∙ omega (arith, later)
+
+  pub before_first_len : (xs : List ℕ) → length (take (position_or_len test xs) xs) ≡ position_or_len test xs
+  before_first_len [] = refl
+  before_first_len (x ∷ xs) = by (before_first_len xs) (test x)
+    where
+      by : length (take (position_or_len test xs) xs) ≡ position_or_len test xs → (t : Bool) → length (take (cond (not t) (1 + position_or_len test xs) 0) (x ∷ xs)) ≡ cond (not t) (1 + position_or_len test xs) 0
+      by later true = refl
+      by later false = subst (λ n. length (take n (x ∷ xs)) ≡ n) (omega arith) (ap suc later)
+
+  pub first_place : (xs : List ℕ) (r : Option ℕ) → IsFirstByte test xs r → r ≡ position test xs
+  first_place xs None h =
+      let all = none_is xs (λ j l. false_from_ne_true _ (h j (omega arith) l)) in
+      let within : nat_lt (position_or_len test xs) (length xs) ≡ false = grind (arith, all) in
+      ap (λ t. cond t (Some (position_or_len test xs)) None) (sym within)
+  first_place xs (Some k) h =
+      let at = first_is xs k h.0.high h.1 (λ j l. false_from_ne_true _ (h.0.before j (omega arith) l)) in
+      let high = h.0.high in
+      let within : nat_lt (position_or_len test xs) (length xs) ≡ true = grind (arith, at, high) in
+      ap Some (sym at) ∙ ap (λ t. cond t (Some (position_or_len test xs)) None) (sym within)
+
+-- how many bytes come before the first `)`
+abbrev pub before_end : List ℕ → ℕ
+before_end text = position_or_len (λ b. b == 41) text
+
+module _ (rows : List TypeRow) (stack : List Open) where
+  -- the filter that a text spells after these bytes of a test
+  abbrev after_bytes : List ℕ → List ℕ → Result Tree FilterFault
+  after_bytes item text = filter_from rows (record { stack = stack; place = in_test item }) text
+
+  -- the bytes of a test up to its `)` are one run
+  pub test_run : (item text : List ℕ) → after_bytes item text ≡ after_bytes (item ++ take (before_end text) text) (drop (before_end text) text)
+  test_run item [] = refl
+  test_run item (b ∷ bs) = by (test_run (item ++ b ∷ []) bs) (b == 41) refl
+    where
+      count : (t : Bool) → (b == 41) ≡ t → before_end (b ∷ bs) ≡ cond (not t) (1 + before_end bs) 0
+      count t e = ap (λ t. cond (not t) (1 + before_end bs) 0) e
+
+      by : after_bytes (item ++ b ∷ []) bs ≡ after_bytes ((item ++ b ∷ []) ++ take (before_end bs) bs) (drop (before_end bs) bs) → (t : Bool) → (b == 41) ≡ t → after_bytes item (b ∷ bs) ≡ after_bytes (item ++ take (before_end (b ∷ bs)) (b ∷ bs)) (drop (before_end (b ∷ bs)) (b ∷ bs))
+      by later true e =
+          subst (λ n. after_bytes item (b ∷ bs) ≡ after_bytes (item ++ take n (b ∷ bs)) (drop n (b ∷ bs))) (sym (count true e))
+          (ap (λ bytes. after_bytes bytes (b ∷ bs)) (sym (append-nil item)))
+      by later false e =
+          let n : before_end (b ∷ bs) ≡ suc (before_end bs) = count false e ∙ omega arith in
+          subst (λ n. after_bytes item (b ∷ bs) ≡ after_bytes (item ++ take n (b ∷ bs)) (drop n (b ∷ bs))) (sym n)
+          (ap (λ t. and_then (cond t (after_test stack (test_of rows item)) (Ok (record { stack = stack; place = in_test (item ++ b ∷ []) }))) (λ next. filter_from rows next bs)) e
+          ∙ later
+          ∙ ap (λ bytes. after_bytes bytes (drop (before_end bs) bs)) (append_assoc item (b ∷ []) (take (before_end bs) bs)))
