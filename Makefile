@@ -3,9 +3,13 @@
 PREFIX ?= /usr/local
 PROGRAM = crates/slapkit/out/slapkit
 
-.PHONY: demo test trial bugs install
+.PHONY: try demo test trial bugs install
 
-# Builds the program and runs the example: the changes on the copy, and then the undo file on the new copy.
+# Runs the changes of the example on its copy by a build without any proof: in about a minute.
+try:
+	examples/try.sh
+
+# Proves and builds the program and runs the example: the changes on the copy, and then the undo file on the new copy.
 demo: $(PROGRAM)
 	examples/demo.sh $(PROGRAM)
 

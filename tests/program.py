@@ -510,6 +510,24 @@ def access_is_as_before_once_a_run_is_taken_back(trial):
     expect((before, answers("back")), ((0, "dc: =rscxd\n", ""),) * 2)
 
 
+def letters_are_folded_and_not_only_made_small(trial):
+    """RFC 4518: ß is ss, and a final sigma is a sigma. slapd holds these apart."""
+    sharp, sigma = block(("dn", "cn=Stra\u00dfe,dc=com"), ("cn", "Stra\u00dfe")), ("\u03a0\u03ad\u03c4\u03c1\u03bf\u03c2", "\u03a0\u03ad\u03c4\u03c1\u03bf\u03c3")
+    trial.write("copy", COPY + sharp)
+    found = "dn: cn=Strasse,dc=com\nchangetype: delete\n"
+    expect(trial.modify("-u", typed=found), (0, "accepted 1, refused 0\n", ""))
+    for values in (("Wei\u00df", "Weiss"), sigma):
+        added = block(("dn", "cn=b,dc=com"), ("changetype", "add"), *(("sn", value) for value in values))
+        expect(trial.modify("-u", typed=added), (1, "line 1: refused, 20 attributeOrValueExists\naccepted 0, refused 1\n", ""))
+    sibling = block(("dn", "cn=Strasse,dc=com"), ("cn", "Strasse"))
+    trial.write("copy", COPY + sharp + sibling)
+    expect(trial.modify("-u", "-l", "/dev/null"), (1, "", "slapkit: copy, line 7: 68 entryAlreadyExists\n"))
+    conf = "database mdb\nsuffix dc=com\naccess to dn.base=cn=Strasse,dc=com by * =r\naccess to * by * =x\n"
+    trial.write("copy", COPY + sharp)
+    trial.write("conf", conf)
+    expect(trial.run(["slapacl", "-b", "cn=STRASSE,dc=com", "-f", "conf", "--data", "copy", "cn"]), (0, "cn: =r\n", ""))
+
+
 def a_faulty_command_line_ends_with_status_1(trial):
     for words in ([], ["slapadd"], ["slapmodify"], ["slapmodify", "-b", "dc=com", "--data", "copy"]):
         status, told, said = trial.run(words)
@@ -602,6 +620,7 @@ TRIALS = [
     faults_of_questions_are_told,
     a_question_is_not_answered_on_a_full_device,
     access_is_as_before_once_a_run_is_taken_back,
+    letters_are_folded_and_not_only_made_small,
     a_faulty_command_line_ends_with_status_1,
     words_that_are_not_utf_8_are_refused,
     help_ends_with_status_0,

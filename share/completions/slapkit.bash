@@ -5,8 +5,13 @@ _slapkit() {
         COMPREPLY=($(compgen -W "slapacl slapmodify help --help --version" -- "$cur"))
         return
     fi
+    if [ "${COMP_WORDS[1]}" = help ]; then
+        [ "$COMP_CWORD" -gt 2 ] || COMPREPLY=($(compgen -W "slapacl slapmodify" -- "$cur"))
+        return
+    fi
     case $prev in
-        --data | --out | --undo | -f | -l) COMPREPLY=($(compgen -f -- "$cur")); return ;;
+        # no words: then readline completes file names, as it does for any command, those with spaces as one word
+        --data | --out | --undo | -f | -l) compopt -o default; return ;;
         -b | -D) return ;;
     esac
     if [ "${COMP_WORDS[1]}" = slapacl ]; then
@@ -15,4 +20,4 @@ _slapkit() {
     fi
     COMPREPLY=($(compgen -W "-b --data --out --undo -l -c -u -v --help" -- "$cur"))
 }
-complete -o filenames -F _slapkit slapkit
+complete -F _slapkit slapkit

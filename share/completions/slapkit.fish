@@ -2,6 +2,7 @@
 complete -c slapkit -n __fish_use_subcommand -f -a slapacl -d 'Report what a requester may do'
 complete -c slapkit -n __fish_use_subcommand -f -a slapmodify -d 'Apply change records to a copy'
 complete -c slapkit -n __fish_use_subcommand -f -a help -d 'Print help'
+complete -c slapkit -n '__fish_seen_subcommand_from help; and not __fish_seen_subcommand_from slapacl slapmodify' -f -a 'slapacl slapmodify' -d 'The tool'
 complete -c slapkit -s h -l help -d 'Print help'
 complete -c slapkit -n __fish_use_subcommand -s V -l version -d 'Print the version'
 complete -c slapkit -n '__fish_seen_subcommand_from slapmodify' -s b -x -d "The name at the directory's root"

@@ -1,0 +1,27 @@
+#!/bin/sh
+# Applies examples/changes.ldif to examples/company.ldif by a build of the program that is not proved, and shows the report, the
+# undo file and the new copy. It wants the toolchain, and no run of it before: about a minute.
+# usage: try.sh
+set -eu
+examples=$(cd "$(dirname "$0")" && pwd)
+work=$(mktemp -d)
+trap 'rm -rf "$work"' EXIT
+
+echo "Building the program without any proof: nothing that you see here is proved yet (make demo proves it). About a minute."
+cd "$examples/../crates/slapkit"
+if ! rt try -- slapmodify -b dc=example,dc=com --data "$examples/company.ldif" -l "$examples/changes.ldif" \
+    --out "$work/new.ldif" --undo "$work/undo.ldif" -v > "$work/report" 2> "$work/messages"; then
+    cat "$work/report" "$work/messages" >&2
+    exit 1
+fi
+
+echo
+echo "slapkit slapmodify -b dc=example,dc=com --data company.ldif -l changes.ldif --out new.ldif --undo undo.ldif -v"
+cat "$work/report"
+echo
+echo "The undo file:"
+cat "$work/undo.ldif"
+echo
+echo "The new copy:"
+cat "$work/new.ldif"
+echo "Nothing of this was proved: make demo proves the program, and then shows that the undo file makes the first copy again."
