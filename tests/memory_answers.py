@@ -9,8 +9,7 @@ answer must come from a refused allocation. These forms hand one on, and pass:
     call(..)?                        the fault of a call, turned by `From`
     Err(..::Memory) => ..::Memory    an arm of a match whose pattern names the fault, in a `From` too
     Err(_) => ..::Memory             where out of memory is the only fault of the call that is matched, by the type or the
-                                     contract of every function of its name that has a `Result`; so `map_err(|_| ..::Memory)` and
-                                     `let .. else`
+                                     contract of every function of its name; so `map_err(|_| ..::Memory)` and `let .. else`
 
 There must be no other place but those in BUFFERED and COUNTS. Tests are left out.
 """
@@ -168,8 +167,7 @@ def main():
     signatures = {}
     for text in sources.values():
         for function, signature, _, _ in functions_of(text, code_of(text)):
-            if re.search(r"->.*\bResult\b", signature):
-                signatures.setdefault(function, []).append(signature)
+            signatures.setdefault(function, []).append(signature)
     only_memory = {name for name, given in signatures.items() if all(map(may_only_lack_memory, given))}
 
     def check(text):

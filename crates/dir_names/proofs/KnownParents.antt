@@ -1,16 +1,22 @@
 -- A name that is read below a parent that is known.
-use Rattle.std.proofs.Common.{◌≡◌, ◌<◌, ℕ, Bool, true, false, cond, List, [], ◌∷◌, ◌++◌, length, reverse, Option, Some, None, Result, Ok, Err, refl, sym, ap, ◌∙◌, arith}
+use Rattle.std.proofs.Common.{◌≡◌, ◌<◌, ℕ, Bool, true, false, cond, ◌&&◌, nat_le, nat_lt, List, [], ◌∷◌, ◌++◌, length, reverse, Option, Some, None, is_some, Ok, Err, refl, sym, ap, ◌∙◌, arith}
+use Rattle.std.specs.List.{list_all}
+use Rattle.std.specs.Prelude.{slice_get}
 use Rattle.std.proofs.lemmas.List.{length-reverse, reverse-append}
-use Rattle.dir_names.specs.declared.fault.NameFault.{NameFault}
 use Rattle.dir_names.specs.declared.fault.NameFault.TheVariants.{NameLimit}
 use Rattle.dir_names.specs.declared.schema.TypeRow.{TypeRow}
+use Rattle.dir_names.specs.Inside.KnownKeys.{IsKeyAbove}
 use Rattle.dir_names.specs.Keys.{DnKeys, RdnKeys}
 use Rattle.dir_names.specs.NameKeys.{name_key, rdn_key}
 use Rattle.dir_names.specs.Names.{SpelledName, SpelledRdn}
-use Rattle.dir_names.specs.Names.Limits.{is_within_limits, ok_if_within}
+use Rattle.dir_names.specs.Names.Limits.{is_rdn_within_limit, is_within_limits, ok_if_within}
 use Rattle.dir_names.specs.Names.Reading.{name_of, name_within_limits, pieces, rdn_of}
+use Rattle.dir_names.specs.Outcome.{ok_or_bad_dn}
 use Rattle.dir_names.specs.Results.{option_collect, option_cons}
+use Rattle.dir_names.specs.Table.Builtin.{builtin_rows}
+use Rattle.dir_names.proofs.Both.{left}
 use Rattle.dir_names.proofs.Collected.{collect_append, collect_length}
+use Rattle.dir_names.proofs.HasKeys.{has_each}
 
 -- what is within the limits was spelled
 pub within_spelled : {A : Type 0} (p : A → Bool) (o : Option A) (x : A) → ok_if_within p o ≡ Ok x → o ≡ Some x
@@ -20,17 +26,6 @@ within_spelled p (Some y) x e = by (p y) e
     by : (b : Bool) → cond b (Ok y) (Err NameLimit) ≡ Ok x → Some y ≡ Some x
     by true f = let same : y ≡ x = cc in ap Some same
     by false f = absurd (cc)
-
-pub value_within : {A : Type 0} (b : Bool) (x y : A) → cond b (Ok x) (Err NameLimit) ≡ Ok y → x ≡ y
-value_within true x y e = cc
-value_within false x y e = absurd (cc)
-
-pub is_within : {A : Type 0} (b : Bool) (x y : A) → cond b (Ok x) (Err NameLimit) ≡ Ok y → b ≡ true
-is_within true x y e = refl
-is_within false x y e = absurd (cc)
-
-pub same_value : {A : Type 0} (x y : A) → ◌≡◌ {A = Result A NameFault} (Ok x) (Ok y) → x ≡ y
-same_value x y e = cc
 
 -- the RDNs of a text that is not empty
 pub spelled_rdns : (text : List ℕ) (name : SpelledName) → 0 < length text → name_within_limits text ≡ Ok name → option_collect rdn_of (pieces 44 false text) ≡ Some name
@@ -46,3 +41,47 @@ module _ (rows : List TypeRow) where
 
   pub key_length : (name : SpelledName) (key : DnKeys) → name_key rows name ≡ Some key → length name ≡ length key
   key_length name key e = sym (length-reverse name) ∙ collect_length (rdn_key rows) (reverse name) key e
+
+  -- a name below one that has a key has one where its leaf has
+  pub child_has_key : (leaf : SpelledRdn) (rest : SpelledName) (key : DnKeys) → name_key rows rest ≡ Some key → is_some (name_key rows (leaf ∷ rest)) ≡ is_some (rdn_key rows leaf)
+  child_has_key leaf rest key e =
+      has_each rows (leaf ∷ rest) ∙ ap (λ b. is_some (rdn_key rows leaf) && b) (sym (has_each rows rest) ∙ ap is_some e) ∙ by (is_some (rdn_key rows leaf))
+    where
+      by : (b : Bool) → (b && true) ≡ b
+      by true = refl
+      by false = refl
+
+  pub keyless_leaf : (leaf : SpelledRdn) (rest : SpelledName) (key : DnKeys) → name_key rows rest ≡ Some key → rdn_key rows leaf ≡ None → name_key rows (leaf ∷ rest) ≡ None
+  keyless_leaf leaf rest key e lacks = none (name_key rows (leaf ∷ rest)) (child_has_key leaf rest key e ∙ ap is_some lacks)
+    where
+      none : (o : Option DnKeys) → is_some o ≡ false → o ≡ None
+      none None h = refl
+      none (Some k) h = absurd (cc)
+
+  -- the key of a child has room for one part more, since the name is within the limits
+  pub child_key_of : (leaf : SpelledRdn) (rest : SpelledName) (key : DnKeys) (part : RdnKeys) → name_key rows rest ≡ Some key → rdn_key rows leaf ≡ Some part → is_within_limits (leaf ∷ rest) ≡ true
+      → cond (nat_lt (length key) 64) (Ok (key ++ part ∷ [])) (Err NameLimit) ≡ ok_or_bad_dn (name_key rows (leaf ∷ rest))
+  child_key_of leaf rest key part e f within =
+      ap (λ n. cond (nat_lt n 64) (Ok (key ++ part ∷ [])) (Err NameLimit)) (sym (key_length rest key e))
+      ∙ ap (λ b. cond b (Ok (key ++ part ∷ [])) (Err NameLimit)) (left (nat_le (length (leaf ∷ rest)) 64) (list_all is_rdn_within_limit (leaf ∷ rest)) within)
+      ∙ ap ok_or_bad_dn (sym (child_key rest key leaf part e f))
+
+  -- the same of a name by its first RDN
+  pub has_key_by_leaf : (name : SpelledName) (leaf : SpelledRdn) (key : DnKeys) → rows ≡ builtin_rows → slice_get name 0 ≡ Some leaf → IsKeyAbove name key → is_some (name_key rows name) ≡ is_some (rdn_key rows leaf)
+  has_key_by_leaf [] leaf key same first above = absurd above
+  has_key_by_leaf (x ∷ rest) leaf key same first above =
+      let is : x ≡ leaf = cc in
+      child_has_key x rest key (ap (λ r. name_key r rest) same ∙ above) ∙ ap (λ r. is_some (rdn_key rows r)) is
+
+  pub keyless_by_leaf : (name : SpelledName) (leaf : SpelledRdn) (key : DnKeys) → rows ≡ builtin_rows → slice_get name 0 ≡ Some leaf → IsKeyAbove name key → rdn_key rows leaf ≡ None → name_key rows name ≡ None
+  keyless_by_leaf [] leaf key same first above lacks = absurd above
+  keyless_by_leaf (x ∷ rest) leaf key same first above lacks =
+      let is : x ≡ leaf = cc in
+      keyless_leaf x rest key (ap (λ r. name_key r rest) same ∙ above) (ap (rdn_key rows) is ∙ lacks)
+
+  pub key_by_leaf : (name : SpelledName) (leaf : SpelledRdn) (key : DnKeys) (part : RdnKeys) → rows ≡ builtin_rows → slice_get name 0 ≡ Some leaf → IsKeyAbove name key → rdn_key rows leaf ≡ Some part → is_within_limits name ≡ true
+      → cond (nat_lt (length key) 64) (Ok (key ++ part ∷ [])) (Err NameLimit) ≡ ok_or_bad_dn (name_key rows name)
+  key_by_leaf [] leaf key part same first above e within = absurd above
+  key_by_leaf (x ∷ rest) leaf key part same first above e within =
+      let is : x ≡ leaf = cc in
+      child_key_of x rest key part (ap (λ r. name_key r rest) same ∙ above) (ap (rdn_key rows) is ∙ e) within

@@ -1,8 +1,8 @@
 //! Names and RDNs as they are spelled (RFC 4514): read, printed, and turned into keys.
 
-ghost use Rattle.std.specs.Prelude.{◌≡◌, ◌≤◌, ◌<◌, [], ◌∷◌, IfSome, option_copied, cond, is_some, length, nat_le, Ok, Err, Some, IsTrue, IsFalse, IfOk, IsErrOf};
+ghost use Rattle.std.specs.Prelude.{◌≡◌, ◌≤◌, [], ◌∷◌, IfSome, cond, is_some, length, nat_le, nat_lt, Ok, Err, IsTrue, IsFalse, IfOk, IsErrOf};
 ghost use Rattle.dir_names.specs.Inside.Few.{few_items};
-ghost use Rattle.dir_names.specs.Inside.KnownKeys.{IsKeyOf};
+ghost use Rattle.dir_names.specs.Inside.KnownKeys.{IsKeyAbove, IsKeyOf};
 ghost use Rattle.dir_names.specs.NameKeys.{pair_key, rdn_key, name_key};
 ghost use Rattle.dir_names.specs.Names.{name_eq, rdn_eq, name_eq_laws, rdn_eq_laws, partial_name_eq_laws, partial_rdn_eq_laws, SpelledRdn, SpelledName};
 ghost use Rattle.dir_names.specs.Outcome.{Gives};
@@ -193,8 +193,8 @@ pub(crate) fn type_and_value_key(
 #[derive(Drop)]
 pub struct Dn {
     rdns: Vec<Rdn>,
-    /// The key of the name, if it is known.
-    key: Option<DnKey>,
+    /// The key of the parent, if the name was read below one that is remembered. All such names share it.
+    above: Option<Rc<DnKey>>,
 }
 
 impl Model for Dn {
@@ -205,11 +205,11 @@ impl Model for Dn {
     ghost view = { λ name. name.rdns.items };
 
     ghost use Rattle.std.specs.Prelude.{IsTrue, IfSome};
-    ghost use Rattle.dir_names.specs.Inside.KnownKeys.{IsKeyOf};
+    ghost use Rattle.dir_names.specs.Inside.KnownKeys.{IsKeyAbove};
     ghost use Rattle.dir_names.specs.Names.Limits.{is_within_limits};
     ghost use Rattle.dir_names.specs.Names.Sound.{is_sound_name};
 
-    ghost invariant = { λ name. IsTrue (is_sound_name name.rdns.items) × IsTrue (is_within_limits name.rdns.items) × IfSome name.key (IsKeyOf name.rdns.items) };
+    ghost invariant = { λ name. IsTrue (is_sound_name name.rdns.items) × IsTrue (is_within_limits name.rdns.items) × IfSome name.above (λ key. IsKeyAbove name.rdns.items key.value) };
 }
 
 impl Dn {
@@ -262,16 +262,20 @@ impl Dn {
         ensures { Gives (λ key. key) result (ok_or_bad_dn (name_key schema.now self.now)) }
     {
         schema.has_builtin_rows();
-        match self.known_key() {
-            Some(key) => key.try_clone(alloc),
-            None => self.key_of_rdns(alloc, schema),
+        match (self.rdns.as_slice().first(), self.key_above()) {
+            (Some(leaf), Some(above)) => above.child(alloc, &leaf.key(alloc, schema)?),
+            _ => self.key_of_rdns(alloc, schema),
         }
     }
 
-    fn known_key(&self) -> Option<&DnKey>
-        ensures { IfSome result (λ key. IsKeyOf self.now key.now) }
+    /// The key of the parent, if it is known.
+    fn key_above(&self) -> Option<&DnKey>
+        ensures { IfSome result (λ key. IsKeyAbove self.now key.now) }
     {
-        self.key.as_ref()
+        match &self.above {
+            Some(above) => Some(above.as_ref()),
+            None => None,
+        }
     }
 
     fn key_of_rdns(&self, alloc: Global, schema: &Schema) -> Result<DnKey, NameFault>
@@ -291,9 +295,9 @@ impl Dn {
         ensures { Gives (λ has. has) result (Ok (is_some (name_key schema.now self.now))) }
     {
         schema.has_builtin_rows();
-        match self.known_key() {
-            Some(_) => Ok(true),
-            None => self.rdns_have_keys(alloc, schema),
+        match (self.rdns.as_slice().first(), self.key_above()) {
+            (Some(leaf), Some(_)) => leaf.has_key(alloc, schema),
+            _ => self.rdns_have_keys(alloc, schema),
         }
     }
 
@@ -321,7 +325,7 @@ impl Dn {
     pub fn into_rdns(self) -> Vec<Rdn>
         ensures { result.items ≡ self }
     {
-        let Dn { rdns, key: _ } = self;
+        let Dn { rdns, above: _ } = self;
         rdns
     }
 
@@ -348,33 +352,32 @@ impl Dn {
         for rdn in rdns.as_slice() {
             let _pairs = &rdn.pairs;
         }
-        Dn { rdns, key: None }
+        Dn { rdns, above: None }
     }
 
-    /// The same name, of which the key is known.
-    pub(crate) fn with_key(self, key: DnKey) -> Dn
-        requires { IsKeyOf self key }
-        ensures { result ≡ self }
+    /// The name of a child, by its leaf and the key of this name. The other RDNs share the memory of these.
+    ///
+    /// # Errors
+    ///
+    /// `NameLimit` if this name has 64 RDNs.
+    pub(crate) fn child(&self, alloc: Global, leaf: Rdn, key: &Rc<DnKey>) -> Result<Dn, NameFault>
+        requires { IsKeyOf self.now key.now.value }
+        ensures { Gives (λ name. name) result (cond (nat_lt (length self.now) 64) (Ok (leaf ∷ self.now)) (Err NameLimit)) }
     {
-        let Dn { rdns, key: _ } = self;
-        Dn {
-            rdns,
-            key: Some(key),
+        if self.rdns.len() >= MAX_RDNS {
+            return Err(NameFault::NameLimit);
         }
-    }
-
-    /// The name of a child, by its leaf and its key. The other RDNs share the memory of these.
-    pub(crate) fn child(&self, alloc: Global, leaf: Rdn, key: DnKey) -> Result<Dn, NameFault>
-        requires room { length self.now < 64 }
-        requires key { IsKeyOf (leaf ∷ self.now) key }
-        ensures { Gives (λ name. name) result (Ok (leaf ∷ self.now)) }
-    {
         let mut rdns = Vec::with_capacity(alloc, self.rdns.len() + 1)?;
         rdns.push(leaf)?;
         for rdn in self.rdns.as_slice() {
             rdns.push(rdn.try_clone(alloc)?)?;
         }
-        Ok(Dn::of_rdns(rdns).with_key(key))
+        let above = key.clone()?;
+        let Dn { rdns, above: _ } = Dn::of_rdns(rdns);
+        Ok(Dn {
+            rdns,
+            above: Some(above),
+        })
     }
 
     /// The name without RDNs.
@@ -383,12 +386,12 @@ impl Dn {
     {
         Dn {
             rdns: Vec::new(alloc),
-            key: None,
+            above: None,
         }
     }
 
-    /// A copy: its list has memory of its own, and its RDNs share the memory of these. The one fault is
-    /// `Memory`.
+    /// A copy: its list has memory of its own, and its RDNs and the key of its parent share the memory of
+    /// these. The one fault is `Memory`.
     pub fn try_clone(&self, alloc: Global) -> Result<Dn, NameFault>
         ensures { Gives (λ name. name) result (Ok self.now) }
     {
@@ -396,8 +399,11 @@ impl Dn {
         for rdn in self.rdns.as_slice() {
             rdns.push(rdn.try_clone(alloc)?)?;
         }
-        let key = cloned_key(alloc, self.known_key())?;
-        Ok(Dn { rdns, key })
+        let above = match &self.above {
+            Some(above) => Some(above.clone()?),
+            None => None,
+        };
+        Ok(Dn { rdns, above })
     }
 }
 
@@ -405,15 +411,6 @@ impl Dn {
 impl fmt::Debug for Dn {
     fn fmt<W: fmt::Write>(&self, f: &mut fmt::Formatter<W>) -> fmt::Result {
         f.debug_struct("Dn").field("rdns", &self.rdns).finish()
-    }
-}
-
-fn cloned_key(alloc: Global, key: Option<&DnKey>) -> Result<Option<DnKey>, NameFault>
-    ensures { Gives (λ key. key) result (Ok (option_copied key.entry)) }
-{
-    match key {
-        Some(key) => Ok(Some(key.try_clone(alloc)?)),
-        None => Ok(None),
     }
 }
 

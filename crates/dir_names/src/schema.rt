@@ -50,7 +50,7 @@ pub struct TypeRow {
 }
 
 /// The attribute types that are known. Values of any other type are compared byte by byte, and an
-/// attribute of it takes any number of them. All schemas have the same types.
+/// attribute of it takes any number of them.
 #[derive(Debug, Drop)]
 pub struct Schema {
     rows: Vec<TypeRow>,

@@ -1,8 +1,13 @@
 //! What the tests are made of, each read from its text.
 
-use dir_names::{AttrKey, Bytes, Description, Dn, DnKey, Lines, Rdn, RdnKey, Schema, ValueKey};
+use dir_names::{
+    AttrKey, Bytes, Description, Dn, DnKey, Lines, NameReader, Rdn, RdnKey, Schema, ValueKey,
+};
 use std::alloc::Global;
 use std::process::Abort;
+
+/// More names than those that are read before parents are remembered.
+const NAMES_BEFORE: usize = 70;
 
 pub(crate) fn schema(rt: &impl Abort, alloc: Global) -> Schema {
     Schema::builtin(alloc).expect(rt, "memory")
@@ -69,4 +74,15 @@ pub(crate) fn repeated(
     }
     text.extend_from_slice(last.as_bytes()).expect(rt, "memory");
     text
+}
+
+/// A reader that has read more than the first names.
+pub(crate) fn used_reader(rt: &impl Abort, alloc: Global) -> NameReader {
+    let schema = schema(rt, alloc);
+    let mut names = NameReader::new(alloc);
+    for _ in 0..NAMES_BEFORE {
+        let name = names.read(alloc, &schema, b"cn=a,dc=net");
+        let _name = name.expect(rt, "a name");
+    }
+    names
 }

@@ -1,12 +1,9 @@
 //! Names that are read after many others, so that parents that come again are remembered.
 
-use crate::make::{repeated, schema};
+use crate::make::{repeated, schema, used_reader};
 use dir_names::{Dn, DnKey, NameFault, NameReader, Schema};
 use std::alloc::Global;
 use std::process::Abort;
-
-/// More names than those that are read before parents are remembered.
-const NAMES_BEFORE: usize = 70;
 
 /// Texts of names below parents that come again, by turns, and of some that are no names or have no keys. The
 /// parents with `aa` and `tl` have one slot.
@@ -34,7 +31,7 @@ const BY_TURNS: [&str; 18] = [
 #[test]
 fn names_below_parents_that_come_again_are_read_as_alone(rt: HostRuntime) {
     let schema = schema(&rt, rt.alloc());
-    let mut names = used_reader(&rt, rt.alloc(), &schema);
+    let mut names = used_reader(&rt, rt.alloc());
     for _ in 0..3 {
         for text in &BY_TURNS {
             assert_as_alone(&rt, rt.alloc(), &schema, &mut names, text.as_bytes());
@@ -45,20 +42,10 @@ fn names_below_parents_that_come_again_are_read_as_alone(rt: HostRuntime) {
 #[test]
 fn the_same_name_is_read_again_as_alone(rt: HostRuntime) {
     let schema = schema(&rt, rt.alloc());
-    let mut names = used_reader(&rt, rt.alloc(), &schema);
+    let mut names = used_reader(&rt, rt.alloc());
     for text in &BY_TURNS {
         assert_again(&rt, rt.alloc(), &schema, &mut names, text.as_bytes());
     }
-}
-
-/// A reader that has read more than the first names.
-fn used_reader(rt: &impl Abort, alloc: Global, schema: &Schema) -> NameReader {
-    let mut names = NameReader::new(alloc);
-    for _ in 0..NAMES_BEFORE {
-        let name = names.read(alloc, schema, b"cn=a,dc=net");
-        let _name = name.expect(rt, "a name");
-    }
-    names
 }
 
 fn assert_again(
@@ -118,11 +105,44 @@ fn long_parents_are_read_as_alone(rt: HostRuntime) {
     assert_long(&rt, rt.alloc(), "cn=a,ou=", "\u{fdfa}", 80);
 }
 
-/// A parent that is remembered has at most 8 RDNs, and a name 64.
+/// A parent that is remembered has at most 8 pairs, and a name 64 RDNs.
 #[test]
 fn parents_of_many_rdns_are_read_as_alone(rt: HostRuntime) {
     for count in [7, 8, 9, 62, 63, 64] {
         assert_long(&rt, rt.alloc(), "cn=a", ",l=b", count);
+    }
+}
+
+/// Two parents of one slot: the highest 8 bits of their hashes are the same.
+const OF_ONE_SLOT: [&[u8]; 2] = [b"cn=a,ou=aa,dc=com", b"cn=a,ou=tl,dc=com"];
+
+/// Two parents of one hash.
+const OF_ONE_HASH: [&[u8]; 2] = [
+    b"cn=a,ou=greenhouses12,dc=com",
+    b"cn=a,ou=dchaahou26itv,dc=com",
+];
+
+/// A parent is read for a slot only after 16 names that are not below the one that is remembered there.
+#[test]
+fn a_parent_takes_the_place_of_another(rt: HostRuntime) {
+    for times in [15, 16, 17, 18] {
+        assert_exchanged(&rt, rt.alloc(), &OF_ONE_SLOT, times);
+        assert_exchanged(&rt, rt.alloc(), &OF_ONE_HASH, times);
+    }
+}
+
+/// Asserts that two names are read as alone, the first a few times, the second so many times, and then by turns.
+fn assert_exchanged(rt: &impl Abort, alloc: Global, texts: &[&[u8]; 2], times: usize) {
+    let schema = schema(rt, alloc);
+    let mut names = used_reader(rt, alloc);
+    let [first, second] = *texts;
+    assert_again(rt, alloc, &schema, &mut names, first);
+    for _ in 0..times {
+        assert_as_alone(rt, alloc, &schema, &mut names, second);
+    }
+    for _ in 0..3 {
+        assert_as_alone(rt, alloc, &schema, &mut names, first);
+        assert_as_alone(rt, alloc, &schema, &mut names, second);
     }
 }
 
@@ -134,16 +154,24 @@ fn long_leaves_are_read_as_alone(rt: HostRuntime) {
     }
 }
 
+/// Of a text of at most 2,048 bytes the parent is sought.
+#[test]
+fn long_texts_are_read_as_alone(rt: HostRuntime) {
+    for count in [2037, 2038, 2039] {
+        assert_long_leaf(&rt, rt.alloc(), count);
+    }
+}
+
 fn assert_long(rt: &impl Abort, alloc: Global, first: &str, piece: &str, count: usize) {
     let schema = schema(rt, alloc);
-    let mut names = used_reader(rt, alloc, &schema);
+    let mut names = used_reader(rt, alloc);
     let text = repeated(rt, alloc, first, piece, count, "");
     assert_again(rt, alloc, &schema, &mut names, text.as_slice());
 }
 
 fn assert_long_leaf(rt: &impl Abort, alloc: Global, count: usize) {
     let schema = schema(rt, alloc);
-    let mut names = used_reader(rt, alloc, &schema);
+    let mut names = used_reader(rt, alloc);
     let text = repeated(rt, alloc, "cn=", "a", count, ",dc=com");
     assert_again(rt, alloc, &schema, &mut names, text.as_slice());
     assert_again(rt, alloc, &schema, &mut names, b"cn=a,dc=com");
@@ -154,7 +182,7 @@ fn assert_long_leaf(rt: &impl Abort, alloc: Global, count: usize) {
 #[test]
 fn a_name_is_shown_by_its_rdns(rt: HostRuntime) {
     let schema = schema(&rt, rt.alloc());
-    let mut names = used_reader(&rt, rt.alloc(), &schema);
+    let mut names = used_reader(&rt, rt.alloc());
     for _ in 0..3 {
         let name = names.read(rt.alloc(), &schema, b"l=b,l=b");
         let name = name.expect(&rt, "a name");

@@ -1,20 +1,18 @@
 //! Names that are read one after the other, most of them below the same parents.
 
-ghost use Rattle.std.specs.Prelude.{◌≡◌, ◌∷◌, ◌<◌, false, is_some, length, Some, Ok, IsTrue, IfOk, IfSome};
+ghost use Rattle.std.specs.Prelude.{◌≡◌, ◌<◌, false, length, Some, IfOk, IfSome};
 ghost use Rattle.dir_names.specs.Ascii.{comma};
-ghost use Rattle.dir_names.specs.Inside.Children.{IsChild};
+ghost use Rattle.dir_names.specs.Inside.Children.{child_within_limits, if_keyed, keyed_child};
 ghost use Rattle.dir_names.specs.Inside.KnownKeys.{IsKeyOf};
 ghost use Rattle.dir_names.specs.KeyedNames.{keyed_name};
-ghost use Rattle.dir_names.specs.NameKeys.{name_key, rdn_key};
-ghost use Rattle.dir_names.specs.Names.Limits.{is_within_limits};
 ghost use Rattle.dir_names.specs.Names.Reading.{pieces, rdn_of};
 ghost use Rattle.dir_names.specs.Outcome.{Gives};
 ghost use Rattle.dir_names.specs.Results.{option_collect};
-ghost use Rattle.dir_names.specs.Table.Builtin.{builtin_rows};
 
 use crate::name::reading::{read_rdn_within_limit, split_once_unescaped};
-use crate::{Dn, DnKey, NameFault, Rdn, RdnKey, Schema};
+use crate::{Dn, DnKey, NameFault, Schema};
 use std::alloc::Global;
+use std::rc::Rc;
 
 /// The number of names that are read before parents are remembered.
 const FIRST_NAMES: usize = 64;
@@ -22,20 +20,27 @@ const FIRST_NAMES: usize = 64;
 /// The number of slots, each of which remembers one parent: as many as 8 bits tell apart.
 const SLOTS: usize = 256;
 
+/// So many names whose parents have a slot are read, and are not below the parent that is remembered there,
+/// before another parent is read for it: so parents that come by turns cost no reading of a parent each time.
+const MISSES: u8 = 16;
+
 /// A large odd number, by which hashes are multiplied.
 const MULTIPLIER: u64 = 0x9e37_79b9_7f4a_7c15;
+
+/// The length of the longest text whose parent is sought, in bytes. A longer one takes as long without it.
+const MAX_TEXT: usize = 2048;
 
 /// The length of the longest text of a parent that is remembered, in bytes.
 const MAX_PARENT_TEXT: usize = 256;
 
-/// The greatest number of RDNs of a parent that is remembered.
-const MAX_PARENT_RDNS: usize = 8;
+/// The greatest number of pairs of type and value, in all RDNs, of a parent that is remembered.
+const MAX_PARENT_PAIRS: usize = 8;
 
 /// The length of the longest text that the key of a parent is ordered by, in bytes, if it is remembered.
 const MAX_PARENT_KEY: usize = 1024;
 
-/// Reads names one after the other. After some of them it remembers parents that come again: a name below
-/// one of these is read in less time.
+/// Reads names one after the other. After some of them it remembers parents that come again: of a name below
+/// one of these only the leaf is read.
 #[derive(Drop)]
 pub struct NameReader {
     /// How many of the first names were read.
@@ -62,39 +67,37 @@ impl NameReader {
     pub fn read(&mut self, alloc: Global, schema: &Schema, text: &[u8]) -> Result<Dn, NameFault>
         ensures { Gives (λ name. name) result (keyed_name schema.now text.now) }
     {
+        // By its leaf alone, if its parent is remembered; else as a whole.
         match self.read_child(alloc, schema, text) {
-            Ok(Some(name)) => Ok(name),
-            Err(NameFault::Memory) => Err(NameFault::Memory),
-            _ => read_whole(alloc, schema, text),
+            Some(answer) => answer,
+            None => read_whole(alloc, schema, text),
         }
     }
 
-    /// Reads a name below a parent that came before, if it is not one of the first names. At a fault other
-    /// than `Memory`, nothing is known of the text.
+    /// What `read` answers, if the parent that the text names is remembered.
     fn read_child(
         &mut self,
         alloc: Global,
         schema: &Schema,
         text: &[u8],
-    ) -> Result<Option<Dn>, NameFault>
-        ensures { IfOk result (λ name. IfSome name (λ name. keyed_name schema.now text.now ≡ Ok name)) }
+    ) -> Option<Result<Dn, NameFault>>
+        ensures { IfSome result (λ answer. Gives (λ name. name) answer (keyed_name schema.now text.now)) }
     {
         if self.first_names < FIRST_NAMES {
             self.first_names += 1;
-            return Ok(None);
+            return None;
+        }
+        if text.len() > MAX_TEXT {
+            return None;
         }
         let (leaf, above) = split_once_unescaped(text, b',');
-        let Some(above) = above else {
-            return Ok(None);
-        };
+        let above = above?;
         if above.is_empty() || above.len() > MAX_PARENT_TEXT {
-            return Ok(None);
+            return None;
         }
         let hash = hash_of(above);
-        match self.slot(alloc, hash) {
-            Some(slot) => slot.read_child(alloc, schema, leaf, above, hash),
-            None => Ok(None),
-        }
+        let slot = self.slot(alloc, hash)?;
+        slot.read_child(alloc, schema, leaf, above, hash)
     }
 
     /// The slot of a hash. There is none if memory runs out.
@@ -136,23 +139,24 @@ fn mixed(hash: u64, word: u64) -> u64 {
 /// What is known of the parents whose hashes have this slot.
 #[derive(Drop)]
 struct Slot {
-    /// The hash of the text that was met last.
-    last_hash: u64,
-    /// Whether the text that was met last spells no parent that can be remembered.
-    is_unfit: bool,
+    /// The hash of the text that was last sought here in vain.
+    missed: u64,
+    /// Before another parent is read, so many more texts must be sought here in vain.
+    misses_left: u8,
     parent: Option<Box<KnownParent>>,
 }
 
 impl Slot {
     fn empty() -> Slot {
         Slot {
-            last_hash: 0,
-            is_unfit: false,
+            missed: 0,
+            misses_left: 0,
             parent: None,
         }
     }
 
-    /// Reads a child of the parent that is remembered, or of one whose text was met last too.
+    /// The name with this leaf below the parent that the text `above` spells, if that is remembered, or is
+    /// read here since its text comes again.
     fn read_child(
         &mut self,
         alloc: Global,
@@ -160,48 +164,39 @@ impl Slot {
         leaf: &[u8],
         above: &[u8],
         hash: u64,
-    ) -> Result<Option<Dn>, NameFault>
+    ) -> Option<Result<Dn, NameFault>>
         requires { 0 < length above.now }
-        ensures { IfOk result (λ name. IfSome name (IsChild schema.now leaf.now above.now)) }
+        ensures { IfSome result (λ answer. Gives (λ name. name) answer (keyed_child schema.now leaf.now above.now)) }
     {
-        schema.has_builtin_rows();
-        if let Some(parent) = self.parent(above) {
-            let leaf = Leaf::read(alloc, schema, leaf)?;
-            let name = parent.child(alloc, leaf)?;
-            self.last_hash = hash;
-            return Ok(Some(name));
+        if let Some(parent) = &self.parent
+            && parent.text.as_slice() == above
+        {
+            self.misses_left = MISSES;
+            return Some(parent.read_child(alloc, schema, leaf));
         }
-        if !self.comes_again(hash) {
-            return Ok(None);
+        if !self.is_due(hash) {
+            return None;
         }
-        let leaf = Leaf::read(alloc, schema, leaf)?;
-        let Ok(Some(parent)) = KnownParent::read(alloc, schema, above) else {
-            self.is_unfit = true;
-            return Ok(None);
-        };
-        let name = parent.child(alloc, leaf)?;
+        // The parent is read before the leaf, since its text is short; one that can't be remembered is read again
+        // with the whole name.
+        let parent = KnownParent::read(alloc, schema, above).ok()??;
+        let answer = parent.read_child(alloc, schema, leaf);
         self.remember(alloc, parent);
-        Ok(Some(name))
+        Some(answer)
     }
 
-    /// The parent that this text spells, if it is remembered.
-    fn parent(&self, text: &[u8]) -> Option<&KnownParent>
-        ensures { IfSome result (λ parent. parent.now.text.items ≡ text.now) }
-    {
-        match &self.parent {
-            Some(parent) if parent.text.as_slice() == text => Some(parent),
-            _ => None,
+    /// Whether a text that is sought in vain is the one that was last sought so, and enough others were.
+    fn is_due(&mut self, hash: u64) -> bool {
+        let comes_again = self.missed == hash;
+        self.missed = hash;
+        if self.misses_left > 0 {
+            self.misses_left -= 1;
+            return false;
         }
-    }
-
-    /// Whether a text is the one that was met last, and may spell a parent that can be remembered.
-    fn comes_again(&mut self, hash: u64) -> bool {
-        if self.last_hash == hash {
-            return !self.is_unfit;
+        if comes_again {
+            self.misses_left = MISSES;
         }
-        self.last_hash = hash;
-        self.is_unfit = false;
-        false
+        comes_again
     }
 
     /// Puts a parent into the slot, unless memory runs out.
@@ -212,33 +207,14 @@ impl Slot {
     }
 }
 
-/// An RDN and its key.
-#[derive(Drop)]
-struct Leaf {
-    rdn: Rdn,
-    key: RdnKey,
-    ghost keyed: { rdn_key builtin_rows rdn ≡ Some key },
-}
-
-impl Leaf {
-    fn read(alloc: Global, schema: &Schema, text: &[u8]) -> Result<Leaf, NameFault>
-        ensures { IfOk result (λ leaf. rdn_of text.now ≡ Some leaf.rdn) }
-    {
-        schema.has_builtin_rows();
-        let rdn = read_rdn_within_limit(alloc, text)?;
-        let key = rdn.key(alloc, schema)?;
-        Ok(Leaf { rdn, key })
-    }
-}
-
 /// The name that a text spells, and the key of the name.
 #[derive(Drop)]
 struct KnownParent {
     text: Vec<u8>,
     name: Dn,
-    key: DnKey,
+    key: Rc<DnKey>,
     ghost spelled: { option_collect rdn_of (pieces comma false text.items) ≡ Some name },
-    ghost keyed: { IsKeyOf name key },
+    ghost keyed: { IsKeyOf name key.value },
 }
 
 impl KnownParent {
@@ -248,33 +224,41 @@ impl KnownParent {
         ensures { IfOk result (λ parent. IfSome parent (λ parent. parent.text.items ≡ text.now)) }
     {
         schema.has_builtin_rows();
-        let name = Dn::read(alloc, text)?;
-        if name.rdns().len() > MAX_PARENT_RDNS {
+        if pairs_at_most(text) > MAX_PARENT_PAIRS {
             return Ok(None);
         }
+        let name = Dn::read(alloc, text)?;
         let key = name.key(alloc, schema)?;
         if key.sort_text().len() > MAX_PARENT_KEY {
             return Ok(None);
         }
-        Ok(Some(KnownParent {
-            text: text.to_vec(alloc)?,
-            name,
-            key,
-        }))
+        let text = text.to_vec(alloc)?;
+        let key = Rc::new(alloc, key)?;
+        Ok(Some(KnownParent { text, name, key }))
     }
 
-    /// The name of a child, by its leaf.
-    fn child(&self, alloc: Global, leaf: Leaf) -> Result<Dn, NameFault>
-        ensures value { IfOk result (λ name. name ≡ leaf.rdn ∷ self.now.name) }
-        ensures within_limits { IfOk result (λ name. IsTrue (is_within_limits name)) }
-        ensures keyed { IfOk result (λ name. IsTrue (is_some (name_key builtin_rows name))) }
+    /// Reads the name of a child that has a key, by the text of its leaf.
+    fn read_child(&self, alloc: Global, schema: &Schema, leaf: &[u8]) -> Result<Dn, NameFault>
+        ensures { Gives (λ name. name) result (keyed_child schema.now leaf.now self.now.text.items) }
     {
-        let Leaf { rdn, key: part } = leaf;
-        let key = self.key.child(alloc, &part)?;
-        let name = self.name.child(alloc, rdn, key)?;
-        let _rdns = name.rdns();
-        Ok(name)
+        let name = self.child(alloc, leaf)?;
+        if_keyed(alloc, schema, name)
     }
+
+    /// The name of a child, by the text of its leaf.
+    fn child(&self, alloc: Global, leaf: &[u8]) -> Result<Dn, NameFault>
+        ensures { Gives (λ name. name) result (child_within_limits leaf.now self.now.text.items) }
+    {
+        let rdn = read_rdn_within_limit(alloc, leaf)?;
+        let _rdns = self.name.rdns();
+        self.name.child(alloc, rdn, &self.key)
+    }
+}
+
+/// How many pairs of type and value a text has at most.
+fn pairs_at_most(text: &[u8]) -> usize {
+    let separators = text.iter().filter(|b| matches!(**b, b',' | b'+')).count();
+    separators.saturating_add(1)
 }
 
 /// Reads a name that has a key.
@@ -282,6 +266,13 @@ fn read_whole(alloc: Global, schema: &Schema, text: &[u8]) -> Result<Dn, NameFau
     ensures { Gives (λ name. name) result (keyed_name schema.now text.now) }
 {
     let name = Dn::read(alloc, text)?;
+    if_keyed(alloc, schema, name)
+}
+
+/// The name, if it has a key.
+fn if_keyed(alloc: Global, schema: &Schema, name: Dn) -> Result<Dn, NameFault>
+    ensures { Gives (λ name. name) result (if_keyed schema.now name) }
+{
     if !name.has_key(alloc, schema)? {
         return Err(NameFault::BadDn);
     }
