@@ -5,7 +5,7 @@ use Rattle.dir_names.specs.NameKeys.{name_key}
 use Rattle.dir_names.specs.Names.{SpelledName}
 use Rattle.dir_names.specs.Table.Builtin.{builtin_rows}
 
--- under each schema, since all have the same types today
+-- under each schema, since all have the built-in types
 abbrev pub IsKeyOf : SpelledName → DnKeys → Type 0
 IsKeyOf name key = name_key builtin_rows name ≡ Some key
 
