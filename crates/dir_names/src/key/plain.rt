@@ -1,8 +1,9 @@
 //! A short way to the text of the key of a plain name: one that is spelled as it is printed, with one pair in
-//! each RDN. Of any other name it tells nothing.
+//! each RDN. Any other name is refused, with any fault but `Memory`: it may still be a name, and some text may have
+//! been written.
 
 ghost use Rattle.std.specs.List.{list_all};
-ghost use Rattle.std.specs.Prelude.{◌≡◌, ◌++◌, ◌∷◌, ◌&&◌, nat_lt, IfSome, Some, option_copied, option_map, true};
+ghost use Rattle.std.specs.Prelude.{◌≡◌, ◌++◌, ◌∷◌, ◌&&◌, nat_lt, IfOk, IfSome, OnOk, Some, option_copied, option_map, true};
 ghost use Rattle.dir_names.specs.Ascii.{equals_sign};
 ghost use Rattle.dir_names.specs.Inside.PlainParents.{IsPlainParent};
 ghost use Rattle.dir_names.specs.Inside.SortKeys.{IsKeyLowercase, IsPairPut, IsPlainRdn, with_piece};
@@ -15,35 +16,34 @@ use crate::limits::{MAX_RDN_TEXT, MAX_RDNS};
 use crate::name::printing::is_plain_value;
 use crate::name::type_and_value_key;
 use crate::value::spaces::has_no_extra_space;
-use crate::{Rule, Schema};
+use crate::{NameFault, Rule, Schema};
 use std::alloc::Global;
 use std::slice;
 
-/// Writes the text of the key of the name that a value spells, and tells whether it has. If not, the value may
-/// still be a name, and some text may have been written.
+/// Writes the text of the key of the name that a value spells, if it is plain.
 pub(crate) fn put_plain_name(
     alloc: Global,
     schema: &Schema,
     value: &[u8],
     out: &mut Vec<u8>,
-) -> bool
-    ensures { result ≡ true → option_map name_sort (name_value_key schema.now value.now) ≡ Some out.new.items }
+) -> Result<(), NameFault>
+    ensures { OnOk result (option_map name_sort (name_value_key schema.now value.now) ≡ Some out.new.items) }
 {
     match put_plain_parent(alloc, schema, value, out) {
-        Some((leaf, _)) => put_plain_rdn(alloc, schema, leaf, out),
-        None => false,
+        Ok((leaf, _)) => put_plain_rdn(alloc, schema, leaf, out),
+        Err(fault) => Err(fault),
     }
 }
 
-/// Writes the text of the key of the parent of the name that a value spells, and answers the text of the leaf and
-/// the text after it. At `None` some text may have been written.
+/// Writes the text of the key of the parent of the name that a value spells, if it is plain, and answers the text of
+/// the leaf and the text after it.
 pub(crate) fn put_plain_parent<'a>(
     alloc: Global,
     schema: &Schema,
     value: &'a [u8],
     out: &mut Vec<u8>,
-) -> Option<(&'a [u8], &'a [u8])>
-    ensures { IfSome result (λ cut. (value.now ≡ cut.0.now ++ cut.1.now) × IsPlainParent schema.now cut.1.now out.new.items) }
+) -> Result<(&'a [u8], &'a [u8]), NameFault>
+    ensures { IfOk result (λ cut. (value.now ≡ cut.0.now ++ cut.1.now) × IsPlainParent schema.now cut.1.now out.new.items) }
 {
     out.clear();
     let mut rest = value;
@@ -53,47 +53,53 @@ pub(crate) fn put_plain_parent<'a>(
         let (before, piece) = cut_at_last_comma(rest);
         match before {
             Some(before) => {
-                if !put_plain_rdn(alloc, schema, piece, out) {
-                    return None;
+                match put_plain_rdn(alloc, schema, piece, out) {
+                    Ok(()) => (),
+                    Err(fault) => return Err(fault),
                 }
                 rest = before;
             }
-            None => return Some(value.split_at(rest.len())),
+            None => return Ok(value.split_at(rest.len())),
         }
     }
-    None
+    Err(NameFault::NameLimit)
 }
 
-/// Appends the text of the key of an RDN, and tells whether it has.
-pub(crate) fn put_plain_rdn(alloc: Global, schema: &Schema, piece: &[u8], out: &mut Vec<u8>) -> bool
-    ensures { result ≡ true → IsPlainRdn schema.now piece.now out.old.items out.new.items }
+/// Appends the text of the key of an RDN, if it is plain.
+pub(crate) fn put_plain_rdn(
+    alloc: Global,
+    schema: &Schema,
+    piece: &[u8],
+    out: &mut Vec<u8>,
+) -> Result<(), NameFault>
+    ensures { OnOk result (IsPlainRdn schema.now piece.now out.old.items out.new.items) }
 {
     let Some((attr_type, value)) = cut_at_equals(piece) else {
-        return false;
+        return Err(NameFault::BadDn);
     };
     if piece.len() > MAX_RDN_TEXT
         || !is_type(attr_type)
         || is_reserved(attr_type)
         || !is_plain_value(value)
     {
-        return false;
+        return Err(NameFault::BadDn);
     }
     put_plain_pair(alloc, schema, attr_type, value, out)
 }
 
-/// Appends the text of the key of an RDN that has this pair alone, and tells whether it has.
+/// Appends the text of the key of an RDN that has this pair alone.
 fn put_plain_pair(
     alloc: Global,
     schema: &Schema,
     attr_type: &[u8],
     value: &[u8],
     out: &mut Vec<u8>,
-) -> bool
-    ensures { result ≡ true → IsPairPut schema.now (attr_type.now, value.now) out.old.items out.new.items }
+) -> Result<(), NameFault>
+    ensures { OnOk result (IsPairPut schema.now (attr_type.now, value.now) out.old.items out.new.items) }
 {
     match schema.frequent(attr_type) {
         Some(frequent) if is_key_lowercase(schema.rule(frequent.key()), value) =>
-            put_lowercase_pair(frequent.key(), value, out).is_ok(),
+            put_lowercase_pair(frequent.key(), value, out),
         _ => put_any_pair(alloc, schema, attr_type, value, out),
     }
 }
@@ -104,12 +110,12 @@ fn put_any_pair(
     attr_type: &[u8],
     value: &[u8],
     out: &mut Vec<u8>,
-) -> bool
-    ensures { result ≡ true → IsPairPut schema.now (attr_type.now, value.now) out.old.items out.new.items }
+) -> Result<(), NameFault>
+    ensures { OnOk result (IsPairPut schema.now (attr_type.now, value.now) out.old.items out.new.items) }
 {
     match type_and_value_key(alloc, schema, attr_type, value) {
-        Ok(key) => put_set(slice::from_ref(&key), out).is_ok(),
-        Err(_) => false,
+        Ok(key) => put_set(slice::from_ref(&key), out),
+        Err(fault) => Err(fault),
     }
 }
 

@@ -1,6 +1,6 @@
 //! The parents of the names that were read as values. Of a name below one of them only the leaf is read.
 
-ghost use Rattle.std.specs.Prelude.{◌≡◌, ◌++◌, IfSome, Some, option_map, true};
+ghost use Rattle.std.specs.Prelude.{◌≡◌, ◌++◌, IfSome, OnOk, Some, option_map};
 ghost use Rattle.dir_names.specs.Inside.PlainParents.{IsPlainParent};
 ghost use Rattle.dir_names.specs.Inside.SortTexts.{name_sort};
 ghost use Rattle.dir_names.specs.NameKeys.{name_value_key};
@@ -17,11 +17,12 @@ const SLOTS: usize = 1024;
 /// So many names are read before parents are remembered, so that a few names cost no slots.
 const FIRST_NAMES: usize = 64;
 
-/// A parent whose text has more bytes is not remembered.
+/// A parent whose text has more bytes is not remembered. The text of its key has at most 11 bytes more for each RDN.
 const MOST_BYTES: usize = 256;
 
-/// A parent whose key has a text of more bytes is not remembered.
-const MOST_SORT_BYTES: usize = 512;
+/// So many names are read in vain at a slot before its parent gives way to another one. To remember a parent takes less
+/// time than to read two, so parents that come by turns cost little, and one that comes no more is soon forgotten.
+const MOST_MISSES: u32 = 4;
 
 /// By how many bytes the text of the key of a plain RDN is longer than the RDN, if its type is spelled as in the key.
 const MARKS: usize = 5;
@@ -38,8 +39,10 @@ pub(crate) struct PlainParents {
 /// A place for a parent.
 #[derive(Drop)]
 struct Slot {
-    /// The hash of the text that was last sought here in vain.
-    sought: u64,
+    /// The upper half of the hash of the text that was last sought here in vain.
+    sought: u32,
+    /// How many texts were sought here in vain since the parent came.
+    misses: u32,
     parent: Option<Box<PlainParent>>,
 }
 
@@ -60,10 +63,14 @@ impl PlainParents {
     }
 
     /// The parent with this text after the leaf of each child, if it is remembered.
-    pub(crate) fn parent(&self, text: &[u8]) -> Option<&PlainParent>
+    pub(crate) fn known_parent(&self, text: &[u8]) -> Option<&PlainParent>
         ensures { IfSome result (λ parent. parent.now.text.items ≡ text.now) }
     {
-        match self.slots.as_ref()?.get(slot_of(hash_of(text))) {
+        let slots = self.slots.as_ref()?;
+        if text.len() > MOST_BYTES {
+            return None;
+        }
+        match slots.get(slot_of(hash_of(text))) {
             Some(
                 Slot {
                     parent: Some(parent),
@@ -74,32 +81,32 @@ impl PlainParents {
         }
     }
 
-    /// Does what `put_plain_name` does, and remembers the parent.
+    /// Does what `put_plain_name` does, and remembers the parent, which is not known yet.
     pub(crate) fn put_plain_name(
         &mut self,
         alloc: Global,
         schema: &Schema,
         value: &[u8],
         out: &mut Vec<u8>,
-    ) -> bool
-        ensures { result ≡ true → option_map name_sort (name_value_key schema.now value.now) ≡ Some out.new.items }
+    ) -> Result<(), NameFault>
+        ensures { OnOk result (option_map name_sort (name_value_key schema.now value.now) ≡ Some out.new.items) }
     {
         schema.has_builtin_rows();
         match put_plain_parent(alloc, schema, value, out) {
-            Some((leaf, above)) => {
+            Ok((leaf, above)) => {
                 self.remember(alloc, above, out.as_slice());
                 put_plain_rdn(alloc, schema, leaf, out)
             }
-            None => false,
+            Err(fault) => Err(fault),
         }
     }
 
     /// Puts a parent into its slot, if it has RDNs and short texts, was sought there the last time too, and there is memory
-    /// for it.
+    /// for it. The parent that is there stays at first.
     fn remember(&mut self, alloc: Global, text: &[u8], sort_text: &[u8])
         requires { IsPlainParent builtin_rows text.now sort_text.now }
     {
-        if text.is_empty() || text.len() > MOST_BYTES || sort_text.len() > MOST_SORT_BYTES {
+        if text.is_empty() || text.len() > MOST_BYTES {
             return;
         }
         if self.names < FIRST_NAMES {
@@ -117,11 +124,26 @@ impl PlainParents {
         else {
             return;
         };
-        if slot.sought != hash {
-            slot.sought = hash;
-        } else if let Ok(parent) = PlainParent::boxed(alloc, text, sort_text) {
-            slot.parent = Some(parent);
+        if !slot.gives_way(hash) {
+            return;
         }
+        if let Ok(parent) = PlainParent::boxed(alloc, text, sort_text) {
+            slot.parent = Some(parent);
+            slot.misses = 0;
+        }
+    }
+}
+
+impl Slot {
+    /// Whether a text that was sought here in vain is to be remembered here.
+    fn gives_way(&mut self, hash: u64) -> bool {
+        self.misses = self.misses.saturating_add(1);
+        let sought = (hash >> 32) as u32;
+        if self.sought != sought {
+            self.sought = sought;
+            return false;
+        }
+        self.parent.is_none() || self.misses >= MOST_MISSES
     }
 }
 
@@ -140,21 +162,21 @@ impl PlainParent {
         len.saturating_add(MARKS)
     }
 
-    /// Writes the text of the key of a child whose leaf has this text, and tells whether it has.
+    /// Writes the text of the key of a child whose leaf has this text, if the leaf is plain.
     pub(crate) fn put_child(
         &self,
         alloc: Global,
         schema: &Schema,
         leaf: &[u8],
         out: &mut Vec<u8>,
-    ) -> bool
-        ensures { result ≡ true → option_map name_sort (name_value_key schema.now (leaf.now ++ self.now.text.items)) ≡ Some out.new.items }
+    ) -> Result<(), NameFault>
+        ensures { OnOk result (option_map name_sort (name_value_key schema.now (leaf.now ++ self.now.text.items)) ≡ Some out.new.items) }
     {
         schema.has_builtin_rows();
         out.clear();
         match out.extend_from_slice(self.sort_text.as_slice()) {
             Ok(()) => put_plain_rdn(alloc, schema, leaf, out),
-            Err(_) => false,
+            Err(e) => Err(e.into()),
         }
     }
 }
@@ -165,6 +187,7 @@ fn empty_slots(alloc: Global) -> Result<Vec<Slot>, NameFault> {
     for _ in 0..SLOTS {
         slots.push(Slot {
             sought: 0,
+            misses: 0,
             parent: None,
         })?;
     }

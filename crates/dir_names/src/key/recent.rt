@@ -10,7 +10,7 @@ use crate::{DnSortKey, NameFault, Schema};
 use std::alloc::Global;
 use std::mem;
 
-/// A name of more bytes is not remembered.
+/// A name of more bytes is remembered only until the next one is read, so that no more than one such name is kept.
 const MOST_BYTES: usize = 512;
 
 /// The last two names that were read as values, with their keys, and the parents of names that were read. What is
@@ -18,7 +18,9 @@ const MOST_BYTES: usize = 512;
 /// plain name below one of the parents only the leaf is read.
 #[derive(Drop)]
 pub struct RecentNames {
+    /// Of any length.
     last: Option<RecentName>,
+    /// Of at most `MOST_BYTES`.
     before: Option<RecentName>,
     parents: PlainParents,
 }
@@ -72,13 +74,12 @@ impl RecentNames {
         schema.has_builtin_rows();
         if let Some(key) = key_in(&self.before, value) {
             let key = key.try_clone(alloc)?;
-            mem::swap(&mut self.last, &mut self.before);
+            let found = self.before.take();
+            self.put_last(found);
             return Ok(key);
         }
         let key = DnSortKey::read_after(alloc, schema, value, &mut self.parents)?;
-        if value.len() <= MOST_BYTES {
-            self.keep(alloc, value, &key);
-        }
+        self.keep(alloc, value, &key);
         Ok(key)
     }
 
@@ -97,7 +98,16 @@ impl RecentNames {
         let Ok(key) = key.try_clone(alloc) else {
             return;
         };
-        self.before = mem::replace(&mut self.last, Some(RecentName { value: bytes, key }));
+        self.put_last(Some(RecentName { value: bytes, key }));
+    }
+
+    /// Puts a name before the others: the last is then the one before it, unless it is long.
+    fn put_last(&mut self, name: Option<RecentName>) {
+        let last = mem::replace(&mut self.last, name);
+        self.before = match last {
+            Some(last) if last.value.len() <= MOST_BYTES => Some(last),
+            _long => None,
+        };
     }
 }
 

@@ -2,14 +2,14 @@
 
 ghost use Rattle.std.specs.Cmp.{partial_order_from_agreeing_total};
 ghost use Rattle.std.specs.Ordering.{as_partial_cmp};
-ghost use Rattle.std.specs.Prelude.{◌≡◌, ◌++◌, ◌∷◌, [], IfSome, Ok, Some, option_map, refl};
+ghost use Rattle.std.specs.Prelude.{◌≡◌, ◌++◌, ◌∷◌, [], Ok, Some, option_map, refl};
 ghost use Rattle.dir_names.specs.Orders.{dn_key_cmp, dn_key_eq, dn_key_cmp_total, dn_key_cmp_ties, tied_equiv, tied_per};
 ghost use Rattle.dir_names.specs.Outcome.{Gives, ok_or_bad_dn, ok_or_bad_value};
 ghost use Rattle.dir_names.specs.Inside.SortTexts.{name_sort, rdn_sort};
 ghost use Rattle.dir_names.specs.NameKeys.{name_key, name_value_key, rdn_key};
 
 use crate::key::plain::{cut_at_first_comma, put_plain_name};
-use crate::key::plain_parents::PlainParents;
+use crate::key::plain_parents::{PlainParent, PlainParents};
 use crate::key::sorting::{put_part, put_set};
 use crate::name::pair_key;
 use crate::{Bytes, Dn, DnKey, NameFault, Rdn, Schema};
@@ -101,36 +101,41 @@ impl DnSortKey {
     ) -> Result<DnSortKey, NameFault>
         ensures { Gives (λ key. key) result (ok_or_bad_value (name_value_key schema.now value.now)) }
     {
-        match DnSortKey::read_child(alloc, schema, value, parents) {
-            Some(key) => Ok(key),
-            None => DnSortKey::read_other(alloc, schema, value, parents),
+        if let Some((leaf, above)) = cut_at_first_comma(value) {
+            if let Some(parent) = parents.known_parent(above) {
+                return DnSortKey::read_child(alloc, schema, value, leaf, parent);
+            }
         }
+        DnSortKey::read_other(alloc, schema, value, parents)
     }
 
-    /// The key of the name that a value spells, if it is a plain leaf below one of these parents, and there is memory
-    /// for it.
+    /// `read` of a leaf below a parent. If the leaf isn't plain, the name is read as any other.
     fn read_child(
         alloc: Global,
         schema: &Schema,
         value: &[u8],
-        parents: &PlainParents,
-    ) -> Option<DnSortKey>
-        ensures { IfSome result (λ key. name_value_key schema.now value.now ≡ Some key) }
+        leaf: &[u8],
+        parent: &PlainParent,
+    ) -> Result<DnSortKey, NameFault>
+        requires { value.now ≡ leaf.now ++ parent.now.text.items }
+        ensures { Gives (λ key. key) result (ok_or_bad_value (name_value_key schema.now value.now)) }
     {
-        let (leaf, above) = cut_at_first_comma(value)?;
-        let parent = parents.parent(above)?;
-        let mut text = Vec::with_capacity(alloc, parent.child_sort_len(leaf)).ok()?;
-        text.extend_from_slice(value).ok()?;
+        let mut text = Vec::with_capacity(alloc, value.len().max(parent.child_sort_len(leaf)))?;
+        text.extend_from_slice(value)?;
         let spelled = Snapshot::of(&text);
-        if !parent.put_child(alloc, schema, leaf, &mut text) {
-            return None;
+        match put_child_name(alloc, schema, value, leaf, parent, &mut text) {
+            Ok(()) => (),
+            Err(fault) => return Err(fault),
         }
-        let kept = SortText {
-            text,
-            schema: Snapshot::of(schema),
-            value: spelled,
-        };
-        DnSortKey::of(alloc, kept).ok()
+        text.shrink_to_fit();
+        DnSortKey::of(
+            alloc,
+            SortText {
+                text,
+                schema: Snapshot::of(schema),
+                value: spelled,
+            },
+        )
     }
 
     /// `read`, which remembers the parent of the name.
@@ -260,10 +265,11 @@ fn put_name(
 ) -> Result<(), NameFault>
     ensures { Gives (λ _. out.new.items) result (ok_or_bad_value (option_map name_sort (name_value_key schema.now value.now))) }
 {
-    if put_plain_name(alloc, schema, value, out) {
-        return Ok(());
+    match put_plain_name(alloc, schema, value, out) {
+        Ok(()) => Ok(()),
+        Err(NameFault::Memory) => Err(NameFault::Memory),
+        Err(_) => put_any_name(alloc, schema, value, out),
     }
-    put_any_name(alloc, schema, value, out)
 }
 
 /// `put_name`, which remembers the parent of the name.
@@ -276,10 +282,30 @@ fn put_name_below(
 ) -> Result<(), NameFault>
     ensures { Gives (λ _. out.new.items) result (ok_or_bad_value (option_map name_sort (name_value_key schema.now value.now))) }
 {
-    if parents.put_plain_name(alloc, schema, value, out) {
-        return Ok(());
+    match parents.put_plain_name(alloc, schema, value, out) {
+        Ok(()) => Ok(()),
+        Err(NameFault::Memory) => Err(NameFault::Memory),
+        Err(_) => put_any_name(alloc, schema, value, out),
     }
-    put_any_name(alloc, schema, value, out)
+}
+
+/// `put_name` of a leaf below a parent.
+fn put_child_name(
+    alloc: Global,
+    schema: &Schema,
+    value: &[u8],
+    leaf: &[u8],
+    parent: &PlainParent,
+    out: &mut Vec<u8>,
+) -> Result<(), NameFault>
+    requires { value.now ≡ leaf.now ++ parent.now.text.items }
+    ensures { Gives (λ _. out.new.items) result (ok_or_bad_value (option_map name_sort (name_value_key schema.now value.now))) }
+{
+    match parent.put_child(alloc, schema, leaf, out) {
+        Ok(()) => Ok(()),
+        Err(NameFault::Memory) => Err(NameFault::Memory),
+        Err(_) => put_any_name(alloc, schema, value, out),
+    }
 }
 
 /// `put_name` of a name that may be spelled in any way.

@@ -19,7 +19,7 @@ loop-room-preserved c =
     let so_far = subst (λ (n : ℕ). IsReadFrom c.args.schema.now c.args.value.now c.loop-room.rest.now n c.loop-room.out.items) room c.loop-room.invariant in
     let piece = c.cut_at_last_comma.result.1.now in
     let cut = c.cut_at_last_comma.ensures ∙ ap (λ o. with_piece (option_copied o) piece) c.in-Some.is in
-    rdn_read c.args.schema.now c.args.value.now (c.loop-room.room - 1) c.loop-room.out.items c.put_plain_rdn.new.out.items piece (c.put_plain_rdn.ensures c.if-not-put_plain_rdn.false) c.in-Some.before.now c.loop-room.rest.now cut so_far
+    rdn_read c.args.schema.now c.args.value.now (c.loop-room.room - 1) c.loop-room.out.items c.put_plain_rdn.new.out.items piece c.in-Ok.ensures c.in-Some.before.now c.loop-room.rest.now cut so_far
 
 pub split_at-requires : goal.split_at-requires
 split_at-requires c = leaf_within c.args.schema.now c.args.value.now c.loop-room.rest.now c.loop-room.out.items c.loop-room.room c.loop-room.invariant
