@@ -23,6 +23,8 @@ from texts import NOTHING, same
 RUNS = 12
 ENTRIES = 14
 CHANGES = 200
+# how often an entry has many values
+MANY = 0.15
 
 SUFFIX = [("dc", "com")]
 # each type: its spellings
@@ -38,6 +40,8 @@ TYPES = {
 # values with signs that a name escapes, spaces at their ends, letters of other scripts, and the same ones spelled otherwise
 TEXTS = ["a", "A", "b", "B", "c", "d", "D", " e", "F  f", "f F ", "g,h", "G,H", "i+j", "#k", 'l"l', "m\\m", "<n;n>", "o=o", "\u00fc", "\u00dc", "stra\u00dfe"]
 NUMBERS = ["1", "2", "3"]
+# types that may have many values
+MULTIPLE = ["cn", "cn;lang-en", "description", "note", "sn"]
 # types that a name may have: without options
 NAMING = ["cn", "cn", "cn", "description", "note", "sn", "uidnumber"]
 
@@ -101,6 +105,16 @@ def random_rdn(rng):
     return [(rng.choice(TYPES[kind]), random_value(rng, kind)) for kind in kinds]
 
 
+def many_lines(rng):
+    """Lines of an entry that is changed by one way or by another: about 64 values, in several attributes or in one, or about 16 in one, of about
+    4,096 bytes together or of much less."""
+    one = [rng.choice(MULTIPLE)]
+    about, kinds = rng.choice([(16, one), (16, one), (61, MULTIPLE), (61, one)])
+    count = about + rng.randrange(-3, 4)
+    text = "x" * rng.choice([0, 0, rng.randrange(230, 290)])
+    return [(rng.choice(TYPES[kinds[at % len(kinds)]]), f"{text}{at}") for at in range(count)]
+
+
 def random_lines(rng, rdn):
     """The lines of an entry; with some of them an add is refused."""
     lines = []
@@ -111,13 +125,15 @@ def random_lines(rng, rdn):
     if rng.random() < 0.05:
         lines.append(("uidNumber", "007"))
     own = [other_pair(rng, pair) for pair in rdn if rng.random() < 0.4]
-    return [pair for pair in lines + own if rng.random() < 0.95]
+    many = many_lines(rng) if rng.random() < MANY else []
+    return [pair for pair in lines + own if rng.random() < 0.95] + many
 
 
 def random_mods(rng, entry):
     mods = []
+    large = [kind for kind, (_, values) in (entry.attributes if entry else {}).items() if len(values) > 9]
     for _ in range(rng.choice([0, 1, 1, 1, 2, 2, 3])):
-        kind = rng.choice([*TYPES, *(entry.attributes if entry else [])])
+        kind = rng.choice([*TYPES, *(entry.attributes if entry else []), *large * 4])
         there = list(entry.attributes[kind][1].values()) if entry and kind in entry.attributes else []
         values = [other_value(rng, kind, value) for value in there] * 2 + [random_value(rng, kind) for _ in range(3)]
         if kind == "uidnumber":

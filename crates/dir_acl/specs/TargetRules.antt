@@ -1,9 +1,11 @@
 -- What a <what> says of the target alone, and what of that which is asked for.
-use Rattle.std.specs.Prelude.{◌≡◌, Bool, true, length, map, take, List}
+use Rattle.std.specs.Prelude.{◌≡◌, ℕ, Bool, true, not, List, Some, slice_get}
 use Rattle.std.specs.List.{list_all, list_any}
 use Rattle.dir_names.specs.Keys.{DnKeys}
 use Rattle.dir_tree.specs.Content.{StoredAttributes}
 use Rattle.dir_acl.specs.declared.access.Asked.{Asked}
+use Rattle.dir_acl.specs.declared.access.target.ForTarget.{ForTarget}
+use Rattle.dir_acl.specs.declared.access.target.ForTarget.TheVariants as known
 use Rattle.dir_acl.specs.Decision.{is_asked, is_of_style}
 use Rattle.dir_acl.specs.Rules.{AccessRule, Restriction, to_names, to_filter, to_attrs}
 use Rattle.dir_acl.specs.Truth.{is_true, tree_truth}
@@ -26,6 +28,16 @@ rule_is_for target attributes rule = list_all (is_for target attributes) rule.wh
 abbrev pub rule_allows_asked : Asked → AccessRule → Bool
 rule_allows_asked asked rule = list_all (allows_asked asked) rule.what
 
--- the answers for the first rules, and for no others
-abbrev pub AreFirstOf : (AccessRule → Bool) → List AccessRule → List Bool → Type 0
-AreFirstOf is_for rules known = known ≡ map is_for (take (length known) rules)
+-- what is known of a rule for the target, or of one that isn't
+abbrev pub agrees : ForTarget → Bool → Bool
+agrees known.NotYetKnown is_for = true
+agrees known.No is_for = not is_for
+agrees known.Yes is_for = is_for
+
+-- this is so of the rule at an index, if there is one
+abbrev pub IsKnownAt : (AccessRule → Bool) → List AccessRule → ℕ → ForTarget → Type 0
+IsKnownAt is_for rules i known = (rule : AccessRule) → slice_get rules i ≡ Some rule → agrees known (is_for rule) ≡ true
+
+-- and of the rule at each index of a list
+abbrev pub AreKnownOf : (AccessRule → Bool) → List AccessRule → List ForTarget → Type 0
+AreKnownOf is_for rules all_known = (i : ℕ) (known : ForTarget) → slice_get all_known i ≡ Some known → IsKnownAt is_for rules i known

@@ -22,5 +22,9 @@ pub(crate) fn split_once(text: &[u8], separator: u8) -> (&[u8], Option<&[u8]>)
 fn position_of(text: &[u8], separator: u8) -> Option<usize>
     ensures { result ≡ position (λ b. b == separator) text.now }
 {
-    memchr(separator, text)
+    // An empty text is found at once; any other is searched by many bytes at a time.
+    match text.first() {
+        Some(first) if *first == separator => Some(0),
+        _ => memchr(separator, text),
+    }
 }

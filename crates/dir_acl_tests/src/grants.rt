@@ -38,10 +38,20 @@ const PASSED_OVER: &str =
 const FOLDED: &str =
     "# one\n  two \"\r\n\r\nDATABASE mdb\r\nsuffix\r\n\t\"dc\"=c\\om\r\n \n# three\n\n";
 
+/// Lists of attributes before and after what says of the target whether a rule is for it, which is so or isn't.
+const LISTS: &str = "database mdb\nsuffix dc=com\n\
+    access to attrs=sn filter=(sn=S) by * +r break\n\
+    access to attrs=sn filter=(sn=none) by * =m\n\
+    access to filter=(sn=S) attrs=sn by * +s break\n\
+    access to filter=(sn=none) attrs=sn by * =m\n\
+    access to dn.one=dc=com attrs=sn,entry filter=(sn=S) by * +c break\n\
+    access to attrs=sn dn.children=cn=t,dc=com by * =m\n\
+    access to * by * +d\n";
+
 /// A configuration, a requester, a target, what is asked of it (the entry itself where that is empty), and the answer.
 type Grant<'a> = (&'a str, &'a str, &'a str, &'a str, &'a str);
 
-const GRANTS: [Grant<'static>; 21] = [
+const GRANTS: [Grant<'static>; 26] = [
     // `continue` goes on with the later clauses
     (CONTINUE, "", "dc=com", "", "=0"),
     (CONTINUE, "cn=u,dc=com", "dc=com", "", "=rsc"),
@@ -86,6 +96,12 @@ const GRANTS: [Grant<'static>; 21] = [
     // a name without a style is one entry
     (ONE_ENTRY, "", "dc=com", "", "=rscxd"),
     (ONE_ENTRY, "", "cn=t,dc=com", "", "=scxd"),
+    // lists of attributes in any place
+    (LISTS, "", "cn=t,dc=com", "sn", "=rscd"),
+    (LISTS, "", "cn=t,dc=com", "", "=cd"),
+    (LISTS, "", "cn=t,dc=com", "cn", "=d"),
+    (LISTS, "", "dc=com", "sn", "=d"),
+    (LISTS, "", "cn=x,dc=com", "sn", "=d"),
     // parts of other databases, folded lines and comments
     (PASSED_OVER, "", "dc=com", "", "=rscxd"),
     (FOLDED, "", "dc=com", "", "=rscxd"),
@@ -222,6 +238,32 @@ fn one_target_is_asked_for_many_words(rt: HostRuntime) {
 fn words_may_come_in_any_order(rt: HostRuntime) {
     for asking in &ASKINGS {
         assert_alike(&rt, rt.alloc(), asking, &BACKWARDS);
+    }
+}
+
+const LIST_ASKINGS: [Asking<'static>; 4] = [
+    (LISTS, "cn=u,dc=com", "cn=t,dc=com"),
+    (LISTS, "cn=u,dc=com", "dc=com"),
+    (LISTS, "cn=u,dc=com", "cn=x,dc=com"),
+    (MANY, "cn=u,dc=com", "cn=t,dc=com"),
+];
+
+/// `cn` is in none of the lists, `sn` in each.
+const OUTSIDE_FIRST: [&str; 5] = ["cn", "sn", "cn", "", "sn"];
+
+const INSIDE_FIRST: [&str; 5] = ["sn", "cn", "sn", "", "cn"];
+
+#[test]
+fn a_word_outside_of_a_list_comes_first(rt: HostRuntime) {
+    for asking in &LIST_ASKINGS {
+        assert_alike(&rt, rt.alloc(), asking, &OUTSIDE_FIRST);
+    }
+}
+
+#[test]
+fn a_word_within_a_list_comes_first(rt: HostRuntime) {
+    for asking in &LIST_ASKINGS {
+        assert_alike(&rt, rt.alloc(), asking, &INSIDE_FIRST);
     }
 }
 

@@ -11,6 +11,9 @@ use std::alloc::{AllocError, Global};
 /// The departments that have rules.
 const DEPARTMENTS: u32 = 150;
 
+/// The people of a question: it is about one of them, so that no question is asked twice.
+const PEOPLE: u32 = 4;
+
 const ATTRIBUTES: [&str; 24] = [
     "entry",
     "children",
@@ -41,7 +44,7 @@ const ATTRIBUTES: [&str; 24] = [
 /// Runs the workload: so many questions about a directory of as many times four people.
 pub fn run(rt: &impl Print, alloc: Global, scale: u8, seed: u64) -> anyhow::Result<()> {
     let company = Company {
-        people: u32::from(scale) * 4,
+        people: u32::from(scale) * PEOPLE,
         seed,
     };
     let copy = company.copy(alloc)?;
@@ -57,7 +60,7 @@ pub fn run(rt: &impl Print, alloc: Global, scale: u8, seed: u64) -> anyhow::Resu
     runs::show(rt, "reports", reports.as_slice())
 }
 
-/// Asks what one person may do with the entry of another. In one question of ten nobody asks.
+/// Asks what one person may do with the entry of one of the question's people. In one question of ten nobody asks.
 fn ask(
     alloc: Global,
     rules: Rules<'_>,
@@ -66,7 +69,10 @@ fn ask(
     reports: &mut Buffer,
 ) -> anyhow::Result<()> {
     let mut draws = Draws::of(company.seed.wrapping_add(4), number);
-    let base = name_of(alloc, draws.below(company.people))?;
+    let person = number
+        .saturating_mul(PEOPLE)
+        .saturating_add(draws.below(PEOPLE));
+    let base = name_of(alloc, person)?;
     let requester = name_of(alloc, draws.below(company.people))?;
     let asking = Asking {
         base: base.as_slice(),

@@ -1,19 +1,27 @@
 //! Which targets a rule is for: its `<what>`.
 
 ghost use Rattle.std.specs.List.{list_any, starts_with};
-ghost use Rattle.std.specs.Prelude.{◌≡◌, option_copied};
+ghost use Rattle.std.specs.Prelude.{◌≡◌, ◌&&◌, option_copied, true};
 ghost use Rattle.dir_names.specs.Orders.{rdn_key_eq};
 ghost use Rattle.dir_acl.specs.Decision.{fits, is_asked, is_of_style, rule_fits};
 ghost use Rattle.dir_acl.specs.Inside.Fakes.{attributes_of};
 ghost use Rattle.dir_acl.specs.Inside.Requests.{question_of};
 ghost use Rattle.dir_acl.specs.Rules.{restriction_of, rule_of};
-ghost use Rattle.dir_acl.specs.TargetRules.{allows_asked, is_for, rule_allows_asked, rule_is_for};
+ghost use Rattle.dir_acl.specs.TargetRules.{agrees, allows_asked, is_for, rule_allows_asked, rule_is_for};
 ghost use Rattle.dir_acl.specs.Truth.{is_true};
 
 use crate::access::{Asked, Request, Rule, Style, What};
 use crate::filter::truth::Truth;
 use dir_names::DnKey;
 use dir_tree::Entry;
+
+/// Whether a rule is for the target, whatever of it is asked for.
+#[derive(Clone, Copy, Debug)]
+pub(crate) enum ForTarget {
+    NotYetKnown,
+    No,
+    Yes,
+}
 
 impl Rule {
     /// Whether the rule is for the target and what is asked of it.
@@ -28,16 +36,31 @@ impl Rule {
         true
     }
 
-    /// Whether the rule is for the target, whatever of it is asked for.
-    pub(crate) fn is_for(&self, target: &DnKey, entry: Option<&Entry>) -> bool
-        ensures { result ≡ rule_is_for target.now (attributes_of (option_copied entry.entry)) (rule_of self.now) }
+    /// Whether the rule is for the target and what is asked of it, and what is known then of the target alone. The
+    /// parts are tried in their order, up to the first that doesn't fit.
+    pub(crate) fn trial(
+        &self,
+        target: &DnKey,
+        entry: Option<&Entry>,
+        asked: &Asked,
+    ) -> (bool, ForTarget)
+        ensures fits { result.0 ≡ (rule_is_for target.now (attributes_of (option_copied entry.entry)) (rule_of self.now) && rule_allows_asked asked.now (rule_of self.now)) }
+        ensures known { agrees result.1 (rule_is_for target.now (attributes_of (option_copied entry.entry)) (rule_of self.now)) ≡ true }
     {
-        for what in &self.what {
+        for (index, what) in self.what.iter().enumerate() {
             if !what.is_for(target, entry) {
-                return false;
+                return (false, ForTarget::No);
+            }
+            if !what.allows_asked(asked) {
+                let known = if index + 1 == self.what.len() {
+                    ForTarget::Yes
+                } else {
+                    ForTarget::NotYetKnown
+                };
+                return (false, known);
             }
         }
-        true
+        (true, ForTarget::Yes)
     }
 
     /// Whether a rule that is for the target is for what is asked of it.

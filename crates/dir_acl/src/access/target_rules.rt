@@ -1,5 +1,5 @@
-//! The rules of a configuration, for many questions about one target. A rule is tried on the target when a question
-//! first comes to it, and what it said is remembered for the later ones.
+//! The rules of a configuration, for many questions about one target. A rule is tried when a question comes to it, and
+//! what that told of the target is remembered for the later questions.
 
 ghost use Rattle.std.specs.Prelude.{◌≡◌, Some, filter, option_copied, slice_get};
 ghost use Rattle.dir_acl.specs.Decision.{edits_of_rules, is_granted, rule_fits};
@@ -9,10 +9,11 @@ ghost use Rattle.dir_acl.specs.Inside.Requests.{question_of};
 ghost use Rattle.dir_acl.specs.Inside.RunningSet.{after_edits};
 ghost use Rattle.dir_acl.specs.Privileges.{has, no_privileges};
 ghost use Rattle.dir_acl.specs.Rules.{rule_of, rules_of};
-ghost use Rattle.dir_acl.specs.TargetRules.{AreFirstOf, rule_is_for};
+ghost use Rattle.dir_acl.specs.TargetRules.{AreKnownOf, IsKnownAt, rule_is_for};
 ghost use Rattle.dir_acl.specs.declared.privileges.Privilege.{Privilege};
 
 use crate::access::decision::{after_clauses, is_root};
+use crate::access::target::ForTarget;
 use crate::access::{Request, Rule};
 use crate::{Config, Level, Privileges};
 use dir_names::DnKey;
@@ -25,9 +26,9 @@ pub struct TargetRules<'a> {
     config: &'a Config,
     target: &'a DnKey,
     entry: Option<&'a Entry>,
-    // whether each of the first rules is for the target, as far as questions have come
-    known: Vec<bool>,
-    ghost known_are: { AreFirstOf (rule_is_for target.now (attributes_of (option_copied entry))) (configuration_of config.now).rules known.items },
+    // what is known of each of the first rules, as far as questions have come
+    known: Vec<ForTarget>,
+    ghost are_known: { AreKnownOf (rule_is_for target.now (attributes_of (option_copied entry))) (configuration_of config.now).rules known.items },
 }
 
 impl Config {
@@ -56,9 +57,9 @@ impl Config {
 impl TargetRules<'_> {
     ghost use Rattle.dir_acl.specs.RulesFor.{IsRulesFor};
 
-    /// The privileges of a request for the target of these rules. No rule is tried on the target that an earlier
-    /// question came to, nor one that `Config::privileges` would not come to. Where there is no memory to remember
-    /// what a rule said, it is tried again.
+    /// The privileges of a request for the target of these rules. No part of a rule is tried that `Config::privileges`
+    /// would not try, nor a name or a filter of one of which an earlier question told whether it is for the target.
+    /// Where there is no memory to remember that, the rule is tried again.
     pub fn privileges<D: Directory>(&mut self, directory: &D, request: &Request<'_>) -> Privileges
         requires { IsRulesFor (question_of request.now).target (question_of request.now).attributes self.old }
         ensures granted { (p : Privilege) → has result p ≡ is_granted (D.state directory.now) (configuration_of self.old.config.now).root (configuration_of self.old.config.now).rules (question_of request.now) p }
@@ -108,7 +109,8 @@ impl TargetRules<'_> {
         Privileges::none()
     }
 
-    /// Whether the rule at an index fits a request for the target.
+    /// Whether the rule at an index fits a request for the target. What is known of the rule answers for it, and where
+    /// that is nothing yet, it is tried.
     fn fits(&mut self, index: usize, rule: &Rule, request: &Request<'_>) -> bool
         requires at { slice_get (configuration_of self.old.config.now).rules index ≡ Some (rule_of rule.now) }
         requires target { IsRulesFor (question_of request.now).target (question_of request.now).attributes self.old }
@@ -116,23 +118,37 @@ impl TargetRules<'_> {
         ensures config { self.new.config.now ≡ self.old.config.now }
         ensures target { IsRulesFor (question_of request.now).target (question_of request.now).attributes self.new }
     {
-        self.is_for(index, rule) && rule.allows_asked(&request.asked)
+        match self.known_of(index) {
+            ForTarget::No => false,
+            ForTarget::Yes => rule.allows_asked(&request.asked),
+            ForTarget::NotYetKnown => {
+                let (fits, for_target) = rule.trial(self.target, self.entry, &request.asked);
+                self.remember(index, for_target);
+                fits
+            }
+        }
     }
 
-    /// Whether the rule at an index is for the target, whatever of it is asked for.
-    fn is_for(&mut self, index: usize, rule: &Rule) -> bool
-        requires { slice_get (configuration_of self.old.config.now).rules index ≡ Some (rule_of rule.now) }
-        ensures is_for { result ≡ rule_is_for self.old.target.now (attributes_of (option_copied self.old.entry)) (rule_of rule.now) }
+    /// What is known of the rule at an index.
+    fn known_of(&self, index: usize) -> ForTarget
+        ensures { IsKnownAt (rule_is_for self.now.target.now (attributes_of (option_copied self.now.entry))) (configuration_of self.now.config.now).rules index result }
+    {
+        self.known
+            .get(index)
+            .copied()
+            .unwrap_or(ForTarget::NotYetKnown)
+    }
+
+    /// Remembers what is known of the rule at an index, if there is memory for it.
+    fn remember(&mut self, index: usize, for_target: ForTarget)
+        requires { IsKnownAt (rule_is_for self.old.target.now (attributes_of (option_copied self.old.entry))) (configuration_of self.old.config.now).rules index for_target }
         ensures config { self.new.config.now ≡ self.old.config.now }
         ensures target { IsRulesFor self.old.target.now (attributes_of (option_copied self.old.entry)) self.new }
     {
-        if let Some(is_for) = self.known.get(index) {
-            return *is_for;
+        if index < self.known.len() {
+            self.known[index] = for_target;
+        } else if index == self.known.len() {
+            let _ = self.known.push(for_target);
         }
-        let is_for = rule.is_for(self.target, self.entry);
-        if index == self.known.len() {
-            let _ = self.known.push(is_for);
-        }
-        is_for
     }
 }

@@ -1,23 +1,26 @@
-use Rattle.std.proofs.Common.{◌≡◌, true, false}
-use Rattle.dir_acl.specs.Decision.{rule_fits}
+use Rattle.std.proofs.Common.{◌∙◌}
+use Rattle.std.specs.Option.{option_copied}
+use Rattle.dir_acl.specs.Inside.Fakes.{attributes_of}
 use Rattle.dir_acl.specs.Inside.Requests.{question_of}
 use Rattle.dir_acl.specs.Rules.{rule_of}
-use Rattle.dir_acl.specs.TargetRules.{rule_allows_asked, rule_is_for}
-use Rattle.dir_acl.proofs.KnownRules.{fits_if_asked, fits_no_other}
+use Rattle.dir_acl.proofs.KnownRules.{fits_by_parts, fits_if_asked, fits_no_other}
 use Rattle.dir_acl.proofs.access.target_rules.TargetRules.fits.Goals as goal
 
-pub returns-then-is_for-clause-fits : goal.returns-then-is_for-clause-fits
-returns-then-is_for-clause-fits c =
-    let q = question_of c.args.request.now in
+pub returns-in-No-clause-fits : goal.returns-in-No-clause-fits
+returns-in-No-clause-fits c =
+    let self = c.args.self.now in
     let rule = rule_of c.args.rule.now in
-    let is : rule_is_for q.target q.attributes rule ≡ true = cc in
-    let as_asked : rule_fits q rule ≡ rule_allows_asked q.asked rule = fits_if_asked q rule is in
-    cc
+    fits_no_other (question_of c.args.request.now) rule self.target.now (attributes_of (option_copied self.entry)) c.requires.target.0 c.requires.target.1 (c.in-No.ensures rule c.requires.at)
 
-pub returns-else-is_for-clause-fits : goal.returns-else-is_for-clause-fits
-returns-else-is_for-clause-fits c =
-    let q = question_of c.args.request.now in
+pub returns-in-Yes-clause-fits : goal.returns-in-Yes-clause-fits
+returns-in-Yes-clause-fits c =
+    let self = c.args.self.now in
     let rule = rule_of c.args.rule.now in
-    let not : rule_is_for q.target q.attributes rule ≡ false = cc in
-    let fits_not : rule_fits q rule ≡ false = fits_no_other q rule not in
-    cc
+    c.allows_asked.ensures
+    ∙ fits_if_asked (question_of c.args.request.now) rule self.target.now (attributes_of (option_copied self.entry)) c.requires.target.0 c.requires.target.1 (c.in-Yes.ensures rule c.requires.at)
+
+pub returns-in-NotYetKnown-clause-fits : goal.returns-in-NotYetKnown-clause-fits
+returns-in-NotYetKnown-clause-fits c =
+    let self = c.args.self.now in
+    c.trial-fits.ensures.fits
+    ∙ fits_by_parts (question_of c.args.request.now) (rule_of c.args.rule.now) self.target.now (attributes_of (option_copied self.entry)) c.requires.target.0 c.requires.target.1
