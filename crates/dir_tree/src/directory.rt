@@ -99,6 +99,12 @@ pub trait Directory {
         }
     }
 
+    /// Whether the directory packs a small entry that it takes in, so that to change one in its packed form saves to open and
+    /// to pack it. One that keeps entries as they are given opens each at its first change, once.
+    fn packs_entries(&self) -> bool {
+        false
+    }
+
     /// By how many RDNs the longest key at or below this one is longer: 0 for an entry without children.
     /// There must be an entry.
     fn height_below(&self, key: &DnKey) -> usize

@@ -142,13 +142,13 @@ impl Entry {
         self.attributes.to_map(alloc)
     }
 
-    /// Whether the entry is packed and has few values, so that `with_part` answers where there is memory.
+    /// Whether the entry is packed and has at most 64 values: only then `with_part` may answer attributes.
     pub fn is_small(&self) -> bool {
         self.attributes.are_small()
     }
 
-    /// The attributes with what a part has under these keys. None where the entry is not small, or memory runs out: then
-    /// they are to be opened.
+    /// The attributes with what a part has under these keys, packed. None where the entry is not small, where it would have
+    /// more than 64 values or more than 65,535 bytes of text, or memory runs out: then they are to be opened.
     pub fn with_part(
         &self,
         alloc: Global,

@@ -157,8 +157,8 @@ impl KeptAttributes {
         }
     }
 
-    /// The attributes with what a part has under these keys. None where they are not packed, would have many values, or
-    /// memory runs out.
+    /// The attributes with what a part has under these keys. None where they are not small, would have many values or too
+    /// much text to be packed, or memory runs out.
     pub(crate) fn with_part(
         &self,
         alloc: Global,

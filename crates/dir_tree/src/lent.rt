@@ -108,7 +108,8 @@ impl<'a> LentAttributes<'a> {
         }
     }
 
-    /// The attributes in little memory, unless they have more values than that, or there is no memory for it.
+    /// The attributes in little memory, unless they have more values than that, or more text than can be packed, or there is
+    /// no memory for it. Values and text are counted before anything is packed.
     pub(crate) fn packed_up_to(&self, alloc: Global, most: usize) -> Option<KeptAttributes>
         ensures { IfSome result (λ kept. kept ≡ self.now) }
     {
@@ -116,7 +117,11 @@ impl<'a> LentAttributes<'a> {
         if count_of(attributes) > most {
             return None;
         }
-        let packed = PackedAttributes::of(alloc, attributes, Rooms::of(attributes)).ok()?;
+        let rooms = Rooms::of(attributes);
+        if !rooms.can_be_packed() {
+            return None;
+        }
+        let packed = PackedAttributes::of(alloc, attributes, rooms).ok()?;
         Some(KeptAttributes::of_packed(packed))
     }
 }

@@ -150,6 +150,10 @@ impl Directory for TreeDirectory {
         }
     }
 
+    fn packs_entries(&self) -> bool {
+        true
+    }
+
     fn height_below(&self, key: &DnKey) -> usize {
         self.node(key).unwrap().height()
     }

@@ -1,8 +1,8 @@
 //! Attributes of an entry exchanged for those of a part.
 
 use crate::alike::{assert_lines, opened};
-use crate::make::{bytes, description, made, value};
-use dir_names::AttrKey;
+use crate::make::{bytes, description, line, made, name, schema, value};
+use dir_names::{AttrKey, Lines};
 use dir_tree::{Attribute, AttributeMap, Entry};
 use std::alloc::Global;
 use std::process::Abort;
@@ -160,6 +160,72 @@ fn what_a_part_has_under_other_keys_is_left_out(rt: HostRuntime) {
     let title = description(&rt, alloc, "title");
     let title = attributes.get(title.key()).expect(&rt, "a title");
     assert!(rt; title.len() == 2);
+}
+
+/// How many values an entry has, how many bytes of text, and whether it is small.
+const SIZES: [(usize, usize, bool); 4] = [
+    (64, 1000, true),
+    (65, 1000, false),
+    (3, 65535, true),
+    (3, 65536, false),
+];
+
+/// An entry with this many values, of so many bytes together, which are keys themselves.
+fn sized(rt: &impl Abort, alloc: Global, values: usize, bytes: usize) -> Entry {
+    let mut items = Vec::new(alloc);
+    for number in 2..values {
+        let text = format!(in alloc; "{number:03}").expect(rt, "memory");
+        items
+            .push(line(rt, alloc, "x", text.as_str()))
+            .expect(rt, "memory");
+    }
+    let rest = bytes.saturating_sub(1 + 3 * values.saturating_sub(2));
+    let mut long = String::new(alloc);
+    for _ in 0..rest {
+        long.push('a').expect(rt, "memory");
+    }
+    items
+        .push(line(rt, alloc, "long", long.as_str()))
+        .expect(rt, "memory");
+    let own = name(rt, alloc, "cn=a").into_rdns();
+    Entry::make(alloc, &schema(rt, alloc), own, Lines::new(items)).expect(rt, "an entry")
+}
+
+#[test]
+fn a_small_entry_has_few_values_and_little_text(rt: HostRuntime) {
+    let alloc = rt.alloc();
+    for (values, bytes, is_small) in &SIZES {
+        let entry = sized(&rt, alloc, *values, *bytes);
+        assert!(rt; entry.is_small() == *is_small, "{values} {bytes}");
+    }
+    let entry = opened(&rt, alloc, kim(&rt, alloc));
+    assert!(rt; !entry.is_small());
+}
+
+/// How many values an entry has, how many bytes of text, the new value of an attribute that it lacks or has, and whether
+/// there is a packed entry with it.
+const GROWN: [(usize, usize, &str, &str, bool); 7] = [
+    (63, 1000, "title", "t", true),
+    (64, 1000, "title", "t", false),
+    (64, 1000, "cn", "b", true),
+    (3, 65534, "title", "t", true),
+    (3, 65535, "title", "t", false),
+    (3, 65534, "cn", "bc", true),
+    (3, 65535, "cn", "bc", false),
+];
+
+#[test]
+fn an_entry_that_grows_too_large_is_left_to_be_changed_in_place(rt: HostRuntime) {
+    let alloc = rt.alloc();
+    for (values, bytes, attr_type, text, is_some) in &GROWN {
+        let entry = sized(&rt, alloc, *values, *bytes);
+        let keys = keys(&rt, alloc, &[*attr_type]);
+        let mut part = AttributeMap::empty(alloc);
+        part.put(attribute(&rt, alloc, attr_type, text))
+            .expect(&rt, "memory");
+        let attributes = entry.with_part(alloc, keys.as_slice(), &part);
+        assert!(rt; attributes.is_some() == *is_some, "{values} {bytes} {text}");
+    }
 }
 
 #[test]

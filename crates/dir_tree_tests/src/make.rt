@@ -66,7 +66,12 @@ pub(crate) fn lines_of(rt: &impl Abort, alloc: Global, lines: Texts) -> Lines {
     Lines::new(items)
 }
 
-fn line(rt: &impl Abort, alloc: Global, attr_type: &str, text: &str) -> (Description, Bytes) {
+pub(crate) fn line(
+    rt: &impl Abort,
+    alloc: Global,
+    attr_type: &str,
+    text: &str,
+) -> (Description, Bytes) {
     (description(rt, alloc, attr_type), bytes(rt, alloc, text))
 }
 

@@ -60,6 +60,11 @@ impl Room {
         room
     }
 
+    /// Whether the indices of so much text are short enough to be packed (`index`).
+    fn can_be_packed(self) -> bool {
+        self.text <= usize::from(u16::MAX)
+    }
+
     /// This room with room for some values in place of room for others.
     fn exchanged(self, others: Room, new: Room) -> Room {
         Room {
@@ -115,6 +120,11 @@ impl Rooms {
             }
         }
         rooms
+    }
+
+    /// Whether so much text can be packed: the common values have one text, the entry's own another.
+    pub(crate) fn can_be_packed(self) -> bool {
+        self.common.can_be_packed() && self.own.can_be_packed()
     }
 }
 
@@ -259,6 +269,9 @@ impl PackedValues {
             Room::none().with_packed(values.part(start, end)),
             Room::none().with_map(map),
         );
+        if !room.can_be_packed() {
+            return Err(Memory);
+        }
         PackedValues::with_room(alloc, room)?
             .with_packed(alloc, values.part(0, start))?
             .with_map(alloc, map)?

@@ -143,6 +143,8 @@ fn attributes_in_order(
                 .ok()?;
         }
     }
+    // An entry keeps the list, and lines of one attribute have one place in it.
+    attributes.shrink_to_fit();
     Some(attributes)
 }
 

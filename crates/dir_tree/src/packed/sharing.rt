@@ -106,14 +106,10 @@ fn find_values<'a>(
     None
 }
 
-/// Exchanges keys of names for the same ones, where they were met not long ago. More names than are kept share nothing,
-/// since they would take the place of all that are kept.
+/// Exchanges keys of names for the same ones, where they were met not long ago.
 fn share_names(alloc: Global, names: &mut Vec<DnSortKey>, recent: &mut Recent<DnSortKey>)
     ensures { names.new.items ≡ names.old.items }
 {
-    if names.len() > MOST_RECENT {
-        return;
-    }
     for at in 0..names.len() {
         share_name(alloc, &mut names[at], recent);
     }
