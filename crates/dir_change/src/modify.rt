@@ -54,7 +54,7 @@ pub(crate) fn modify<D: Directory>(
         before,
         after,
         back,
-    } = planned(alloc, schema, entry, mods)?;
+    } = planned(alloc, schema, entry, mods, directory.packs_entries())?;
     let undo = Undo::modify(alloc, directory.spelled(key)?, back)?;
     if let Some(entry) = modified_copy(alloc, entry, is_whole, keys.as_slice(), &after) {
         let _ = directory.replace(key, entry);
@@ -147,13 +147,19 @@ struct Plan {
 }
 
 /// The exchange that all modifications come to, if none of them, nor the entry after them, is refused.
-fn planned(alloc: Global, schema: &Schema, entry: &Entry, mods: &[Mod]) -> Result<Plan, Refusal>
+fn planned(
+    alloc: Global,
+    schema: &Schema,
+    entry: &Entry,
+    mods: &[Mod],
+    packs: bool,
+) -> Result<Plan, Refusal>
     ensures ok { IfOk result (λ plan. IsPlan schema.now entry.now mods.now plan.before plan.after plan.back.items) }
     ensures whole { IfOk result (λ plan. IsTrue plan.is_whole → AreExchanged entry.now.attributes plan.before plan.after (with_slots entry.now.attributes plan.keys.items plan.after)) }
     ensures refused { IfErr result (λ e. IsRefused e (entry_after schema.now entry.now mods.now)) }
 {
     let keys = named_keys(alloc, mods)?;
-    let is_whole = is_cheap_to_copy(entry, keys.as_slice());
+    let is_whole = copies_whole(packs, entry, keys.as_slice());
     let before = looks(alloc, schema, entry, keys.as_slice(), mods, is_whole)?;
     let mut after = before.try_clone(alloc)?;
     apply_all(alloc, schema, &mut after, mods)?;
@@ -166,6 +172,12 @@ fn planned(alloc: Global, schema: &Schema, entry: &Entry, mods: &[Mod]) -> Resul
         after,
         back,
     })
+}
+
+/// Whether whole attributes are copied to be exchanged: where that is cheap, in a directory that packs the entry again. Else no
+/// more of them is copied than the modifications need.
+fn copies_whole(packs: bool, entry: &Entry, keys: &[AttrKey]) -> bool {
+    packs && is_cheap_to_copy(entry, keys)
 }
 
 /// What modifications look at under the keys that they name: whole attributes if asked, else no more than they need.

@@ -61,7 +61,8 @@ pub(crate) fn rename<D: Directory>(
         return Err(Refusal::Code(ResultCode::NoSuchObject));
     };
     let place = place(alloc, directory, key, &superior, &rdn_key)?;
-    let renamed = renamed_entry(alloc, schema, entry, newrdn, rdn_key, delete_old)?;
+    let packs = directory.packs_entries();
+    let renamed = renamed_entry(alloc, schema, entry, newrdn, rdn_key, delete_old, packs)?;
     let undo = undo_of_rename(
         alloc, schema, directory, key, &superior, &place, &renamed, entry,
     )?;
@@ -192,12 +193,13 @@ fn renamed_entry(
     rdn: &Rdn,
     key: RdnKey,
     delete_old: bool,
+    packs: bool,
 ) -> Result<Entry, Refusal>
     requires { rdn_key schema.now rdn.now ≡ Some key }
     ensures ok { IfOk result (λ renamed. renamed_entry schema.now entry.now rdn.now key delete_old ≡ Ok renamed) }
     ensures refused { IfErr result (λ e. IsRefused e (renamed_entry schema.now entry.now rdn.now key delete_old)) }
 {
-    let attributes = attributes_with_rdn(alloc, schema, entry, rdn, &key, delete_old)?;
+    let attributes = attributes_with_rdn(alloc, schema, entry, rdn, &key, delete_old, packs)?;
     if attributes.exceeds_single_value(schema) {
         return Err(Refusal::Code(ResultCode::ConstraintViolation));
     }
@@ -208,7 +210,8 @@ fn renamed_entry(
     }))
 }
 
-/// The attributes of the entry with the new RDN.
+/// The attributes of the entry with the new RDN: by part where the directory packs entries and few values are copied for
+/// it, else from a copy of all.
 fn attributes_with_rdn(
     alloc: Global,
     schema: &Schema,
@@ -216,15 +219,18 @@ fn attributes_with_rdn(
     rdn: &Rdn,
     key: &RdnKey,
     delete_old: bool,
+    packs: bool,
 ) -> Result<KeptAttributes, Refusal>
     requires { rdn_key schema.now rdn.now ≡ Some key.now }
     ensures ok { IfOk result (λ renamed. renamed ≡ renamed_attributes schema.now entry.now.attributes entry.now.key rdn.now key.now delete_old) }
     ensures memory { IfErr result (λ e. e ≡ refusal.Memory) }
 {
-    match renamed_by_part(alloc, schema, entry, rdn, key, delete_old)? {
-        Some(attributes) => Ok(attributes),
-        None => renamed_whole(alloc, schema, entry, rdn, key, delete_old),
+    if packs {
+        if let Some(attributes) = renamed_by_part(alloc, schema, entry, rdn, key, delete_old)? {
+            return Ok(attributes);
+        }
     }
+    renamed_whole(alloc, schema, entry, rdn, key, delete_old)
 }
 
 /// The same, where only the attributes of the two RDNs' types are copied to be changed. None where all have to be.

@@ -9,22 +9,25 @@ use dir_names::AttrKey;
 use dir_tree::{AttributeMap, Entry};
 use std::alloc::Global;
 
-/// An attribute with more values than this is not copied whole to be changed.
-const MOST_VALUES: usize = 16;
+/// Attributes that have more values than this together, but for one of each, are not copied whole to be changed. One is
+/// looked at in any case; to copy eight for a modify that is refused at its first value takes longer than to look at less.
+const MOST_OTHER_VALUES: usize = 4;
 
-/// Attributes whose values have more bytes than this together are not copied whole to be changed.
-const MOST_BYTES: usize = 4096;
+/// Attributes whose values have more bytes than this together are not copied whole to be changed, for the same reason.
+const MOST_BYTES: usize = 1024;
 
 /// Whether an entry is small, and has few and short values under these keys, so that whole attributes are copied to be
-/// changed.
+/// changed. All are counted before one is copied.
 pub(crate) fn is_cheap_to_copy(entry: &Entry, keys: &[AttrKey]) -> bool {
     if !entry.is_small() {
         return false;
     }
+    let mut others: usize = 0;
     let mut bytes: usize = 0;
     for key in keys {
         if let Some(attribute) = entry.attribute(key) {
-            if attribute.len() > MOST_VALUES {
+            others = others.saturating_add(attribute.len().saturating_sub(1));
+            if others > MOST_OTHER_VALUES {
                 return false;
             }
             for (_, value) in attribute.values() {

@@ -2,4 +2,8 @@
 #![tactic(auto)]
 
 #[cfg(test)]
+mod parts;
+#[cfg(test)]
+mod plain;
+#[cfg(test)]
 mod tests;

@@ -13,7 +13,12 @@ use std::process::Abort;
 const TOP: &str = "dn: dc=com\nchangetype: add\ndc: com\n\n";
 
 /// The directory at a suffix that has no entry.
-fn empty(rt: &impl Abort, alloc: Global, schema: &Schema, suffix: &[u8]) -> FlatDirectory {
+pub(crate) fn empty(
+    rt: &impl Abort,
+    alloc: Global,
+    schema: &Schema,
+    suffix: &[u8],
+) -> FlatDirectory {
     let name = Dn::read(alloc, suffix).expect(rt, "a name");
     FlatDirectory::new(alloc, name.key(alloc, schema).expect(rt, "a key"))
 }
@@ -39,7 +44,7 @@ fn change_of(rt: &impl Abort, record: Result<Record, RecordFault>) -> Change {
 }
 
 /// The change records of a text.
-fn changes(rt: &impl Abort, alloc: Global, schema: &Schema, text: &str) -> Vec<Change> {
+pub(crate) fn changes(rt: &impl Abort, alloc: Global, schema: &Schema, text: &str) -> Vec<Change> {
     let mut changes = Vec::new(alloc);
     for (_, record) in read_all(alloc, schema, text.as_bytes()).expect(rt, "records") {
         changes.push(change_of(rt, record)).expect(rt, "memory");

@@ -60,9 +60,9 @@ impl Room {
         room
     }
 
-    /// Whether the indices of so much text are short enough to be packed (`index`).
+    /// Whether so much text can be packed: an index must reach its end.
     fn can_be_packed(self) -> bool {
-        self.text <= usize::from(u16::MAX)
+        index(self.text).is_ok()
     }
 
     /// This room with room for some values in place of room for others.
@@ -269,9 +269,8 @@ impl PackedValues {
             Room::none().with_packed(values.part(start, end)),
             Room::none().with_map(map),
         );
-        if !room.can_be_packed() {
-            return Err(Memory);
-        }
+        // Text that is too long for an index is refused before anything is packed.
+        let _last = index(room.text)?;
         PackedValues::with_room(alloc, room)?
             .with_packed(alloc, values.part(0, start))?
             .with_map(alloc, map)?
