@@ -136,3 +136,10 @@ words_fault t base requester (tool.Write output) named asked bad = absurd (bad)
 words_fault t base requester (tool.BadChanges fault) named asked bad = absurd (bad)
 words_fault t base requester (tool.Config fault) named asked bad = absurd (bad)
 words_fault t base requester tool.NoEntry named asked bad = absurd (bad)
+
+-- that of the requester too
+pub requester_fault : (t : AccessTerms) (base : DnKeys) → name_value_key t.rows t.question.base ≡ Some base → requester_of t.rows t.question.authc ≡ None → parts_of t ≡ Err (tool.BadQuestion item.Authc)
+requester_fault t base named none = λ i.
+    and_then (ok_or (named i) (tool.BadQuestion item.Base)) (λ base.
+    and_then (ok_or (none i) (tool.BadQuestion item.Authc)) (λ requester.
+    and_then (words_of t.rows t.question.words) (λ words. Ok (record { base = base; requester = requester; words = words }))))
