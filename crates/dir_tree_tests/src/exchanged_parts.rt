@@ -179,7 +179,8 @@ fn sized(rt: &impl Abort, alloc: Global, values: usize, bytes: usize) -> Entry {
             .push(line(rt, alloc, "x", text.as_str()))
             .expect(rt, "memory");
     }
-    let rest = bytes.saturating_sub(1 + 3 * values.saturating_sub(2));
+    let others = values.saturating_sub(2).saturating_mul(3);
+    let rest = bytes.saturating_sub(others.saturating_add(1));
     let mut long = String::new(alloc);
     for _ in 0..rest {
         long.push('a').expect(rt, "memory");
