@@ -4,14 +4,14 @@
 usage: bugs.py [--quick] [--tenth SEED] [CRATE[/PATTERN] ...]
 
 They are must-fail edits that the gate leaves out (docs/CONTRIBUTING.md says which), at about half a minute each. Try
-those of a crate when it has changed; with a pattern, as in 'dir_change/*rename*', only those whose names it fits. They are
-planted over what `rt check` last kept of the crate on this machine, in whatever checkout; with nothing kept, the crate is
-proved once first.
+those of a crate when it has changed; with a pattern, as in 'dir_change/*rename*', only those whose names it fits. The first
+of a crate takes as long as a proof of it, and so do the libraries below it, where `rt lib` has not built them in this
+checkout.
 
 --quick proves nothing: it looks whether each of them, and each edit of must-fail/, still finds the line that it changes,
 changes code, and compiles. It also names those that take away a name which a proof of the changed function may cite: where
 the prover refuses one of these, that need not show anything of the contract. It plants many at once, in a minute or so a
-crate. --tenth tries a tenth of each crate's, drawn by the seed, and says which.
+crate whose libraries are built. --tenth tries a tenth of each crate's, drawn by the seed, and says which.
 """
 import argparse
 import collections
@@ -30,9 +30,11 @@ APART = 4
 
 
 def copy_of_crates(folder):
-    """A copy of the sources, with nothing that rt made."""
+    """A copy of the sources, and of the libraries that rt has built of them: of what it made no more is needed."""
     copy = pathlib.Path(folder)
     shutil.copytree(ROOT / "crates", copy / "crates", ignore=shutil.ignore_patterns("out"))
+    for library in (ROOT / "crates").glob("*/out/rlib"):
+        shutil.copytree(library, copy / library.relative_to(ROOT))
     for name in ("crates.txt", "HANDLES"):
         shutil.copy(ROOT / name, copy)
     return copy

@@ -3,7 +3,8 @@
 
 usage: gate.py
 
-The last line is that of `rt ci`. It is held back until the trial has passed; where the trial fails, the last line tells so.
+The last line is that of `rt ci`. It is held back until the trial has passed; where the trial fails, the last line tells so. The
+line before it has the time that all took.
 
 Each proof has one processor. Where some are idle, `rt ci` would give one proof several, which ends sooner and takes half as much
 processor time again. RT_JOBS says otherwise.
@@ -11,8 +12,10 @@ processor time again. RT_JOBS says otherwise.
 import os
 import pathlib
 import re
+import resource
 import subprocess
 import sys
+import time
 
 ROOT = pathlib.Path(__file__).resolve().parent.parent
 
@@ -38,13 +41,25 @@ def prove():
     return running.returncode, last
 
 
+def minutes(seconds):
+    return f"{seconds / 60:.1f} minutes"
+
+
+def tell_time(begin):
+    """Prints how long the gate took, on the wall and of all processors together."""
+    used = resource.getrusage(resource.RUSAGE_CHILDREN)
+    print(f"gate: {minutes(time.monotonic() - begin)}, {minutes(used.ru_utime + used.ru_stime)} of processor time", flush=True)
+
+
 def main():
+    begin = time.monotonic()
     status, last = prove()
     if status == 0:
         status = subprocess.run([sys.executable, ROOT / "tests/trial.py", ROOT / "crates/slapkit/out/slapkit"]).returncode
         if status:
             passed = re.match(r"\d+ passed", last)
             last = f"{passed[0] if passed else '0 passed'}, 1 failed (tests/trial.py)\n"
+    tell_time(begin)
     print(last, end="", flush=True)
     sys.exit(1 if status else 0)
 

@@ -9,6 +9,10 @@ use dir_names::AttrKey;
 use dir_tree::{AttributeMap, Entry};
 use std::alloc::Global;
 
+/// More attributes than this are not copied whole to be changed: the entry after them may have too many values to be packed by
+/// part, and all would be made twice. A change of a person names fewer.
+const MOST_KEYS: usize = 16;
+
 /// Attributes that have more values than this together, but for one of each, are not copied whole to be changed. One is
 /// looked at in any case; to copy eight for a modify that is refused at its first value takes longer than to look at less.
 const MOST_OTHER_VALUES: usize = 4;
@@ -16,10 +20,10 @@ const MOST_OTHER_VALUES: usize = 4;
 /// Attributes whose values have more bytes than this together are not copied whole to be changed, for the same reason.
 const MOST_BYTES: usize = 1024;
 
-/// Whether an entry is small, and has few and short values under these keys, so that whole attributes are copied to be
+/// Whether an entry is small, and has few and short values under these few keys, so that whole attributes are copied to be
 /// changed. All are counted before one is copied.
 pub(crate) fn is_cheap_to_copy(entry: &Entry, keys: &[AttrKey]) -> bool {
-    if !entry.is_small() {
+    if keys.len() > MOST_KEYS || !entry.is_small() {
         return false;
     }
     let mut others: usize = 0;

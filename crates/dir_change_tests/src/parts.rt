@@ -95,22 +95,17 @@ fn undo_text<D: Directory + Drop>(
     (history.undo_text(alloc).expect(rt, "memory"), refused)
 }
 
-fn assert_row(rt: &impl Abort, alloc: Global, schema: &Schema, row: &Row) {
-    let entry = text_of(rt, alloc, row);
-    let entry = entry.as_str();
-    let text = format!(in alloc; "dn: dc=com\nchangetype: add\n\n{entry}{CHANGES}").expect(
-        rt, "memory",
-    );
-    let text = text.as_str();
+/// The text of changes gives the same undo text, with so many refused, in each directory.
+fn assert_same(rt: &impl Abort, alloc: Global, schema: &Schema, text: &str, count: usize) {
     let flat = empty(rt, alloc, schema, b"dc=com");
     let key = flat.suffix().try_clone(alloc).expect(rt, "memory");
     let inner = empty(rt, alloc, schema, b"dc=com");
     let (want, refused) = undo_text(rt, alloc, schema, flat, text);
-    assert!(rt; refused == 1);
+    assert!(rt; refused == count);
     let plain = undo_text(rt, alloc, schema, PlainDirectory { inner }, text);
-    assert!(rt; plain.0.as_slice() == want.as_slice() && plain.1 == 1);
+    assert!(rt; plain.0.as_slice() == want.as_slice() && plain.1 == count);
     let tree = undo_text(rt, alloc, schema, TreeDirectory::new(alloc, key), text);
-    assert!(rt; tree.0.as_slice() == want.as_slice() && tree.1 == 1);
+    assert!(rt; tree.0.as_slice() == want.as_slice() && tree.1 == count);
 }
 
 #[test]
@@ -118,6 +113,58 @@ fn changes_by_part_are_as_changes_of_the_whole(rt: HostRuntime) {
     let alloc = rt.alloc();
     let schema = Schema::builtin(alloc).expect(&rt, "a schema");
     for row in &ROWS {
-        assert_row(&rt, alloc, &schema, row);
+        let entry = text_of(&rt, alloc, row);
+        let entry = entry.as_str();
+        let text = format!(in alloc; "dn: dc=com\nchangetype: add\n\n{entry}{CHANGES}").expect(
+            &rt, "memory",
+        );
+        assert_same(&rt, alloc, &schema, text.as_str(), 1);
+    }
+}
+
+/// How many attributes one modify names. 16 are copied whole, 17 are not.
+const NAMED: [usize; 3] = [16, 17, 70];
+
+/// Appends a modify of so many attributes, each with an operation and a value.
+fn push_modify(
+    rt: &impl Abort,
+    alloc: Global,
+    text: &mut String,
+    operation: &str,
+    value: &str,
+    count: usize,
+) {
+    text.push_str("dn: cn=a,dc=com\nchangetype: modify")
+        .expect(rt, "memory");
+    for number in 0..count {
+        push_value(rt, alloc, text, operation, number, 2);
+        push_value(rt, alloc, text, "\nnote;x-", number, 2);
+        text.push_str(value).expect(rt, "memory");
+    }
+    text.push_str("\n\n").expect(rt, "memory");
+}
+
+#[test]
+fn a_modify_of_many_attributes_is_as_one_of_the_whole(rt: HostRuntime) {
+    let alloc = rt.alloc();
+    let schema = Schema::builtin(alloc).expect(&rt, "a schema");
+    for count in &NAMED {
+        let mut text = text_of(&rt, alloc, &(1, 8, 3, 1));
+        push_modify(&rt, alloc, &mut text, "\nadd: note;x-", ": a\n-", *count);
+        push_modify(
+            &rt,
+            alloc,
+            &mut text,
+            "\nreplace: note;x-",
+            ": b\n-",
+            *count,
+        );
+        push_modify(&rt, alloc, &mut text, "\ndelete: note;x-", ": a\n-", *count);
+        push_modify(&rt, alloc, &mut text, "\ndelete: note;x-", ": b\n-", *count);
+        let changes = text.as_str();
+        let text = format!(in alloc; "dn: dc=com\nchangetype: add\n\n{changes}").expect(
+            &rt, "memory",
+        );
+        assert_same(&rt, alloc, &schema, text.as_str(), 1);
     }
 }

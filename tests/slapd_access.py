@@ -1,0 +1,242 @@
+#!/usr/bin/env python3
+"""Asks OpenLDAP's slapacl and `slapkit slapacl` the same random questions under the same random rules, and compares the answers.
+
+usage: slapd_access.py PROGRAM [--seed S] [--sets N] [--keep FOLDER]
+
+It is outside the gate, and wants OpenLDAP's slapacl and slapadd with their schema files (Debian's package slapd). Each set of rules has
+20 questions, each of 20 words, so 50 sets have 20,000 answers. The rules have the forms that the kit reads, over the types that it knows;
+what README.md names under "What differs from slapd's slapacl" is left out, but for rules that run out: each word asks for a level, and
+there slapacl decides as a running slapd does. It fails where two answers differ, and tells the rules and the question.
+"""
+import argparse
+import base64
+import collections
+import os
+import pathlib
+import random
+import shutil
+import subprocess
+import sys
+import tempfile
+
+SCHEMA = "/etc/ldap/schema"
+SCHEMAS = ("core", "cosine", "nis", "inetorgperson")
+# Debian has slapd's tools where only root looks.
+TOOLS = os.environ.get("PATH", "") + ":/usr/sbin:/sbin"
+SUFFIX = "dc=example,dc=com"
+QUESTIONS = 20
+WORDS = 20
+LEVELS = ("disclose", "auth", "compare", "search", "read", "write", "add", "delete", "manage")
+TEXTS = ("cn", "sn", "title", "description", "givenName", "displayName", "employeeNumber", "l", "street", "mail", "uid", "ou")
+TYPES = (*TEXTS, "commonName", "surname", "telephoneNumber", "userPassword", "uidNumber", "gidNumber", "homeDirectory", "loginShell", "manager", "seeAlso", "member", "owner")
+GIVEN = ("Anna", "Björn", "Chen", "Dag", "Eve", "Farah", "Gül", "Hugo", "Ines", "Jörg", "Kim", "Lars")
+
+
+# ---- the directory
+
+
+def people():
+    return [f"uid={name.lower().encode('ascii', 'ignore').decode()}{at},ou={'staff' if at % 3 else 'guests'},{SUFFIX}" for at, name in enumerate(GIVEN)]
+
+
+def groups():
+    return [f"cn={name},ou=groups,{SUFFIX}" for name in ("admins", "readers", "owners")]
+
+
+def entry(name, lines):
+    return "".join(f"{line}\n" for line in (f"dn: {name}", *lines)) + "\n"
+
+
+def person(at, name):
+    uid = name.split(",")[0][4:]
+    yield from ("objectClass: inetOrgPerson", "objectClass: posixAccount", f"uid: {uid}", f"cn: {GIVEN[at]} {'ABC'[at % 3]}", f"sn: {'ABC'[at % 3]}", f"givenName: {GIVEN[at]}")
+    yield from (f"mail: {uid}@Example.com", f"uidNumber: {1000 + 7 * at}", f"gidNumber: {100 + at % 2}", f"homeDirectory: /home/{uid}", f"userPassword: secret{at}")
+    if at % 2:
+        yield from (f"title: {('Senior', 'Deputy', 'Chief')[at % 3]}  Engineer", f"telephoneNumber: +49 30 {1000 + at}", f"manager: {people()[at // 2]}")
+    if at % 4 == 0:
+        yield from (f"description: Number {at}", "description: a  b*c", f"seeAlso: {people()[(at + 1) % 12]}", "loginShell: /bin/Sh")
+
+
+def with_texts(lines):
+    """The lines, with values in other scripts in base64."""
+    for line in lines:
+        name, value = line.split(": ", 1)
+        yield line if value.isascii() else f"{name}:: {base64.b64encode(value.encode()).decode()}"
+
+
+def directory():
+    text = entry(SUFFIX, ("objectClass: domain", "dc: example"))
+    for ou in ("staff", "guests", "groups"):
+        text += entry(f"ou={ou},{SUFFIX}", ("objectClass: organizationalUnit", f"ou: {ou}"))
+    for at, name in enumerate(people()):
+        text += entry(name, with_texts(person(at, name)))
+    for at, name in enumerate(groups()):
+        members = [f"member: {who}" for who in people()[at :: 3]]
+        text += entry(name, ("objectClass: groupOfNames", f"cn: {name.split(',')[0][3:]}", *members, f"owner: {people()[at]}"))
+    return text
+
+
+# ---- rules
+
+
+def any_name(rng):
+    return rng.choice([SUFFIX, f"ou=staff,{SUFFIX}", f"ou=guests,{SUFFIX}", f"ou=groups,{SUFFIX}", *people(), *groups(), f"uid=nobody,{SUFFIX}", "dc=com"])
+
+
+def named(rng):
+    style = rng.choice(["", ".base", ".exact", ".one", ".onelevel", ".sub", ".subtree", ".children"])
+    return f'dn{style}="{any_name(rng)}"'
+
+
+def tested_value(rng, kind):
+    if kind in ("uidNumber", "gidNumber"):
+        return str(rng.choice([100, 101, 1000, 1007, 1014, 1050]))
+    if kind in ("manager", "seeAlso", "member", "owner"):
+        return any_name(rng)
+    if kind in ("homeDirectory", "loginShell"):
+        return rng.choice(["/home/anna0", "/bin/Sh", "/bin/sh"])
+    return rng.choice(["Anna", "anna a", "A", "b", "senior engineer", "Number 4", "a b\\2ac", "chen2@EXAMPLE.com", "chen2", "+49301003", "B*", "*ngin*", "s*r", "*", "*e*e*"])
+
+
+def filter_text(rng, depth=0):
+    draw = rng.random()
+    if depth < 3 and draw < 0.35:
+        inner = "".join(filter_text(rng, depth + 1) for _ in range(rng.randrange(1, 4)))
+        return f"({rng.choice('&|')}{inner})"
+    if depth < 3 and draw < 0.5:
+        return f"(!{filter_text(rng, depth + 1)})"
+    kind = rng.choice(TYPES)
+    operator = rng.choice([">=", "<="]) if kind in ("uidNumber", "gidNumber") and rng.random() < 0.5 else "="
+    return f"({kind}{operator}{tested_value(rng, kind)})"
+
+
+def listed(rng):
+    return "attrs=" + ",".join(rng.sample(["entry", "children", *TYPES], rng.randrange(1, 5)))
+
+
+def what(rng):
+    parts = [make(rng) for make, share in ((named, 0.5), (listed, 0.5), (lambda r: f'filter="{filter_text(r)}"', 0.35)) if rng.random() < share]
+    rng.shuffle(parts)
+    return " ".join(parts) or "*"
+
+
+def who(rng):
+    draw = rng.random()
+    if draw < 0.4:
+        return rng.choice(["*", "anonymous", "users", "self"])
+    if draw < 0.65:
+        return named(rng)
+    if draw < 0.8:
+        return f"dnattr={rng.choice(['manager', 'seeAlso', 'member', 'owner'])}"
+    group = rng.choice(["group", "group/groupOfNames", "group/groupOfNames/member", "group/groupOfNames/owner", "group.exact"])
+    return f'{group}="{rng.choice(groups() + [SUFFIX])}"'
+
+
+def access(rng):
+    if rng.random() < 0.5:
+        return rng.choice(["none", *LEVELS])
+    letters = "".join(rng.sample("mwazrscxd", rng.randrange(1, 4))) if rng.random() < 0.9 else "0"
+    return rng.choice("=+-") + letters
+
+
+def clause(rng):
+    parts = ["by", who(rng)] + ([who(rng)] if rng.random() < 0.1 else [])
+    kinds = [part.split("=")[0].split(".")[0].split("/")[0] for part in parts[1:]]
+    if len(kinds) == 2 and (kinds[0] == kinds[1] or set(kinds) & {"*", "anonymous", "users", "self", "dn"} == set(kinds)):
+        parts.pop()
+    if rng.random() < 0.95:
+        parts.append(access(rng))
+        if rng.random() < 0.3:
+            parts.append(rng.choice(["stop", "continue", "break"]))
+    return " ".join(parts)
+
+
+def rules(rng):
+    lines = [f"access to {what(rng)} {' '.join(clause(rng) for _ in range(rng.randrange(1, 5)))}" for _ in range(rng.randrange(1, 8))]
+    if rng.random() < 0.5:
+        lines.append("access to * by * read")
+    return "".join(f"{line}\n" for line in lines)
+
+
+def words(rng):
+    return [f"{rng.choice(['entry', 'children', *TYPES])}/{rng.choice(LEVELS)}" for _ in range(WORDS)]
+
+
+# ---- the two tools
+
+
+def run(command):
+    return subprocess.run(command, capture_output=True, text=True, errors="replace", env={**os.environ, "PATH": TOOLS})
+
+
+def head(folder):
+    """The configuration of slapd but for its rules."""
+    loads = "".join(f"include {SCHEMA}/{name}.schema\n" for name in SCHEMAS)
+    return f"{loads}modulepath /usr/lib/ldap\nmoduleload back_mdb\ndatabase mdb\nsuffix {SUFFIX}\ndirectory {folder}/db\n"
+
+
+def asked(tool, conf, copy, base, requester, wanted):
+    command = [*tool, "-f", str(conf), "-b", base, *(["--data", str(copy)] if copy else []), *(["-D", requester] if requester else []), *wanted]
+    return run(command)
+
+
+def answers(ran):
+    """The last word of each line that answers a word."""
+    return [line.rsplit(": ", 1)[1] for line in (ran.stdout + ran.stderr).splitlines() if line.endswith((": ALLOWED", ": DENIED"))]
+
+
+def compare(program, folder, rng, counts):
+    """Asks under one set of rules. Tells where the two differ."""
+    text = rules(rng)
+    theirs, ours = folder / "slapd.conf", folder / "slapkit.conf"
+    theirs.write_text(head(folder) + text)
+    ours.write_text(f"database mdb\nsuffix {SUFFIX}\n{text}")
+    for _ in range(QUESTIONS):
+        base = rng.choice([SUFFIX, f"ou=staff,{SUFFIX}", *people(), *groups()])
+        requester = rng.choice([None, *people(), f"uid=nobody,{SUFFIX}"])
+        wanted = words(rng)
+        slapd = asked(["slapacl"], theirs, None, base, requester, wanted)
+        slapkit = asked([program, "slapacl"], ours, folder / "copy.ldif", base, requester, wanted)
+        if "bad configuration file" in slapd.stderr or slapkit.returncode:
+            counts["different"] += 1
+            print(f"these rules, or this question, are refused: {base} {requester} {wanted}\n{text}{slapd.stderr[:300]}{slapkit.stderr}", flush=True)
+            return
+        here, there = answers(slapkit), answers(slapd)
+        counts["answers"] += len(wanted)
+        counts["allowed"] += there.count("ALLOWED")
+        if len(there) != len(wanted) or len(here) != len(wanted):
+            counts["different"] += 1
+            print(f"not each word was answered: {base} {requester} {wanted}\n{slapd.stdout}{slapd.stderr}{slapkit.stdout}{slapkit.stderr}", flush=True)
+            continue
+        for word, mine, other in zip(wanted, here, there):
+            if mine != other:
+                counts["different"] += 1
+                print(f"{base}, asked by {requester}: {word} is {mine} by slapkit and {other} by slapd, under\n{text}", flush=True)
+
+
+def main():
+    parser = argparse.ArgumentParser(description=__doc__, formatter_class=argparse.RawDescriptionHelpFormatter)
+    parser.add_argument("program")
+    parser.add_argument("--seed", type=int, default=1)
+    parser.add_argument("--sets", type=int, default=50)
+    parser.add_argument("--keep", metavar="FOLDER")
+    args = parser.parse_args()
+    if not shutil.which("slapacl", path=TOOLS):
+        sys.exit("slapd_access.py: OpenLDAP's slapacl is not here (Debian's package slapd has it)")
+    with tempfile.TemporaryDirectory() as made:
+        folder = pathlib.Path(args.keep or made).resolve()
+        shutil.rmtree(folder / "db", ignore_errors=True)
+        (folder / "db").mkdir(parents=True)
+        (folder / "copy.ldif").write_text(directory())
+        (folder / "load.conf").write_text(head(folder))
+        loaded = run(["slapadd", "-q", "-f", str(folder / "load.conf"), "-l", str(folder / "copy.ldif")])
+        if loaded.returncode:
+            sys.exit(f"slapd_access.py: slapadd: {loaded.stderr}")
+        counts = collections.Counter()
+        for number in range(args.sets):
+            compare(os.path.abspath(args.program), folder, random.Random(f"{args.seed} {number}"), counts)
+    print(", ".join(f"{name} {count}" for name, count in sorted(counts.items())))
+    sys.exit(1 if counts["different"] else 0)
+
+
+main()
