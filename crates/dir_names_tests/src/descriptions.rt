@@ -1,6 +1,6 @@
 //! Attribute descriptions, and the types of the built-in table.
 
-use crate::make::{attr_key, description, schema};
+use crate::make::{attr_key, check, description, schema};
 use dir_names::{Description, NameFault, Rule};
 use std::alloc::Global;
 use std::process::Abort;
@@ -14,81 +14,73 @@ const EQUAL: [(&str, &str); 4] = [
 ];
 
 #[test]
-fn a_description_has_the_key_of_its_type_and_options(rt: HostRuntime) {
+fn a_description_has_its_spelling_and_the_key_of_its_type_and_options(rt: HostRuntime) {
     for (one, other) in &EQUAL {
-        assert_equal(&rt, rt.alloc(), one, other);
+        check(&rt, is_equal(&rt, rt.alloc(), one, other), one);
     }
 }
 
-fn assert_equal(rt: &impl Abort, alloc: Global, one: &str, other: &str) {
-    let key = attr_key(rt, alloc, one);
-    assert!(rt; key == attr_key(rt, alloc, other), "{one}");
+fn is_equal(rt: &impl Abort, alloc: Global, one: &str, other: &str) -> bool {
+    let description = description(rt, alloc, one);
+    let key = attr_key(rt, alloc, other);
+    description.spelling() == one.as_bytes() && *description.key() == key
 }
+
+/// Descriptions, whether the first covers the second, and whether the second covers the first.
+const COVERS: [(&str, &str, bool, bool); 5] = [
+    ("cn", "CommonName;lang-en", true, false),
+    ("cn", "commonName", true, true),
+    ("x-unknown", "X-Unknown", true, true),
+    ("cn", "sn", false, false),
+    ("cn", "x-unknown", false, false),
+];
 
 #[test]
-fn a_description_keeps_its_spelling(rt: HostRuntime) {
-    let english = description(&rt, rt.alloc(), "CommonName;lang-en");
-    assert!(rt; english.spelling() == b"CommonName;lang-en".as_slice());
+fn a_description_covers_those_of_its_type_with_its_options(rt: HostRuntime) {
+    for (one, other, covers, is_covered) in &COVERS {
+        let want = (*covers, *is_covered, *covers && *is_covered);
+        check(&rt, covered(&rt, rt.alloc(), one, other) == want, other);
+    }
 }
 
-#[test]
-fn a_description_covers_those_with_more_options(rt: HostRuntime) {
-    let english = attr_key(&rt, rt.alloc(), "CommonName;lang-en");
-    let plain = attr_key(&rt, rt.alloc(), "cn");
-    assert!(rt; plain != english);
-    assert!(rt; plain.covers(&english));
-    assert!(rt; !english.covers(&plain));
+/// Whether the first covers the second, the second the first, and whether they are equal.
+fn covered(rt: &impl Abort, alloc: Global, one: &str, other: &str) -> (bool, bool, bool) {
+    let one = attr_key(rt, alloc, one);
+    let other = attr_key(rt, alloc, other);
+    (one.covers(&other), other.covers(&one), one == other)
 }
 
-#[test]
-fn a_type_without_options_covers_itself_alone(rt: HostRuntime) {
-    let alloc = rt.alloc();
-    let name = attr_key(&rt, alloc, "cn");
-    let surname = attr_key(&rt, alloc, "sn");
-    let unknown = attr_key(&rt, alloc, "x-unknown");
-    assert!(rt; name.covers(&attr_key(&rt, alloc, "commonName")));
-    assert!(rt; unknown.covers(&attr_key(&rt, alloc, "X-Unknown")));
-    assert!(rt; !name.covers(&surname) && !surname.covers(&name));
-    assert!(rt; !name.covers(&unknown) && !unknown.covers(&name));
-}
-
-/// Texts that are read as descriptions.
-const READ: [&str; 4] = ["1.2", "0.0.1", "x-y-", "a1"];
-
-/// Texts that are not, and the fault of each.
-const REFUSED: [(&str, NameFault); 13] = [
-    ("dn", NameFault::ReservedName),
-    ("1cn", NameFault::BadDescription),
-    ("cn;", NameFault::BadDescription),
-    ("control;x-a", NameFault::ReservedName),
-    ("control;x_a", NameFault::BadDescription),
-    ("1", NameFault::BadDescription),
-    ("1.02", NameFault::BadDescription),
-    ("1..2", NameFault::BadDescription),
-    (".1", NameFault::BadDescription),
-    ("1.", NameFault::BadDescription),
-    ("-a", NameFault::BadDescription),
-    ("a b", NameFault::BadDescription),
-    ("", NameFault::BadDescription),
+/// Texts, and the fault of each that is not read as a description.
+const READ: [(&str, Option<NameFault>); 17] = [
+    ("1.2", None),
+    ("0.0.1", None),
+    ("x-y-", None),
+    ("a1", None),
+    ("dn", Some(NameFault::ReservedName)),
+    ("1cn", Some(NameFault::BadDescription)),
+    ("cn;", Some(NameFault::BadDescription)),
+    ("control;x-a", Some(NameFault::ReservedName)),
+    ("control;x_a", Some(NameFault::BadDescription)),
+    ("1", Some(NameFault::BadDescription)),
+    ("1.02", Some(NameFault::BadDescription)),
+    ("1..2", Some(NameFault::BadDescription)),
+    (".1", Some(NameFault::BadDescription)),
+    ("1.", Some(NameFault::BadDescription)),
+    ("-a", Some(NameFault::BadDescription)),
+    ("a b", Some(NameFault::BadDescription)),
+    ("", Some(NameFault::BadDescription)),
 ];
 
 #[test]
 fn only_descriptions_are_read(rt: HostRuntime) {
-    for text in &READ {
-        assert_fault(&rt, rt.alloc(), text, None);
+    for (text, want) in &READ {
+        check(&rt, fault_of(&rt, rt.alloc(), text) == *want, text);
     }
-    for (text, want) in &REFUSED {
-        assert_fault(&rt, rt.alloc(), text, Some(*want));
-    }
-}
-
-fn assert_fault(rt: &impl Abort, alloc: Global, text: &str, want: Option<NameFault>) {
-    assert!(rt; fault_of(rt, alloc, text.as_bytes()) == want, "{text}");
 }
 
 /// The fault of a description's text, if it has one.
-pub(crate) fn fault_of(rt: &impl Abort, alloc: Global, text: &[u8]) -> Option<NameFault> {
-    Description::read(alloc, &schema(rt, alloc), text).err()
+fn fault_of(rt: &impl Abort, alloc: Global, text: &str) -> Option<NameFault> {
+    Description::read(alloc, &schema(rt, alloc), text.as_bytes()).err()
 }
 
 /// Types, with their rules, and whether they are single-valued (RFC 4519, 4524, 2798, 2307 and 4512).
@@ -110,13 +102,14 @@ const TYPES: [(&str, Rule, bool); 12] = [
 #[test]
 fn types_have_the_rules_of_their_standards(rt: HostRuntime) {
     for (attr_type, rule, is_single) in &TYPES {
-        assert_type(&rt, rt.alloc(), attr_type, *rule, *is_single);
+        let found = rule_of(&rt, rt.alloc(), attr_type);
+        check(&rt, found == (*rule, *is_single), attr_type);
     }
 }
 
-fn assert_type(rt: &impl Abort, alloc: Global, attr_type: &str, rule: Rule, is_single: bool) {
+/// The rule of a type, and whether it is single-valued.
+fn rule_of(rt: &impl Abort, alloc: Global, attr_type: &str) -> (Rule, bool) {
     let schema = schema(rt, alloc);
     let key = attr_key(rt, alloc, attr_type);
-    assert!(rt; schema.rule(&key) == rule, "{attr_type}");
-    assert!(rt; schema.single(&key) == is_single, "{attr_type}");
+    (schema.rule(&key), schema.single(&key))
 }

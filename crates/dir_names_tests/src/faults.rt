@@ -1,5 +1,6 @@
 //! The texts of faults.
 
+use crate::make::{check, shows};
 use dir_names::{Memory, NameFault};
 use std::alloc::Global;
 use std::fmt::Display;
@@ -24,8 +25,6 @@ fn each_fault_shows_its_text(rt: HostRuntime) {
 
 /// Asserts that a fault shows this text, and no other under `#`.
 fn assert_shows<F: Display>(rt: &impl Abort, alloc: Global, fault: &F, want: &str) {
-    let plain = format!(in alloc; "{fault}").expect(rt, "memory");
-    assert!(rt; plain.as_str() == want);
-    let alternate = format!(in alloc; "{fault:#}").expect(rt, "memory");
-    assert!(rt; alternate.as_str() == want);
+    check(rt, shows(format!(in alloc; "{fault}"), want), want);
+    check(rt, shows(format!(in alloc; "{fault:#}"), want), want);
 }

@@ -1,9 +1,9 @@
 //! What the tests are made of, each read from its text.
 
 use dir_names::{
-    AttrKey, Bytes, Description, Dn, DnKey, Lines, NameReader, Rdn, RdnKey, Schema, ValueKey,
+    AttrKey, Description, Dn, DnKey, NameFault, NameReader, Rdn, RdnKey, Schema, ValueKey,
 };
-use std::alloc::Global;
+use std::alloc::{AllocError, Global};
 use std::process::Abort;
 
 /// More names than those that are read before parents are remembered.
@@ -46,16 +46,42 @@ pub(crate) fn rdn_key(rt: &impl Abort, alloc: Global, text: &str) -> RdnKey {
     rdn.key(alloc, &schema(rt, alloc)).expect(rt, "a key")
 }
 
-pub(crate) fn bytes(rt: &impl Abort, alloc: Global, text: &str) -> Bytes {
-    Bytes::copy_of(alloc, text.as_bytes()).expect(rt, "memory")
+/// Ends the test with this text unless this holds. Each `assert!` makes the proof of its function longer, the more so
+/// the more values are alive there; a call is cheaper.
+pub(crate) fn check(rt: &impl Abort, holds: bool, what: &str) {
+    assert!(rt; holds, "{what}");
 }
 
-/// The lines of one value.
-pub(crate) fn line(rt: &impl Abort, alloc: Global, spelling: &str, value: &str) -> Lines {
-    let mut items = Vec::new(alloc);
-    let item = (description(rt, alloc, spelling), bytes(rt, alloc, value));
-    items.push(item).expect(rt, "memory");
-    Lines::new(items)
+/// Whether a call gave this value.
+pub(crate) fn gives<T: PartialEq + Drop>(found: Result<T, NameFault>, want: &T) -> bool {
+    match found {
+        Ok(found) => found == *want,
+        Err(_) => false,
+    }
+}
+
+/// Whether a call gave this text.
+pub(crate) fn gives_text(found: Result<Vec<u8>, NameFault>, want: &str) -> bool {
+    match found {
+        Ok(found) => found.as_slice() == want.as_bytes(),
+        Err(_) => false,
+    }
+}
+
+/// Whether these are all the values, in this order.
+pub(crate) fn are<T: PartialEq>(found: &[T], first: &T, second: &T) -> bool {
+    match found {
+        [one, other] => *one == *first && *other == *second,
+        _ => false,
+    }
+}
+
+/// Whether a value is shown by this text.
+pub(crate) fn shows(found: Result<String, AllocError>, want: &str) -> bool {
+    match found {
+        Ok(found) => found.as_str() == want,
+        Err(_) => false,
+    }
 }
 
 /// A text, and so many times another one, and then a third.

@@ -1,12 +1,13 @@
 //! Names: reading, printing, keys, and names made of RDNs.
 
-use crate::make::{name, name_key, rdn, rdn_key, schema, value_key};
+use crate::make::{are, check, gives, gives_text, name, name_key, rdn, rdn_key, schema, shows};
 use dir_names::{Dn, DnKey, NameFault};
 use std::alloc::Global;
 use std::process::Abort;
 
-/// Texts of names, and how the names are printed.
-const PRINTED: [(&str, &str); 13] = [
+/// Texts of names, and how the names are printed. The first is the example of the crate's README.
+const PRINTED: [(&str, &str); 14] = [
+    (" cn = a\\,b , DC=com", "cn=a\\2Cb,DC=com"),
     ("cn=a\\,b , OU = x y", "cn=a\\2Cb,OU=x y"),
     ("cn=J\u{fc}rgen", "cn=J\\C3\\BCrgen"),
     ("cn=\\#a", "cn=\\23a"),
@@ -46,138 +47,162 @@ const NO_NAMES: [&str; 17] = [
 #[test]
 fn names_print_and_read_back(rt: HostRuntime) {
     for (text, want) in &PRINTED {
-        assert_prints(&rt, rt.alloc(), text, want);
+        check(&rt, prints(&rt, rt.alloc(), text, want), text);
     }
 }
 
-fn assert_prints(rt: &impl Abort, alloc: Global, text: &str, want: &str) {
+fn prints(rt: &impl Abort, alloc: Global, text: &str, want: &str) -> bool {
     let name = name(rt, alloc, text);
-    assert_printed(rt, alloc, &name, want);
-    assert_reads(rt, alloc, want, &name);
-}
-
-pub(crate) fn assert_printed(rt: &impl Abort, alloc: Global, name: &Dn, want: &str) {
-    let printed = name.print(alloc).expect(rt, "memory");
-    assert!(rt; printed.as_slice() == want.as_bytes(), "{want}");
-}
-
-/// How a name of one RDN is shown, and how it is laid out.
-const SHOWN: &str =
-    "Dn { rdns: [Rdn { pairs: One((Bytes { items: [108] }, Bytes { items: [98] })) }] }";
-
-const LAID_OUT: &str =
-    "Dn {\n    rdns: [\n        Rdn {\n            pairs: One(\n                (\n                    Bytes {\n                        items: [\n                            108,\n                        ],\n                    },\n                    Bytes {\n                        items: [\n                            98,\n                        ],\n                    },\n                ),\n            ),\n        },\n    ],\n}";
-
-#[test]
-fn a_name_is_shown(rt: HostRuntime) {
-    let one = name(&rt, rt.alloc(), "l=b");
-    let shown = format!(in rt.alloc(); "{one:?}").expect(&rt, "memory");
-    assert!(rt; shown.as_str() == SHOWN, "{shown}");
-    let laid_out = format!(in rt.alloc(); "{one:#?}").expect(&rt, "memory");
-    assert!(rt; laid_out.as_str() == LAID_OUT, "{laid_out}");
-    let empty = name(&rt, rt.alloc(), "");
-    let shown = format!(in rt.alloc(); "{empty:?}").expect(&rt, "memory");
-    assert!(rt; shown.as_str() == "Dn { rdns: [] }", "{shown}");
-}
-
-fn assert_reads(rt: &impl Abort, alloc: Global, text: &str, want: &Dn) {
-    let name = Dn::read_text(alloc, text.as_bytes());
-    assert!(rt; name.expect(rt, "a name") == *want, "{text}");
+    gives_text(name.print(alloc), want) && gives(Dn::read_text(alloc, want.as_bytes()), &name)
 }
 
 #[test]
 fn other_texts_are_no_names(rt: HostRuntime) {
     for text in &NO_NAMES {
-        assert_no_name(&rt, rt.alloc(), text);
+        let fault = Dn::read(rt.alloc(), text.as_bytes()).err();
+        check(&rt, fault == Some(NameFault::BadDn), text);
     }
 }
 
-fn assert_no_name(rt: &impl Abort, alloc: Global, text: &str) {
-    assert!(rt;
-        fault_of(alloc, text.as_bytes()) == Some(NameFault::BadDn),
-        "{text}"
+/// Texts of names, and how the names are shown.
+const SHOWN: [(&str, &str); 2] = [
+    (
+        "l=b",
+        "Dn { rdns: [Rdn { pairs: One((Bytes { items: [108] }, Bytes { items: [98] })) }] }",
+    ),
+    ("", "Dn { rdns: [] }"),
+];
+
+/// How the name `l=b` is laid out.
+const LAID_OUT: &str =
+    "Dn {\n    rdns: [\n        Rdn {\n            pairs: One(\n                (\n                    Bytes {\n                        items: [\n                            108,\n                        ],\n                    },\n                    Bytes {\n                        items: [\n                            98,\n                        ],\n                    },\n                ),\n            ),\n        },\n    ],\n}";
+
+#[test]
+fn a_name_is_shown(rt: HostRuntime) {
+    for (text, want) in &SHOWN {
+        assert_shown(&rt, rt.alloc(), &name(&rt, rt.alloc(), text), want);
+    }
+    let name = name(&rt, rt.alloc(), "l=b");
+    check(
+        &rt,
+        shows(format!(in rt.alloc(); "{name:#?}"), LAID_OUT),
+        LAID_OUT,
     );
 }
 
-/// The fault of a name's text, if it has one.
-pub(crate) fn fault_of(alloc: Global, text: &[u8]) -> Option<NameFault> {
-    Dn::read(alloc, text).err()
+/// Asserts how a name is shown.
+pub(crate) fn assert_shown(rt: &impl Abort, alloc: Global, name: &Dn, want: &str) {
+    check(rt, shows(format!(in alloc; "{name:?}"), want), want);
 }
+
+/// Names, and the faults of those that have no key.
+const KEYS: [(&str, Option<NameFault>); 7] = [
+    ("", None),
+    ("cn=a,dc=com", None),
+    ("cn=\\20,x-unknown=", None),
+    ("cn=a+sn=b,dc=com", None),
+    ("cn=a+commonName=b", Some(NameFault::BadDn)),
+    ("member=x", Some(NameFault::BadDn)),
+    ("uidNumber=x", Some(NameFault::BadDn)),
+];
 
 #[test]
 fn names_have_keys_unless_a_pair_has_none(rt: HostRuntime) {
-    for text in ["", "cn=a,dc=com", "cn=\\20,x-unknown=", "cn=a+sn=b,dc=com"] {
-        assert!(rt; has_key(&rt, rt.alloc(), text), "{text}");
+    for (text, want) in &KEYS {
+        let found = key_of(&rt, rt.alloc(), text);
+        check(&rt, found == (want.is_none(), *want), text);
     }
-    for text in ["cn=a+commonName=b", "member=x", "uidNumber=x"] {
-        assert!(rt; !has_key(&rt, rt.alloc(), text), "{text}");
-        assert!(rt;
-            key_fault(&rt, rt.alloc(), text) == Some(NameFault::BadDn),
-            "{text}"
+}
+
+/// Whether a name has a key, and the fault of the key.
+fn key_of(rt: &impl Abort, alloc: Global, text: &str) -> (bool, Option<NameFault>) {
+    let schema = schema(rt, alloc);
+    let name = name(rt, alloc, text);
+    let has_key = name.has_key(alloc, &schema).expect(rt, "memory");
+    (has_key, name.key(alloc, &schema).err())
+}
+
+/// Names of two or three RDNs: the leaf, the name above it and the whole name. The last is the example of the crate's
+/// README.
+const BELOW: [(&str, &str, &str, usize); 3] = [
+    ("cn=a", "dc=com", "cn=a,dc=com", 2),
+    ("cn=Ann", "ou=People,dc=com", "cn=Ann,ou=People,dc=com", 3),
+    ("cn=a\\,b", "dc=COM", " cn = a\\,b , DC=com", 2),
+];
+
+#[test]
+fn a_key_has_children_and_a_parent(rt: HostRuntime) {
+    for (leaf, above, whole, depth) in &BELOW {
+        check(
+            &rt,
+            is_child(&rt, rt.alloc(), above, leaf, whole, *depth),
+            whole,
+        );
+        check(
+            &rt,
+            parent(&rt, rt.alloc(), whole) == Some(name_key(&rt, rt.alloc(), above)),
+            whole,
         );
     }
+    check(&rt, parent(&rt, rt.alloc(), "").is_none(), "the empty name");
 }
 
-fn has_key(rt: &impl Abort, alloc: Global, text: &str) -> bool {
-    let name = name(rt, alloc, text);
-    let schema = schema(rt, alloc);
-    name.has_key(alloc, &schema).expect(rt, "memory")
-}
-
-fn key_fault(rt: &impl Abort, alloc: Global, text: &str) -> Option<NameFault> {
-    let name = name(rt, alloc, text);
-    let schema = schema(rt, alloc);
-    name.key(alloc, &schema).err()
-}
-
-#[test]
-fn a_key_has_children(rt: HostRuntime) {
-    let com = name_key(&rt, rt.alloc(), "dc=com");
-    let below = child(&rt, rt.alloc(), &com, "cn=a");
-    assert!(rt; below == name_key(&rt, rt.alloc(), "cn=a,dc=com"));
-    assert!(rt; below.depth() == 2);
-    assert!(rt; com.is_parent_of(&below) && below.at_or_below(&com) && !com.at_or_below(&below));
-}
-
-fn child(rt: &impl Abort, alloc: Global, above: &DnKey, leaf: &str) -> DnKey {
+fn is_child(
+    rt: &impl Abort,
+    alloc: Global,
+    above: &str,
+    leaf: &str,
+    whole: &str,
+    depth: usize,
+) -> bool {
+    let above = name_key(rt, alloc, above);
     let leaf = rdn_key(rt, alloc, leaf);
-    above.child(alloc, &leaf).expect(rt, "a child")
+    let whole = name_key(rt, alloc, whole);
+    let below = above.child(alloc, &leaf).expect(rt, "a child");
+    below == whole
+        && below.depth() == depth
+        && above.is_parent_of(&whole)
+        && above.is_parent_of(&below)
+        && below.at_or_below(&above)
+        && !above.at_or_below(&below)
 }
 
-#[test]
-fn a_key_has_a_parent(rt: HostRuntime) {
-    assert_parent(&rt, rt.alloc(), "cn=a,dc=com", "dc=com");
-    assert_parent(
-        &rt,
-        rt.alloc(),
-        "cn=Ann,ou=People,dc=com",
-        "ou=People,dc=com",
-    );
-    let empty = name_key(&rt, rt.alloc(), "");
-    assert!(rt; parent(&rt, rt.alloc(), &empty).is_none());
-}
-
-fn assert_parent(rt: &impl Abort, alloc: Global, text: &str, want: &str) {
+fn parent(rt: &impl Abort, alloc: Global, text: &str) -> Option<DnKey> {
     let key = name_key(rt, alloc, text);
-    assert!(rt;
-        parent(rt, alloc, &key) == Some(name_key(rt, alloc, want)),
-        "{text}"
-    );
-}
-
-fn parent(rt: &impl Abort, alloc: Global, key: &DnKey) -> Option<DnKey> {
     key.parent(alloc).expect(rt, "memory")
 }
 
+/// Names that are made of an RDN and of those of the name above it, and how they are printed.
+const MADE: [(&str, &str, &str); 2] = [
+    ("ou=a", "dc=com", "ou=a,dc=com"),
+    ("cn=Ann", "ou=People,dc=com", "cn=Ann,ou=People,dc=com"),
+];
+
 #[test]
-fn names_are_made_of_rdns(rt: HostRuntime) {
-    let made = made_of(&rt, rt.alloc(), "ou=a", "dc=com");
-    assert_printed(&rt, rt.alloc(), &made, "ou=a,dc=com");
-    assert!(rt; Dn::empty(rt.alloc()) == name(&rt, rt.alloc(), ""));
+fn names_are_made_of_a_leaf_and_the_name_above_it(rt: HostRuntime) {
+    for (leaf, above, want) in &MADE {
+        let made = made_of(&rt, rt.alloc(), leaf, above);
+        check(&rt, is_name(&rt, rt.alloc(), made, want), want);
+    }
+}
+
+#[test]
+fn names_are_made_of_no_rdn_and_of_one(rt: HostRuntime) {
+    let empty = Dn::empty(rt.alloc());
+    check(&rt, is_name(&rt, rt.alloc(), empty, ""), "no RDN");
     let mut root = Vec::new(rt.alloc());
     root.push(rdn(&rt, rt.alloc(), "dc=com"))
         .expect(&rt, "memory");
-    assert!(rt; Dn::of_rdns(root) == name(&rt, rt.alloc(), "dc=com"));
+    check(
+        &rt,
+        is_name(&rt, rt.alloc(), Dn::of_rdns(root), "dc=com"),
+        "one RDN",
+    );
+}
+
+/// Whether a name is printed as this text, and is the name of it.
+fn is_name(rt: &impl Abort, alloc: Global, made: Dn, want: &str) -> bool {
+    gives_text(made.print(alloc), want) && made == name(rt, alloc, want)
 }
 
 /// The name of an RDN and those of the name above it.
@@ -193,42 +218,17 @@ fn made_of(rt: &impl Abort, alloc: Global, leaf: &str, above: &str) -> Dn {
 }
 
 #[test]
-fn a_name_is_made_of_a_leaf_and_the_name_above_it(rt: HostRuntime) {
-    let made = made_of(&rt, rt.alloc(), "cn=Ann", "ou=People,dc=com");
-    assert!(rt; made == name(&rt, rt.alloc(), "cn=Ann,ou=People,dc=com"));
-}
-
-#[test]
 fn names_have_their_rdns_leaf_first(rt: HostRuntime) {
-    let name = name(&rt, rt.alloc(), "cn=a,dc=com");
-    match name.into_rdns().as_slice() {
-        [leaf, root] => {
-            assert!(rt; *leaf == rdn(&rt, rt.alloc(), "cn=a"));
-            assert!(rt; *root == rdn(&rt, rt.alloc(), "dc=com"));
-        }
-        _ => panic!(rt; "not two RDNs"),
-    }
+    let rdns = name(&rt, rt.alloc(), "cn=a,dc=com").into_rdns();
+    let leaf = rdn(&rt, rt.alloc(), "cn=a");
+    let root = rdn(&rt, rt.alloc(), "dc=com");
+    check(&rt, are(rdns.as_slice(), &leaf, &root), "leaf first");
 }
 
 #[test]
 fn keys_have_their_parts_root_first(rt: HostRuntime) {
     let key = name_key(&rt, rt.alloc(), "cn=a,dc=com");
-    match key.parts() {
-        [root, leaf] => {
-            assert!(rt; *root == rdn_key(&rt, rt.alloc(), "dc=com"));
-            assert!(rt; *leaf == rdn_key(&rt, rt.alloc(), "cn=a"));
-        }
-        _ => panic!(rt; "not two parts"),
-    }
-}
-
-/// The example of the crate's README.
-#[test]
-fn names_and_values_are_compared_by_their_keys(rt: HostRuntime) {
-    let name = name(&rt, rt.alloc(), " cn = a\\,b , DC=com");
-    assert_printed(&rt, rt.alloc(), &name, "cn=a\\2Cb,DC=com");
-    let com = name_key(&rt, rt.alloc(), "dc=COM");
-    assert!(rt; com.is_parent_of(&name_key(&rt, rt.alloc(), " cn = a\\,b , DC=com")));
-    let key = value_key(&rt, rt.alloc(), "CommonName;lang-en", b"  A  b ");
-    assert!(rt; key.text() == Some(b"a b".as_slice()));
+    let root = rdn_key(&rt, rt.alloc(), "dc=com");
+    let leaf = rdn_key(&rt, rt.alloc(), "cn=a");
+    check(&rt, are(key.parts(), &root, &leaf), "root first");
 }

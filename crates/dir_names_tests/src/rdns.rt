@@ -1,39 +1,41 @@
 //! RDNs: their pairs and their keys.
 
-use crate::make::{attr_key, rdn, rdn_key, schema};
-use dir_names::{AttrKey, Bytes, Rdn};
+use crate::make::{attr_key, check, gives_text, rdn, rdn_key, schema};
+use dir_names::{AttrKey, Bytes};
 use std::alloc::Global;
 use std::process::Abort;
 
 #[test]
 fn rdns_have_keys_in_any_order_of_their_pairs(rt: HostRuntime) {
     let one = rdn_key(&rt, rt.alloc(), "SN=b+cn=a");
-    assert!(rt; one == rdn_key(&rt, rt.alloc(), "cn=A+sn=B"));
-    let two = rdn(&rt, rt.alloc(), "SN=b+cn=a");
-    assert!(rt; has_key(&rt, rt.alloc(), &two));
-    assert_printed(&rt, rt.alloc(), &two, "SN=b+cn=a");
-}
-
-fn has_key(rt: &impl Abort, alloc: Global, rdn: &Rdn) -> bool {
-    let schema = schema(rt, alloc);
-    rdn.has_key(alloc, &schema).expect(rt, "memory")
-}
-
-pub(crate) fn assert_printed(rt: &impl Abort, alloc: Global, rdn: &Rdn, want: &str) {
-    let printed = rdn.print(alloc).expect(rt, "memory");
-    assert!(rt; printed.as_slice() == want.as_bytes(), "{want}");
+    check(
+        &rt,
+        one == rdn_key(&rt, rt.alloc(), "cn=A+sn=B"),
+        "another key",
+    );
 }
 
 #[test]
 fn pairs_are_as_spelled(rt: HostRuntime) {
-    let rdn = rdn(&rt, rt.alloc(), "SN=B+commonName=A");
-    match rdn.pairs() {
+    match rdn(&rt, rt.alloc(), "SN=B+commonName=A").pairs() {
         [first, second] => {
-            assert!(rt; is_pair(first, "SN", "B"));
-            assert!(rt; is_pair(second, "commonName", "A"));
+            check(&rt, is_pair(first, "SN", "B"), "the first");
+            check(&rt, is_pair(second, "commonName", "A"), "the second");
         }
         _ => panic!(rt; "not two pairs"),
     }
+}
+
+#[test]
+fn an_rdn_of_two_pairs_is_printed_and_has_a_key(rt: HostRuntime) {
+    let two = rdn(&rt, rt.alloc(), "SN=b+cn=a");
+    check(
+        &rt,
+        gives_text(two.print(rt.alloc()), "SN=b+cn=a"),
+        "printed",
+    );
+    let has_key = two.has_key(rt.alloc(), &schema(&rt, rt.alloc()));
+    check(&rt, has_key.expect(&rt, "memory"), "a key");
 }
 
 fn is_pair(pair: &(Bytes, Bytes), attr_type: &str, value: &str) -> bool {
@@ -42,14 +44,23 @@ fn is_pair(pair: &(Bytes, Bytes), attr_type: &str, value: &str) -> bool {
 
 #[test]
 fn pairs_of_a_key_are_in_order(rt: HostRuntime) {
-    let key = rdn_key(&rt, rt.alloc(), "SN=B+commonName=A");
-    match key.pairs() {
+    match rdn_key(&rt, rt.alloc(), "SN=B+commonName=A").pairs() {
         [first, second] => {
-            assert_key_pair(&rt, rt.alloc(), first, "cn", b"a");
-            assert_key_pair(&rt, rt.alloc(), second, "sn", b"b");
+            check(&rt, is_key_pair(&rt, rt.alloc(), first, "cn", b"a"), "cn");
+            check(&rt, is_key_pair(&rt, rt.alloc(), second, "sn", b"b"), "sn");
         }
         _ => panic!(rt; "not two pairs"),
     }
+}
+
+fn is_key_pair(
+    rt: &impl Abort,
+    alloc: Global,
+    pair: &(AttrKey, Bytes),
+    attr_type: &str,
+    value: &[u8],
+) -> bool {
+    pair.0 == attr_key(rt, alloc, attr_type) && pair.1.as_slice() == value
 }
 
 /// RDNs, each with one whose key comes after its own.
@@ -68,24 +79,12 @@ const RISING: [(&str, &str); 9] = [
 #[test]
 fn keys_are_in_the_order_of_their_pairs(rt: HostRuntime) {
     for (one, other) in &RISING {
-        assert_rising(&rt, rt.alloc(), one, other);
+        check(&rt, is_rising(&rt, rt.alloc(), one, other), one);
     }
 }
 
-fn assert_rising(rt: &impl Abort, alloc: Global, one: &str, other: &str) {
+fn is_rising(rt: &impl Abort, alloc: Global, one: &str, other: &str) -> bool {
     let key = rdn_key(rt, alloc, one);
-    let other_key = rdn_key(rt, alloc, other);
-    assert!(rt; key < other_key && other_key > key, "{one}");
-    assert!(rt; key != other_key && key == rdn_key(rt, alloc, one), "{one}");
-}
-
-fn assert_key_pair(
-    rt: &impl Abort,
-    alloc: Global,
-    pair: &(AttrKey, Bytes),
-    attr_type: &str,
-    value: &[u8],
-) {
-    assert!(rt; pair.0 == attr_key(rt, alloc, attr_type), "{attr_type}");
-    assert!(rt; pair.1.as_slice() == value, "{attr_type}");
+    let other = rdn_key(rt, alloc, other);
+    key < other && other > key && key != other && key == rdn_key(rt, alloc, one)
 }

@@ -1,7 +1,6 @@
 //! Names that are read one after the other, so that parents of the last ones are known.
 
-use crate::make::{name_key, repeated, schema, used_reader};
-use crate::names::assert_printed;
+use crate::make::{check, gives, gives_text, name_key, repeated, schema, used_reader};
 use dir_names::{Dn, NameFault, NameReader};
 use std::alloc::Global;
 use std::process::Abort;
@@ -39,6 +38,16 @@ const REFUSED: [&str; 9] = [
     "cn=a,ou=x,dc=com,",
 ];
 
+/// Texts of names whose two parents have one length, and the same bytes at first.
+const ALIKE: [&str; 6] = [
+    "cn=a,ou=xxxxxxxxxxxxxxxxxxxxxxxx1,dc=com",
+    "cn=b,ou=xxxxxxxxxxxxxxxxxxxxxxxx1,dc=com",
+    "cn=a,ou=xxxxxxxxxxxxxxxxxxxxxxxx2,dc=com",
+    "cn=b,ou=xxxxxxxxxxxxxxxxxxxxxxxx2,dc=com",
+    "cn=c,ou=xxxxxxxxxxxxxxxxxxxxxxxx1,dc=com",
+    "cn=c,ou=xxxxxxxxxxxxxxxxxxxxxxxx2,dc=com",
+];
+
 #[test]
 fn names_are_read_in_turn(rt: HostRuntime) {
     let mut names = used_reader(&rt, rt.alloc());
@@ -48,162 +57,138 @@ fn names_are_read_in_turn(rt: HostRuntime) {
         }
     }
     for text in &REFUSED {
-        let fault = fault_of(&rt, rt.alloc(), &mut names, text.as_bytes());
-        assert!(rt; fault == Some(NameFault::BadDn), "{text}");
+        let fault = read(&rt, rt.alloc(), &mut names, text.as_bytes()).err();
+        check(&rt, fault == Some(NameFault::BadDn), text);
+    }
+}
+
+#[test]
+fn parents_that_are_alike_are_told_apart(rt: HostRuntime) {
+    let mut names = used_reader(&rt, rt.alloc());
+    for text in &ALIKE {
+        assert_read(&rt, rt.alloc(), &mut names, text, text);
     }
 }
 
 /// Asserts how a name is printed, and that it has the key of its text.
 fn assert_read(rt: &impl Abort, alloc: Global, names: &mut NameReader, text: &str, want: &str) {
-    let name = read(rt, alloc, names, text);
-    assert_printed(rt, alloc, &name, want);
-    assert_key(rt, alloc, &name, text);
-    assert_key(rt, alloc, &name.try_clone(alloc).expect(rt, "memory"), text);
+    let name = read(rt, alloc, names, text.as_bytes()).expect(rt, "a name");
+    check(rt, gives_text(name.print(alloc), want), want);
+    check(rt, has_key(rt, alloc, &name, text), text);
+    let copy = name.try_clone(alloc).expect(rt, "memory");
+    check(rt, has_key(rt, alloc, &copy, text), text);
 }
 
-fn read(rt: &impl Abort, alloc: Global, names: &mut NameReader, text: &str) -> Dn {
-    let name = names.read(alloc, &schema(rt, alloc), text.as_bytes());
-    name.expect(rt, "a name")
+/// Whether a name has the key of the name of this text.
+fn has_key(rt: &impl Abort, alloc: Global, name: &Dn, text: &str) -> bool {
+    gives(
+        name.key(alloc, &schema(rt, alloc)),
+        &name_key(rt, alloc, text),
+    )
 }
 
-fn assert_key(rt: &impl Abort, alloc: Global, name: &Dn, text: &str) {
-    let key = name.key(alloc, &schema(rt, alloc)).expect(rt, "a key");
-    assert!(rt; key == name_key(rt, alloc, text), "{text}");
-}
-
-fn fault_of(
+/// Reads a name under a schema of its own.
+fn read(
     rt: &impl Abort,
     alloc: Global,
     names: &mut NameReader,
     text: &[u8],
-) -> Option<NameFault> {
-    names.read(alloc, &schema(rt, alloc), text).err()
+) -> Result<Dn, NameFault> {
+    names.read(alloc, &schema(rt, alloc), text)
 }
 
-/// The two parents have one length, and the same bytes at first.
-#[test]
-fn parents_that_are_alike_are_told_apart(rt: HostRuntime) {
-    let mut names = used_reader(&rt, rt.alloc());
-    for text in [
-        "cn=a,ou=xxxxxxxxxxxxxxxxxxxxxxxx1,dc=com",
-        "cn=b,ou=xxxxxxxxxxxxxxxxxxxxxxxx1,dc=com",
-        "cn=a,ou=xxxxxxxxxxxxxxxxxxxxxxxx2,dc=com",
-        "cn=b,ou=xxxxxxxxxxxxxxxxxxxxxxxx2,dc=com",
-        "cn=c,ou=xxxxxxxxxxxxxxxxxxxxxxxx1,dc=com",
-        "cn=c,ou=xxxxxxxxxxxxxxxxxxxxxxxx2,dc=com",
-    ] {
-        assert_read(&rt, rt.alloc(), &mut names, text, text);
-    }
-}
+/// A text that is read: a first one, a second one so many times and a last one, and its fault.
+type Long = (
+    &'static str,
+    &'static str,
+    usize,
+    &'static str,
+    Option<NameFault>,
+);
 
-#[test]
-fn a_name_has_at_most_64_rdns_whatever_was_read_before(rt: HostRuntime) {
-    let mut names = used_reader(&rt, rt.alloc());
-    for _ in 0..2 {
-        assert_rdns(&rt, rt.alloc(), &mut names, "cn=a", 63, None);
-        assert_rdns(
-            &rt,
-            rt.alloc(),
-            &mut names,
-            "cn=a",
-            64,
-            Some(NameFault::NameLimit),
-        );
-        assert_rdns(
-            &rt,
-            rt.alloc(),
-            &mut names,
-            "cn",
-            64,
-            Some(NameFault::BadDn),
-        );
-    }
-}
+/// A name has at most 64 RDNs, whatever was read before.
+const MANY_RDNS: [Long; 6] = [
+    ("cn=a", ",l=b", 63, "", None),
+    ("cn=a", ",l=b", 64, "", Some(NameFault::NameLimit)),
+    ("cn", ",l=b", 64, "", Some(NameFault::BadDn)),
+    ("cn=a", ",l=b", 63, "", None),
+    ("cn=a", ",l=b", 64, "", Some(NameFault::NameLimit)),
+    ("cn", ",l=b", 64, "", Some(NameFault::BadDn)),
+];
 
-/// A name of one RDN and so many more.
-fn assert_rdns(
-    rt: &impl Abort,
-    alloc: Global,
-    names: &mut NameReader,
-    leaf: &str,
-    more: usize,
-    want: Option<NameFault>,
-) {
-    let text = repeated(rt, alloc, leaf, ",l=b", more, "");
-    assert!(rt;
-        fault_of(rt, alloc, names, text.as_slice()) == want,
-        "{leaf} {more}"
-    );
-}
-
-/// Each byte of the value is printed as three, so that the text is short enough for its parent to be sought.
-#[test]
-fn a_leaf_below_a_known_parent_has_at_most_4096_bytes(rt: HostRuntime) {
-    let mut names = used_reader(&rt, rt.alloc());
-    for count in [1, 2, 682] {
-        assert_leaf(&rt, rt.alloc(), &mut names, "cn=", count, "", None);
-    }
-    let past = Some(NameFault::NameLimit);
-    assert_leaf(&rt, rt.alloc(), &mut names, "cn=", 683, "", past);
-    assert_leaf(&rt, rt.alloc(), &mut names, "cn=", 1, "", None);
-}
+/// A leaf has at most 4,096 bytes. Each byte of the value is printed as three, so that the text is short enough for
+/// its parent to be sought.
+const LONG_LEAVES: [Long; 5] = [
+    ("cn=", "\u{eb}", 1, ",dc=com", None),
+    ("cn=", "\u{eb}", 2, ",dc=com", None),
+    ("cn=", "\u{eb}", 682, ",dc=com", None),
+    ("cn=", "\u{eb}", 683, ",dc=com", Some(NameFault::NameLimit)),
+    ("cn=", "\u{eb}", 1, ",dc=com", None),
+];
 
 /// A leaf that is none comes before one past the limit, and that before one without a key.
-#[test]
-fn a_leaf_below_a_known_parent_has_its_first_fault(rt: HostRuntime) {
-    let mut names = used_reader(&rt, rt.alloc());
-    let (bad, past) = (Some(NameFault::BadDn), Some(NameFault::NameLimit));
-    for count in [1, 2] {
-        assert_leaf(&rt, rt.alloc(), &mut names, "cn=", count, "", None);
-    }
-    assert_leaf(&rt, rt.alloc(), &mut names, "cn=", 683, "+", bad);
-    assert_leaf(&rt, rt.alloc(), &mut names, "member=", 683, "", past);
-    assert_leaf(&rt, rt.alloc(), &mut names, "member=", 1, "", bad);
-    assert_leaf(&rt, rt.alloc(), &mut names, "cn=a+CN=", 683, "", past);
-    assert_leaf(&rt, rt.alloc(), &mut names, "cn=a+CN=", 1, "", bad);
-    assert_leaf(&rt, rt.alloc(), &mut names, "dn=", 683, "", bad);
-}
-
-/// Asserts the fault of a name below `dc=com`, whose leaf has so many letters of two bytes between two texts.
-fn assert_leaf(
-    rt: &impl Abort,
-    alloc: Global,
-    names: &mut NameReader,
-    first: &str,
-    count: usize,
-    last: &str,
-    want: Option<NameFault>,
-) {
-    let mut text = repeated(rt, alloc, first, "\u{eb}", count, last);
-    text.extend_from_slice(b",dc=com").expect(rt, "memory");
-    assert!(rt;
-        fault_of(rt, alloc, names, text.as_slice()) == want,
-        "{first} {count} {last}"
-    );
-}
+const FIRST_FAULTS: [Long; 8] = [
+    ("cn=", "\u{eb}", 1, ",dc=com", None),
+    ("cn=", "\u{eb}", 2, ",dc=com", None),
+    ("cn=", "\u{eb}", 683, "+,dc=com", Some(NameFault::BadDn)),
+    (
+        "member=",
+        "\u{eb}",
+        683,
+        ",dc=com",
+        Some(NameFault::NameLimit),
+    ),
+    ("member=", "\u{eb}", 1, ",dc=com", Some(NameFault::BadDn)),
+    (
+        "cn=a+CN=",
+        "\u{eb}",
+        683,
+        ",dc=com",
+        Some(NameFault::NameLimit),
+    ),
+    ("cn=a+CN=", "\u{eb}", 1, ",dc=com", Some(NameFault::BadDn)),
+    ("dn=", "\u{eb}", 683, ",dc=com", Some(NameFault::BadDn)),
+];
 
 /// The text of a parent that is remembered has at most 256 bytes.
+const LONG_PARENTS: [Long; 7] = [
+    ("cn=a,o=", "x", 253, "", None),
+    ("cn=a,o=", "x", 253, "", None),
+    ("cn=a,o=", "x", 253, "", None),
+    ("cn=a,o=", "x", 254, "", None),
+    ("cn=a,o=", "x", 254, "", None),
+    ("cn=a,o=", "x", 254, "", None),
+    ("cn=a,o=", "x", 253, "", None),
+];
+
+/// What each reader reads.
+const LONG: [&[Long]; 4] = [&MANY_RDNS, &LONG_LEAVES, &FIRST_FAULTS, &LONG_PARENTS];
+
 #[test]
-fn a_parent_may_have_a_long_text(rt: HostRuntime) {
-    let mut names = used_reader(&rt, rt.alloc());
-    for count in [253, 253, 253, 254, 254, 254, 253] {
-        let text = repeated(&rt, rt.alloc(), "cn=a,o=", "x", count, "");
-        assert!(rt; fault_of(&rt, rt.alloc(), &mut names, text.as_slice()).is_none());
+fn long_texts_below_a_known_parent_have_their_first_faults(rt: HostRuntime) {
+    for texts in &LONG {
+        let mut names = used_reader(&rt, rt.alloc());
+        for text in *texts {
+            assert!(rt; has_fault(&rt, rt.alloc(), &mut names, text), "{text:?}");
+        }
     }
+}
+
+/// Whether a text has its fault.
+fn has_fault(rt: &impl Abort, alloc: Global, names: &mut NameReader, long: &Long) -> bool {
+    let text = repeated(rt, alloc, long.0, long.1, long.2, long.3);
+    read(rt, alloc, names, text.as_slice()).err() == long.4
 }
 
 #[test]
 fn a_name_made_of_the_rdns_of_another_has_its_own_key(rt: HostRuntime) {
     let mut names = used_reader(&rt, rt.alloc());
     for _ in 0..2 {
-        let _name = read(&rt, rt.alloc(), &mut names, "cn=b,dc=com");
+        assert_read(&rt, rt.alloc(), &mut names, "cn=b,dc=com", "cn=b,dc=com");
     }
-    let mut rdns = read(&rt, rt.alloc(), &mut names, "cn=a,dc=com").into_rdns();
+    let name = read(&rt, rt.alloc(), &mut names, b"cn=a,dc=com");
+    let mut rdns = name.expect(&rt, "a name").into_rdns();
     let _root = rdns.pop();
-    assert_key(
-        &rt,
-        rt.alloc(),
-        &Dn::from_rdns(rdns).expect(&rt, "a name"),
-        "cn=a",
-    );
+    let leaf = Dn::from_rdns(rdns).expect(&rt, "a name");
+    check(&rt, has_key(&rt, rt.alloc(), &leaf, "cn=a"), "another key");
 }

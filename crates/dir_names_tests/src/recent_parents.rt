@@ -1,6 +1,6 @@
 //! Names that were read as values before, and their parents, which are remembered after the first 64 names.
 
-use crate::make::{attr_key, repeated, schema};
+use crate::make::{attr_key, check, repeated, schema};
 use dir_names::{Dn, DnKey, DnSortKey, NameFault, RecentNames, Schema};
 use std::alloc::Global;
 use std::process::Abort;
@@ -106,6 +106,9 @@ const OF_ONE_SLOT: [&str; 3] = [",ou=x2,dc=com", ",ou=x227,dc=com", ",ou=x525,dc
 /// The number of names that are read before parents are remembered, and a few more.
 const FIRST_NAMES: usize = 70;
 
+/// Two plain children, after which their parent is remembered if it may be.
+const CHILDREN: [&str; 2] = ["cn=one,ou=x,dc=com", "cn=two,ou=x,dc=com"];
+
 /// Names that remember parents.
 fn used_names(rt: &impl Abort, alloc: Global) -> RecentNames {
     let schema = schema(rt, alloc);
@@ -118,93 +121,126 @@ fn used_names(rt: &impl Abort, alloc: Global) -> RecentNames {
     names
 }
 
-/// Reads two plain children, so that the parent is remembered if it may be.
-fn read_children(rt: &impl Abort, alloc: Global, names: &mut RecentNames, above: &str) {
-    for leaf in ["cn=one", "cn=two"] {
-        let value = repeated(rt, alloc, leaf, above, 1, "");
-        assert_same(rt, alloc, names, value.as_slice());
-    }
-}
+/// Where the values are begun, how many are gone on by, and whether the two children are read before each: forwards,
+/// backwards, and below the same parent as before.
+const ORDERS: [(usize, usize, bool); 3] = [(0, 1, false), (33, 33, false), (0, 1, true)];
 
 #[test]
 fn names_are_read_in_turn(rt: HostRuntime) {
-    let mut names = used_names(&rt, rt.alloc());
-    for value in &IN_TURN {
-        assert_same(&rt, rt.alloc(), &mut names, value.as_bytes());
+    for (start, step, below) in &ORDERS {
+        let mut names = used_names(&rt, rt.alloc());
+        let mut at = *start;
+        for _ in 0..IN_TURN.len() {
+            let value = IN_TURN[at % IN_TURN.len()];
+            assert_anew(&rt, rt.alloc(), &mut names, value, *below);
+            at = at.wrapping_add(*step);
+        }
     }
 }
 
-#[test]
-fn names_are_read_in_turn_from_the_last(rt: HostRuntime) {
-    let mut names = used_names(&rt, rt.alloc());
-    for value in IN_TURN.iter().rev() {
-        assert_same(&rt, rt.alloc(), &mut names, value.as_bytes());
+/// Asserts that a value is read as where nothing was read before, under a schema of its own; before that, if so told,
+/// the two children.
+fn assert_anew(rt: &impl Abort, alloc: Global, names: &mut RecentNames, value: &str, below: bool) {
+    let schema = schema(rt, alloc);
+    if below {
+        for child in &CHILDREN {
+            assert_same(rt, alloc, &schema, names, child.as_bytes());
+        }
+    }
+    assert_same(rt, alloc, &schema, names, value.as_bytes());
+}
+
+/// Asserts that a value has the key that it has where nothing was read before, which is that of the name that it
+/// spells, or none.
+fn assert_same(
+    rt: &impl Abort,
+    alloc: Global,
+    schema: &Schema,
+    names: &mut RecentNames,
+    value: &[u8],
+) {
+    let got = names.read(alloc, schema, value);
+    assert!(rt; got == DnSortKey::read(alloc, schema, value), "{value:?}");
+    assert!(rt; are_same(got, whole_key(alloc, schema, value)), "{value:?}");
+}
+
+/// Whether both are keys of one name, or neither is a key.
+fn are_same(got: Result<DnSortKey, NameFault>, want: Result<DnKey, NameFault>) -> bool {
+    match (got, want) {
+        (Ok(got), Ok(want)) => got.is_same(&want),
+        (Err(got), Err(_)) => got == NameFault::BadValue,
+        _ => false,
     }
 }
 
-#[test]
-fn a_value_is_read_below_the_same_parent_as_before(rt: HostRuntime) {
-    let mut names = used_names(&rt, rt.alloc());
-    for value in &IN_TURN {
-        read_children(&rt, rt.alloc(), &mut names, ",ou=x,dc=com");
-        assert_same(&rt, rt.alloc(), &mut names, value.as_bytes());
-    }
+fn whole_key(alloc: Global, schema: &Schema, value: &[u8]) -> Result<DnKey, NameFault> {
+    Dn::read(alloc, value)?.key(alloc, schema)
 }
 
-/// Asserts that a value has the key of the name that it spells, or none.
-fn assert_same(rt: &impl Abort, alloc: Global, names: &mut RecentNames, value: &[u8]) {
-    let got = names.read(alloc, &schema(rt, alloc), value);
-    match (got, whole_key(rt, alloc, value)) {
-        (Ok(got), Ok(want)) => assert!(rt; got.is_same(&want), "{value:?}"),
-        (got, want) => assert!(rt;
-            got.err() == Some(NameFault::BadValue) && want.is_err(),
-            "{value:?}"
-        ),
-    }
+/// Asserts the same of a value that is repeated.
+fn assert_repeated(
+    rt: &impl Abort,
+    alloc: Global,
+    schema: &Schema,
+    names: &mut RecentNames,
+    long: Long<'_>,
+) {
+    let value = repeated(rt, alloc, long.0, long.1, long.2, long.3);
+    assert_same(rt, alloc, schema, names, value.as_slice());
 }
 
-fn whole_key(rt: &impl Abort, alloc: Global, value: &[u8]) -> Result<DnKey, NameFault> {
-    Dn::read(alloc, value)?.key(alloc, &schema(rt, alloc))
-}
+/// A value: a text, a second one so many times and a last one.
+type Long<'a> = (&'a str, &'a str, usize, &'a str);
 
-#[test]
-fn a_name_has_at_most_64_rdns_below_each_parent(rt: HostRuntime) {
-    let mut names = used_names(&rt, rt.alloc());
-    for leaf in ["cn=a", "cn=b", "cn=c,cn=d", "cn=e"] {
-        assert_rdns(&rt, rt.alloc(), &mut names, leaf, 62);
-        assert_rdns(&rt, rt.alloc(), &mut names, leaf, 63);
-    }
-    for leaf in ["cn=a", "cn=b"] {
-        assert_rdns(&rt, rt.alloc(), &mut names, leaf, 63);
-        assert_rdns(&rt, rt.alloc(), &mut names, leaf, 64);
-        assert_rdns(&rt, rt.alloc(), &mut names, leaf, 64);
-    }
-}
+/// A name has at most 64 RDNs below each parent.
+const MANY_RDNS: [Long<'static>; 14] = [
+    ("cn=a", ",l=b", 62, ""),
+    ("cn=a", ",l=b", 63, ""),
+    ("cn=b", ",l=b", 62, ""),
+    ("cn=b", ",l=b", 63, ""),
+    ("cn=c,cn=d", ",l=b", 62, ""),
+    ("cn=c,cn=d", ",l=b", 63, ""),
+    ("cn=e", ",l=b", 62, ""),
+    ("cn=e", ",l=b", 63, ""),
+    ("cn=a", ",l=b", 63, ""),
+    ("cn=a", ",l=b", 64, ""),
+    ("cn=a", ",l=b", 64, ""),
+    ("cn=b", ",l=b", 63, ""),
+    ("cn=b", ",l=b", 64, ""),
+    ("cn=b", ",l=b", 64, ""),
+];
 
-/// A value of a leaf and so many RDNs more.
-fn assert_rdns(rt: &impl Abort, alloc: Global, names: &mut RecentNames, leaf: &str, more: usize) {
-    let value = repeated(rt, alloc, leaf, ",l=b", more, "");
-    assert_same(rt, alloc, names, value.as_slice());
-}
-
-#[test]
-fn a_leaf_has_at_most_4096_bytes_below_a_parent(rt: HostRuntime) {
-    let mut names = used_names(&rt, rt.alloc());
-    for count in [1, 4093, 4094, 1] {
-        let value = repeated(&rt, rt.alloc(), "cn=", "a", count, ",dc=com");
-        assert_same(&rt, rt.alloc(), &mut names, value.as_slice());
-    }
-}
+/// A leaf has at most 4,096 bytes below a parent.
+const LONG_LEAVES: [Long<'static>; 4] = [
+    ("cn=", "a", 1, ",dc=com"),
+    ("cn=", "a", 4093, ",dc=com"),
+    ("cn=", "a", 4094, ",dc=com"),
+    ("cn=", "a", 1, ",dc=com"),
+];
 
 /// The text of a parent that is remembered has at most 256 bytes.
+const LONG_PARENTS: [Long<'static>; 8] = [
+    ("cn=a,o=", "x", 253, ""),
+    ("cn=b,o=", "x", 253, ""),
+    ("cn=a,o=", "x", 254, ""),
+    ("cn=b,o=", "x", 254, ""),
+    ("cn=a,o=", "x", 253, ""),
+    ("cn=b,o=", "x", 253, ""),
+    ("cn=a,o=", "x", 254, ""),
+    ("cn=b,o=", "x", 254, ""),
+];
+
+/// What is read by a reader each.
+const LONG: [&[Long<'static>]; 3] = [&MANY_RDNS, &LONG_LEAVES, &LONG_PARENTS];
+
 #[test]
-fn a_parent_of_a_value_may_have_a_long_text(rt: HostRuntime) {
-    let mut names = used_names(&rt, rt.alloc());
-    for count in [253, 254, 253, 254] {
-        let one = repeated(&rt, rt.alloc(), "cn=a,o=", "x", count, "");
-        assert_same(&rt, rt.alloc(), &mut names, one.as_slice());
-        let other = repeated(&rt, rt.alloc(), "cn=b,o=", "x", count, "");
-        assert_same(&rt, rt.alloc(), &mut names, other.as_slice());
+fn long_values_have_the_same_keys_below_a_parent(rt: HostRuntime) {
+    let schema = schema(&rt, rt.alloc());
+    for values in &LONG {
+        let mut names = used_names(&rt, rt.alloc());
+        for value in *values {
+            assert_repeated(&rt, rt.alloc(), &schema, &mut names, *value);
+        }
     }
 }
 
@@ -227,21 +263,31 @@ fn assert_value_key(
     let attr = attr_key(rt, alloc, attr);
     let got = names.value_key(alloc, &schema(rt, alloc), &attr, value.as_bytes());
     let want = schema(rt, alloc).value_key(alloc, &attr, value.as_bytes());
-    match (got, want) {
-        (Ok(got), Ok(want)) => assert!(rt; got == want, "{value}"),
-        (got, want) => assert!(rt; got.err() == want.err(), "{value}"),
-    }
+    check(rt, got == want, value);
 }
 
-/// Each leaf below each parent, which is remembered by then if it may be, by the plain way and by the remembered one.
+/// Each leaf below each parent, which is remembered by then if it may be.
 #[test]
 fn a_leaf_has_the_same_key_below_a_parent_that_is_remembered(rt: HostRuntime) {
     let schema = schema(&rt, rt.alloc());
     let mut names = used_names(&rt, rt.alloc());
     for above in &PARENTS {
-        for leaf in ["cn=one", "cn=two"].iter().chain(LEAVES.iter()) {
-            let value = repeated(&rt, rt.alloc(), leaf, above, 1, "");
-            assert_read(&rt, rt.alloc(), &schema, &mut names, value.as_slice());
+        assert_repeated(
+            &rt,
+            rt.alloc(),
+            &schema,
+            &mut names,
+            ("cn=one", above, 1, ""),
+        );
+        assert_repeated(
+            &rt,
+            rt.alloc(),
+            &schema,
+            &mut names,
+            ("cn=two", above, 1, ""),
+        );
+        for leaf in &LEAVES {
+            assert_repeated(&rt, rt.alloc(), &schema, &mut names, (leaf, above, 1, ""));
         }
     }
 }
@@ -258,23 +304,7 @@ fn leaves_and_parents_in_no_order_have_the_same_keys(rt: HostRuntime) {
             .wrapping_add(1);
         let leaf = LEAVES[(number >> 33) as usize % LEAVES.len()];
         let above = PARENTS[(number >> 53) as usize % PARENTS.len()];
-        let value = repeated(&rt, rt.alloc(), leaf, above, 1, "");
-        assert_read(&rt, rt.alloc(), &schema, &mut names, value.as_slice());
-    }
-}
-
-/// Asserts that a value has the key that it has where nothing was read before, or none.
-fn assert_read(
-    rt: &impl Abort,
-    alloc: Global,
-    schema: &Schema,
-    names: &mut RecentNames,
-    value: &[u8],
-) {
-    let got = names.read(alloc, schema, value);
-    match (got, DnSortKey::read(alloc, schema, value)) {
-        (Ok(got), Ok(want)) => assert!(rt; got == want, "{value:?}"),
-        (got, want) => assert!(rt; got.err() == want.err(), "{value:?}"),
+        assert_repeated(&rt, rt.alloc(), &schema, &mut names, (leaf, above, 1, ""));
     }
 }
 
@@ -283,11 +313,16 @@ fn assert_read(
 fn parents_of_one_slot_are_told_apart(rt: HostRuntime) {
     let schema = schema(&rt, rt.alloc());
     let mut names = used_names(&rt, rt.alloc());
-    for times in [1, 2, 3, 4, 5, 9] {
+    for times in &[1usize, 2, 3, 4, 5, 9] {
         for above in &OF_ONE_SLOT {
-            for count in 0..times {
-                let value = repeated(&rt, rt.alloc(), "cn=", "a", count + 1, above);
-                assert_read(&rt, rt.alloc(), &schema, &mut names, value.as_slice());
+            for count in 1..=*times {
+                assert_repeated(
+                    &rt,
+                    rt.alloc(),
+                    &schema,
+                    &mut names,
+                    ("cn=", "a", count, above),
+                );
             }
         }
     }
@@ -298,10 +333,17 @@ fn parents_of_one_slot_are_told_apart(rt: HostRuntime) {
 fn long_names_have_their_keys_again(rt: HostRuntime) {
     let schema = schema(&rt, rt.alloc());
     let mut names = RecentNames::new();
-    for count in [1, 503, 504, 503, 1, 504, 504, 1, 503, 4093, 4093, 1, 4093] {
-        for ending in [",dc=a", ",dc=b", ",dc=a", ",dc=a"] {
-            let value = repeated(&rt, rt.alloc(), "cn=", "a", count, ending);
-            assert_read(&rt, rt.alloc(), &schema, &mut names, value.as_slice());
+    for count in &[
+        1usize, 503, 504, 503, 1, 504, 504, 1, 503, 4093, 4093, 1, 4093,
+    ] {
+        for ending in &[",dc=a", ",dc=b", ",dc=a", ",dc=a"] {
+            assert_repeated(
+                &rt,
+                rt.alloc(),
+                &schema,
+                &mut names,
+                ("cn=", "a", *count, ending),
+            );
         }
     }
 }

@@ -1,12 +1,13 @@
 //! Keys of values by the rules of their types, and the pieces of substring assertions.
 
-use crate::make::{attr_key, name_key, schema, value_key};
-use dir_names::{DnKey, NameFault, PiecePlace, PushedKey, RecentNames, ValueKey};
+use crate::make::{attr_key, check, name_key, schema, value_key};
+use dir_names::{AttrKey, NameFault, PiecePlace, PushedKey, RecentNames, Schema, ValueKey};
 use std::alloc::Global;
 use std::process::Abort;
 
-/// Values with the texts of their keys.
-const KEYS: [(&str, &[u8], &[u8]); 15] = [
+/// Values with the texts of their keys. The first is the example of the crate's README.
+const KEYS: [(&str, &[u8], &[u8]); 16] = [
+    ("CommonName;lang-en", b"  A  b ", b"a b"),
     ("cn", b"  A  b ", b"a b"),
     ("cn", b"Stra\xc3\x9fe", b"strasse"),
     ("cn", b" ", b""),
@@ -53,54 +54,58 @@ const FOLDED: [(&str, &str); 14] = [
 #[test]
 fn values_have_keys_by_the_rule_of_their_type(rt: HostRuntime) {
     for (attr_type, value, want) in &KEYS {
-        assert_key(&rt, rt.alloc(), attr_type, value, want);
+        check(
+            &rt,
+            has_key(&rt, rt.alloc(), attr_type, value, want),
+            attr_type,
+        );
     }
 }
 
 #[test]
 fn values_are_folded_and_normalised(rt: HostRuntime) {
     for (value, want) in &FOLDED {
-        assert_key(&rt, rt.alloc(), "cn", value.as_bytes(), want.as_bytes());
+        let has_key = has_key(&rt, rt.alloc(), "cn", value.as_bytes(), want.as_bytes());
+        check(&rt, has_key, value);
     }
 }
 
-fn assert_key(rt: &impl Abort, alloc: Global, attr_type: &str, value: &[u8], want: &[u8]) {
-    let key = value_key(rt, alloc, attr_type, value);
-    assert!(rt; key.text() == Some(want), "{attr_type}");
+fn has_key(rt: &impl Abort, alloc: Global, attr_type: &str, value: &[u8], want: &[u8]) -> bool {
+    value_key(rt, alloc, attr_type, value).text() == Some(want)
 }
 
 #[test]
 fn pushed_keys_are_those_of_the_values(rt: HostRuntime) {
+    let schema = schema(&rt, rt.alloc());
     for (attr_type, value, want) in &KEYS {
-        assert_pushed(&rt, rt.alloc(), attr_type, value, want);
+        let attr = attr_key(&rt, rt.alloc(), attr_type);
+        check(
+            &rt,
+            pushes(rt.alloc(), &schema, &attr, value, want),
+            attr_type,
+        );
+        let pushes = pushes_among_names(rt.alloc(), &schema, &attr, value, want);
+        check(&rt, pushes, attr_type);
     }
 }
 
-fn assert_pushed(rt: &impl Abort, alloc: Global, attr_type: &str, value: &[u8], want: &[u8]) {
-    let attr = attr_key(rt, alloc, attr_type);
-    let schema = schema(rt, alloc);
+fn pushes(alloc: Global, schema: &Schema, attr: &AttrKey, value: &[u8], want: &[u8]) -> bool {
     let mut text = Vec::new(alloc);
-    let pushed = schema.push_value_key(alloc, &attr, value, &mut text);
-    assert!(rt;
-        is_pushed(&pushed, text.as_slice(), value, want),
-        "{attr_type}"
-    );
-    let mut text = Vec::new(alloc);
-    let pushed = RecentNames::new().push_value_key(alloc, &schema, &attr, value, &mut text);
-    assert!(rt;
-        is_pushed(&pushed, text.as_slice(), value, want),
-        "{attr_type}"
-    );
+    let pushed = schema.push_value_key(alloc, attr, value, &mut text);
+    is_pushed(&pushed, text.as_slice(), value, want)
 }
 
-#[test]
-fn a_pushed_key_follows_the_text_before_it(rt: HostRuntime) {
-    let alloc = rt.alloc();
-    let attr = attr_key(&rt, alloc, "cn");
-    let mut text = b" X ".to_vec(alloc).expect(&rt, "memory");
-    let pushed = schema(&rt, alloc).push_value_key(alloc, &attr, b" A  B ", &mut text);
-    assert!(rt; matches!(&pushed, Ok(PushedKey::Appended)));
-    assert!(rt; text.as_slice() == b" X a b".as_slice());
+/// The same where names are remembered.
+fn pushes_among_names(
+    alloc: Global,
+    schema: &Schema,
+    attr: &AttrKey,
+    value: &[u8],
+    want: &[u8],
+) -> bool {
+    let mut text = Vec::new(alloc);
+    let pushed = RecentNames::new().push_value_key(alloc, schema, attr, value, &mut text);
+    is_pushed(&pushed, text.as_slice(), value, want)
 }
 
 /// Whether the key of a value is in its place, and this one.
@@ -118,15 +123,25 @@ fn is_pushed(
 }
 
 #[test]
-fn what_is_no_value_of_its_type_has_no_key(rt: HostRuntime) {
-    for (attr_type, value) in &NO_VALUES {
-        assert_no_value(&rt, rt.alloc(), attr_type, value);
-    }
+fn a_pushed_key_follows_the_text_before_it(rt: HostRuntime) {
+    let alloc = rt.alloc();
+    let attr = attr_key(&rt, alloc, "cn");
+    let mut text = b" X ".to_vec(alloc).expect(&rt, "memory");
+    let pushed = schema(&rt, alloc).push_value_key(alloc, &attr, b" A  B ", &mut text);
+    let is_appended = matches!(&pushed, Ok(PushedKey::Appended));
+    check(
+        &rt,
+        is_appended && text.as_slice() == b" X a b".as_slice(),
+        "another key",
+    );
 }
 
-fn assert_no_value(rt: &impl Abort, alloc: Global, attr_type: &str, value: &[u8]) {
-    let fault = key_of(rt, alloc, attr_type, value).err();
-    assert!(rt; fault == Some(NameFault::BadValue), "{attr_type}");
+#[test]
+fn what_is_no_value_of_its_type_has_no_key(rt: HostRuntime) {
+    for (attr_type, value) in &NO_VALUES {
+        let fault = key_of(&rt, rt.alloc(), attr_type, value).err();
+        check(&rt, fault == Some(NameFault::BadValue), attr_type);
+    }
 }
 
 fn key_of(
@@ -139,84 +154,62 @@ fn key_of(
     schema(rt, alloc).value_key(alloc, &attr, value)
 }
 
+/// Values that are names, each with the same name.
+const MEMBERS: [(&str, &str); 2] = [("CN=K, DC=Com", "cn=k,dc=com"), ("", "")];
+
 #[test]
 fn a_name_as_a_value_has_the_key_of_the_name(rt: HostRuntime) {
-    assert_member(&rt, rt.alloc(), "CN=K, DC=Com", "cn=k,dc=com");
-    assert_member(&rt, rt.alloc(), "", "");
+    for (value, want) in &MEMBERS {
+        check(&rt, is_member(&rt, rt.alloc(), value, want), value);
+    }
 }
 
-fn assert_member(rt: &impl Abort, alloc: Global, value: &str, want: &str) {
-    let member = value_key(rt, alloc, "member", value.as_bytes());
+fn is_member(rt: &impl Abort, alloc: Global, value: &str, want: &str) -> bool {
     let name = name_key(rt, alloc, want);
-    assert!(rt; is_key_of(&member, &name), "{value}");
-}
-
-fn is_key_of(value: &ValueKey, name: &DnKey) -> bool {
-    match value.name() {
-        Some(key) => key.is_same(name) && key.cmp_key(name).is_eq(),
+    match value_key(rt, alloc, "member", value.as_bytes()).name() {
+        Some(key) => key.is_same(&name) && key.cmp_key(&name).is_eq(),
         None => false,
     }
 }
 
-/// Pieces of substring assertions, with their keys: a piece keeps one space where a value has some within.
-const PIECES: [(&str, PiecePlace, &[u8], &[u8]); 6] = [
-    ("cn", PiecePlace::First, b"  Foo  b ", b"foo b "),
-    ("cn", PiecePlace::Last, b"  Foo  b ", b" foo b"),
-    ("cn", PiecePlace::Middle, b"  Foo  b ", b" foo b "),
-    ("telephoneNumber", PiecePlace::First, b"+1 555-", b"+1555"),
-    ("homeDirectory", PiecePlace::Last, b"/A", b"/A"),
-    ("mail", PiecePlace::Last, b"@A.Org", b"@a.org"),
+/// A piece of a substring assertion: the type, the place and the text.
+type Piece = (&'static str, PiecePlace, &'static [u8]);
+
+/// Pieces of substring assertions, with their keys: a piece keeps one space where a value has some within. Numbers
+/// and texts in another encoding have none.
+const PIECES: [(Piece, Option<&[u8]>); 8] = [
+    (("cn", PiecePlace::First, b"  Foo  b "), Some(b"foo b ")),
+    (("cn", PiecePlace::Last, b"  Foo  b "), Some(b" foo b")),
+    (("cn", PiecePlace::Middle, b"  Foo  b "), Some(b" foo b ")),
+    (
+        ("telephoneNumber", PiecePlace::First, b"+1 555-"),
+        Some(b"+1555"),
+    ),
+    (("homeDirectory", PiecePlace::Last, b"/A"), Some(b"/A")),
+    (("mail", PiecePlace::Last, b"@A.Org"), Some(b"@a.org")),
+    (("uidNumber", PiecePlace::First, b"  Foo  b "), None),
+    (("mail", PiecePlace::Last, b"\xC3"), None),
 ];
 
 #[test]
 fn pieces_are_folded_and_keep_the_spaces_that_count_in_their_place(rt: HostRuntime) {
-    for (attr_type, place, text, want) in &PIECES {
-        assert_piece(&rt, rt.alloc(), attr_type, *place, text, want);
+    for (piece, want) in &PIECES {
+        let key = piece_key(&rt, rt.alloc(), piece);
+        assert!(rt; is_key(key, *want), "{piece:?}");
     }
 }
 
-fn assert_piece(
-    rt: &impl Abort,
-    alloc: Global,
-    attr_type: &str,
-    place: PiecePlace,
-    text: &[u8],
-    want: &[u8],
-) {
-    let key = piece(rt, alloc, attr_type, place, text);
-    assert!(rt; is_text(&key, want), "{attr_type}");
-}
-
-#[test]
-fn numbers_and_texts_in_another_encoding_have_no_pieces(rt: HostRuntime) {
-    let number = piece(
-        &rt,
-        rt.alloc(),
-        "uidNumber",
-        PiecePlace::First,
-        b"  Foo  b ",
-    );
-    assert!(rt; number.is_none());
-    let other = piece(&rt, rt.alloc(), "mail", PiecePlace::Last, b"\xC3");
-    assert!(rt; other.is_none());
-}
-
-/// The key of a piece in this place, under the rule of a type.
-fn piece(
-    rt: &impl Abort,
-    alloc: Global,
-    attr_type: &str,
-    place: PiecePlace,
-    text: &[u8],
-) -> Option<Vec<u8>> {
-    let attr = attr_key(rt, alloc, attr_type);
-    let key = schema(rt, alloc).piece_key(alloc, &attr, place, text);
+/// The key of a piece under the rule of its type.
+fn piece_key(rt: &impl Abort, alloc: Global, piece: &Piece) -> Option<Vec<u8>> {
+    let attr = attr_key(rt, alloc, piece.0);
+    let key = schema(rt, alloc).piece_key(alloc, &attr, piece.1, piece.2);
     key.expect(rt, "memory")
 }
 
-fn is_text(found: &Option<Vec<u8>>, want: &[u8]) -> bool {
-    match found {
-        Some(text) => text.as_slice() == want,
-        None => false,
+fn is_key(found: Option<Vec<u8>>, want: Option<&[u8]>) -> bool {
+    match (found, want) {
+        (Some(found), Some(want)) => found.as_slice() == want,
+        (None, None) => true,
+        _ => false,
     }
 }
