@@ -5,6 +5,7 @@ pub mod Grammar
 pub mod Groups
 pub mod KnownRules
 pub mod NoAttributes
+pub mod NoNotes
 pub mod RunningSets
 pub mod Runs
 pub mod SlapdAccess

@@ -2,6 +2,7 @@ pub mod Digits
 pub mod Escapes
 pub mod Fakes
 pub mod FirstPiece
+pub mod Noting
 pub mod ReadingConfig
 pub mod Requests
 pub mod RunningSet

@@ -4,6 +4,7 @@ pub mod FaultText
 pub mod Filters
 pub mod Inside
 pub mod Integers
+pub mod Notes
 pub mod Outcome
 pub mod Privileges
 pub mod Rules

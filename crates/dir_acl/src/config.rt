@@ -6,15 +6,17 @@ ghost use Rattle.dir_acl.specs.Config.{config_of, of_suffix};
 ghost use Rattle.dir_acl.specs.Decision.{is_granted};
 ghost use Rattle.dir_acl.specs.Inside.ReadingConfig.{configuration_of, settings_of};
 ghost use Rattle.dir_acl.specs.Inside.Requests.{question_of};
+ghost use Rattle.dir_acl.specs.Notes.{noted_config_of};
 ghost use Rattle.dir_acl.specs.Outcome.{GivesConfig};
 ghost use Rattle.dir_acl.specs.Privileges.{has};
 ghost use Rattle.dir_acl.specs.Rules.{rules_of};
+ghost use Rattle.dir_acl.specs.declared.fault.ConfigCause.TheVariants as ConfigCause;
 ghost use Rattle.dir_acl.specs.declared.privileges.Privilege.{Privilege};
 
 mod access_rules;
-mod arguments;
-mod directives;
-mod lines;
+pub(crate) mod arguments;
+pub(crate) mod directives;
+pub(crate) mod lines;
 mod names;
 mod permissions;
 mod whats;
@@ -22,7 +24,8 @@ mod whos;
 
 use crate::config::directives::Settings;
 use crate::config::lines::read_lines;
-use crate::{ConfigCause, ConfigFault, Privileges, Request, Rule, privileges_under};
+use crate::note::lines::read_notes;
+use crate::{ConfigCause, ConfigFault, Note, Privileges, Request, Rule, privileges_under};
 use dir_names::{DnKey, Schema};
 use dir_tree::Directory;
 use std::alloc::Global;
@@ -49,12 +52,31 @@ impl Config {
         ensures { GivesConfig configuration_of result (config_of schema.now text.now) }
     {
         if text.len() > MAX_CONFIG {
-            return Err(ConfigFault {
-                line: 0,
-                cause: ConfigCause::ConfigTooLong,
-            });
+            return Err(too_long());
         }
         with_suffix(read_lines(alloc, schema, text)?)
+    }
+
+    /// Reads a slapd.conf as `read` does, with the notes on it, in the order of its lines; `NoRule` comes last.
+    ///
+    /// # Errors
+    ///
+    /// Those of `read`.
+    pub fn read_with_notes(
+        alloc: Global,
+        schema: &Schema,
+        text: &[u8],
+    ) -> Result<(Config, Vec<Note>), ConfigFault>
+        ensures { GivesConfig (λ noted. (configuration_of noted.0, noted.1.items)) result (noted_config_of schema.now text.now) }
+    {
+        let config = Config::read(alloc, schema, text)?;
+        if text.len() > MAX_CONFIG {
+            return Err(too_long());
+        }
+        match read_notes(alloc, schema, text) {
+            Ok(notes) => Ok((config, notes)),
+            Err(cause) => Err(ConfigFault { line: 0, cause }),
+        }
     }
 
     /// The suffix of the database. The call doesn't allocate.
@@ -86,6 +108,15 @@ impl Config {
         ensures { rules_of result.now ≡ (configuration_of self.now).rules }
     {
         self.rules.as_slice()
+    }
+}
+
+fn too_long() -> ConfigFault
+    ensures { result ≡ record { line = 0; cause = ConfigCause.ConfigTooLong } }
+{
+    ConfigFault {
+        line: 0,
+        cause: ConfigCause::ConfigTooLong,
     }
 }
 

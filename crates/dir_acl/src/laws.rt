@@ -1,9 +1,13 @@
 //! Laws of the definitions, as contracts of calls that do nothing.
 
-ghost use Rattle.std.specs.Prelude.{◌≡◌, ℕ, List, Err, Ok, true};
+ghost use Rattle.std.specs.Prelude.{◌≡◌, [], ℕ, List, Err, Ok, true};
 ghost use Rattle.dir_names.specs.declared.schema.TypeRow.{TypeRow};
+ghost use Rattle.dir_acl.specs.Config.{config_of};
 ghost use Rattle.dir_acl.specs.Filters.{IsTooDeep, Spells, Tree, in_parentheses};
 ghost use Rattle.dir_acl.specs.Filters.Reading.{filter_of};
+ghost use Rattle.dir_acl.specs.Notes.{notes_of};
+ghost use Rattle.dir_acl.specs.Notes.Known.{AreUnderstood};
+ghost use Rattle.dir_acl.specs.Rules.{Configuration};
 ghost use Rattle.dir_acl.specs.Substrings.{HasPieces, has_pieces};
 ghost use Rattle.dir_acl.specs.declared.fault.FilterFault.TheVariants as FilterFault;
 ghost use Rattle.dir_acl.specs.declared.filter.Pieces.{Pieces};
@@ -16,6 +20,11 @@ pub fn reading_is_the_grammar()
     ensures read { (rows : List TypeRow) (text : List ℕ) (t : Tree) → Spells rows (in_parentheses text) t → ¬ (IsTooDeep rows 64 (in_parentheses text)) → filter_of rows text ≡ Ok t }
     ensures deep { (rows : List TypeRow) (text : List ℕ) → filter_of rows text ≡ Err FilterFault.TooDeep → IsTooDeep rows 64 (in_parentheses text) }
     ensures told { (rows : List TypeRow) (text : List ℕ) → IsTooDeep rows 64 (in_parentheses text) → filter_of rows text ≡ Err FilterFault.TooDeep }
+{}
+
+/// Where there is no note, there is a rule, and the rules name known types alone.
+pub fn rules_without_notes_are_understood()
+    ensures { (rows : List TypeRow) (text : List ℕ) (config : Configuration) → config_of rows text ≡ Ok config → notes_of rows text ≡ [] → AreUnderstood rows config }
 {}
 
 /// The test of a substring assertion tells whether some cut of the text has the pieces.

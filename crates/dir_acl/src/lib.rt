@@ -8,6 +8,7 @@ mod cut;
 mod fault;
 mod filter;
 mod laws;
+mod note;
 mod privileges;
 
 pub use access::decision::privileges_under;
@@ -17,5 +18,6 @@ pub use config::{Config, MAX_CONFIG};
 pub use fault::{ConfigCause, ConfigFault, FilterFault};
 pub use filter::truth::Truth;
 pub use filter::{Filter, Matching, Pieces, Test};
-pub use laws::{cuts_are_found, reading_is_the_grammar};
+pub use laws::{cuts_are_found, reading_is_the_grammar, rules_without_notes_are_understood};
+pub use note::{Note, NoteCause};
 pub use privileges::{Level, Privilege, Privileges};

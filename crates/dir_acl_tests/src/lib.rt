@@ -11,4 +11,6 @@ mod grants;
 #[cfg(test)]
 mod make;
 #[cfg(test)]
+mod notes;
+#[cfg(test)]
 mod words;

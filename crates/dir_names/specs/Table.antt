@@ -1,6 +1,6 @@
 -- What a table of attribute types says of a type. `Builtin` has the table itself.
 pub mod Builtin
-use Rattle.std.specs.Prelude.{ℕ, Bool, false, List, Option, Some, None, find}
+use Rattle.std.specs.Prelude.{ℕ, Bool, false, List, Option, Some, None, find, is_some}
 use Rattle.std.specs.List.{list_any}
 use Rattle.std.specs.Str.{str_to_ascii_lowercase, str_eq_ignore_ascii_case}
 use Rattle.dir_names.specs.declared.schema.Rule.{Rule}
@@ -24,6 +24,10 @@ type_key_of rows attr_type = key_in (row_named rows attr_type) attr_type
 -- the row of an attribute's type
 abbrev pub row_of : List TypeRow → Attr → Option TypeRow
 row_of rows attr = find (λ row. bytes_eq row.key attr.attr_type) rows
+
+-- a type is known if it has a row
+abbrev pub is_known : List TypeRow → Attr → Bool
+is_known rows attr = is_some (row_of rows attr)
 
 -- values of a type without a row are compared byte by byte, and an attribute of it takes any number of them
 abbrev pub rule_in : Option TypeRow → Rule

@@ -96,7 +96,7 @@ impl Model for Schema {
 
 impl Schema {
     ghost use Rattle.dir_names.specs.Table.Builtin.{builtin_rows};
-    ghost use Rattle.dir_names.specs.Table.{type_key_of, row_of, rule_of, single_of};
+    ghost use Rattle.dir_names.specs.Table.{type_key_of, row_of, rule_of, single_of, is_known};
 
     /// The types of RFC 4519, 4524, 2798 and 2307 that this kit knows, and `objectClass` (RFC 4512,
     /// section 3.3).
@@ -209,6 +209,14 @@ impl Schema {
             Some(row) => row.single,
             None => false,
         }
+    }
+
+    /// Whether the type is known: one of those that `builtin` has. What it is called, by which rule its values are compared,
+    /// and how many an attribute of it takes, is known of no other. Options make no difference.
+    pub fn knows(&self, attr: &AttrKey) -> bool
+        ensures { result ≡ is_known self.now attr.now }
+    {
+        row_of(self.rows.as_slice(), attr.attr_type()).is_some()
     }
 
     /// The attribute of a type without options.

@@ -61,7 +61,7 @@ pub(crate) fn after_line(
     after_arguments(alloc, schema, settings, arguments.as_slice())
 }
 
-fn is_comment(line: &[u8]) -> bool
+pub(crate) fn is_comment(line: &[u8]) -> bool
     ensures { result ≡ is_comment line.now }
 {
     match line {

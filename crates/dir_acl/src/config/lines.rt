@@ -68,7 +68,7 @@ fn after_numbered_line(
 }
 
 /// A line without the carriage return at its end.
-fn without_return(line: &[u8]) -> &[u8]
+pub(crate) fn without_return(line: &[u8]) -> &[u8]
     ensures { result.now ≡ without_return line.now }
 {
     match line.last() {
@@ -77,7 +77,7 @@ fn without_return(line: &[u8]) -> &[u8]
     }
 }
 
-fn begins_with_white(line: &[u8]) -> bool
+pub(crate) fn begins_with_white(line: &[u8]) -> bool
     ensures { result ≡ begins_with_white line.now }
 {
     match line {

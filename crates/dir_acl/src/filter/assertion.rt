@@ -82,7 +82,7 @@ fn attr_of(alloc: Global, description: &Description) -> Result<AttrKey, FilterFa
 }
 
 /// The operator of what is before the `=`.
-fn operator_of(before: &[u8]) -> Operator
+pub(crate) fn operator_of(before: &[u8]) -> Operator
     ensures { result ≡ operator_of before.now }
 {
     match before.last() {
@@ -103,7 +103,7 @@ fn operator_of_sign(sign: u8) -> Operator
 }
 
 /// The text of the description, before the operator.
-fn described_by(operator: Operator, before: &[u8]) -> &[u8]
+pub(crate) fn described_by(operator: Operator, before: &[u8]) -> &[u8]
     ensures { result.now ≡ described_by operator before.now }
 {
     match operator {

@@ -63,7 +63,7 @@ impl Filter {
 }
 
 /// A copy of the text, in parentheses if it doesn't begin with one.
-fn in_parentheses(alloc: Global, text: &[u8]) -> Result<Vec<u8>, FilterFault>
+pub(crate) fn in_parentheses(alloc: Global, text: &[u8]) -> Result<Vec<u8>, FilterFault>
     ensures { Reads (λ whole. whole.items) result (Ok (in_parentheses text.now)) }
 {
     if begins_with_parenthesis(text) {

@@ -1,0 +1,161 @@
+-- What a slapd.conf says that is passed over here, or taken for something of its own, so that an answer may rest on what isn't known (slapd.conf(5),
+-- slapd.access(5)). `notes_of` at the end of this page is the whole: the notes of each line in turn, and last that there is no rule. A description in `dnattr=` or
+-- `group/CLASS/ATTR` is of a known type wherever the rule is read: of a type that isn't known nobody knows that its values are names.
+pub mod Known
+use Rattle.std.specs.Prelude.{ℕ, Bool, true, false, cond, not, ◌&&◌, ◌||◌, ◌==◌, nat_eq, List, [], ◌∷◌, ◌++◌, codes, Option, Some, None, Result, Ok, Err}
+use Rattle.std.specs.List.{before_first, starts_with}
+use Rattle.dir_names.specs.Ascii.{comma, equals_sign}
+use Rattle.dir_names.specs.Cut.{after_first_separator, parts_at}
+use Rattle.dir_names.specs.Described.{Described}
+use Rattle.dir_names.specs.Descriptions.{description_of}
+use Rattle.dir_names.specs.Results.{and_then}
+use Rattle.dir_names.specs.Table.{is_known}
+use Rattle.dir_names.specs.declared.fault.NameFault.{NameFault}
+use Rattle.dir_names.specs.declared.schema.TypeRow.{TypeRow}
+use Rattle.dir_acl.specs.declared.fault.ConfigFault.{ConfigFault}
+use Rattle.dir_acl.specs.declared.note.Note.{Note}
+use Rattle.dir_acl.specs.declared.note.NoteCause.{NoteCause}
+use Rattle.dir_acl.specs.declared.note.NoteCause.TheVariants.{Include, UnknownType, ObjectClass, OtherDatabase, NoRule}
+use Rattle.dir_acl.specs.Config.{config_of}
+use Rattle.dir_acl.specs.Config.Arguments.{arguments_of}
+use Rattle.dir_acl.specs.Config.Lines.{is_comment, logical_lines}
+use Rattle.dir_acl.specs.Config.Names.{form_of, is_word}
+use Rattle.dir_acl.specs.Filters.{begins_test, in_parentheses}
+use Rattle.dir_acl.specs.Rules.{Configuration}
+use Rattle.dir_acl.specs.Signs.{open_parenthesis}
+use Rattle.dir_acl.specs.Tests.{described_by, operator_of}
+
+abbrev pub note_at : ℕ → NoteCause → Note
+note_at line cause = record { line = line; cause = cause }
+
+-- ---- a description, in a rule that begins at line `n`
+
+-- a type that isn't known
+abbrev pub unknown_notes : List TypeRow → ℕ → Described → List Note
+unknown_notes rows n description = cond (is_known rows description.key) [] (note_at n (UnknownType description.spelling) ∷ [])
+
+-- ---- `attrs=LIST`
+
+abbrev pub named_notes : List TypeRow → ℕ → Result Described NameFault → List Note
+named_notes rows n (Ok description) = unknown_notes rows n description
+named_notes rows n (Err fault) = []
+
+-- each item but the pseudo attributes `entry` and `children` is a description
+abbrev pub item_notes : List TypeRow → ℕ → List ℕ → List Note
+item_notes rows n text = cond (is_word text (codes "entry") || is_word text (codes "children")) [] (named_notes rows n (description_of rows text))
+
+abbrev pub items_notes : List TypeRow → ℕ → List (List ℕ) → List Note
+items_notes rows n [] = []
+items_notes rows n (text ∷ texts) = item_notes rows n text ++ items_notes rows n texts
+
+-- ---- `filter=FILTER`
+
+-- `=*` and the end of the test ask whether the attribute is there
+abbrev pub asks_presence : Option (List ℕ) → Bool
+asks_presence None = false
+asks_presence (Some value) = starts_with nat_eq value (codes "*)")
+
+-- objectClass, by its name or its number
+abbrev pub is_object_class : List ℕ → Bool
+is_object_class spelling = is_word spelling (codes "objectClass") || is_word spelling (codes "2.5.4.0")
+
+-- which classes an entry has: those above the ones that it lists are not looked at
+abbrev pub class_notes : ℕ → Described → Option (List ℕ) → List Note
+class_notes n description value = cond (is_object_class description.spelling && not (asks_presence value)) (note_at n ObjectClass ∷ []) []
+
+abbrev pub tested_notes : List TypeRow → ℕ → Option (List ℕ) → Result Described NameFault → List Note
+tested_notes rows n value (Ok description) = unknown_notes rows n description ++ class_notes n description value
+tested_notes rows n value (Err fault) = []
+
+-- the description of a test is what is before its operator
+abbrev pub compared_notes : List TypeRow → ℕ → List ℕ → Option (List ℕ) → List Note
+compared_notes rows n before value = tested_notes rows n value (description_of rows (described_by (operator_of before) before))
+
+-- the test that a text begins with
+abbrev pub test_notes : List TypeRow → ℕ → List ℕ → List Note
+test_notes rows n text = compared_notes rows n (before_first (λ b. b == equals_sign) text) (after_first_separator equals_sign text)
+
+-- after a `(` stands a test, unless a list of filters or a negation begins (RFC 4515, section 3). No value has a `(`
+abbrev pub opened_notes : List TypeRow → ℕ → ℕ → List ℕ → List Note
+opened_notes rows n b after = cond (b == open_parenthesis && begins_test after) (test_notes rows n after) []
+
+abbrev pub tests_notes : List TypeRow → ℕ → List ℕ → List Note
+tests_notes rows n [] = []
+tests_notes rows n (b ∷ after) = opened_notes rows n b after ++ tests_notes rows n after
+
+abbrev pub filter_notes : List TypeRow → ℕ → List ℕ → List Note
+filter_notes rows n text = tests_notes rows n (in_parentheses text)
+
+-- ---- the words of a rule
+
+abbrev pub attrs_notes : List TypeRow → ℕ → List ℕ → List ℕ → List Note
+attrs_notes rows n form text = cond (is_word form (codes "attrs")) (items_notes rows n (parts_at comma text)) []
+
+abbrev pub form_notes : List TypeRow → ℕ → List ℕ → Option (List ℕ) → List Note
+form_notes rows n form None = []
+form_notes rows n form (Some text) =
+    cond (is_word form (codes "filter")) (filter_notes rows n text) (attrs_notes rows n form text)
+
+abbrev pub word_notes : List TypeRow → ℕ → Option (List ℕ) → List Note
+word_notes rows n None = []
+word_notes rows n (Some word) = form_notes rows n (form_of word) (after_first_separator equals_sign word)
+
+abbrev pub rule_notes : List TypeRow → ℕ → List (Option (List ℕ)) → List Note
+rule_notes rows n [] = []
+rule_notes rows n (word ∷ words) = word_notes rows n word ++ rule_notes rows n words
+
+-- ---- lines
+
+-- the words of a line; a comment has none
+abbrev pub words_of : List ℕ → List (Option (List ℕ))
+words_of line = cond (is_comment line) [] (arguments_of line)
+
+abbrev pub begins_with : List (Option (List ℕ)) → List ℕ → Bool
+begins_with [] keyword = false
+begins_with (None ∷ words) keyword = false
+begins_with (Some word ∷ words) keyword = is_word word keyword
+
+abbrev pub after_keyword : List (Option (List ℕ)) → List (Option (List ℕ))
+after_keyword [] = []
+after_keyword (word ∷ words) = words
+
+-- whether the lines after this one are passed over: they are in the part of `database config` or `database monitor`
+abbrev pub passed_after : Bool → List (Option (List ℕ)) → Bool
+passed_after passed words =
+    cond (begins_with words (codes "database")) (begins_with (after_keyword words) (codes "config") || begins_with (after_keyword words) (codes "monitor")) passed
+
+-- a rule that is not passed over
+abbrev pub is_rule : Bool → List (Option (List ℕ)) → Bool
+is_rule passed words = not passed && begins_with words (codes "access")
+
+-- the file of an `include`
+abbrev pub file_of : List (Option (List ℕ)) → List ℕ
+file_of [] = []
+file_of (None ∷ words) = []
+file_of (Some word ∷ words) = word
+
+-- in a part that is passed over a rule is noted, and no other line
+abbrev pub passed_notes : ℕ → List (Option (List ℕ)) → List Note
+passed_notes n words = cond (begins_with words (codes "access")) (note_at n OtherDatabase ∷ []) []
+
+abbrev pub read_notes : List TypeRow → ℕ → List (Option (List ℕ)) → List Note
+read_notes rows n words =
+    cond (begins_with words (codes "access")) (rule_notes rows n (after_keyword words))
+    (cond (begins_with words (codes "include")) (note_at n (Include (file_of (after_keyword words))) ∷ []) [])
+
+abbrev pub line_notes : List TypeRow → Bool → ℕ → List (Option (List ℕ)) → List Note
+line_notes rows passed n words = cond passed (passed_notes n words) (read_notes rows n words)
+
+-- the notes of these lines: `passed` tells whether the first is passed over, `has` whether there was a rule before
+abbrev pub lines_notes : List TypeRow → Bool → Bool → List (ℕ × List ℕ) → List Note
+lines_notes rows passed has [] = cond has [] (note_at 0 NoRule ∷ [])
+lines_notes rows passed has (line ∷ lines) =
+    line_notes rows passed line.0 (words_of line.1) ++ lines_notes rows (passed_after passed (words_of line.1)) (has || is_rule passed (words_of line.1)) lines
+
+-- the notes on a text that reads as a configuration
+abbrev pub notes_of : List TypeRow → List ℕ → List Note
+notes_of rows text = lines_notes rows false false (logical_lines text)
+
+-- a configuration with its notes
+abbrev pub noted_config_of : List TypeRow → List ℕ → Result (Configuration × List Note) ConfigFault
+noted_config_of rows text = and_then (config_of rows text) (λ config. Ok (config, notes_of rows text))

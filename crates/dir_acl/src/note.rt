@@ -1,0 +1,65 @@
+//! Notes on a configuration: what it says that is passed over here, or that is taken for something of its own, so that an answer
+//! may rest on what isn't known. `lines` goes through the lines, `words` through the words of a rule, and `filters` through a filter.
+
+ghost use Rattle.std.specs.Prelude.{◌++◌, ◌∷◌, [], Ok};
+ghost use Rattle.dir_acl.specs.Notes.{note_at, unknown_notes};
+ghost use Rattle.dir_acl.specs.Outcome.{GivesPart};
+
+mod filters;
+pub(crate) mod lines;
+mod words;
+
+use crate::ConfigCause;
+use dir_names::{Bytes, Description, Schema};
+use std::alloc::Global;
+
+/// What a configuration says on a line that answers may rest on, and that isn't known or not looked at here.
+#[derive(Debug, Drop)]
+pub struct Note {
+    /// The number, from 1, of the line on which what is noted begins; 0 for `NoRule`.
+    pub line: u64,
+    pub cause: NoteCause,
+}
+
+/// What a note tells.
+#[derive(Debug, Drop)]
+pub enum NoteCause {
+    /// An `include` of this file, which isn't read: the rules in it are not known.
+    Include(Bytes),
+    /// An attribute description, in `attrs=` or in a test of a filter, of a type that the schema doesn't know: it may be misspelt,
+    /// another name of a type, the name of an object class, or that of a type from which others are derived. Here it is a type of its
+    /// own, whose values are compared byte by byte.
+    UnknownType(Bytes),
+    /// A test of a filter for a value of `objectClass`. The classes that an entry lists are looked at, and not those above them.
+    ObjectClass,
+    /// An access rule in the part of `database config` or `database monitor`, which is passed over.
+    OtherDatabase,
+    /// No access rule was read, so everybody may read everything.
+    NoRule,
+}
+
+/// The notes with one more.
+fn with_note(notes: Vec<Note>, line: u64, cause: NoteCause) -> Result<Vec<Note>, ConfigCause>
+    ensures { GivesPart (λ notes. notes.items) result (Ok (notes.items ++ note_at line cause ∷ [])) }
+{
+    let mut notes = notes;
+    notes.push(Note { line, cause })?;
+    Ok(notes)
+}
+
+/// The notes with one if the type of this description isn't known.
+fn with_unknown(
+    alloc: Global,
+    schema: &Schema,
+    notes: Vec<Note>,
+    line: u64,
+    description: &Description,
+) -> Result<Vec<Note>, ConfigCause>
+    ensures { GivesPart (λ notes. notes.items) result (Ok (notes.items ++ unknown_notes schema.now line description.now)) }
+{
+    if schema.knows(description.key()) {
+        return Ok(notes);
+    }
+    let text = description.spelling().to_vec(alloc)?;
+    with_note(notes, line, NoteCause::UnknownType(Bytes::new(text)))
+}
