@@ -10,7 +10,7 @@ use dir_tools::Buffer;
 use std::alloc::{AllocError, Global};
 
 /// A call of a folder.
-#[derive(PartialEq, Eq, Debug, Drop)]
+#[derive(Drop)]
 pub(super) enum Asked {
     Opens(String, Option<Refusal>),
     StandardInput,

@@ -11,7 +11,7 @@ use std::alloc::{AllocError, Global};
 use std::convert::AsStr;
 
 /// What the command line asks for.
-#[derive(Debug, Drop)]
+#[derive(Drop)]
 pub enum Words<'a> {
     Slapmodify(ModifyWords<'a>),
     Slapacl(AccessWords<'a>),

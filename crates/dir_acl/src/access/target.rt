@@ -16,7 +16,7 @@ use dir_names::DnKey;
 use dir_tree::Entry;
 
 /// Whether a rule is for the target, whatever of it is asked for.
-#[derive(Clone, Copy, Debug)]
+#[derive(Clone, Copy)]
 pub(crate) enum ForTarget {
     NotYetKnown,
     No,

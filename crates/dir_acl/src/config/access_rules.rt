@@ -18,7 +18,7 @@ use dir_names::{Bytes, Schema};
 use std::alloc::Global;
 
 /// Where the reader is, with what it has read.
-#[derive(Debug, Drop)]
+#[derive(Drop)]
 pub(crate) enum Place {
     /// Before `to`.
     BeforeTo,

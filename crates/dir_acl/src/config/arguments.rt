@@ -10,7 +10,7 @@ use dir_names::Bytes;
 use std::alloc::Global;
 
 /// Where in a line the reader is.
-#[derive(Clone, Copy, Debug)]
+#[derive(Clone, Copy)]
 pub(crate) enum Spot {
     /// Between arguments.
     Between,
@@ -25,7 +25,7 @@ pub(crate) enum Spot {
 }
 
 /// What a byte does.
-#[derive(Clone, Copy, Debug)]
+#[derive(Clone, Copy)]
 pub(crate) enum Step {
     /// It is no part of an argument.
     Skip(Spot),

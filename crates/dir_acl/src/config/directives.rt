@@ -16,7 +16,7 @@ use dir_names::{Bytes, DnKey, Schema};
 use std::alloc::Global;
 
 /// What the lines so far say.
-#[derive(Debug, Drop)]
+#[derive(Drop)]
 pub(crate) struct Settings {
     /// There was a `database` other than those of `config` and `monitor`.
     pub(crate) has_database: bool,

@@ -14,7 +14,7 @@ use dir_names::Schema;
 use std::alloc::Global;
 
 /// The forms of which each may be in a `<what>` once.
-#[derive(Clone, Copy, Debug)]
+#[derive(Clone, Copy)]
 pub(crate) enum Form {
     Dn,
     Filter,

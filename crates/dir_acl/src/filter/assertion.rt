@@ -19,7 +19,7 @@ use dir_names::{
 use std::alloc::Global;
 
 /// How a test compares.
-#[derive(Clone, Copy, PartialEq, Eq, Debug)]
+#[derive(Clone, Copy)]
 pub(crate) enum Operator {
     Equal,
     Approximate,

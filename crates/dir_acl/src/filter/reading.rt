@@ -18,7 +18,7 @@ use std::alloc::Global;
 pub(crate) const MAX_DEPTH: usize = 64;
 
 /// A filter that is still open, with the filters in it that are complete.
-#[derive(Debug, Drop)]
+#[derive(Drop)]
 pub(crate) enum Open {
     And(Vec<Filter>),
     Or(Vec<Filter>),
@@ -26,7 +26,7 @@ pub(crate) enum Open {
 }
 
 /// Where the reader is.
-#[derive(Debug, Drop)]
+#[derive(Drop)]
 pub(crate) enum Place {
     BeforeFilter,
     AfterParenthesis,
@@ -40,7 +40,7 @@ pub(crate) enum Place {
     AtEnd(Filter),
 }
 
-#[derive(Debug, Drop)]
+#[derive(Drop)]
 pub(crate) struct State {
     /// The filters that are open, the innermost last.
     stack: Vec<Open>,

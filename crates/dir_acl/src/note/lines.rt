@@ -16,7 +16,7 @@ use dir_names::{Bytes, Schema};
 use std::alloc::Global;
 
 /// The notes on the lines so far.
-#[derive(Debug, Drop)]
+#[derive(Drop)]
 pub(crate) struct Noting {
     notes: Vec<Note>,
     /// In the part of `database config` or `database monitor`, which is passed over.
