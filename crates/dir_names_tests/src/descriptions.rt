@@ -113,3 +113,26 @@ fn rule_of(rt: &impl Abort, alloc: Global, attr_type: &str) -> (Rule, bool) {
     let key = attr_key(rt, alloc, attr_type);
     (schema.rule(&key), schema.single(&key))
 }
+
+/// Descriptions, and whether their type is known.
+const KNOWN: [(&str, bool); 8] = [
+    ("cn", true),
+    ("USERID", true),
+    ("2.5.4.31", true),
+    ("userPassword", true),
+    ("mail;lang-en", true),
+    ("gn", false),
+    ("name", false),
+    ("x-unknown;binary", false),
+];
+
+#[test]
+fn types_outside_the_table_are_not_known(rt: HostRuntime) {
+    for (text, want) in &KNOWN {
+        check(&rt, is_known(&rt, rt.alloc(), text) == *want, text);
+    }
+}
+
+fn is_known(rt: &impl Abort, alloc: Global, text: &str) -> bool {
+    schema(rt, alloc).knows(&attr_key(rt, alloc, text))
+}
