@@ -1,6 +1,6 @@
 //! Entries of a directory that are alike: each keeps what is its own.
 
-use crate::make::{Texts, description, fill, key_of, made, put, tree, value};
+use crate::make::{Texts, description, fill, key_of, made, put, value};
 use dir_names::DnKey;
 use dir_tree::{Directory, Entry, KeptAttributes, Parts, TreeDirectory};
 use std::alloc::Global;
@@ -63,17 +63,6 @@ const ENTRIES: [(&str, Texts); 12] = [
     ),
 ];
 
-/// A directory of these entries.
-fn directory(rt: &impl Abort, alloc: Global) -> TreeDirectory {
-    let mut directory = tree(rt, alloc, "dc=com");
-    fill(rt, alloc, &mut directory, &["dc=com"]);
-    for (own, lines) in &ENTRIES {
-        let entry = made(rt, alloc, own, lines);
-        put(rt, alloc, &mut directory, &below(rt, alloc, own), entry);
-    }
-    directory
-}
-
 /// The key of the entry of this RDN.
 fn below(rt: &impl Abort, alloc: Global, own: &str) -> DnKey {
     let name = format!(in alloc; "{own},dc=com").expect(rt, "memory");
@@ -83,32 +72,20 @@ fn below(rt: &impl Abort, alloc: Global, own: &str) -> DnKey {
 /// Asserts that an entry has these lines, as they are spelled.
 pub(crate) fn assert_lines(rt: &impl Abort, alloc: Global, entry: &Entry, lines: Texts) {
     for (attr_type, text) in lines {
-        assert_line(rt, alloc, entry, attr_type, text);
+        let description = description(rt, alloc, attr_type);
+        let attribute = entry.attribute(description.key());
+        let attribute = attribute.expect(rt, "no such attribute");
+        assert!(rt; attribute.description().spelling() == attr_type.as_bytes());
+        let stored = attribute.get(&value(rt, alloc, attr_type, text));
+        assert!(rt; stored == Some(text.as_bytes()), "{text}");
     }
-}
-
-fn assert_line(rt: &impl Abort, alloc: Global, entry: &Entry, attr_type: &str, text: &str) {
-    let description = description(rt, alloc, attr_type);
-    let attribute = entry.attribute(description.key());
-    let attribute = attribute.expect(rt, "no such attribute");
-    assert!(rt; attribute.description().spelling() == attr_type.as_bytes());
-    let stored = attribute.get(&value(rt, alloc, attr_type, text));
-    assert!(rt; stored == Some(text.as_bytes()), "{attr_type}: {text}");
 }
 
 fn assert_all(rt: &impl Abort, alloc: Global, directory: &TreeDirectory) {
     for (own, lines) in &ENTRIES {
-        let entry = directory
-            .get(&below(rt, alloc, own))
-            .expect(rt, "no such entry");
-        assert_lines(rt, alloc, entry, lines);
+        let entry = directory.get(&below(rt, alloc, own));
+        assert_lines(rt, alloc, entry.expect(rt, "no such entry"), lines);
     }
-}
-
-#[test]
-fn entries_that_are_alike_keep_their_own_values(rt: HostRuntime) {
-    let directory = directory(&rt, rt.alloc());
-    assert_all(&rt, rt.alloc(), &directory);
 }
 
 /// The entry with its attributes opened.
@@ -128,20 +105,43 @@ pub(crate) fn opened(rt: &impl Abort, alloc: Global, entry: Entry) -> Entry {
     })
 }
 
-/// Puts an entry in the place of the one at a key.
-fn put_back(rt: &impl Abort, directory: &mut TreeDirectory, key: &DnKey, entry: Entry) {
-    assert!(rt; directory.get(key).is_some());
-    let _ = directory.replace(key, entry);
+/// Puts in an entry of these lines.
+fn put_lines(
+    rt: &impl Abort,
+    alloc: Global,
+    directory: &mut TreeDirectory,
+    own: &str,
+    lines: Texts,
+) {
+    let entry = made(rt, alloc, own, lines);
+    put(rt, alloc, directory, &below(rt, alloc, own), entry);
 }
 
+/// Puts an entry of these lines, with its attributes opened, in the place of the one that is there.
+fn put_back(
+    rt: &impl Abort,
+    alloc: Global,
+    directory: &mut TreeDirectory,
+    own: &str,
+    lines: Texts,
+) {
+    let key = below(rt, alloc, own);
+    assert!(rt; directory.get(&key).is_some());
+    let _ = directory.replace(&key, opened(rt, alloc, made(rt, alloc, own, lines)));
+}
+
+/// As they are put in, and as they are put back with their attributes opened.
 #[test]
-fn an_entry_that_is_put_back_has_its_values(rt: HostRuntime) {
+fn entries_that_are_alike_keep_their_own_values(rt: HostRuntime) {
     let alloc = rt.alloc();
-    let mut directory = directory(&rt, alloc);
+    let mut directory = TreeDirectory::new(alloc, key_of(&rt, alloc, "dc=com"));
+    fill(&rt, alloc, &mut directory, &["dc=com"]);
     for (own, lines) in &ENTRIES {
-        let key = below(&rt, alloc, own);
-        let entry = opened(&rt, alloc, made(&rt, alloc, own, lines));
-        put_back(&rt, &mut directory, &key, entry);
+        put_lines(&rt, alloc, &mut directory, own, lines);
+    }
+    assert_all(&rt, alloc, &directory);
+    for (own, lines) in &ENTRIES {
+        put_back(&rt, alloc, &mut directory, own, lines);
     }
     assert_all(&rt, alloc, &directory);
 }

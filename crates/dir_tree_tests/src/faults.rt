@@ -1,8 +1,6 @@
 //! The texts of the faults.
 
 use dir_tree::EntryFault;
-use std::alloc::{AllocError, Global};
-use std::process::Abort;
 
 const TEXTS: [(EntryFault, &str); 5] = [
     (EntryFault::BadValue, "E1 BadValue"),
@@ -12,20 +10,13 @@ const TEXTS: [(EntryFault, &str); 5] = [
     (EntryFault::Memory, "E5 Memory"),
 ];
 
+/// Each fault shows its text, and no other under `#`.
 #[test]
 fn each_fault_shows_its_text(rt: HostRuntime) {
     for (fault, want) in &TEXTS {
-        assert_shows(&rt, rt.alloc(), *fault, want);
+        let plain = format!(in rt.alloc(); "{fault}").expect(&rt, "memory");
+        assert!(rt; plain.as_str() == *want, "{plain}");
+        let styled = format!(in rt.alloc(); "{fault:#}").expect(&rt, "memory");
+        assert!(rt; styled.as_str() == *want, "{styled}");
     }
-}
-
-/// Asserts that a fault shows this text, and no other under `#`.
-fn assert_shows(rt: &impl Abort, alloc: Global, fault: EntryFault, want: &str) {
-    assert_text(rt, format!(in alloc; "{fault}"), want);
-    assert_text(rt, format!(in alloc; "{fault:#}"), want);
-}
-
-fn assert_text(rt: &impl Abort, text: Result<String, AllocError>, want: &str) {
-    let text = text.expect(rt, "memory");
-    assert!(rt; text.as_str() == want, "{text}");
 }

@@ -1,6 +1,6 @@
-//! Names and own names of 64 RDNs, over both directories.
+//! Names and own names of 64 RDNs.
 
-use crate::make::{add, assert_printed, assert_spelled, bare, flat, key_of, name, put, tree};
+use crate::make::{assert_printed, assert_spelled, bare, fill, key_of, put};
 use dir_tree::Directory;
 use std::alloc::Global;
 use std::process::Abort;
@@ -19,53 +19,40 @@ fn with_63_rdns(rt: &impl Abort, alloc: Global, name: &str) -> String {
     name
 }
 
-/// Adds `dc=com` and 63 entries, each below the last.
-fn add_64_levels<D: Directory>(rt: &impl Abort, alloc: Global, directory: &mut D) {
-    add(rt, alloc, directory, "dc=com");
+/// Adds 63 entries to that of `dc=com`, each below the last, and asserts that the name of the last is spelled whole.
+pub(crate) fn assert_64_levels<D: Directory>(rt: &impl Abort, alloc: Global, directory: &mut D) {
     let mut name = below(rt, alloc, "dc=com", 2);
     for level in 3..66 {
-        add(rt, alloc, directory, name.as_str());
+        fill(rt, alloc, directory, &[name.as_str()]);
         name = below(rt, alloc, name.as_str(), level);
     }
+    let last = with_63_rdns(rt, alloc, "dc=com");
+    assert_last_spelled(rt, alloc, directory, last.as_str());
 }
 
-/// Asserts that a walk ends at the entry of this name.
-fn assert_last_walked<D: Directory>(rt: &impl Abort, alloc: Global, directory: &D, name: &str) {
+/// Puts in an entry with an own name that no well-formed directory has, 64 RDNs below a suffix of one, and asserts that its
+/// leaf is spelled.
+pub(crate) fn assert_long_own_name<D: Directory>(
+    rt: &impl Abort,
+    alloc: Global,
+    directory: &mut D,
+) {
+    let long = with_63_rdns(rt, alloc, "cn=1");
+    let entry = bare(rt, alloc, long.as_str(), true);
+    put(
+        rt,
+        alloc,
+        directory,
+        &key_of(rt, alloc, "cn=64,dc=com"),
+        entry,
+    );
+    assert_last_spelled(rt, alloc, directory, "cn=64,dc=com");
+}
+
+/// Asserts that the entry of this name is spelled so, and that a walk ends at it.
+fn assert_last_spelled<D: Directory>(rt: &impl Abort, alloc: Global, directory: &D, name: &str) {
+    assert_spelled(rt, alloc, directory, name, name);
     let walk = directory.walk().expect(rt, "memory");
     let last = walk.last().expect(rt, "nothing is walked");
     assert_printed(rt, alloc, &last.0, name);
-}
-
-#[test]
-fn a_name_of_64_rdns_is_spelled_whole(rt: HostRuntime) {
-    assert_spells_64_rdns(&rt, rt.alloc(), flat(&rt, rt.alloc(), "dc=com"));
-    assert_spells_64_rdns(&rt, rt.alloc(), tree(&rt, rt.alloc(), "dc=com"));
-}
-
-fn assert_spells_64_rdns<D: Directory + Drop>(rt: &impl Abort, alloc: Global, mut directory: D) {
-    add_64_levels(rt, alloc, &mut directory);
-    let name = with_63_rdns(rt, alloc, "dc=com");
-    assert_spelled(rt, alloc, &directory, name.as_str(), name.as_str());
-    assert_last_walked(rt, alloc, &directory, name.as_str());
-}
-
-#[test]
-fn of_an_own_name_below_the_suffix_one_rdn_is_spelled(rt: HostRuntime) {
-    assert_spells_the_leaf(&rt, rt.alloc(), flat(&rt, rt.alloc(), "dc=com"));
-    assert_spells_the_leaf(&rt, rt.alloc(), tree(&rt, rt.alloc(), "dc=com"));
-}
-
-fn assert_spells_the_leaf<D: Directory + Drop>(rt: &impl Abort, alloc: Global, mut directory: D) {
-    add(rt, alloc, &mut directory, "dc=com");
-    put_long_own_name(rt, alloc, &mut directory, "cn=64,dc=com");
-    assert_spelled(rt, alloc, &directory, "cn=64,dc=com", "cn=64,dc=com");
-    assert_last_walked(rt, alloc, &directory, "cn=64,dc=com");
-}
-
-/// Puts an entry with an own name that no well-formed directory has: 64 RDNs below a suffix of one, of which the leaf
-/// counts.
-fn put_long_own_name<D: Directory>(rt: &impl Abort, alloc: Global, directory: &mut D, at: &str) {
-    let long = with_63_rdns(rt, alloc, "cn=1");
-    let entry = bare(rt, alloc, name(rt, alloc, long.as_str()), true);
-    put(rt, alloc, directory, &key_of(rt, alloc, at), entry);
 }

@@ -11,8 +11,6 @@ mod entries;
 #[cfg(test)]
 mod exchanged_parts;
 #[cfg(test)]
-mod exchanges;
-#[cfg(test)]
 mod faults;
 #[cfg(test)]
 mod in_place;

@@ -16,6 +16,10 @@ const LOOKED_UP: usize = 3001;
 
 const REMOVED: usize = 2743;
 
+/// Orders in which all values are put in: by how much each number is above the last, and the first of them. In no order,
+/// upwards and downwards.
+const ORDERS: [(usize, usize); 3] = [(PUT, 0), (1, 0), (COUNT - 1, COUNT - 1)];
+
 /// The text of the value with a number. Its bytes come in the order of the numbers.
 fn text(rt: &impl Abort, alloc: Global, number: usize) -> Bytes {
     let text = format!(in alloc; "{number:05}").expect(rt, "memory");
@@ -35,12 +39,18 @@ fn put(
     values.insert(alloc, key(rt, alloc, number), text(rt, alloc, number))
 }
 
-/// The values of all numbers, put in in no order.
-fn long_map(rt: &impl Abort, alloc: Global) -> ValueMap {
-    let mut values = ValueMap::empty(alloc);
+/// Puts in the values of all numbers.
+fn put_all(rt: &impl Abort, alloc: Global, values: &mut ValueMap, step: usize, first: usize) {
     for i in 0..COUNT {
-        put(rt, alloc, &mut values, i * PUT % COUNT).expect(rt, "a value");
+        let number = i.wrapping_mul(step).wrapping_add(first) % COUNT;
+        put(rt, alloc, values, number).expect(rt, "a value");
     }
+}
+
+/// The values of all numbers, put in in no order.
+fn long_list(rt: &impl Abort, alloc: Global) -> ValueMap {
+    let mut values = ValueMap::empty(alloc);
+    put_all(rt, alloc, &mut values, PUT, 0);
     values
 }
 
@@ -74,110 +84,73 @@ fn assert_left(rt: &impl Abort, alloc: Global, values: &ValueMap, removed: usize
 }
 
 #[test]
-fn values_in_no_order_are_listed_in_order(rt: HostRuntime) {
-    let values = long_map(&rt, rt.alloc());
-    assert_all(&rt, rt.alloc(), &values);
-}
-
-#[test]
-fn values_in_order_are_listed_in_order(rt: HostRuntime) {
-    let mut values = ValueMap::empty(rt.alloc());
-    for number in 0..COUNT {
-        put(&rt, rt.alloc(), &mut values, number).expect(&rt, "a value");
+fn values_are_listed_in_order_however_they_are_put_in(rt: HostRuntime) {
+    for (step, first) in &ORDERS {
+        let mut values = ValueMap::empty(rt.alloc());
+        put_all(&rt, rt.alloc(), &mut values, *step, *first);
+        assert_all(&rt, rt.alloc(), &values);
     }
-    assert_all(&rt, rt.alloc(), &values);
 }
 
 #[test]
-fn values_in_reverse_are_listed_in_order(rt: HostRuntime) {
-    let mut values = ValueMap::empty(rt.alloc());
-    for number in (0..COUNT).rev() {
-        put(&rt, rt.alloc(), &mut values, number).expect(&rt, "a value");
-    }
-    assert_all(&rt, rt.alloc(), &values);
-}
-
-#[test]
-fn a_value_of_a_long_list_is_put_in_once(rt: HostRuntime) {
-    let mut values = long_map(&rt, rt.alloc());
-    for i in 0..COUNT {
-        let again = put(&rt, rt.alloc(), &mut values, i * LOOKED_UP % COUNT);
-        assert!(rt; again == Err(EntryFault::Twice));
-    }
-    assert!(rt; values.len() == COUNT);
-}
-
-#[test]
-fn values_of_a_long_list_are_found(rt: HostRuntime) {
-    let values = long_map(&rt, rt.alloc());
+fn values_of_a_long_list_are_found_and_put_in_once(rt: HostRuntime) {
+    let mut values = long_list(&rt, rt.alloc());
     for i in 0..COUNT {
         let number = i * LOOKED_UP % COUNT;
         let found = values.get(&key(&rt, rt.alloc(), number));
         let found = found.expect(&rt, "no such value");
         assert!(rt; found.as_slice() == text(&rt, rt.alloc(), number).as_slice());
+        let again = put(&rt, rt.alloc(), &mut values, number);
+        assert!(rt; again == Err(EntryFault::Twice));
     }
     assert!(rt; values.get(&key(&rt, rt.alloc(), COUNT)).is_none());
-}
-
-#[test]
-fn values_of_a_long_list_are_found_by_their_texts(rt: HostRuntime) {
-    let description = description(&rt, rt.alloc(), "sn");
-    let attr = description.key().try_clone(rt.alloc());
-    let attr = attr.expect(&rt, "memory");
-    let mut attributes = AttributeMap::empty(rt.alloc());
-    let attribute = Attribute::of(description, long_map(&rt, rt.alloc()));
-    attributes.put(attribute).expect(&rt, "memory");
-    for i in 0..COUNT {
-        let number = i * LOOKED_UP % COUNT;
-        assert!(rt; attributes.has_text(&attr, text(&rt, rt.alloc(), number).as_slice()));
-    }
-    assert!(rt; !attributes.has_text(&attr, text(&rt, rt.alloc(), COUNT).as_slice()));
-}
-
-/// Gives each value other bytes, and asserts that it has them.
-fn change_all(rt: &impl Abort, alloc: Global, values: &mut ValueMap) {
-    for i in 0..COUNT {
-        let key = key(rt, alloc, i * LOOKED_UP % COUNT);
-        values.set(&key, bytes(rt, alloc, "new"));
-        let found = values.get(&key).expect(rt, "no such value");
-        assert!(rt; found.as_slice() == b"new".as_slice());
-    }
-}
-
-#[test]
-fn values_of_a_long_list_get_other_bytes(rt: HostRuntime) {
-    let mut values = long_map(&rt, rt.alloc());
-    values.set(&key(&rt, rt.alloc(), COUNT), bytes(&rt, rt.alloc(), "new"));
-    assert_all(&rt, rt.alloc(), &values);
-    change_all(&rt, rt.alloc(), &mut values);
     assert!(rt; values.len() == COUNT);
 }
 
 #[test]
+fn values_of_a_long_list_are_found_by_their_texts(rt: HostRuntime) {
+    let described = description(&rt, rt.alloc(), "sn");
+    let mut attributes = AttributeMap::empty(rt.alloc());
+    let attribute = Attribute::of(
+        description(&rt, rt.alloc(), "sn"),
+        long_list(&rt, rt.alloc()),
+    );
+    attributes.put(attribute).expect(&rt, "memory");
+    for i in 0..COUNT {
+        let sought = text(&rt, rt.alloc(), i * LOOKED_UP % COUNT);
+        assert!(rt; attributes.has_text(described.key(), sought.as_slice()));
+    }
+    let none = text(&rt, rt.alloc(), COUNT);
+    assert!(rt; !attributes.has_text(described.key(), none.as_slice()));
+}
+
+#[test]
+fn values_of_a_long_list_get_other_bytes(rt: HostRuntime) {
+    let mut values = long_list(&rt, rt.alloc());
+    values.set(&key(&rt, rt.alloc(), COUNT), bytes(&rt, rt.alloc(), "new"));
+    assert_all(&rt, rt.alloc(), &values);
+    for i in 0..COUNT {
+        let key = key(&rt, rt.alloc(), i * LOOKED_UP % COUNT);
+        values.set(&key, bytes(&rt, rt.alloc(), "new"));
+        let found = values.get(&key).expect(&rt, "no such value");
+        assert!(rt; found.as_slice() == b"new".as_slice());
+    }
+    assert!(rt; values.len() == COUNT);
+}
+
+/// The list takes other values then, and a copy keeps its own.
+#[test]
 fn values_of_a_long_list_are_removed(rt: HostRuntime) {
-    let mut values = long_map(&rt, rt.alloc());
-    remove(&rt, rt.alloc(), &mut values, 0, 4000);
-    assert_left(&rt, rt.alloc(), &values, 4000);
+    let alloc = rt.alloc();
+    let mut values = long_list(&rt, alloc);
+    let copy = values.try_clone(alloc).expect(&rt, "memory");
+    remove(&rt, alloc, &mut values, 0, 4000);
+    assert_left(&rt, alloc, &values, 4000);
     assert!(rt; values.len() == 1000);
-    remove(&rt, rt.alloc(), &mut values, 4000, COUNT);
+    remove(&rt, alloc, &mut values, 4000, COUNT);
     assert!(rt; values.is_empty());
     assert!(rt; values.iter().next().is_none());
-}
-
-#[test]
-fn a_long_list_that_lost_its_values_takes_others(rt: HostRuntime) {
-    let mut values = long_map(&rt, rt.alloc());
-    remove(&rt, rt.alloc(), &mut values, 0, COUNT);
-    for i in 0..COUNT {
-        put(&rt, rt.alloc(), &mut values, i * LOOKED_UP % COUNT).expect(&rt, "a value");
-    }
-    assert_all(&rt, rt.alloc(), &values);
-}
-
-#[test]
-fn a_long_list_is_copied(rt: HostRuntime) {
-    let mut values = long_map(&rt, rt.alloc());
-    let copy = values.try_clone(rt.alloc()).expect(&rt, "memory");
-    remove(&rt, rt.alloc(), &mut values, 0, COUNT);
-    assert_all(&rt, rt.alloc(), &copy);
+    assert_all(&rt, alloc, &copy);
+    put_all(&rt, alloc, &mut values, LOOKED_UP, 0);
+    assert_all(&rt, alloc, &values);
 }

@@ -1,7 +1,7 @@
 //! What the tests are made of: names, keys, lines, entries and directories.
 
 use dir_names::{Bytes, Description, Dn, DnKey, Lines, Schema, ValueKey};
-use dir_tree::{Directory, Entry, EntryFault, FlatDirectory, TreeDirectory, may_stand, own_rdns};
+use dir_tree::{Directory, Entry, EntryFault, may_stand, own_rdns};
 use std::alloc::Global;
 use std::process::Abort;
 
@@ -13,12 +13,10 @@ pub(crate) fn name(rt: &impl Abort, alloc: Global, text: &str) -> Dn {
     Dn::read(alloc, text.as_bytes()).expect(rt, "a name")
 }
 
-pub(crate) fn key(rt: &impl Abort, alloc: Global, name: &Dn) -> DnKey {
-    name.key(alloc, &schema(rt, alloc)).expect(rt, "a key")
-}
-
 pub(crate) fn key_of(rt: &impl Abort, alloc: Global, text: &str) -> DnKey {
-    key(rt, alloc, &name(rt, alloc, text))
+    name(rt, alloc, text)
+        .key(alloc, &schema(rt, alloc))
+        .expect(rt, "a key")
 }
 
 pub(crate) fn description(rt: &impl Abort, alloc: Global, text: &str) -> Description {
@@ -59,35 +57,17 @@ pub(crate) fn made(rt: &impl Abort, alloc: Global, text: &str, lines: Texts) -> 
 pub(crate) fn lines_of(rt: &impl Abort, alloc: Global, lines: Texts) -> Lines {
     let mut items = Vec::new(alloc);
     for (attr_type, text) in lines {
-        items
-            .push(line(rt, alloc, attr_type, text))
-            .expect(rt, "memory");
+        let line = (description(rt, alloc, attr_type), bytes(rt, alloc, text));
+        items.push(line).expect(rt, "memory");
     }
     Lines::new(items)
 }
 
-pub(crate) fn line(
-    rt: &impl Abort,
-    alloc: Global,
-    attr_type: &str,
-    text: &str,
-) -> (Description, Bytes) {
-    (description(rt, alloc, attr_type), bytes(rt, alloc, text))
-}
-
-/// The entry with this own name and no values but those of its RDN.
-pub(crate) fn bare(rt: &impl Abort, alloc: Global, name: Dn, is_suffix: bool) -> Entry {
-    let own = own_rdns(name, is_suffix);
+/// The entry of this name with no values but those of its RDN.
+pub(crate) fn bare(rt: &impl Abort, alloc: Global, text: &str, is_suffix: bool) -> Entry {
+    let own = own_rdns(name(rt, alloc, text), is_suffix);
     let none = Lines::new(Vec::new(alloc));
     Entry::make(alloc, &schema(rt, alloc), own, none).expect(rt, "an entry")
-}
-
-pub(crate) fn flat(rt: &impl Abort, alloc: Global, suffix: &str) -> FlatDirectory {
-    FlatDirectory::new(alloc, key_of(rt, alloc, suffix))
-}
-
-pub(crate) fn tree(rt: &impl Abort, alloc: Global, suffix: &str) -> TreeDirectory {
-    TreeDirectory::new(alloc, key_of(rt, alloc, suffix))
 }
 
 /// Puts an entry at a key that may take it. Where memory runs out, the key must have no entry.
@@ -110,15 +90,7 @@ pub(crate) fn put<D: Directory>(
     }
 }
 
-/// Adds an entry of this name, with no values but those of its RDN.
-pub(crate) fn add<D: Directory>(rt: &impl Abort, alloc: Global, directory: &mut D, text: &str) {
-    let name = name(rt, alloc, text);
-    let key = key(rt, alloc, &name);
-    let entry = bare(rt, alloc, name, &key == directory.suffix());
-    put(rt, alloc, directory, &key, entry);
-}
-
-/// Adds entries of these names, in this order.
+/// Adds entries of these names, in this order, with no values but those of their RDNs.
 pub(crate) fn fill<D: Directory>(
     rt: &impl Abort,
     alloc: Global,
@@ -126,7 +98,9 @@ pub(crate) fn fill<D: Directory>(
     names: &[&str],
 ) {
     for name in names {
-        add(rt, alloc, directory, name);
+        let key = key_of(rt, alloc, name);
+        let entry = bare(rt, alloc, name, &key == directory.suffix());
+        put(rt, alloc, directory, &key, entry);
     }
 }
 
@@ -143,16 +117,12 @@ pub(crate) fn assert_spelled<D: Directory>(
     text: &str,
     want: &str,
 ) {
-    let name = spelled(rt, directory, &key_of(rt, alloc, text));
-    assert_printed(rt, alloc, &name, want);
-}
-
-/// The name of the entry at a key, as spelled.
-fn spelled<D: Directory>(rt: &impl Abort, directory: &D, key: &DnKey) -> Dn {
-    let Some(_) = directory.get(key) else {
+    let key = key_of(rt, alloc, text);
+    let Some(_) = directory.get(&key) else {
         panic!(rt; "not there");
     };
-    directory.spelled(key).expect(rt, "memory")
+    let name = directory.spelled(&key).expect(rt, "memory");
+    assert_printed(rt, alloc, &name, want);
 }
 
 /// Asserts that a walk meets entries of these names, in this order.

@@ -2,15 +2,23 @@
 
 use crate::alike::assert_lines;
 use crate::make::{Texts, lines_of, name, schema};
-use dir_tree::{Entry, EntryFault, EntryMaker};
+use dir_tree::{EntryFault, EntryMaker};
 use std::alloc::Global;
 use std::process::Abort;
 
-/// Entries whose lines are arranged alike, or in another order, and the values of their own RDNs.
-const ENTRIES: [(&str, &str, Texts); 8] = [
+/// A name, the line of its RDN, the lines of an entry, and what it is refused for.
+type Row = (
+    &'static str,
+    Texts<'static>,
+    Texts<'static>,
+    Option<EntryFault>,
+);
+
+/// Entries whose lines are arranged alike, or in another order.
+const ARRANGED: [Row; 8] = [
     (
         "cn=a",
-        "a",
+        &[("cn", "a")],
         &[
             ("objectClass", "top"),
             ("objectClass", "person"),
@@ -19,10 +27,11 @@ const ENTRIES: [(&str, &str, Texts); 8] = [
             ("cn", "Anna A"),
             ("seeAlso", "cn=x"),
         ],
+        None,
     ),
     (
         "cn=b",
-        "b",
+        &[("cn", "b")],
         &[
             ("objectClass", "top"),
             ("objectClass", "person"),
@@ -31,10 +40,11 @@ const ENTRIES: [(&str, &str, Texts); 8] = [
             ("cn", "Bernd B"),
             ("seeAlso", "cn=y"),
         ],
+        None,
     ),
     (
         "cn=c",
-        "c",
+        &[("cn", "c")],
         &[
             ("objectClass", "person"),
             ("objectClass", "top"),
@@ -43,10 +53,11 @@ const ENTRIES: [(&str, &str, Texts); 8] = [
             ("cn", "c"),
             ("seeAlso", "CN=Y"),
         ],
+        None,
     ),
     (
         "cn=d",
-        "d",
+        &[("cn", "d")],
         &[
             ("sn", "D"),
             ("objectClass", "top"),
@@ -55,10 +66,11 @@ const ENTRIES: [(&str, &str, Texts); 8] = [
             ("cn", "Dieter D"),
             ("seeAlso", "cn=y"),
         ],
+        None,
     ),
     (
         "cn=e",
-        "e",
+        &[("cn", "e")],
         &[
             ("objectClass", "top"),
             ("objectClass", "person"),
@@ -67,10 +79,11 @@ const ENTRIES: [(&str, &str, Texts); 8] = [
             ("cn", "Elena E"),
             ("seeAlso", "cn=y"),
         ],
+        None,
     ),
     (
         "cn=f",
-        "f",
+        &[("cn", "f")],
         &[
             ("objectClass", "top"),
             ("objectClass", "person"),
@@ -79,11 +92,12 @@ const ENTRIES: [(&str, &str, Texts); 8] = [
             ("cn", "Frank F"),
             ("seeAlso", "cn=y"),
         ],
+        None,
     ),
-    ("cn=g", "g", &[("sn", "G")]),
+    ("cn=g", &[("cn", "g")], &[("sn", "G")], None),
     (
         "cn=h",
-        "h",
+        &[("cn", "h")],
         &[
             ("objectClass", "top"),
             ("objectClass", "person"),
@@ -92,75 +106,74 @@ const ENTRIES: [(&str, &str, Texts); 8] = [
             ("cn", "Hannes H"),
             ("seeAlso", "cn=x"),
         ],
+        None,
     ),
 ];
 
-/// What an add of these lines at this name makes, by a maker.
-fn make(
-    rt: &impl Abort,
-    alloc: Global,
-    maker: &mut EntryMaker,
-    own: &str,
-    lines: Texts,
-) -> Result<Entry, EntryFault> {
-    let spelled = name(rt, alloc, own).into_rdns();
-    maker.make(
-        alloc,
-        &schema(rt, alloc),
-        spelled,
-        lines_of(rt, alloc, lines),
-    )
-}
+/// An entry that is arranged as another is refused for its own faults.
+const FAULTY: [Row; 4] = [
+    ("cn=a", &[("cn", "a")], SOUND, None),
+    (
+        "cn=a",
+        &[("cn", "a")],
+        &[("cn", "a"), ("sn", "A"), ("sn", "a"), ("title", "t")],
+        Some(EntryFault::Twice),
+    ),
+    (
+        "cn=a",
+        &[("cn", "a")],
+        &[("cn", "a"), ("sn", "A"), ("sn", "B"), ("title", "")],
+        Some(EntryFault::BadValue),
+    ),
+    ("cn=a", &[("cn", "a")], SOUND, None),
+];
 
-fn assert_made(rt: &impl Abort, alloc: Global, maker: &mut EntryMaker, own: &str, lines: Texts) {
-    let entry = make(rt, alloc, maker, own, lines).expect(rt, "an entry");
-    assert_lines(rt, alloc, &entry, lines);
-}
+const SOUND: Texts = &[("cn", "a"), ("sn", "A"), ("sn", "B"), ("title", "t")];
+
+/// Names that were values before are refused for their own faults.
+const NAMES: [Row; 4] = [
+    ("cn=a", &[("cn", "a")], WITH_NAMES, None),
+    (
+        "cn=a",
+        &[("cn", "a")],
+        &[("cn", "a"), ("seeAlso", "cn=y"), ("seeAlso", "cn=y")],
+        Some(EntryFault::Twice),
+    ),
+    (
+        "cn=a",
+        &[("cn", "a")],
+        &[("cn", "a"), ("seeAlso", "cn=x"), ("seeAlso", "cn:y")],
+        Some(EntryFault::BadValue),
+    ),
+    ("cn=a", &[("cn", "a")], WITH_NAMES, None),
+];
+
+const WITH_NAMES: Texts = &[("cn", "a"), ("seeAlso", "cn=x"), ("seeAlso", "cn=y")];
 
 #[test]
 fn entries_that_are_arranged_alike_have_their_own_lines(rt: HostRuntime) {
-    let alloc = rt.alloc();
+    assert_rows(&rt, rt.alloc(), &ARRANGED);
+}
+
+#[test]
+fn entries_of_one_maker_are_refused_for_their_own_faults(rt: HostRuntime) {
+    assert_rows(&rt, rt.alloc(), &FAULTY);
+    assert_rows(&rt, rt.alloc(), &NAMES);
+}
+
+/// Asserts what one maker makes of the rows.
+fn assert_rows(rt: &impl Abort, alloc: Global, rows: &[Row]) {
     let mut maker = EntryMaker::new(alloc);
-    for (own, value, lines) in &ENTRIES {
-        let entry = make(&rt, alloc, &mut maker, own, lines).expect(&rt, "an entry");
-        assert_lines(&rt, alloc, &entry, lines);
-        assert_lines(&rt, alloc, &entry, &[("cn", value)]);
+    for (own, named, lines, want) in rows {
+        let spelled = name(rt, alloc, own).into_rdns();
+        let lines_given = lines_of(rt, alloc, lines);
+        match maker.make(alloc, &schema(rt, alloc), spelled, lines_given) {
+            Ok(entry) => {
+                assert!(rt; want.is_none());
+                assert_lines(rt, alloc, &entry, lines);
+                assert_lines(rt, alloc, &entry, named);
+            }
+            Err(fault) => assert!(rt; Some(fault) == *want, "{own}"),
+        }
     }
-}
-
-fn assert_refused(
-    rt: &impl Abort,
-    alloc: Global,
-    maker: &mut EntryMaker,
-    lines: Texts,
-    fault: EntryFault,
-) {
-    let refused = make(rt, alloc, maker, "cn=a", lines);
-    assert!(rt; refused.err() == Some(fault));
-}
-
-#[test]
-fn an_entry_that_is_arranged_as_another_is_refused_for_its_own_faults(rt: HostRuntime) {
-    let alloc = rt.alloc();
-    let mut maker = EntryMaker::new(alloc);
-    let sound: Texts = &[("cn", "a"), ("sn", "A"), ("sn", "B"), ("title", "t")];
-    assert_made(&rt, alloc, &mut maker, "cn=a", sound);
-    let twice: Texts = &[("cn", "a"), ("sn", "A"), ("sn", "a"), ("title", "t")];
-    assert_refused(&rt, alloc, &mut maker, twice, EntryFault::Twice);
-    let bad: Texts = &[("cn", "a"), ("sn", "A"), ("sn", "B"), ("title", "")];
-    assert_refused(&rt, alloc, &mut maker, bad, EntryFault::BadValue);
-    assert_made(&rt, alloc, &mut maker, "cn=a", sound);
-}
-
-#[test]
-fn names_that_were_values_before_are_refused_for_their_own_faults(rt: HostRuntime) {
-    let alloc = rt.alloc();
-    let mut maker = EntryMaker::new(alloc);
-    let sound: Texts = &[("cn", "a"), ("seeAlso", "cn=x"), ("seeAlso", "cn=y")];
-    assert_made(&rt, alloc, &mut maker, "cn=a", sound);
-    let twice: Texts = &[("cn", "a"), ("seeAlso", "cn=y"), ("seeAlso", "cn=y")];
-    assert_refused(&rt, alloc, &mut maker, twice, EntryFault::Twice);
-    let bad: Texts = &[("cn", "a"), ("seeAlso", "cn=x"), ("seeAlso", "cn:y")];
-    assert_refused(&rt, alloc, &mut maker, bad, EntryFault::BadValue);
-    assert_made(&rt, alloc, &mut maker, "cn=a", sound);
 }

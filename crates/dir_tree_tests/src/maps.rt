@@ -1,7 +1,7 @@
 //! The maps of values and of attributes.
 
 use crate::make::{bytes, description, made, value};
-use dir_names::{Bytes, ValueKey};
+use dir_names::ValueKey;
 use dir_tree::{AttributeMap, EntryFault, ValueMap};
 use std::alloc::Global;
 use std::process::Abort;
@@ -11,6 +11,7 @@ pub(crate) fn sn(rt: &impl Abort, alloc: Global, text: &str) -> ValueKey {
     value(rt, alloc, "sn", text)
 }
 
+/// Puts in a value of `sn`.
 pub(crate) fn insert(
     rt: &impl Abort,
     alloc: Global,
@@ -20,25 +21,7 @@ pub(crate) fn insert(
     values.insert(alloc, sn(rt, alloc, text), bytes(rt, alloc, text))
 }
 
-/// The values `b` and `A`, put in in this order.
-fn two_values(rt: &impl Abort, alloc: Global) -> ValueMap {
-    let mut values = ValueMap::empty(alloc);
-    insert(rt, alloc, &mut values, "b").expect(rt, "a value");
-    insert(rt, alloc, &mut values, "A").expect(rt, "a value");
-    values
-}
-
-/// The stored bytes of the value with this key.
-fn stored<'v>(
-    rt: &impl Abort,
-    alloc: Global,
-    values: &'v ValueMap,
-    text: &str,
-) -> Option<&'v Bytes> {
-    values.get(&sn(rt, alloc, text))
-}
-
-/// Asserts the stored bytes of the value with this key.
+/// Asserts the stored bytes of the value with the key of this text.
 pub(crate) fn assert_stored(
     rt: &impl Abort,
     alloc: Global,
@@ -46,25 +29,23 @@ pub(crate) fn assert_stored(
     text: &str,
     want: &str,
 ) {
-    let found = stored(rt, alloc, values, text).expect(rt, "no value");
+    let found = values.get(&sn(rt, alloc, text)).expect(rt, "no value");
     assert!(rt; found.as_slice() == want.as_bytes());
 }
 
 #[test]
-fn values_are_found_by_their_keys(rt: HostRuntime) {
-    let values = two_values(&rt, rt.alloc());
-    assert!(rt; values.contains_key(&sn(&rt, rt.alloc(), "B")));
-    assert_stored(&rt, rt.alloc(), &values, "a", "A");
-    assert!(rt; stored(&rt, rt.alloc(), &values, "c").is_none());
-}
-
-#[test]
-fn a_value_is_put_in_once(rt: HostRuntime) {
-    let mut values = two_values(&rt, rt.alloc());
-    let again = insert(&rt, rt.alloc(), &mut values, "a");
+fn values_are_found_by_their_keys_and_put_in_once(rt: HostRuntime) {
+    let alloc = rt.alloc();
+    let mut values = ValueMap::empty(alloc);
+    insert(&rt, alloc, &mut values, "b").expect(&rt, "a value");
+    insert(&rt, alloc, &mut values, "A").expect(&rt, "a value");
+    assert!(rt; values.contains_key(&sn(&rt, alloc, "B")));
+    assert_stored(&rt, alloc, &values, "a", "A");
+    assert!(rt; values.get(&sn(&rt, alloc, "c")).is_none());
+    let again = insert(&rt, alloc, &mut values, "a");
     assert!(rt; again == Err(EntryFault::Twice));
     assert!(rt; values.len() == 2);
-    let copy = values.try_clone(rt.alloc()).expect(&rt, "memory");
+    let copy = values.try_clone(alloc).expect(&rt, "memory");
     assert_all(&rt, &copy, &["A", "b"]);
 }
 
@@ -76,17 +57,6 @@ fn assert_all(rt: &impl Abort, values: &ValueMap, want: &[&str]) {
         assert!(rt; bytes.as_slice() == text.as_bytes());
     }
     assert!(rt; found.next().is_none());
-}
-
-/// The attributes of an entry that is added with the values `b` and `a` of `SN`, the first of which names it.
-fn two_of_sn(rt: &impl Abort, alloc: Global) -> AttributeMap {
-    let entry = made(rt, alloc, "sn=b", &[("SN", "b"), ("SN", "a")]);
-    entry.to_map(alloc).expect(rt, "memory")
-}
-
-fn has(rt: &impl Abort, alloc: Global, attributes: &AttributeMap, attr_type: &str) -> bool {
-    let description = description(rt, alloc, attr_type);
-    attributes.get(description.key()).is_some()
 }
 
 /// Whether there is this value of `sn`.
@@ -101,25 +71,20 @@ pub(crate) fn has_value(
     attribute.has(&sn(rt, alloc, text))
 }
 
-/// How the first attribute is spelled.
-fn first(attributes: &AttributeMap) -> Option<&[u8]> {
-    let (_, attribute) = attributes.iter().next()?;
-    Some(attribute.description().spelling())
-}
-
+/// The attributes of an entry that is added with the values `b` and `a` of `SN`, the first of which names it.
 #[test]
-fn attributes_are_found_by_their_keys(rt: HostRuntime) {
-    let copy = two_of_sn(&rt, rt.alloc());
-    assert!(rt; has(&rt, rt.alloc(), &copy, "surname"));
-    assert!(rt; !has(&rt, rt.alloc(), &copy, "cn"));
+fn attributes_and_their_values_are_found_by_their_keys(rt: HostRuntime) {
+    let alloc = rt.alloc();
+    let entry = made(&rt, alloc, "sn=b", &[("SN", "b"), ("SN", "a")]);
+    let copy = entry.to_map(alloc).expect(&rt, "memory");
+    let surname = description(&rt, alloc, "surname");
+    assert!(rt; copy.get(surname.key()).is_some());
+    let cn = description(&rt, alloc, "cn");
+    assert!(rt; copy.get(cn.key()).is_none());
     assert!(rt; copy.iter().count() == 1);
-    assert!(rt; first(&copy) == Some(b"SN".as_slice()));
-}
-
-#[test]
-fn values_of_attributes_are_found_by_their_keys(rt: HostRuntime) {
-    let copy = two_of_sn(&rt, rt.alloc());
-    assert!(rt; has_value(&rt, rt.alloc(), &copy, "A"));
-    assert!(rt; has_value(&rt, rt.alloc(), &copy, "b"));
-    assert!(rt; !has_value(&rt, rt.alloc(), &copy, "c"));
+    let (_, first) = copy.iter().next().expect(&rt, "no attribute");
+    assert!(rt; first.description().spelling() == b"SN".as_slice());
+    assert!(rt; has_value(&rt, alloc, &copy, "A"));
+    assert!(rt; has_value(&rt, alloc, &copy, "b"));
+    assert!(rt; !has_value(&rt, alloc, &copy, "c"));
 }

@@ -1,15 +1,13 @@
 //! Fields that are closed to an entry, or refused.
 
-use crate::make::{bytes, description, made, schema, value};
-use dir_names::{Rdn, RdnKey};
-use dir_tree::{Attribute, AttributeMap, Entry, EntryFault, KeptAttributes, Parts};
+use crate::make::{Texts, bytes, description, made, schema, value};
+use dir_names::Rdn;
+use dir_tree::{Attribute, AttributeMap, EntryFault, KeptAttributes, Parts};
 use std::alloc::Global;
 use std::process::Abort;
 
-/// The fields of `cn=Kim` with one `uidNumber`.
-fn parts_of_kim(rt: &impl Abort, alloc: Global) -> Parts {
-    made(rt, alloc, "cn=Kim", &[("uidNumber", "1")]).into_parts()
-}
+/// The lines of `cn=Kim`.
+const KIM: Texts = &[("uidNumber", "1")];
 
 /// The fields with one value more in the attribute of this type, or in a new attribute.
 fn with(rt: &impl Abort, alloc: Global, parts: Parts, attr_type: &str, text: &str) -> Parts {
@@ -18,7 +16,9 @@ fn with(rt: &impl Abort, alloc: Global, parts: Parts, attr_type: &str, text: &st
         key,
         attributes,
     } = parts;
-    let mut map = opened(rt, alloc, attributes);
+    let Ok(mut map) = attributes.open(alloc) else {
+        panic!(rt; "memory");
+    };
     let mut attribute = taken(rt, alloc, &mut map, attr_type);
     let value = value(rt, alloc, attr_type, text);
     attribute
@@ -30,13 +30,6 @@ fn with(rt: &impl Abort, alloc: Global, parts: Parts, attr_type: &str, text: &st
         key,
         attributes: KeptAttributes::of(map),
     }
-}
-
-fn opened(rt: &impl Abort, alloc: Global, attributes: KeptAttributes) -> AttributeMap {
-    let Ok(map) = attributes.open(alloc) else {
-        panic!(rt; "memory");
-    };
-    map
 }
 
 /// The attribute of this type, which leaves the map, or one without values.
@@ -55,20 +48,15 @@ fn taken(
 
 #[test]
 fn fields_are_closed_to_an_entry(rt: HostRuntime) {
-    let parts = parts_of_kim(&rt, rt.alloc());
+    let alloc = rt.alloc();
+    let parts = made(&rt, alloc, "cn=Kim", KIM).into_parts();
     assert!(rt; parts.own.len() == 1);
-    let parts = with(&rt, rt.alloc(), parts, "sn", "Park");
-    let entry = closed(&rt, rt.alloc(), parts);
-    assert!(rt; entry.own().len() == 1);
-    assert!(rt; entry.attributes().count() == 3);
-}
-
-/// The entry with these fields.
-fn closed(rt: &impl Abort, alloc: Global, parts: Parts) -> Entry {
-    let Ok(entry) = parts.close(&schema(rt, alloc)) else {
+    let parts = with(&rt, alloc, parts, "sn", "Park");
+    let Ok(entry) = parts.close(&schema(&rt, alloc)) else {
         panic!(rt; "refused");
     };
-    entry
+    assert!(rt; entry.own().len() == 1);
+    assert!(rt; entry.attributes().count() == 3);
 }
 
 /// The fields that do not make an entry, for this fault.
@@ -80,18 +68,15 @@ fn refused(rt: &impl Abort, alloc: Global, parts: Parts, want: EntryFault) -> Pa
     back
 }
 
-fn rdn_key(rt: &impl Abort, alloc: Global, text: &[u8]) -> RdnKey {
-    let rdn = Rdn::read(alloc, text).expect(rt, "an RDN");
-    rdn.key(alloc, &schema(rt, alloc)).expect(rt, "a key")
-}
-
 #[test]
 fn an_entry_has_the_values_of_its_own_rdn(rt: HostRuntime) {
-    let mut parts = parts_of_kim(&rt, rt.alloc());
-    parts.key = rdn_key(&rt, rt.alloc(), b"cn=Lee");
-    let parts = with(&rt, rt.alloc(), parts, "uidNumber", "2");
-    let back = refused(&rt, rt.alloc(), parts, EntryFault::NotNamed);
-    let back = with(&rt, rt.alloc(), back, "cn", "LEE");
-    let back = refused(&rt, rt.alloc(), back, EntryFault::Single);
+    let alloc = rt.alloc();
+    let mut parts = made(&rt, alloc, "cn=Kim", KIM).into_parts();
+    let lee = Rdn::read(alloc, b"cn=Lee").expect(&rt, "an RDN");
+    parts.key = lee.key(alloc, &schema(&rt, alloc)).expect(&rt, "a key");
+    let parts = with(&rt, alloc, parts, "uidNumber", "2");
+    let back = refused(&rt, alloc, parts, EntryFault::NotNamed);
+    let back = with(&rt, alloc, back, "cn", "LEE");
+    let back = refused(&rt, alloc, back, EntryFault::Single);
     assert!(rt; back.attributes.iter().count() == 2);
 }
