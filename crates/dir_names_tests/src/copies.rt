@@ -10,16 +10,16 @@ use std::process::Abort;
 #[test]
 fn copies_of_names_are_equal_to_them(rt: HostRuntime) {
     let name = name(&rt, rt.alloc(), "ou=a,dc=com");
-    check(&rt, gives(name.try_clone(rt.alloc()), &name), "a name");
+    check(&rt, gives(&rt, name.try_clone(rt.alloc()), &name), "a name");
     let key = name_key(&rt, rt.alloc(), "ou=a,dc=com");
-    check(&rt, gives(key.try_clone(rt.alloc()), &key), "a key");
+    check(&rt, gives(&rt, key.try_clone(rt.alloc()), &key), "a key");
 }
 
 #[test]
 fn copies_of_rdns_are_equal_to_them(rt: HostRuntime) {
     let rdn = rdn(&rt, rt.alloc(), "SN=B+cn=A");
     let copy = rdn.try_clone(rt.alloc()).expect(&rt, "memory");
-    let is_printed = gives_text(copy.print(rt.alloc()), "SN=B+cn=A");
+    let is_printed = gives_text(&rt, copy.print(rt.alloc()), "SN=B+cn=A");
     check(&rt, copy == rdn && is_printed, "an RDN");
 }
 
@@ -33,10 +33,10 @@ fn copies_of_rdn_keys_are_equal_to_them(rt: HostRuntime) {
 #[test]
 fn copies_of_descriptions_are_equal_to_them(rt: HostRuntime) {
     let description = description(&rt, rt.alloc(), "cn;x-a");
-    let is_copied = gives(description.try_clone(rt.alloc()), &description);
+    let is_copied = gives(&rt, description.try_clone(rt.alloc()), &description);
     check(&rt, is_copied, "a description");
     let key = description.key();
-    check(&rt, gives(key.try_clone(rt.alloc()), key), "a key");
+    check(&rt, gives(&rt, key.try_clone(rt.alloc()), key), "a key");
 }
 
 #[test]
@@ -47,7 +47,7 @@ fn copies_of_value_keys_are_equal_to_them(rt: HostRuntime) {
 
 fn assert_copied(rt: &impl Abort, alloc: Global, attr: &str, value: &[u8]) {
     let key = value_key(rt, alloc, attr, value);
-    check(rt, gives(key.try_clone(alloc), &key), attr);
+    check(rt, gives(rt, key.try_clone(alloc), &key), attr);
 }
 
 #[test]

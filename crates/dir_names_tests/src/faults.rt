@@ -25,6 +25,6 @@ fn each_fault_shows_its_text(rt: HostRuntime) {
 
 /// Asserts that a fault shows this text, and no other under `#`.
 fn assert_shows<F: Display>(rt: &impl Abort, alloc: Global, fault: &F, want: &str) {
-    check(rt, shows(format!(in alloc; "{fault}"), want), want);
-    check(rt, shows(format!(in alloc; "{fault:#}"), want), want);
+    check(rt, shows(rt, format!(in alloc; "{fault}"), want), want);
+    check(rt, shows(rt, format!(in alloc; "{fault:#}"), want), want);
 }

@@ -127,9 +127,9 @@ fn a_name_has_at_most_64_rdns(rt: HostRuntime) {
 fn is_read(rt: &impl Abort, alloc: Global, count: usize) -> bool {
     let text = name_text(rt, alloc, count);
     let name = name(rt, alloc, text.as_str());
-    let is_printed = gives_text(name.print(alloc), text.as_str());
+    let is_printed = gives_text(rt, name.print(alloc), text.as_str());
     let again = Dn::from_rdns(name.into_rdns()).expect(rt, "a name");
-    is_printed && gives_text(again.print(alloc), text.as_str())
+    is_printed && gives_text(rt, again.print(alloc), text.as_str())
 }
 
 #[test]

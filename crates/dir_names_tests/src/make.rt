@@ -52,19 +52,29 @@ pub(crate) fn check(rt: &impl Abort, holds: bool, what: &str) {
     assert!(rt; holds, "{what}");
 }
 
-/// Whether a call gave this value.
-pub(crate) fn gives<T: PartialEq + Drop>(found: Result<T, NameFault>, want: &T) -> bool {
+/// Whether a call gave this value. Out of memory is no other value: it ends the test.
+pub(crate) fn gives<T: PartialEq + Drop>(
+    rt: &impl Abort,
+    found: Result<T, NameFault>,
+    want: &T,
+) -> bool {
     match found {
         Ok(found) => found == *want,
-        Err(_) => false,
+        Err(fault) => {
+            check(rt, fault != NameFault::Memory, "memory");
+            false
+        }
     }
 }
 
-/// Whether a call gave this text.
-pub(crate) fn gives_text(found: Result<Vec<u8>, NameFault>, want: &str) -> bool {
+/// The same of a text.
+pub(crate) fn gives_text(rt: &impl Abort, found: Result<Vec<u8>, NameFault>, want: &str) -> bool {
     match found {
         Ok(found) => found.as_slice() == want.as_bytes(),
-        Err(_) => false,
+        Err(fault) => {
+            check(rt, fault != NameFault::Memory, "memory");
+            false
+        }
     }
 }
 
@@ -77,11 +87,9 @@ pub(crate) fn are<T: PartialEq>(found: &[T], first: &T, second: &T) -> bool {
 }
 
 /// Whether a value is shown by this text.
-pub(crate) fn shows(found: Result<String, AllocError>, want: &str) -> bool {
-    match found {
-        Ok(found) => found.as_str() == want,
-        Err(_) => false,
-    }
+pub(crate) fn shows(rt: &impl Abort, found: Result<String, AllocError>, want: &str) -> bool {
+    let found = found.expect(rt, "memory");
+    found.as_str() == want
 }
 
 /// A text, and so many times another one, and then a third.

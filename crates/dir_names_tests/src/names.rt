@@ -53,7 +53,8 @@ fn names_print_and_read_back(rt: HostRuntime) {
 
 fn prints(rt: &impl Abort, alloc: Global, text: &str, want: &str) -> bool {
     let name = name(rt, alloc, text);
-    gives_text(name.print(alloc), want) && gives(Dn::read_text(alloc, want.as_bytes()), &name)
+    gives_text(rt, name.print(alloc), want)
+        && gives(rt, Dn::read_text(alloc, want.as_bytes()), &name)
 }
 
 #[test]
@@ -85,14 +86,14 @@ fn a_name_is_shown(rt: HostRuntime) {
     let name = name(&rt, rt.alloc(), "l=b");
     check(
         &rt,
-        shows(format!(in rt.alloc(); "{name:#?}"), LAID_OUT),
+        shows(&rt, format!(in rt.alloc(); "{name:#?}"), LAID_OUT),
         LAID_OUT,
     );
 }
 
 /// Asserts how a name is shown.
 pub(crate) fn assert_shown(rt: &impl Abort, alloc: Global, name: &Dn, want: &str) {
-    check(rt, shows(format!(in alloc; "{name:?}"), want), want);
+    check(rt, shows(rt, format!(in alloc; "{name:?}"), want), want);
 }
 
 /// Names, and the faults of those that have no key.
@@ -202,7 +203,7 @@ fn names_are_made_of_no_rdn_and_of_one(rt: HostRuntime) {
 
 /// Whether a name is printed as this text, and is the name of it.
 fn is_name(rt: &impl Abort, alloc: Global, made: Dn, want: &str) -> bool {
-    gives_text(made.print(alloc), want) && made == name(rt, alloc, want)
+    gives_text(rt, made.print(alloc), want) && made == name(rt, alloc, want)
 }
 
 /// The name of an RDN and those of the name above it.

@@ -31,7 +31,7 @@ fn an_rdn_of_two_pairs_is_printed_and_has_a_key(rt: HostRuntime) {
     let two = rdn(&rt, rt.alloc(), "SN=b+cn=a");
     check(
         &rt,
-        gives_text(two.print(rt.alloc()), "SN=b+cn=a"),
+        gives_text(&rt, two.print(rt.alloc()), "SN=b+cn=a"),
         "printed",
     );
     let has_key = two.has_key(rt.alloc(), &schema(&rt, rt.alloc()));

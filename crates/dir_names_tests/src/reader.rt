@@ -73,7 +73,7 @@ fn parents_that_are_alike_are_told_apart(rt: HostRuntime) {
 /// Asserts how a name is printed, and that it has the key of its text.
 fn assert_read(rt: &impl Abort, alloc: Global, names: &mut NameReader, text: &str, want: &str) {
     let name = read(rt, alloc, names, text.as_bytes()).expect(rt, "a name");
-    check(rt, gives_text(name.print(alloc), want), want);
+    check(rt, gives_text(rt, name.print(alloc), want), want);
     check(rt, has_key(rt, alloc, &name, text), text);
     let copy = name.try_clone(alloc).expect(rt, "memory");
     check(rt, has_key(rt, alloc, &copy, text), text);
@@ -82,6 +82,7 @@ fn assert_read(rt: &impl Abort, alloc: Global, names: &mut NameReader, text: &st
 /// Whether a name has the key of the name of this text.
 fn has_key(rt: &impl Abort, alloc: Global, name: &Dn, text: &str) -> bool {
     gives(
+        rt,
         name.key(alloc, &schema(rt, alloc)),
         &name_key(rt, alloc, text),
     )
@@ -126,7 +127,7 @@ const LONG_LEAVES: [Long; 5] = [
     ("cn=", "\u{eb}", 1, ",dc=com", None),
 ];
 
-/// A leaf that is none comes before one past the limit, and that before one without a key.
+/// A text that is no leaf is told before a leaf past the limit, and that before one without a key.
 const FIRST_FAULTS: [Long; 8] = [
     ("cn=", "\u{eb}", 1, ",dc=com", None),
     ("cn=", "\u{eb}", 2, ",dc=com", None),

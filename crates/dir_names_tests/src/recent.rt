@@ -70,5 +70,5 @@ fn is_long_read(rt: &impl Abort, alloc: Global, recent: &mut RecentNames, last: 
     let value = repeated(rt, alloc, "cn=", "a", 600, last);
     let key = recent.read(alloc, &schema(rt, alloc), value.as_slice());
     let want = DnSortKey::read(alloc, &schema(rt, alloc), value.as_slice());
-    gives(key, &want.expect(rt, "a name"))
+    gives(rt, key, &want.expect(rt, "a name"))
 }
