@@ -135,7 +135,7 @@ fn put_back(
 fn entries_that_are_alike_keep_their_own_values(rt: HostRuntime) {
     let alloc = rt.alloc();
     let mut directory = TreeDirectory::new(alloc, key_of(&rt, alloc, "dc=com"));
-    fill(&rt, alloc, &mut directory, &["dc=com"]);
+    fill(&rt, alloc, &mut directory, "dc=com");
     for (own, lines) in &ENTRIES {
         put_lines(&rt, alloc, &mut directory, own, lines);
     }

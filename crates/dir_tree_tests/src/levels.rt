@@ -1,6 +1,6 @@
 //! Names and own names of 64 RDNs.
 
-use crate::make::{assert_printed, assert_spelled, bare, fill, key_of, put};
+use crate::make::{bare, check, fill, is_printed, is_spelled, key_of, put};
 use dir_tree::Directory;
 use std::alloc::Global;
 use std::process::Abort;
@@ -23,7 +23,7 @@ fn with_63_rdns(rt: &impl Abort, alloc: Global, name: &str) -> String {
 pub(crate) fn assert_64_levels<D: Directory>(rt: &impl Abort, alloc: Global, directory: &mut D) {
     let mut name = below(rt, alloc, "dc=com", 2);
     for level in 3..66 {
-        fill(rt, alloc, directory, &[name.as_str()]);
+        fill(rt, alloc, directory, name.as_str());
         name = below(rt, alloc, name.as_str(), level);
     }
     let last = with_63_rdns(rt, alloc, "dc=com");
@@ -51,8 +51,8 @@ pub(crate) fn assert_long_own_name<D: Directory>(
 
 /// Asserts that the entry of this name is spelled so, and that a walk ends at it.
 fn assert_last_spelled<D: Directory>(rt: &impl Abort, alloc: Global, directory: &D, name: &str) {
-    assert_spelled(rt, alloc, directory, name, name);
+    check(rt, is_spelled(rt, alloc, directory, name, name), name);
     let walk = directory.walk().expect(rt, "memory");
     let last = walk.last().expect(rt, "nothing is walked");
-    assert_printed(rt, alloc, &last.0, name);
+    check(rt, is_printed(rt, alloc, &last.0, name), name);
 }

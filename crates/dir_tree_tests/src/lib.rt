@@ -30,3 +30,5 @@ mod maps;
 mod moves;
 #[cfg(test)]
 mod parts;
+#[cfg(test)]
+mod script;

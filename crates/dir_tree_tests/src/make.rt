@@ -90,58 +90,52 @@ pub(crate) fn put<D: Directory>(
     }
 }
 
-/// Adds entries of these names, in this order, with no values but those of their RDNs.
-pub(crate) fn fill<D: Directory>(
-    rt: &impl Abort,
-    alloc: Global,
-    directory: &mut D,
-    names: &[&str],
-) {
-    for name in names {
-        let key = key_of(rt, alloc, name);
-        let entry = bare(rt, alloc, name, &key == directory.suffix());
-        put(rt, alloc, directory, &key, entry);
-    }
+/// Puts in an entry of this name, with no values but those of its RDN.
+pub(crate) fn fill<D: Directory>(rt: &impl Abort, alloc: Global, directory: &mut D, name: &str) {
+    let key = key_of(rt, alloc, name);
+    let entry = bare(rt, alloc, name, &key == directory.suffix());
+    put(rt, alloc, directory, &key, entry);
 }
 
-pub(crate) fn assert_printed(rt: &impl Abort, alloc: Global, name: &Dn, want: &str) {
+/// Ends the test with this text unless this holds. Each `assert!` makes the proof of its function longer; a call is cheaper.
+pub(crate) fn check(rt: &impl Abort, holds: bool, what: &str) {
+    assert!(rt; holds, "{what}");
+}
+
+/// Whether a name is printed so.
+pub(crate) fn is_printed(rt: &impl Abort, alloc: Global, name: &Dn, want: &str) -> bool {
     let text = name.print(alloc).expect(rt, "memory");
-    assert!(rt; text.as_slice() == want.as_bytes(), "{want}");
+    text.as_slice() == want.as_bytes()
 }
 
-/// Asserts that the entry at the key of this name is spelled so.
-pub(crate) fn assert_spelled<D: Directory>(
+/// Appends a name to those that are in a text.
+pub(crate) fn push_name(rt: &impl Abort, alloc: Global, text: &mut Vec<u8>, name: &Dn) {
+    if !text.is_empty() {
+        text.extend_from_slice(b" | ").expect(rt, "memory");
+    }
+    let name = name.print(alloc).expect(rt, "memory");
+    text.extend_from_slice(name.as_slice()).expect(rt, "memory");
+}
+
+/// Whether the entry at the key of this name is spelled so.
+pub(crate) fn is_spelled<D: Directory>(
     rt: &impl Abort,
     alloc: Global,
     directory: &D,
     text: &str,
     want: &str,
-) {
+) -> bool {
     let key = key_of(rt, alloc, text);
     let Some(_) = directory.get(&key) else {
-        panic!(rt; "not there");
+        return false;
     };
     let name = directory.spelled(&key).expect(rt, "memory");
-    assert_printed(rt, alloc, &name, want);
+    is_printed(rt, alloc, &name, want)
 }
 
-/// Asserts that a walk meets entries of these names, in this order.
-pub(crate) fn assert_walked<D: Directory>(
-    rt: &impl Abort,
-    alloc: Global,
-    directory: &D,
-    names: &[&str],
-) {
-    let walk = directory.walk().expect(rt, "memory");
-    assert!(rt; walk.len() == names.len());
-    for (item, name) in walk.iter().zip(names.iter()) {
-        assert_printed(rt, alloc, &item.0, name);
-    }
-}
-
-/// Asserts that an entry's own name is spelled so.
-pub(crate) fn assert_own(rt: &impl Abort, alloc: Global, entry: &Entry, want: &str) {
+/// Whether an entry's own name is spelled so.
+pub(crate) fn has_own(rt: &impl Abort, alloc: Global, entry: &Entry, want: &str) -> bool {
     let rdn = entry.own().first().expect(rt, "no own name");
     let text = rdn.print(alloc).expect(rt, "memory");
-    assert!(rt; text.as_slice() == want.as_bytes());
+    text.as_slice() == want.as_bytes()
 }

@@ -45,14 +45,18 @@ pub(crate) fn shift<D: Directory>(
     }
 }
 
-pub(crate) fn assert_height<D: Directory>(
+/// Whether the longest key below this one is longer by so many RDNs.
+pub(crate) fn has_height<D: Directory>(
     rt: &impl Abort,
+    alloc: Global,
     directory: &D,
     key: &DnKey,
-    height: usize,
-) {
+    want: &str,
+) -> bool {
     let Some(_) = directory.get(key) else {
-        panic!(rt; "not there");
+        return false;
     };
-    assert!(rt; directory.height_below(key) == height);
+    let height = directory.height_below(key);
+    let text = format!(in alloc; "{height}").expect(rt, "memory");
+    text.as_str() == want
 }
