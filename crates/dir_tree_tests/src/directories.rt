@@ -1,22 +1,27 @@
 //! What a directory answers: one map of whole names, and a tree of nodes, by the same scripts.
+//!
+//! A key is given as the text of a name. Of an entry that is replaced, removed or moved the answer is its own name, and of a
+//! walk the names that it meets, in order.
 
 use crate::levels::{assert_64_levels, assert_long_own_name};
-use crate::make::{bare, check, fill, has_own, is_spelled, key_of, push_name, put};
+use crate::make::{bare, check, fill, key_of, put};
 use crate::moves::{has_height, shift};
-use crate::script::{Step, is_answer, split, step_of};
-use dir_names::DnKey;
+use crate::script::{Step, begun, names, names_own, says, split, step_of, tell};
+use dir_names::{Dn, DnKey};
 use dir_tree::{Directory, Entry, FlatDirectory, NotAdded, TreeDirectory};
 use std::alloc::Global;
 use std::process::Abort;
 
 /// An entry is put in: the calls of the crate's README.
 const PUT: &str = "
+suffix DC=com
 put DC=com
 walk -> DC=com
 ";
 
 /// Names are spelled as the entries on their path are.
 const SPELLED: &str = "
+suffix dc=com
 put dc=com
 put cn=A,dc=com
 put cn=b,cn=a,DC=COM
@@ -27,11 +32,13 @@ spelled DC=com -> dc=com
 
 /// There is nothing to walk.
 const EMPTY: &str = "
+suffix dc=com
 walk
 ";
 
 /// Entries are walked parents first.
 const WALKED: &str = "
+suffix dc=com
 put dc=com
 put cn=c,dc=com
 put cn=A,dc=com
@@ -41,6 +48,7 @@ walk -> dc=com | cn=A,dc=com | cn=b,cn=A,dc=com | cn=c,dc=com
 
 /// A suffix of two RDNs is spelled whole, and the name above it has a child once it has an entry.
 const LONG_SUFFIX: &str = "
+suffix dc=example,dc=com
 has-child dc=com -> no
 put DC=Example, dc=com
 put cn=A,dc=example,dc=com
@@ -51,6 +59,7 @@ spelled cn=a,dc=example,dc=com -> cn=A,DC=Example,dc=com
 
 /// An entry is added at a free key below its parent.
 const ADDED: &str = "
+suffix dc=com
 add cn=a,dc=com -> no parent
 add dc=org -> no parent
 add dc=com -> added
@@ -69,6 +78,7 @@ walk -> dc=com | cn=A,dc=com | cn=c,cn=A,dc=com
 
 /// An entry that is replaced comes back.
 const REPLACED: &str = "
+suffix dc=com
 put dc=com
 put cn=A,dc=com
 put cn=b,cn=A,dc=com
@@ -78,6 +88,7 @@ walk -> dc=com | CN=a,dc=com | cn=b,CN=a,dc=com
 
 /// A leaf is taken out.
 const REMOVED: &str = "
+suffix dc=com
 put dc=com
 put cn=A,dc=com
 put cn=b,cn=A,dc=com
@@ -89,6 +100,7 @@ has-child cn=a,dc=com -> no
 
 /// A subtree moves with what is below it.
 const MOVED: &str = "
+suffix dc=com
 put dc=com
 put cn=A,dc=com
 put-clone cn=b,cn=A,dc=com
@@ -100,67 +112,70 @@ walk -> dc=com | cn=C,dc=com | cn=b,cn=C,dc=com
 
 /// A name of 64 RDNs is spelled whole.
 const LEVELS: &str = "
+suffix dc=com
 put dc=com
 levels
 ";
 
 /// Of an own name below the suffix one RDN is spelled.
 const LONG_OWN_NAME: &str = "
+suffix dc=com
 put dc=com
 long-own-name
 ";
 
-/// Suffixes, and what is done with a directory of each and asked of it. A key is given as the text of a name.
-const SCRIPTS: [(&str, &str); 9] = [
-    ("DC=com", PUT),
-    ("dc=com", SPELLED),
-    ("dc=com", EMPTY),
-    ("dc=com", WALKED),
-    ("dc=example,dc=com", LONG_SUFFIX),
-    ("dc=com", ADDED),
-    ("dc=com", REPLACED),
-    ("dc=com", REMOVED),
-    ("dc=com", MOVED),
+const SCRIPTS: [&str; 9] = [
+    PUT,
+    SPELLED,
+    EMPTY,
+    WALKED,
+    LONG_SUFFIX,
+    ADDED,
+    REPLACED,
+    REMOVED,
+    MOVED,
 ];
 
 /// The same, with names of 64 RDNs.
-const LONG_SCRIPTS: [(&str, &str); 2] = [("dc=com", LEVELS), ("dc=com", LONG_OWN_NAME)];
+const LONG_SCRIPTS: [&str; 2] = [LEVELS, LONG_OWN_NAME];
 
 #[test]
 fn a_map_of_whole_names_answers_each_step(rt: HostRuntime) {
-    for (suffix, script) in &SCRIPTS {
-        run_flat(&rt, rt.alloc(), suffix, script);
+    for script in &SCRIPTS {
+        run_flat(&rt, rt.alloc(), script);
     }
 }
 
 #[test]
 fn a_tree_of_nodes_answers_each_step(rt: HostRuntime) {
-    for (suffix, script) in &SCRIPTS {
-        run_tree(&rt, rt.alloc(), suffix, script);
+    for script in &SCRIPTS {
+        run_tree(&rt, rt.alloc(), script);
     }
 }
 
 #[test]
 fn names_of_64_rdns_are_spelled_in_both_directories(rt: HostRuntime) {
-    for (suffix, script) in &LONG_SCRIPTS {
-        run_flat(&rt, rt.alloc(), suffix, script);
-        run_tree(&rt, rt.alloc(), suffix, script);
+    for script in &LONG_SCRIPTS {
+        run_flat(&rt, rt.alloc(), script);
+        run_tree(&rt, rt.alloc(), script);
     }
 }
 
-fn run_flat(rt: &impl Abort, alloc: Global, suffix: &str, script: &str) {
+fn run_flat(rt: &impl Abort, alloc: Global, script: &str) {
+    let (suffix, steps) = begun(script);
     let mut flat = FlatDirectory::new(alloc, key_of(rt, alloc, suffix));
-    run(rt, alloc, &mut flat, script);
+    run(rt, alloc, &mut flat, steps);
 }
 
-fn run_tree(rt: &impl Abort, alloc: Global, suffix: &str, script: &str) {
+fn run_tree(rt: &impl Abort, alloc: Global, script: &str) {
+    let (suffix, steps) = begun(script);
     let mut tree = TreeDirectory::new(alloc, key_of(rt, alloc, suffix));
-    run(rt, alloc, &mut tree, script);
+    run(rt, alloc, &mut tree, steps);
 }
 
 /// Takes the steps of a script, and asserts each answer.
-fn run<D: Directory>(rt: &impl Abort, alloc: Global, directory: &mut D, script: &str) {
-    for line in script.trim().lines() {
+fn run<D: Directory>(rt: &impl Abort, alloc: Global, directory: &mut D, steps: &str) {
+    for line in steps.lines() {
         check(rt, answers(rt, alloc, directory, &step_of(line)), line);
     }
 }
@@ -182,9 +197,9 @@ fn answers<D: Directory>(
 /// Whether a question is answered so.
 fn asked<D: Directory>(rt: &impl Abort, alloc: Global, directory: &D, step: &Step<'_>) -> bool {
     match step.verb {
-        "has-child" => is_answer(
-            directory.has_child(&key_of(rt, alloc, step.given)),
+        "has-child" => says(
             step.want,
+            directory.has_child(&key_of(rt, alloc, step.given)),
         ),
         "height" => has_height(
             rt,
@@ -211,7 +226,7 @@ fn changed<D: Directory>(
         "move" => moved(rt, alloc, directory, step.given),
         _ => taken(rt, directory, &key_of(rt, alloc, step.given)),
     };
-    has_own(rt, alloc, &former, step.want)
+    names_own(rt, alloc, step.want, former.own())
 }
 
 /// Whether an entry is put in or added with this answer.
@@ -267,9 +282,30 @@ fn is_walked<D: Directory>(rt: &impl Abort, alloc: Global, directory: &D, want: 
     let walk = directory.walk().expect(rt, "memory");
     let mut told = Vec::new(alloc);
     for item in walk.iter() {
-        push_name(rt, alloc, &mut told, &item.0);
+        tell_name(rt, alloc, &mut told, &item.0);
     }
     told.as_slice() == want.as_bytes()
+}
+
+fn tell_name(rt: &impl Abort, alloc: Global, told: &mut Vec<u8>, name: &Dn) {
+    let name = name.print(alloc).expect(rt, "memory");
+    tell(rt, told, name.as_slice());
+}
+
+/// Whether the entry at the key of this name is spelled so.
+pub(crate) fn is_spelled<D: Directory>(
+    rt: &impl Abort,
+    alloc: Global,
+    directory: &D,
+    text: &str,
+    want: &str,
+) -> bool {
+    let key = key_of(rt, alloc, text);
+    let Some(_) = directory.get(&key) else {
+        return false;
+    };
+    let name = directory.spelled(&key).expect(rt, "memory");
+    names(rt, alloc, want, &name)
 }
 
 /// Puts an entry of the second name in the place of the one at the first.

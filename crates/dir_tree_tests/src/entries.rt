@@ -1,134 +1,232 @@
 //! What an add makes of its lines, and each fault before the next.
 
-use crate::make::{Texts, description, lines_of, made, make, name, schema, value};
-use dir_names::{Bytes, Lines};
+use crate::alike::opened;
+use crate::exchanged_parts::with_part;
+use crate::make::{check, description, made, make, name, refused_for, schema, value};
+use crate::script::{Step, begun, counts, names_own, says, split, step_of, tell};
+use crate::views::{has_lines, view_answers};
+use dir_names::{Bytes, Description, Lines};
 use dir_tree::{Entry, EntryFault, entries_hold_their_lines};
 use std::alloc::Global;
 use std::process::Abort;
 
-/// Asserts that an entry has an attribute of this type, so spelled, with these values in this order.
-fn assert_attribute(
-    rt: &impl Abort,
-    alloc: Global,
-    entry: &Entry,
-    attr_type: &str,
-    spelling: &str,
-    want: &[&str],
-) {
-    let description = description(rt, alloc, attr_type);
-    let attribute = entry.attribute(description.key());
-    let attribute = attribute.expect(rt, "no such attribute");
-    assert!(rt; attribute.description().spelling() == spelling.as_bytes());
-    let mut values = attribute.values();
-    for text in want {
-        let (_, bytes) = values.next().expect(rt, "no such value");
-        assert!(rt; bytes == text.as_bytes());
-    }
-    assert!(rt; values.next().is_none());
-}
+/// An entry has its lines.
+const HELD: &str = "
+entry cn=Kim | Description=Staff | description=lead
+has description=STAFF -> yes
+has description=none -> no
+";
 
-/// The lines of an entry that has two values of an attribute.
-const DESCRIBED: Texts = &[("Description", "Staff"), ("description", "lead")];
+/// An entry has its own RDN, also when it is made again of its fields.
+const NAMED: &str = "
+entry cn=Kim
+own -> cn=Kim
+attribute commonName -> cn | Kim
+attribute sn -> none
+make-again
+has-text cn=kim -> yes
+key -> 1
+";
+
+/// Attributes and values come in the order of their keys, also in a clone.
+const ORDERED: &str = "
+entry cn=Kim | sn=Z | Description=b | description=A
+clone
+spellings -> cn | Description | sn
+attribute description -> Description | A | b
+";
+
+/// A small entry gets the attributes of a part: a title, a description and no number.
+const PART_TAKEN: &str = "
+entry cn=Kim Park | objectClass=person | title=Head  of Staff | title=lead | telephoneNumber=+1 555-0100 | manager=CN=Lee,DC=Example | uidNumber=7
+part title uidNumber description: title=Boss | description=New  one
+count -> 6
+lines cn=Kim Park | objectClass=person | title=Boss | telephoneNumber=+1 555-0100 | manager=CN=Lee,DC=Example | description=New  one -> yes
+length title -> 1
+";
+
+/// What a part has under other keys is left out.
+const PART_LEFT: &str = "
+entry cn=Kim Park | objectClass=person | title=Head  of Staff | title=lead | telephoneNumber=+1 555-0100 | manager=CN=Lee,DC=Example | uidNumber=7
+part uidNumber: title=Boss | description=New  one
+count -> 5
+length title -> 2
+";
+
+/// An open entry is left to be changed in place.
+const OPENED: &str = "
+entry cn=Kim Park | objectClass=person | title=Head  of Staff | title=lead | telephoneNumber=+1 555-0100 | manager=CN=Lee,DC=Example | uidNumber=7
+open
+small -> no
+takes-part title: title=Boss | description=New  one -> no
+";
 
 #[test]
 fn an_entry_has_its_lines(rt: HostRuntime) {
-    let alloc = rt.alloc();
     entries_hold_their_lines();
-    let entry = made(&rt, alloc, "cn=Kim", DESCRIBED);
-    let described = description(&rt, alloc, "description");
-    let staff = value(&rt, alloc, "description", "STAFF");
-    assert!(rt; entry.has(described.key(), &staff));
-    let none = value(&rt, alloc, "description", "none");
-    assert!(rt; !entry.has(described.key(), &none));
+    run(&rt, rt.alloc(), HELD);
 }
 
 #[test]
 fn an_entry_has_its_own_rdn_and_is_made_again_of_its_fields(rt: HostRuntime) {
-    let alloc = rt.alloc();
-    let entry = made(&rt, alloc, "cn=Kim", &[]);
-    assert!(rt; entry.own().len() == 1);
-    assert_attribute(&rt, alloc, &entry, "commonName", "cn", &["Kim"]);
-    let sn = description(&rt, alloc, "sn");
-    assert!(rt; entry.attribute(sn.key()).is_none());
-    let entry = Entry::of(entry.into_parts());
-    let cn = description(&rt, alloc, "cn");
-    assert!(rt; entry.has_text(cn.key(), b"kim"));
-    assert!(rt; entry.key().pairs().len() == 1);
+    run(&rt, rt.alloc(), NAMED);
 }
-
-/// The lines of an entry whose attributes and values are in no order.
-const UNORDERED: Texts = &[("sn", "Z"), ("Description", "b"), ("description", "A")];
-
-/// How its attributes are spelled, in order.
-const SPELLINGS: [&str; 3] = ["cn", "Description", "sn"];
 
 #[test]
 fn values_come_in_order_of_their_keys(rt: HostRuntime) {
-    let alloc = rt.alloc();
-    let entry = made(&rt, alloc, "cn=Kim", UNORDERED);
-    let copy = entry.try_clone(alloc).expect(&rt, "memory");
-    let mut attributes = copy.attributes();
-    for spelling in &SPELLINGS {
-        let (_, attribute) = attributes.next().expect(&rt, "no such attribute");
-        assert!(rt; attribute.description().spelling() == spelling.as_bytes());
+    run(&rt, rt.alloc(), ORDERED);
+}
+
+#[test]
+fn a_small_entry_gets_the_attributes_of_a_part(rt: HostRuntime) {
+    run(&rt, rt.alloc(), PART_TAKEN);
+}
+
+#[test]
+fn what_a_part_has_under_other_keys_is_left_out(rt: HostRuntime) {
+    run(&rt, rt.alloc(), PART_LEFT);
+    run(&rt, rt.alloc(), OPENED);
+}
+
+fn run(rt: &impl Abort, alloc: Global, script: &str) {
+    let (text, steps) = begun(script);
+    let mut entry = made(rt, alloc, text);
+    for line in steps.lines() {
+        entry = after(rt, alloc, entry, line);
     }
-    assert!(rt; attributes.next().is_none());
-    assert_attribute(&rt, alloc, &copy, "description", "Description", &["A", "b"]);
+}
+
+/// The entry after a step. Each answer must be the one that is wanted.
+fn after(rt: &impl Abort, alloc: Global, entry: Entry, line: &str) -> Entry {
+    let step = step_of(line);
+    match step.verb {
+        "clone" => entry.try_clone(alloc).expect(rt, "memory"),
+        "make-again" => Entry::of(entry.into_parts()),
+        "open" => opened(rt, alloc, entry),
+        "part" => changed(rt, alloc, &entry, step.given),
+        _ => {
+            check(rt, answers(rt, alloc, &entry, &step), line);
+            entry
+        }
+    }
+}
+
+/// Whether a question is answered so.
+fn answers(rt: &impl Abort, alloc: Global, entry: &Entry, step: &Step<'_>) -> bool {
+    match step.verb {
+        "own" => names_own(rt, alloc, step.want, entry.own()),
+        "key" => counts(rt, alloc, step.want, entry.key().pairs().len()),
+        "count" => counts(rt, alloc, step.want, entry.attributes().count()),
+        "spellings" => are_spelled(rt, alloc, entry, step.want),
+        "small" => says(step.want, entry.is_small()),
+        "lines" => says(step.want, has_lines(rt, alloc, entry, step.given)),
+        "takes-part" => says(step.want, with_part(rt, alloc, entry, step.given).is_some()),
+        _ => attribute_answers(rt, alloc, entry, step),
+    }
+}
+
+/// Whether a question about an attribute is answered so.
+fn attribute_answers(rt: &impl Abort, alloc: Global, entry: &Entry, step: &Step<'_>) -> bool {
+    let (attr_type, text) = split(step.given, "=");
+    let description = description(rt, alloc, attr_type);
+    match step.verb {
+        "has" => says(
+            step.want,
+            entry.has(description.key(), &value(rt, alloc, attr_type, text)),
+        ),
+        "has-text" => says(
+            step.want,
+            entry.has_text(description.key(), text.as_bytes()),
+        ),
+        _ => match entry.attribute(description.key()) {
+            Some(attribute) => view_answers(rt, alloc, &attribute, step),
+            None => step.want == "none",
+        },
+    }
+}
+
+/// Whether an entry's attributes are so spelled, in order.
+fn are_spelled(rt: &impl Abort, alloc: Global, entry: &Entry, want: &str) -> bool {
+    let mut told = Vec::new(alloc);
+    for (_, attribute) in entry.attributes() {
+        tell(rt, &mut told, attribute.description().spelling());
+    }
+    told.as_slice() == want.as_bytes()
+}
+
+/// The entry with the attributes of a part, which leave its name.
+pub(crate) fn changed(rt: &impl Abort, alloc: Global, entry: &Entry, part: &str) -> Entry {
+    let attributes = with_part(rt, alloc, entry, part).expect(rt, "a small entry");
+    let changed = entry.with_attributes(alloc, attributes);
+    let changed = changed.expect(rt, "memory");
+    check(rt, changed.own() == entry.own(), "its own name");
+    check(rt, changed.key() == entry.key(), "its key");
+    changed
 }
 
 /// The notes 199 to 0, of one byte each, of which the first is spelled `NOTE`.
 fn notes(rt: &impl Abort, alloc: Global) -> Lines {
     let mut items = Vec::new(alloc);
     for n in 0..200u8 {
-        let description = description(rt, alloc, if n == 0 { "NOTE" } else { "note" });
-        let value = Bytes::copy_of(alloc, &[199 - n]).expect(rt, "memory");
-        items.push((description, value)).expect(rt, "memory");
+        items.push(note(rt, alloc, n)).expect(rt, "memory");
     }
     Lines::new(items)
+}
+
+fn note(rt: &impl Abort, alloc: Global, n: u8) -> (Description, Bytes) {
+    let description = description(rt, alloc, if n == 0 { "NOTE" } else { "note" });
+    let value = Bytes::copy_of(alloc, &[199u8.saturating_sub(n)]);
+    (description, value.expect(rt, "memory"))
 }
 
 /// The values are the bytes from 0 to 199.
 #[test]
 fn many_lines_make_the_entry_that_few_would(rt: HostRuntime) {
-    let alloc = rt.alloc();
-    let own = name(&rt, alloc, "cn=Kim").into_rdns();
-    let entry = Entry::make(alloc, &schema(&rt, alloc), own, notes(&rt, alloc));
+    let own = name(&rt, rt.alloc(), "cn=Kim").into_rdns();
+    let lines = notes(&rt, rt.alloc());
+    let entry = Entry::make(rt.alloc(), &schema(&rt, rt.alloc()), own, lines);
     let entry = entry.expect(&rt, "an entry");
-    let note = description(&rt, alloc, "note");
-    let notes = entry.attribute(note.key()).expect(&rt, "no note");
-    assert!(rt; notes.description().spelling() == b"NOTE".as_slice());
-    let mut at = 0u8;
-    for (_, bytes) in notes.values() {
-        assert!(rt; bytes == [at].as_slice());
-        at = at.wrapping_add(1);
-    }
-    assert!(rt; at == 200);
+    check(&rt, has_notes(&rt, rt.alloc(), &entry), "the notes");
 }
 
-/// Lines of an add, and what it is refused for.
-const FAULTS: [(Texts, Option<EntryFault>); 4] = [
-    (&[("note", "")], None),
+/// Whether an entry has the notes 0 to 199, in this order.
+fn has_notes(rt: &impl Abort, alloc: Global, entry: &Entry) -> bool {
+    let description = description(rt, alloc, "note");
+    let Some(notes) = entry.attribute(description.key()) else {
+        return false;
+    };
+    let mut at = 0u8;
+    for (_, bytes) in notes.values() {
+        if bytes != [at].as_slice() {
+            return false;
+        }
+        at = at.wrapping_add(1);
+    }
+    at == 200 && notes.description().spelling() == b"NOTE".as_slice()
+}
+
+/// Texts of entries, and what each is refused for; the last has no name.
+const FAULTS: [(&str, Option<EntryFault>); 5] = [
+    ("cn=Kim | note=", None),
     (
-        &[("uidNumber", "1"), ("uidNumber", "2")],
+        "cn=Kim | uidNumber=1 | uidNumber=2",
         Some(EntryFault::Single),
     ),
     (
-        &[("uidNumber", "1"), ("uidNumber", "1")],
+        "cn=Kim | uidNumber=1 | uidNumber=1",
         Some(EntryFault::Twice),
     ),
     (
-        &[("sn", "a"), ("surname", "A"), ("uidNumber", "007")],
+        "cn=Kim | sn=a | surname=A | uidNumber=007",
         Some(EntryFault::BadValue),
     ),
+    ("", Some(EntryFault::NotNamed)),
 ];
 
 #[test]
 fn faults_of_values_come_in_their_order_and_an_entry_has_a_name(rt: HostRuntime) {
-    let alloc = rt.alloc();
-    for (lines, want) in &FAULTS {
-        assert!(rt; make(&rt, alloc, "cn=Kim", lines).err() == *want);
+    for (text, want) in &FAULTS {
+        let fault = refused_for(&rt, make(&rt, rt.alloc(), text));
+        check(&rt, fault == *want, text);
     }
-    let none = lines_of(&rt, alloc, &[]);
-    let unnamed = Entry::make(alloc, &schema(&rt, alloc), Vec::new(alloc), none);
-    assert!(rt; unnamed.err() == Some(EntryFault::NotNamed));
 }

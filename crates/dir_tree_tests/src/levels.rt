@@ -1,6 +1,8 @@
 //! Names and own names of 64 RDNs.
 
-use crate::make::{bare, check, fill, is_printed, is_spelled, key_of, put};
+use crate::directories::is_spelled;
+use crate::make::{bare, check, fill, key_of, put};
+use crate::script::names;
 use dir_tree::Directory;
 use std::alloc::Global;
 use std::process::Abort;
@@ -54,5 +56,5 @@ fn assert_last_spelled<D: Directory>(rt: &impl Abort, alloc: Global, directory: 
     check(rt, is_spelled(rt, alloc, directory, name, name), name);
     let walk = directory.walk().expect(rt, "memory");
     let last = walk.last().expect(rt, "nothing is walked");
-    check(rt, is_printed(rt, alloc, &last.0, name), name);
+    check(rt, names(rt, alloc, name, &last.0), name);
 }

@@ -13,8 +13,6 @@ mod exchanged_parts;
 #[cfg(test)]
 mod faults;
 #[cfg(test)]
-mod in_place;
-#[cfg(test)]
 mod kept;
 #[cfg(test)]
 mod levels;
@@ -32,3 +30,5 @@ mod moves;
 mod parts;
 #[cfg(test)]
 mod script;
+#[cfg(test)]
+mod views;

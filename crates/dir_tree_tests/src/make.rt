@@ -1,5 +1,6 @@
-//! What the tests are made of: names, keys, lines, entries and directories.
+//! What the tests are made of: names, keys, lines, entries and directories, each read from its text.
 
+use crate::script::split;
 use dir_names::{Bytes, Description, Dn, DnKey, Lines, Schema, ValueKey};
 use dir_tree::{Directory, Entry, EntryFault, may_stand, own_rdns};
 use std::alloc::Global;
@@ -35,32 +36,32 @@ pub(crate) fn value(rt: &impl Abort, alloc: Global, attr_type: &str, text: &str)
         .expect(rt, "a key")
 }
 
-/// The types and texts of lines.
-pub(crate) type Texts<'a> = &'a [(&'a str, &'a str)];
-
-/// What an add of these lines at this name makes.
-pub(crate) fn make(
-    rt: &impl Abort,
-    alloc: Global,
-    text: &str,
-    lines: Texts,
-) -> Result<Entry, EntryFault> {
-    let own = name(rt, alloc, text).into_rdns();
+/// What an add makes of the text of an entry: its name, and then its lines, as in `cn=Kim | sn=Park`.
+pub(crate) fn make(rt: &impl Abort, alloc: Global, text: &str) -> Result<Entry, EntryFault> {
+    let (own, lines) = split(text, " | ");
+    let own = name(rt, alloc, own).into_rdns();
     Entry::make(alloc, &schema(rt, alloc), own, lines_of(rt, alloc, lines))
 }
 
-/// The entry of these lines at this name.
-pub(crate) fn made(rt: &impl Abort, alloc: Global, text: &str, lines: Texts) -> Entry {
-    make(rt, alloc, text, lines).expect(rt, "an entry")
+/// The entry of this text.
+pub(crate) fn made(rt: &impl Abort, alloc: Global, text: &str) -> Entry {
+    make(rt, alloc, text).expect(rt, "an entry")
 }
 
-pub(crate) fn lines_of(rt: &impl Abort, alloc: Global, lines: Texts) -> Lines {
+/// The lines of a text.
+pub(crate) fn lines_of(rt: &impl Abort, alloc: Global, text: &str) -> Lines {
     let mut items = Vec::new(alloc);
-    for (attr_type, text) in lines {
-        let line = (description(rt, alloc, attr_type), bytes(rt, alloc, text));
-        items.push(line).expect(rt, "memory");
+    for line in text.split(" | ") {
+        if !line.is_empty() {
+            items.push(line_of(rt, alloc, line)).expect(rt, "memory");
+        }
     }
     Lines::new(items)
+}
+
+fn line_of(rt: &impl Abort, alloc: Global, line: &str) -> (Description, Bytes) {
+    let (attr_type, text) = split(line, "=");
+    (description(rt, alloc, attr_type), bytes(rt, alloc, text))
 }
 
 /// The entry of this name with no values but those of its RDN.
@@ -85,7 +86,7 @@ pub(crate) fn put<D: Directory>(
         panic!(rt; "no parent");
     }
     if directory.insert(key, entry).is_err() {
-        assert!(rt; directory.get(key).is_none());
+        check(rt, directory.get(key).is_none(), "put in");
         panic!(rt; "memory");
     }
 }
@@ -102,40 +103,9 @@ pub(crate) fn check(rt: &impl Abort, holds: bool, what: &str) {
     assert!(rt; holds, "{what}");
 }
 
-/// Whether a name is printed so.
-pub(crate) fn is_printed(rt: &impl Abort, alloc: Global, name: &Dn, want: &str) -> bool {
-    let text = name.print(alloc).expect(rt, "memory");
-    text.as_slice() == want.as_bytes()
-}
-
-/// Appends a name to those that are in a text.
-pub(crate) fn push_name(rt: &impl Abort, alloc: Global, text: &mut Vec<u8>, name: &Dn) {
-    if !text.is_empty() {
-        text.extend_from_slice(b" | ").expect(rt, "memory");
-    }
-    let name = name.print(alloc).expect(rt, "memory");
-    text.extend_from_slice(name.as_slice()).expect(rt, "memory");
-}
-
-/// Whether the entry at the key of this name is spelled so.
-pub(crate) fn is_spelled<D: Directory>(
-    rt: &impl Abort,
-    alloc: Global,
-    directory: &D,
-    text: &str,
-    want: &str,
-) -> bool {
-    let key = key_of(rt, alloc, text);
-    let Some(_) = directory.get(&key) else {
-        return false;
-    };
-    let name = directory.spelled(&key).expect(rt, "memory");
-    is_printed(rt, alloc, &name, want)
-}
-
-/// Whether an entry's own name is spelled so.
-pub(crate) fn has_own(rt: &impl Abort, alloc: Global, entry: &Entry, want: &str) -> bool {
-    let rdn = entry.own().first().expect(rt, "no own name");
-    let text = rdn.print(alloc).expect(rt, "memory");
-    text.as_slice() == want.as_bytes()
+/// What an entry is refused for. Out of memory is no fault of an entry: it ends the test.
+pub(crate) fn refused_for(rt: &impl Abort, made: Result<Entry, EntryFault>) -> Option<EntryFault> {
+    let fault = made.err();
+    check(rt, fault != Some(EntryFault::Memory), "memory");
+    fault
 }

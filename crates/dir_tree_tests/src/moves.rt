@@ -1,5 +1,6 @@
 //! Moves of subtrees, and how high they are.
 
+use crate::script::counts;
 use dir_names::DnKey;
 use dir_tree::{Directory, Entry};
 use std::alloc::Global;
@@ -56,7 +57,5 @@ pub(crate) fn has_height<D: Directory>(
     let Some(_) = directory.get(key) else {
         return false;
     };
-    let height = directory.height_below(key);
-    let text = format!(in alloc; "{height}").expect(rt, "memory");
-    text.as_str() == want
+    counts(rt, alloc, want, directory.height_below(key))
 }

@@ -1,35 +1,114 @@
 //! Fields that are closed to an entry, or refused.
 
-use crate::make::{Texts, bytes, description, made, schema, value};
+use crate::make::{bytes, check, description, made, schema, value};
+use crate::script::{begun, counts, split, step_of};
 use dir_names::Rdn;
 use dir_tree::{Attribute, AttributeMap, EntryFault, KeptAttributes, Parts};
 use std::alloc::Global;
 use std::process::Abort;
 
-/// The lines of `cn=Kim`.
-const KIM: Texts = &[("uidNumber", "1")];
+/// Fields are closed to an entry.
+const CLOSED: &str = "
+entry cn=Kim | uidNumber=1
+own -> 1
+add sn=Park
+close -> closed
+own -> 1
+count -> 3
+";
+
+/// An entry has the values of its own RDN. Fields that do not make an entry come back.
+const REFUSED: &str = "
+entry cn=Kim | uidNumber=1
+key cn=Lee
+add uidNumber=2
+close -> E3 NotNamed
+add cn=LEE
+close -> E4 Single
+count -> 2
+";
+
+#[test]
+fn fields_are_closed_to_an_entry(rt: HostRuntime) {
+    run(&rt, rt.alloc(), CLOSED);
+}
+
+#[test]
+fn an_entry_has_the_values_of_its_own_rdn(rt: HostRuntime) {
+    run(&rt, rt.alloc(), REFUSED);
+}
+
+fn run(rt: &impl Abort, alloc: Global, script: &str) {
+    let (text, steps) = begun(script);
+    let mut parts = made(rt, alloc, text).into_parts();
+    for line in steps.lines() {
+        parts = after(rt, alloc, parts, line);
+    }
+}
+
+/// The fields after a step. Each answer must be the one that is wanted.
+fn after(rt: &impl Abort, alloc: Global, parts: Parts, line: &str) -> Parts {
+    let step = step_of(line);
+    match step.verb {
+        "key" => with_key(rt, alloc, parts, step.given),
+        "add" => with_value(rt, alloc, parts, step.given),
+        "close" => closed(rt, alloc, parts, step.want),
+        _ => {
+            let count = match step.verb {
+                "own" => parts.own.len(),
+                _ => parts.attributes.iter().count(),
+            };
+            check(rt, counts(rt, alloc, step.want, count), line);
+            parts
+        }
+    }
+}
+
+/// The fields with the key of another RDN.
+fn with_key(rt: &impl Abort, alloc: Global, parts: Parts, text: &str) -> Parts {
+    let rdn = Rdn::read(alloc, text.as_bytes()).expect(rt, "an RDN");
+    let key = rdn.key(alloc, &schema(rt, alloc)).expect(rt, "a key");
+    Parts { key, ..parts }
+}
 
 /// The fields with one value more in the attribute of this type, or in a new attribute.
-fn with(rt: &impl Abort, alloc: Global, parts: Parts, attr_type: &str, text: &str) -> Parts {
+fn with_value(rt: &impl Abort, alloc: Global, parts: Parts, line: &str) -> Parts {
     let Parts {
         own,
         key,
         attributes,
     } = parts;
-    let Ok(mut map) = attributes.open(alloc) else {
-        panic!(rt; "memory");
-    };
-    let mut attribute = taken(rt, alloc, &mut map, attr_type);
-    let value = value(rt, alloc, attr_type, text);
-    attribute
-        .add(alloc, value, bytes(rt, alloc, text))
-        .expect(rt, "a value");
-    map.put(attribute).expect(rt, "memory");
+    let attributes = with_line(rt, alloc, attributes, line);
     Parts {
         own,
         key,
-        attributes: KeptAttributes::of(map),
+        attributes,
     }
+}
+
+fn with_line(
+    rt: &impl Abort,
+    alloc: Global,
+    attributes: KeptAttributes,
+    line: &str,
+) -> KeptAttributes {
+    let Ok(mut map) = attributes.open(alloc) else {
+        panic!(rt; "memory");
+    };
+    let attribute = grown(rt, alloc, &mut map, line);
+    map.put(attribute).expect(rt, "memory");
+    KeptAttributes::of(map)
+}
+
+/// An attribute of a map, which leaves it, or one without values, with one value more.
+fn grown(rt: &impl Abort, alloc: Global, map: &mut AttributeMap, line: &str) -> Attribute {
+    let (attr_type, text) = split(line, "=");
+    let mut attribute = taken(rt, alloc, map, attr_type);
+    let key = value(rt, alloc, attr_type, text);
+    attribute
+        .add(alloc, key, bytes(rt, alloc, text))
+        .expect(rt, "a value");
+    attribute
 }
 
 /// The attribute of this type, which leaves the map, or one without values.
@@ -46,37 +125,24 @@ fn taken(
     }
 }
 
-#[test]
-fn fields_are_closed_to_an_entry(rt: HostRuntime) {
-    let alloc = rt.alloc();
-    let parts = made(&rt, alloc, "cn=Kim", KIM).into_parts();
-    assert!(rt; parts.own.len() == 1);
-    let parts = with(&rt, alloc, parts, "sn", "Park");
-    let Ok(entry) = parts.close(&schema(&rt, alloc)) else {
-        panic!(rt; "refused");
-    };
-    assert!(rt; entry.own().len() == 1);
-    assert!(rt; entry.attributes().count() == 3);
+/// The fields of the entry that they make, or those that do not make an entry. This must be the outcome.
+fn closed(rt: &impl Abort, alloc: Global, parts: Parts, want: &str) -> Parts {
+    match parts.close(&schema(rt, alloc)) {
+        Ok(entry) => {
+            check(rt, want == "closed", want);
+            entry.into_parts()
+        }
+        Err((back, fault)) => {
+            check(rt, is_fault(fault, want), want);
+            back
+        }
+    }
 }
 
-/// The fields that do not make an entry, for this fault.
-fn refused(rt: &impl Abort, alloc: Global, parts: Parts, want: EntryFault) -> Parts {
-    let Err((back, fault)) = parts.close(&schema(rt, alloc)) else {
-        panic!(rt; "closed");
-    };
-    assert!(rt; fault == want);
-    back
-}
-
-#[test]
-fn an_entry_has_the_values_of_its_own_rdn(rt: HostRuntime) {
-    let alloc = rt.alloc();
-    let mut parts = made(&rt, alloc, "cn=Kim", KIM).into_parts();
-    let lee = Rdn::read(alloc, b"cn=Lee").expect(&rt, "an RDN");
-    parts.key = lee.key(alloc, &schema(&rt, alloc)).expect(&rt, "a key");
-    let parts = with(&rt, alloc, parts, "uidNumber", "2");
-    let back = refused(&rt, alloc, parts, EntryFault::NotNamed);
-    let back = with(&rt, alloc, back, "cn", "LEE");
-    let back = refused(&rt, alloc, back, EntryFault::Single);
-    assert!(rt; back.attributes.iter().count() == 2);
+fn is_fault(fault: EntryFault, want: &str) -> bool {
+    match fault {
+        EntryFault::NotNamed => want == "E3 NotNamed",
+        EntryFault::Single => want == "E4 Single",
+        _ => false,
+    }
 }

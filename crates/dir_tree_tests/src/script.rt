@@ -1,4 +1,8 @@
-//! Scripts: what is done with a value under test and what is asked of it, a step in a line.
+//! Scripts: what is done with a value under test and what is asked of it, a step in a line; and what is told of it.
+
+use dir_names::{Dn, Rdn};
+use std::alloc::Global;
+use std::process::Abort;
 
 /// A step, as in `height dc=com -> 2`: what is done or asked, of what, and the answer that is wanted, if any.
 #[derive(Drop)]
@@ -15,12 +19,48 @@ pub(crate) fn step_of(line: &str) -> Step<'_> {
     Step { verb, given, want }
 }
 
+/// The first line of a script, of which the first word says what it is, and the lines of its steps.
+pub(crate) fn begun(script: &str) -> (&str, &str) {
+    let (first, steps) = split(script.trim(), "\n");
+    (split(first, " ").1, steps)
+}
+
 /// What is before a mark in a text, and what is after it.
 pub(crate) fn split<'t>(text: &'t str, mark: &str) -> (&'t str, &'t str) {
     text.split_once(mark).unwrap_or((text, ""))
 }
 
-/// Whether this is the answer that is wanted.
-pub(crate) fn is_answer(holds: bool, want: &str) -> bool {
+/// Whether the answer that is wanted says so.
+pub(crate) fn says(want: &str, holds: bool) -> bool {
     want == (if holds { "yes" } else { "no" })
+}
+
+/// Whether this number is the answer that is wanted.
+pub(crate) fn counts(rt: &impl Abort, alloc: Global, want: &str, count: usize) -> bool {
+    let told = format!(in alloc; "{count}").expect(rt, "memory");
+    told.as_str() == want
+}
+
+/// Whether a name is the answer that is wanted.
+pub(crate) fn names(rt: &impl Abort, alloc: Global, want: &str, name: &Dn) -> bool {
+    let told = name.print(alloc).expect(rt, "memory");
+    told.as_slice() == want.as_bytes()
+}
+
+/// Whether an own name is the answer that is wanted.
+pub(crate) fn names_own(rt: &impl Abort, alloc: Global, want: &str, own: &[Rdn]) -> bool {
+    let mut told = Vec::new(alloc);
+    for rdn in own {
+        let rdn = rdn.print(alloc).expect(rt, "memory");
+        tell(rt, &mut told, rdn.as_slice());
+    }
+    told.as_slice() == want.as_bytes()
+}
+
+/// Appends a piece to a text.
+pub(crate) fn tell(rt: &impl Abort, told: &mut Vec<u8>, piece: &[u8]) {
+    if !told.is_empty() {
+        told.extend_from_slice(b" | ").expect(rt, "memory");
+    }
+    told.extend_from_slice(piece).expect(rt, "memory");
 }
