@@ -1,6 +1,6 @@
 //! Long lists of values, which are kept in pieces: values put in, found, changed and removed in orders of their own.
 
-use crate::make::{bytes, description};
+use crate::make::{bytes, check, description};
 use dir_names::{Bytes, ValueKey};
 use dir_tree::{Attribute, AttributeMap, EntryFault, ValueMap};
 use std::alloc::Global;
@@ -54,103 +54,164 @@ fn long_list(rt: &impl Abort, alloc: Global) -> ValueMap {
     values
 }
 
-/// Removes the first of the values, in an order of their own.
-fn remove(rt: &impl Abort, alloc: Global, values: &mut ValueMap, first: usize, end: usize) {
-    for i in first..end {
-        let number = i.wrapping_mul(REMOVED) % COUNT;
-        let removed = values.remove(alloc, &key(rt, alloc, number));
-        let removed = removed.expect(rt, "no such value");
-        assert!(rt; removed.as_slice() == text(rt, alloc, number).as_slice());
+/// Whether the value with a number is there.
+fn is_found(rt: &impl Abort, alloc: Global, values: &ValueMap, number: usize) -> bool {
+    match values.get(&key(rt, alloc, number)) {
+        Some(found) => is_text(rt, alloc, found, number),
+        None => false,
     }
 }
 
-/// Asserts that the list has the values of all numbers, in order.
-fn assert_all(rt: &impl Abort, alloc: Global, values: &ValueMap) {
-    assert!(rt; values.len() == COUNT);
-    let mut found = values.iter();
-    for number in 0..COUNT {
-        let (_, bytes) = found.next().expect(rt, "no such value");
-        assert!(rt; bytes.as_slice() == text(rt, alloc, number).as_slice());
-    }
-    assert!(rt; found.next().is_none());
+/// Whether these are the bytes of the value with a number.
+fn is_text(rt: &impl Abort, alloc: Global, bytes: &Bytes, number: usize) -> bool {
+    bytes.as_slice() == text(rt, alloc, number).as_slice()
 }
 
-/// Asserts which of the values are there: all but the first of those that are removed.
-fn assert_left(rt: &impl Abort, alloc: Global, values: &ValueMap, removed: usize) {
-    for i in 0..COUNT {
-        let found = values.contains_key(&key(rt, alloc, i * REMOVED % COUNT));
-        assert!(rt; found == (i >= removed));
+/// Whether the list has the values of all numbers, in order.
+fn has_all(rt: &impl Abort, alloc: Global, values: &ValueMap) -> bool {
+    let mut number = 0usize;
+    for (_, bytes) in values.iter() {
+        if !is_text(rt, alloc, bytes, number) {
+            return false;
+        }
+        number = number.wrapping_add(1);
     }
+    number == COUNT && values.len() == COUNT
 }
 
 #[test]
 fn values_are_listed_in_order_however_they_are_put_in(rt: HostRuntime) {
     for (step, first) in &ORDERS {
-        let mut values = ValueMap::empty(rt.alloc());
-        put_all(&rt, rt.alloc(), &mut values, *step, *first);
-        assert_all(&rt, rt.alloc(), &values);
+        check_order(&rt, rt.alloc(), *step, *first);
     }
+}
+
+fn check_order(rt: &impl Abort, alloc: Global, step: usize, first: usize) {
+    let mut values = ValueMap::empty(alloc);
+    put_all(rt, alloc, &mut values, step, first);
+    check(rt, has_all(rt, alloc, &values), "all in order");
 }
 
 #[test]
 fn values_of_a_long_list_are_found_and_put_in_once(rt: HostRuntime) {
     let mut values = long_list(&rt, rt.alloc());
+    check_found(&rt, rt.alloc(), &mut values);
+}
+
+fn check_found(rt: &impl Abort, alloc: Global, values: &mut ValueMap) {
     for i in 0..COUNT {
         let number = i * LOOKED_UP % COUNT;
-        let found = values.get(&key(&rt, rt.alloc(), number));
-        let found = found.expect(&rt, "no such value");
-        assert!(rt; found.as_slice() == text(&rt, rt.alloc(), number).as_slice());
-        let again = put(&rt, rt.alloc(), &mut values, number);
-        assert!(rt; again == Err(EntryFault::Twice));
+        check(rt, is_found(rt, alloc, values, number), "found");
+        check(rt, is_twice(rt, alloc, values, number), "put in once");
     }
-    assert!(rt; values.get(&key(&rt, rt.alloc(), COUNT)).is_none());
-    assert!(rt; values.len() == COUNT);
+    check(rt, !is_found(rt, alloc, values, COUNT), "no other");
+    check(rt, values.len() == COUNT, "as many as before");
+}
+
+/// Whether the value with a number is there already.
+fn is_twice(rt: &impl Abort, alloc: Global, values: &mut ValueMap, number: usize) -> bool {
+    match put(rt, alloc, values, number) {
+        Err(EntryFault::Memory) => panic!(rt; "memory"),
+        outcome => outcome == Err(EntryFault::Twice),
+    }
 }
 
 #[test]
 fn values_of_a_long_list_are_found_by_their_texts(rt: HostRuntime) {
-    let described = description(&rt, rt.alloc(), "sn");
     let mut attributes = AttributeMap::empty(rt.alloc());
     let attribute = Attribute::of(
         description(&rt, rt.alloc(), "sn"),
         long_list(&rt, rt.alloc()),
     );
     attributes.put(attribute).expect(&rt, "memory");
+    check_texts(&rt, rt.alloc(), &attributes);
+}
+
+fn check_texts(rt: &impl Abort, alloc: Global, attributes: &AttributeMap) {
     for i in 0..COUNT {
-        let sought = text(&rt, rt.alloc(), i * LOOKED_UP % COUNT);
-        assert!(rt; attributes.has_text(described.key(), sought.as_slice()));
+        let found = has_text(rt, alloc, attributes, i * LOOKED_UP % COUNT);
+        check(rt, found, "found");
     }
-    let none = text(&rt, rt.alloc(), COUNT);
-    assert!(rt; !attributes.has_text(described.key(), none.as_slice()));
+    check(rt, !has_text(rt, alloc, attributes, COUNT), "no other");
+}
+
+/// Whether there is a value of `sn` with the text of a number as its key.
+fn has_text(rt: &impl Abort, alloc: Global, attributes: &AttributeMap, number: usize) -> bool {
+    let sought = text(rt, alloc, number);
+    attributes.has_text(description(rt, alloc, "sn").key(), sought.as_slice())
 }
 
 #[test]
 fn values_of_a_long_list_get_other_bytes(rt: HostRuntime) {
     let mut values = long_list(&rt, rt.alloc());
-    values.set(&key(&rt, rt.alloc(), COUNT), bytes(&rt, rt.alloc(), "new"));
-    assert_all(&rt, rt.alloc(), &values);
+    check_set(&rt, rt.alloc(), &mut values);
+}
+
+/// A value that is not there gets none.
+fn check_set(rt: &impl Abort, alloc: Global, values: &mut ValueMap) {
+    set(rt, alloc, values, COUNT);
+    check(rt, has_all(rt, alloc, values), "as before");
     for i in 0..COUNT {
-        let key = key(&rt, rt.alloc(), i * LOOKED_UP % COUNT);
-        values.set(&key, bytes(&rt, rt.alloc(), "new"));
-        let found = values.get(&key).expect(&rt, "no such value");
-        assert!(rt; found.as_slice() == b"new".as_slice());
+        let number = i * LOOKED_UP % COUNT;
+        set(rt, alloc, values, number);
+        check(rt, is_new(rt, alloc, values, number), "new");
     }
-    assert!(rt; values.len() == COUNT);
+    check(rt, values.len() == COUNT, "as many as before");
+}
+
+/// Gives the value with a number other bytes.
+fn set(rt: &impl Abort, alloc: Global, values: &mut ValueMap, number: usize) {
+    values.set(&key(rt, alloc, number), bytes(rt, alloc, "new"));
+}
+
+/// Whether the value with a number has these other bytes.
+fn is_new(rt: &impl Abort, alloc: Global, values: &ValueMap, number: usize) -> bool {
+    match values.get(&key(rt, alloc, number)) {
+        Some(found) => found.as_slice() == b"new".as_slice(),
+        None => false,
+    }
 }
 
 /// The list takes other values then, and a copy keeps its own.
 #[test]
 fn values_of_a_long_list_are_removed(rt: HostRuntime) {
-    let alloc = rt.alloc();
-    let mut values = long_list(&rt, alloc);
-    let copy = values.try_clone(alloc).expect(&rt, "memory");
-    remove(&rt, alloc, &mut values, 0, 4000);
-    assert_left(&rt, alloc, &values, 4000);
-    assert!(rt; values.len() == 1000);
-    remove(&rt, alloc, &mut values, 4000, COUNT);
-    assert!(rt; values.is_empty());
-    assert!(rt; values.iter().next().is_none());
-    assert_all(&rt, alloc, &copy);
-    put_all(&rt, alloc, &mut values, LOOKED_UP, 0);
-    assert_all(&rt, alloc, &values);
+    let mut values = long_list(&rt, rt.alloc());
+    let copy = values.try_clone(rt.alloc()).expect(&rt, "memory");
+    check_removed(&rt, rt.alloc(), &mut values);
+    check(&rt, has_all(&rt, rt.alloc(), &copy), "a copy keeps its own");
+    put_all(&rt, rt.alloc(), &mut values, LOOKED_UP, 0);
+    check(&rt, has_all(&rt, rt.alloc(), &values), "others");
+}
+
+fn check_removed(rt: &impl Abort, alloc: Global, values: &mut ValueMap) {
+    remove(rt, alloc, values, 0, 4000);
+    check_left(rt, alloc, values, 4000);
+    check(rt, values.len() == 1000, "as many as are left");
+    remove(rt, alloc, values, 4000, COUNT);
+    check(rt, values.is_empty(), "none is left");
+    check(rt, values.iter().next().is_none(), "none is listed");
+}
+
+/// Removes the first of the values, in an order of their own.
+fn remove(rt: &impl Abort, alloc: Global, values: &mut ValueMap, first: usize, end: usize) {
+    for i in first..end {
+        let number = i.wrapping_mul(REMOVED) % COUNT;
+        check(rt, is_removed(rt, alloc, values, number), "removed");
+    }
+}
+
+/// Removes the value with a number. Whether it was there.
+fn is_removed(rt: &impl Abort, alloc: Global, values: &mut ValueMap, number: usize) -> bool {
+    match values.remove(alloc, &key(rt, alloc, number)) {
+        Some(bytes) => is_text(rt, alloc, &bytes, number),
+        None => false,
+    }
+}
+
+/// Asserts which of the values are there: all but the first of those that are removed.
+fn check_left(rt: &impl Abort, alloc: Global, values: &ValueMap, removed: usize) {
+    for i in 0..COUNT {
+        let found = values.contains_key(&key(rt, alloc, i * REMOVED % COUNT));
+        check(rt, found == (i >= removed), "left");
+    }
 }
