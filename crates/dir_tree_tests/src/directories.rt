@@ -3,10 +3,12 @@
 //! A key is given as the text of a name. Of an entry that is replaced, removed or moved the answer is its own name, and of a
 //! walk the names that it meets, in order.
 
+use crate::alike::opened;
 use crate::levels::{assert_64_levels, assert_long_own_name};
-use crate::make::{bare, check, fill, key_of, put};
+use crate::make::{check, fill, key_of, made, put};
 use crate::moves::{has_height, shift};
 use crate::script::{Step, begun, names, names_own, says, split, step_of, tell};
+use crate::views::has_lines;
 use dir_names::{Dn, DnKey};
 use dir_tree::{Directory, Entry, FlatDirectory, NotAdded, TreeDirectory};
 use std::alloc::Global;
@@ -181,14 +183,14 @@ fn run<D: Directory>(rt: &impl Abort, alloc: Global, directory: &mut D, steps: &
 }
 
 /// Whether a step has the answer that is wanted.
-fn answers<D: Directory>(
+pub(crate) fn answers<D: Directory>(
     rt: &impl Abort,
     alloc: Global,
     directory: &mut D,
     step: &Step<'_>,
 ) -> bool {
     match step.verb {
-        "has-child" | "height" | "spelled" | "walk" => asked(rt, alloc, directory, step),
+        "has-child" | "height" | "spelled" | "walk" | "lines" => asked(rt, alloc, directory, step),
         "replace" | "remove" | "move" => changed(rt, alloc, directory, step),
         _ => filled(rt, alloc, directory, step),
     }
@@ -210,6 +212,7 @@ fn asked<D: Directory>(rt: &impl Abort, alloc: Global, directory: &D, step: &Ste
         ),
         "spelled" => is_spelled(rt, alloc, directory, step.given, step.want),
         "walk" => is_walked(rt, alloc, directory, step.want),
+        "lines" => is_kept(rt, alloc, directory, step.given),
         _ => false,
     }
 }
@@ -239,6 +242,7 @@ fn filled<D: Directory>(
     match step.verb {
         "put" => fill(rt, alloc, directory, step.given),
         "put-clone" => put_clone(rt, alloc, directory, step.given),
+        "put-back" => put_back(rt, alloc, directory, step.given),
         "add" => return is_added(rt, alloc, directory, step.given, step.want),
         "levels" => assert_64_levels(rt, alloc, directory),
         "long-own-name" => assert_long_own_name(rt, alloc, directory),
@@ -249,12 +253,28 @@ fn filled<D: Directory>(
 
 /// Puts in a clone of the entry of this name.
 fn put_clone<D: Directory>(rt: &impl Abort, alloc: Global, directory: &mut D, text: &str) {
-    let entry = bare(rt, alloc, text, false);
-    let clone = entry.try_clone(alloc).expect(rt, "memory");
+    let clone = made(rt, alloc, text).try_clone(alloc);
+    let clone = clone.expect(rt, "memory");
     put(rt, alloc, directory, &key_of(rt, alloc, text), clone);
 }
 
-/// Whether this comes of an entry that is added at this name.
+/// Puts an entry, with its attributes opened, in the place of the one that is there.
+fn put_back<D: Directory>(rt: &impl Abort, alloc: Global, directory: &mut D, text: &str) {
+    let entry = opened(rt, alloc, made(rt, alloc, text));
+    let key = key_of(rt, alloc, split(text, " | ").0);
+    let _ = exchange(rt, directory, &key, entry);
+}
+
+/// Whether the entry at this key has these lines, as they are spelled.
+fn is_kept<D: Directory>(rt: &impl Abort, alloc: Global, directory: &D, text: &str) -> bool {
+    let (name, lines) = split(text, " | ");
+    match directory.get(&key_of(rt, alloc, name)) {
+        Some(entry) => has_lines(rt, alloc, entry, lines),
+        None => false,
+    }
+}
+
+/// Whether this comes of an entry that is added at this name. One that comes back is the one that was given.
 fn is_added<D: Directory>(
     rt: &impl Abort,
     alloc: Global,
@@ -262,19 +282,18 @@ fn is_added<D: Directory>(
     text: &str,
     want: &str,
 ) -> bool {
-    let entry = bare(rt, alloc, text, false);
-    match directory.add(alloc, &key_of(rt, alloc, text), entry) {
-        Ok(()) => want == "added",
-        Err(NotAdded::Taken) => want == "taken",
-        Err(NotAdded::NoParent(back)) => want == "no parent" && is_bare(rt, alloc, &back, text),
+    let entry = made(rt, alloc, text);
+    let told = match directory.add(alloc, &key_of(rt, alloc, text), entry) {
+        Ok(()) => "added",
+        Err(NotAdded::Taken) => "taken",
+        Err(NotAdded::NoParent(back)) => {
+            let own = split(text, ",").0;
+            check(rt, names_own(rt, alloc, own, back.own()), text);
+            "no parent"
+        }
         Err(NotAdded::Memory) => panic!(rt; "memory"),
-    }
-}
-
-/// Whether an entry has the own name of one that is added at this name.
-fn is_bare(rt: &impl Abort, alloc: Global, entry: &Entry, text: &str) -> bool {
-    let given = bare(rt, alloc, text, false);
-    entry.own() == given.own()
+    };
+    told == want
 }
 
 /// Whether a walk meets entries of these names, in this order.
@@ -311,14 +330,14 @@ pub(crate) fn is_spelled<D: Directory>(
 /// Puts an entry of the second name in the place of the one at the first.
 fn replaced<D: Directory>(rt: &impl Abort, alloc: Global, directory: &mut D, names: &str) -> Entry {
     let (old, new) = split(names, " by ");
-    let entry = bare(rt, alloc, new, false);
+    let entry = made(rt, alloc, new);
     exchange(rt, directory, &key_of(rt, alloc, old), entry)
 }
 
 /// Moves the entry at the first key, with what is below it, to the key of the second name.
 fn moved<D: Directory>(rt: &impl Abort, alloc: Global, directory: &mut D, names: &str) -> Entry {
     let (old, new) = split(names, " to ");
-    let entry = bare(rt, alloc, new, false);
+    let entry = made(rt, alloc, new);
     let old = key_of(rt, alloc, old);
     shift(rt, alloc, directory, &old, &key_of(rt, alloc, new), entry)
 }

@@ -1,12 +1,12 @@
 //! What an add makes of its lines, and each fault before the next.
 
 use crate::alike::opened;
-use crate::exchanged_parts::with_part;
+use crate::exchanged_parts::{with_attribute, with_part};
 use crate::make::{check, description, made, make, name, refused_for, schema, value};
 use crate::script::{Step, begun, counts, names_own, says, split, step_of, tell};
 use crate::views::{has_lines, view_answers};
 use dir_names::{Bytes, Description, Lines};
-use dir_tree::{Entry, EntryFault, entries_hold_their_lines};
+use dir_tree::{AttributeView, Entry, EntryFault, entries_hold_their_lines};
 use std::alloc::Global;
 use std::process::Abort;
 
@@ -61,6 +61,20 @@ small -> no
 takes-part title: title=Boss | description=New  one -> no
 ";
 
+/// What takes the place of one attribute of an entry: as many values or not, of its own or such as many entries have, a name,
+/// spelled otherwise, and an attribute that it lacks. The map of its attributes, changed alike, has the same ones then.
+const EXCHANGED: &str = "
+entry cn=Kim Park | objectClass=person | title=Head  of Staff | title=lead | telephoneNumber=+1 555-0100 | manager=CN=Lee,DC=Example | uidNumber=7
+exchange cn: cn=Kim Lee
+exchange telephoneNumber: telephoneNumber=+1 555-0199, by day
+exchange manager: manager=CN=Ann, DC=Example
+exchange uidNumber: uidNumber=8
+exchange title: title=Boss
+exchange objectClass: objectClass=device
+exchange UIDNUMBER: UIDNUMBER=9
+exchange description: description=New  one
+";
+
 #[test]
 fn an_entry_has_its_lines(rt: HostRuntime) {
     entries_hold_their_lines();
@@ -88,6 +102,11 @@ fn what_a_part_has_under_other_keys_is_left_out(rt: HostRuntime) {
     run(&rt, rt.alloc(), OPENED);
 }
 
+#[test]
+fn one_attribute_takes_the_place_of_another(rt: HostRuntime) {
+    run(&rt, rt.alloc(), EXCHANGED);
+}
+
 fn run(rt: &impl Abort, alloc: Global, script: &str) {
     let (text, steps) = begun(script);
     let mut entry = made(rt, alloc, text);
@@ -104,6 +123,7 @@ fn after(rt: &impl Abort, alloc: Global, entry: Entry, line: &str) -> Entry {
         "make-again" => Entry::of(entry.into_parts()),
         "open" => opened(rt, alloc, entry),
         "part" => changed(rt, alloc, &entry, step.given),
+        "exchange" => with_attribute(rt, alloc, &entry, step.given),
         _ => {
             check(rt, answers(rt, alloc, &entry, &step), line);
             entry
@@ -182,19 +202,29 @@ fn note(rt: &impl Abort, alloc: Global, n: u8) -> (Description, Bytes) {
 /// The values are the bytes from 0 to 199.
 #[test]
 fn many_lines_make_the_entry_that_few_would(rt: HostRuntime) {
-    let own = name(&rt, rt.alloc(), "cn=Kim").into_rdns();
-    let lines = notes(&rt, rt.alloc());
-    let entry = Entry::make(rt.alloc(), &schema(&rt, rt.alloc()), own, lines);
-    let entry = entry.expect(&rt, "an entry");
-    check(&rt, has_notes(&rt, rt.alloc(), &entry), "the notes");
+    check(
+        &rt,
+        has_notes(&rt, rt.alloc(), &noted(&rt, rt.alloc())),
+        "notes",
+    );
 }
 
-/// Whether an entry has the notes 0 to 199, in this order.
+/// The entry with these notes.
+fn noted(rt: &impl Abort, alloc: Global) -> Entry {
+    let own = name(rt, alloc, "cn=Kim").into_rdns();
+    let entry = Entry::make(alloc, &schema(rt, alloc), own, notes(rt, alloc));
+    entry.expect(rt, "an entry")
+}
+
 fn has_notes(rt: &impl Abort, alloc: Global, entry: &Entry) -> bool {
-    let description = description(rt, alloc, "note");
-    let Some(notes) = entry.attribute(description.key()) else {
-        return false;
-    };
+    match entry.attribute(description(rt, alloc, "note").key()) {
+        Some(notes) => are_notes(&notes),
+        None => false,
+    }
+}
+
+/// Whether these are the notes 0 to 199, in this order.
+fn are_notes(notes: &AttributeView<'_>) -> bool {
     let mut at = 0u8;
     for (_, bytes) in notes.values() {
         if bytes != [at].as_slice() {
@@ -226,7 +256,7 @@ const FAULTS: [(&str, Option<EntryFault>); 5] = [
 #[test]
 fn faults_of_values_come_in_their_order_and_an_entry_has_a_name(rt: HostRuntime) {
     for (text, want) in &FAULTS {
-        let fault = refused_for(&rt, make(&rt, rt.alloc(), text));
+        let fault = refused_for(&rt, make(&rt, rt.alloc(), text, false));
         check(&rt, fault == *want, text);
     }
 }

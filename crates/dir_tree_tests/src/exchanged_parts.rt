@@ -1,7 +1,7 @@
 //! Attributes of an entry exchanged for those of a part.
 
 use crate::entries::changed;
-use crate::make::{bytes, check, description, made, name, schema, value};
+use crate::make::{bytes, check, description, name, schema, value};
 use crate::script::split;
 use dir_names::{AttrKey, Bytes, Description, Lines};
 use dir_tree::{Attribute, AttributeMap, AttributeView, Entry, KeptAttributes};
@@ -51,33 +51,8 @@ fn part_of(rt: &impl Abort, alloc: Global, lines: &str) -> AttributeMap {
     part
 }
 
-/// An entry with keys of each kind, of which one attribute has two values.
-const KIM: &str =
-    "cn=Kim Park | objectClass=person | title=Head  of Staff | title=lead | telephoneNumber=+1 555-0100 | manager=CN=Lee,DC=Example | uidNumber=7";
-
-/// What takes the place of one attribute of the entry: as many values or not, of its own or such as many entries have, a
-/// name, spelled otherwise, and an attribute that it lacks.
-const PARTS: [&str; 8] = [
-    "cn: cn=Kim Lee",
-    "telephoneNumber: telephoneNumber=+1 555-0199, by day",
-    "manager: manager=CN=Ann, DC=Example",
-    "uidNumber: uidNumber=8",
-    "title: title=Boss",
-    "objectClass: objectClass=device",
-    "UIDNUMBER: UIDNUMBER=9",
-    "description: description=New  one",
-];
-
-#[test]
-fn one_attribute_takes_the_place_of_another(rt: HostRuntime) {
-    let mut entry = made(&rt, rt.alloc(), KIM);
-    for part in &PARTS {
-        entry = with_attribute(&rt, rt.alloc(), &entry, part);
-    }
-}
-
 /// The entry with the attribute of a part. It must have that, and no others than before.
-fn with_attribute(rt: &impl Abort, alloc: Global, entry: &Entry, part: &str) -> Entry {
+pub(crate) fn with_attribute(rt: &impl Abort, alloc: Global, entry: &Entry, part: &str) -> Entry {
     let expected = exchanged(rt, alloc, entry, split(part, ": ").1);
     let changed = changed(rt, alloc, entry, part);
     check(rt, has_attributes(&changed, &expected), part);
@@ -143,13 +118,17 @@ const GROWN: [(usize, usize, &str, bool); 7] = [
 fn a_small_entry_has_few_values_and_little_text(rt: HostRuntime) {
     for (values, size, is_small) in &SIZES {
         let entry = sized(&rt, rt.alloc(), *values, *size);
-        assert!(&rt; entry.is_small() == *is_small, "{values} {size}");
+        check(&rt, entry.is_small() == *is_small, "an entry of a size");
     }
     for (values, size, part, takes) in &GROWN {
-        let entry = sized(&rt, rt.alloc(), *values, *size);
-        let attributes = with_part(&rt, rt.alloc(), &entry, part);
-        assert!(&rt; attributes.is_some() == *takes, "{values} {size} {part}");
+        let taken = takes_part(&rt, rt.alloc(), *values, *size, part);
+        check(&rt, taken == *takes, part);
     }
+}
+
+/// Whether there is a packed entry with a part of one with this many values, of so many bytes.
+fn takes_part(rt: &impl Abort, alloc: Global, values: usize, size: usize, part: &str) -> bool {
+    with_part(rt, alloc, &sized(rt, alloc, values, size), part).is_some()
 }
 
 /// An entry with this many values, of so many bytes together, which are keys themselves.

@@ -1,6 +1,9 @@
 //! The texts of the faults.
 
+use crate::make::check;
 use dir_tree::EntryFault;
+use std::alloc::AllocError;
+use std::process::Abort;
 
 const TEXTS: [(EntryFault, &str); 5] = [
     (EntryFault::BadValue, "E1 BadValue"),
@@ -14,9 +17,14 @@ const TEXTS: [(EntryFault, &str); 5] = [
 #[test]
 fn each_fault_shows_its_text(rt: HostRuntime) {
     for (fault, want) in &TEXTS {
-        let plain = format!(in rt.alloc(); "{fault}").expect(&rt, "memory");
-        assert!(rt; plain.as_str() == *want, "{plain}");
-        let styled = format!(in rt.alloc(); "{fault:#}").expect(&rt, "memory");
-        assert!(rt; styled.as_str() == *want, "{styled}");
+        let plain = format!(in rt.alloc(); "{fault}");
+        check(&rt, is_shown(&rt, plain, want), want);
+        let styled = format!(in rt.alloc(); "{fault:#}");
+        check(&rt, is_shown(&rt, styled, want), want);
     }
+}
+
+/// Whether a fault is shown by this text.
+fn is_shown(rt: &impl Abort, shown: Result<String, AllocError>, want: &str) -> bool {
+    shown.expect(rt, "memory").as_str() == want
 }

@@ -30,26 +30,28 @@ among title=Lead -> no | yes
 
 #[test]
 fn values_are_lent_as_they_are_packed(rt: HostRuntime) {
-    let (text, steps) = begun(LENT);
-    let parts = made(&rt, rt.alloc(), text).into_parts();
-    run(&rt, rt.alloc(), &parts.attributes, steps);
+    run(&rt, rt.alloc(), false);
 }
 
 #[test]
 fn values_are_lent_as_they_are_opened(rt: HostRuntime) {
+    run(&rt, rt.alloc(), true);
+}
+
+fn run(rt: &impl Abort, alloc: Global, is_open: bool) {
     let (text, steps) = begun(LENT);
-    let open = open_again(&rt, rt.alloc(), &made(&rt, rt.alloc(), text));
-    run(&rt, rt.alloc(), &open, steps);
-}
-
-/// The attributes of an entry, opened and closed again.
-fn open_again(rt: &impl Abort, alloc: Global, entry: &Entry) -> KeptAttributes {
-    KeptAttributes::of(entry.to_map(alloc).expect(rt, "memory"))
-}
-
-fn run(rt: &impl Abort, alloc: Global, kept: &KeptAttributes, steps: &str) {
+    let kept = kept_of(rt, alloc, made(rt, alloc, text), is_open);
     for line in steps.lines() {
-        check(rt, answers(rt, alloc, kept, &step_of(line)), line);
+        check(rt, answers(rt, alloc, &kept, &step_of(line)), line);
+    }
+}
+
+/// The attributes of an entry, as they are, or opened and closed again.
+fn kept_of(rt: &impl Abort, alloc: Global, entry: Entry, is_open: bool) -> KeptAttributes {
+    if is_open {
+        KeptAttributes::of(entry.to_map(alloc).expect(rt, "memory"))
+    } else {
+        entry.into_parts().attributes
     }
 }
 

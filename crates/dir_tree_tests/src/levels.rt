@@ -1,7 +1,7 @@
 //! Names and own names of 64 RDNs.
 
 use crate::directories::is_spelled;
-use crate::make::{bare, check, fill, key_of, put};
+use crate::make::{check, fill, key_of, make, put};
 use crate::script::names;
 use dir_tree::Directory;
 use std::alloc::Global;
@@ -40,13 +40,13 @@ pub(crate) fn assert_long_own_name<D: Directory>(
     directory: &mut D,
 ) {
     let long = with_63_rdns(rt, alloc, "cn=1");
-    let entry = bare(rt, alloc, long.as_str(), true);
+    let entry = make(rt, alloc, long.as_str(), true);
     put(
         rt,
         alloc,
         directory,
         &key_of(rt, alloc, "cn=64,dc=com"),
-        entry,
+        entry.expect(rt, "an entry"),
     );
     assert_last_spelled(rt, alloc, directory, "cn=64,dc=com");
 }

@@ -17,8 +17,6 @@ mod kept;
 #[cfg(test)]
 mod levels;
 #[cfg(test)]
-mod long_lists;
-#[cfg(test)]
 mod make;
 #[cfg(test)]
 mod makers;
@@ -30,5 +28,7 @@ mod moves;
 mod parts;
 #[cfg(test)]
 mod script;
+#[cfg(test)]
+mod values;
 #[cfg(test)]
 mod views;

@@ -36,16 +36,22 @@ pub(crate) fn value(rt: &impl Abort, alloc: Global, attr_type: &str, text: &str)
         .expect(rt, "a key")
 }
 
-/// What an add makes of the text of an entry: its name, and then its lines, as in `cn=Kim | sn=Park`.
-pub(crate) fn make(rt: &impl Abort, alloc: Global, text: &str) -> Result<Entry, EntryFault> {
+/// What an add makes of the text of an entry: its name, and then its lines, as in `cn=Kim | sn=Park`. Of the name the first
+/// RDN is the entry's own, or all if it is the suffix's.
+pub(crate) fn make(
+    rt: &impl Abort,
+    alloc: Global,
+    text: &str,
+    is_suffix: bool,
+) -> Result<Entry, EntryFault> {
     let (own, lines) = split(text, " | ");
-    let own = name(rt, alloc, own).into_rdns();
+    let own = own_rdns(name(rt, alloc, own), is_suffix);
     Entry::make(alloc, &schema(rt, alloc), own, lines_of(rt, alloc, lines))
 }
 
 /// The entry of this text.
 pub(crate) fn made(rt: &impl Abort, alloc: Global, text: &str) -> Entry {
-    make(rt, alloc, text).expect(rt, "an entry")
+    make(rt, alloc, text, false).expect(rt, "an entry")
 }
 
 /// The lines of a text.
@@ -62,13 +68,6 @@ pub(crate) fn lines_of(rt: &impl Abort, alloc: Global, text: &str) -> Lines {
 fn line_of(rt: &impl Abort, alloc: Global, line: &str) -> (Description, Bytes) {
     let (attr_type, text) = split(line, "=");
     (description(rt, alloc, attr_type), bytes(rt, alloc, text))
-}
-
-/// The entry of this name with no values but those of its RDN.
-pub(crate) fn bare(rt: &impl Abort, alloc: Global, text: &str, is_suffix: bool) -> Entry {
-    let own = own_rdns(name(rt, alloc, text), is_suffix);
-    let none = Lines::new(Vec::new(alloc));
-    Entry::make(alloc, &schema(rt, alloc), own, none).expect(rt, "an entry")
 }
 
 /// Puts an entry at a key that may take it. Where memory runs out, the key must have no entry.
@@ -91,11 +90,11 @@ pub(crate) fn put<D: Directory>(
     }
 }
 
-/// Puts in an entry of this name, with no values but those of its RDN.
-pub(crate) fn fill<D: Directory>(rt: &impl Abort, alloc: Global, directory: &mut D, name: &str) {
-    let key = key_of(rt, alloc, name);
-    let entry = bare(rt, alloc, name, &key == directory.suffix());
-    put(rt, alloc, directory, &key, entry);
+/// Puts in the entry of a text.
+pub(crate) fn fill<D: Directory>(rt: &impl Abort, alloc: Global, directory: &mut D, text: &str) {
+    let key = key_of(rt, alloc, split(text, " | ").0);
+    let entry = make(rt, alloc, text, &key == directory.suffix());
+    put(rt, alloc, directory, &key, entry.expect(rt, "an entry"));
 }
 
 /// Ends the test with this text unless this holds. Each `assert!` makes the proof of its function longer; a call is cheaper.

@@ -1,118 +1,13 @@
-//! The maps of values and of attributes, whose values and attributes are changed in place. All values are those of `sn`.
+//! The map of attributes, in which attributes and values are exchanged in place. All values are those of `sn`.
 
-use crate::make::{bytes, check, description, made, schema, value};
-use crate::script::{Step, begun, counts, says, split, step_of, tell};
+use crate::make::{check, description, made, schema, value};
+use crate::script::{Step, begun, counts, says, split, step_of};
+use crate::values::are_all;
 use crate::views::one_value;
-use dir_names::ValueKey;
-use dir_tree::{Attribute, AttributeMap, EntryFault, ValueMap};
+use dir_names::{AttrKey, ValueKey};
+use dir_tree::{Attribute, AttributeMap, ValueMap};
 use std::alloc::Global;
 use std::process::Abort;
-
-/// Values are found by their keys, and put in once.
-const FOUND: &str = "
-no values
-insert b
-insert A
-has B -> yes
-get a -> A
-get c -> none
-insert a -> E2 Twice
-length -> 2
-copied -> A | b
-";
-
-/// A value gets other bytes; one that is not there gets none.
-const SET: &str = "
-no values
-insert a
-set a=A
-set b=b
-length -> 1
-get a -> A
-remove a -> A
-empty -> yes
-";
-
-#[test]
-fn values_are_found_by_their_keys_and_put_in_once(rt: HostRuntime) {
-    run_values(&rt, rt.alloc(), FOUND);
-}
-
-#[test]
-fn a_value_gets_other_bytes(rt: HostRuntime) {
-    run_values(&rt, rt.alloc(), SET);
-}
-
-fn run_values(rt: &impl Abort, alloc: Global, script: &str) {
-    let mut values = ValueMap::empty(alloc);
-    for line in begun(script).1.lines() {
-        let answers = values_answer(rt, alloc, &mut values, &step_of(line));
-        check(rt, answers, line);
-    }
-}
-
-/// Whether a step has the answer that is wanted.
-fn values_answer(rt: &impl Abort, alloc: Global, values: &mut ValueMap, step: &Step<'_>) -> bool {
-    match step.verb {
-        "insert" => is_inserted(rt, alloc, values, step),
-        "set" => is_set(rt, alloc, values, step.given),
-        "remove" => is_removed(rt, alloc, values, step),
-        "has" => says(step.want, values.contains_key(&sn(rt, alloc, step.given))),
-        "get" => is_found(rt, alloc, values, step),
-        "length" => counts(rt, alloc, step.want, values.len()),
-        "empty" => says(step.want, values.is_empty()),
-        "copied" => is_copied(rt, alloc, values, step.want),
-        _ => false,
-    }
-}
-
-/// The key of a value.
-fn sn(rt: &impl Abort, alloc: Global, text: &str) -> ValueKey {
-    value(rt, alloc, "sn", text)
-}
-
-fn is_inserted(rt: &impl Abort, alloc: Global, values: &mut ValueMap, step: &Step<'_>) -> bool {
-    let text = bytes(rt, alloc, step.given);
-    match values.insert(alloc, sn(rt, alloc, step.given), text) {
-        Ok(()) => step.want.is_empty(),
-        Err(EntryFault::Twice) => step.want == "E2 Twice",
-        Err(_) => panic!(rt; "memory"),
-    }
-}
-
-fn is_set(rt: &impl Abort, alloc: Global, values: &mut ValueMap, line: &str) -> bool {
-    let (key, text) = split(line, "=");
-    values.set(&sn(rt, alloc, key), bytes(rt, alloc, text));
-    true
-}
-
-fn is_removed(rt: &impl Abort, alloc: Global, values: &mut ValueMap, step: &Step<'_>) -> bool {
-    match values.remove(alloc, &sn(rt, alloc, step.given)) {
-        Some(bytes) => bytes.as_slice() == step.want.as_bytes(),
-        None => step.want == "none",
-    }
-}
-
-fn is_found(rt: &impl Abort, alloc: Global, values: &ValueMap, step: &Step<'_>) -> bool {
-    match values.get(&sn(rt, alloc, step.given)) {
-        Some(bytes) => bytes.as_slice() == step.want.as_bytes(),
-        None => step.want == "none",
-    }
-}
-
-/// Whether a copy has these values, in order of their keys.
-fn is_copied(rt: &impl Abort, alloc: Global, values: &ValueMap, want: &str) -> bool {
-    let copy = values.try_clone(alloc).expect(rt, "memory");
-    has_all(rt, alloc, &copy, want)
-}
-
-fn has_all(rt: &impl Abort, alloc: Global, values: &ValueMap, want: &str) -> bool {
-    let mut told = Vec::new(alloc);
-    for (_, bytes) in values.iter() {
-        tell(rt, &mut told, bytes.as_slice());
-    }
-    told.as_slice() == want.as_bytes()
-}
 
 /// Attributes and their values are found by their keys.
 const LOOKED_UP: &str = "
@@ -206,6 +101,11 @@ fn attributes_answer(
     }
 }
 
+/// The key of a value.
+fn sn(rt: &impl Abort, alloc: Global, text: &str) -> ValueKey {
+    value(rt, alloc, "sn", text)
+}
+
 fn is_there(rt: &impl Abort, alloc: Global, attributes: &AttributeMap, attr_type: &str) -> bool {
     let description = description(rt, alloc, attr_type);
     attributes.get(description.key()).is_some()
@@ -236,12 +136,22 @@ fn has_replaced_values(
     step: &Step<'_>,
 ) -> bool {
     let description = description(rt, alloc, "sn");
-    if attributes.get(description.key()).is_none() {
-        return false;
-    }
     let new = one_value(rt, alloc, "sn", step.given);
-    let old = attributes.replace_values(description.key(), new);
-    has_all(rt, alloc, &old, step.want)
+    let old = with_values(rt, attributes, description.key(), new);
+    are_all(rt, alloc, &old, step.want)
+}
+
+/// Gives an attribute that is there other values.
+fn with_values(
+    rt: &impl Abort,
+    attributes: &mut AttributeMap,
+    key: &AttrKey,
+    values: ValueMap,
+) -> ValueMap {
+    if attributes.get(key).is_none() {
+        panic!(rt; "not there");
+    }
+    attributes.replace_values(key, values)
 }
 
 /// Whether an attribute takes the place of one with this value alone.
@@ -252,9 +162,14 @@ fn has_replaced(
     step: &Step<'_>,
 ) -> bool {
     let new = attribute_of(rt, alloc, step.given);
-    if attributes.get(new.description().key()).is_none() {
-        return false;
-    }
-    let old = attributes.replace(new);
+    let old = exchange(rt, attributes, new);
     old.has(&sn(rt, alloc, step.want)) && !old.has_many()
+}
+
+/// Puts an attribute in the place of one that is there.
+fn exchange(rt: &impl Abort, attributes: &mut AttributeMap, new: Attribute) -> Attribute {
+    if attributes.get(new.description().key()).is_none() {
+        panic!(rt; "not there");
+    }
+    attributes.replace(new)
 }

@@ -1,5 +1,6 @@
 //! Moves of subtrees, and how high they are.
 
+use crate::make::check;
 use crate::script::counts;
 use dir_names::DnKey;
 use dir_tree::{Directory, Entry};
@@ -39,8 +40,8 @@ pub(crate) fn shift<D: Directory>(
     match directory.move_subtree(old, new, entry) {
         Ok(former) => former,
         Err(_) => {
-            assert!(rt; directory.get(old).is_some());
-            assert!(rt; directory.get(new).is_none());
+            check(rt, directory.get(old).is_some(), "taken away");
+            check(rt, directory.get(new).is_none(), "put in");
             panic!(rt; "memory");
         }
     }

@@ -57,8 +57,17 @@ fn stores(rt: &impl Abort, alloc: Global, attribute: &AttributeView<'_>, step: &
 /// Whether a copy of an attribute has its values under their keys.
 fn is_copied(rt: &impl Abort, alloc: Global, attribute: &AttributeView<'_>) -> bool {
     let copy = attribute.to_attribute(alloc).expect(rt, "memory");
+    is_copy(rt, alloc, &copy, attribute)
+}
+
+fn is_copy(
+    rt: &impl Abort,
+    alloc: Global,
+    copy: &Attribute,
+    attribute: &AttributeView<'_>,
+) -> bool {
     for (key, bytes) in attribute.values() {
-        if !has_copy(rt, alloc, &copy, key, bytes) {
+        if !has_copy(rt, alloc, copy, key, bytes) {
             return false;
         }
     }
@@ -88,12 +97,25 @@ fn are_among(
 ) -> bool {
     let (attr_type, text) = split(step.given, "=");
     let values = one_value(rt, alloc, attr_type, text);
+    has_lent(rt, alloc, &values, attribute, step.want)
+}
+
+fn has_lent(
+    rt: &impl Abort,
+    alloc: Global,
+    values: &ValueMap,
+    attribute: &AttributeView<'_>,
+    want: &str,
+) -> bool {
     let mut told = Vec::new(alloc);
     for (key, _) in attribute.values() {
-        let told_of_it = if values.has_lent(key) { "yes" } else { "no" };
-        tell(rt, &mut told, told_of_it.as_bytes());
+        tell(
+            rt,
+            &mut told,
+            if values.has_lent(key) { b"yes" } else { b"no" },
+        );
     }
-    told.as_slice() == step.want.as_bytes()
+    told.as_slice() == want.as_bytes()
 }
 
 /// The map of one value of this type.

@@ -1,0 +1,385 @@
+//! The map of values, short and long. A long one is kept in pieces: values are put in, found, changed and removed in orders
+//! of their own.
+
+use crate::make::{bytes, check, description, schema};
+use crate::script::{Step, begun, counts, says, split, step_of, tell};
+use dir_names::{AttrKey, Bytes, Description, Schema, ValueKey};
+use dir_tree::{Attribute, AttributeMap, EntryFault, ValueMap};
+use std::alloc::Global;
+use std::process::Abort;
+
+/// Values are found by their keys, and put in once.
+const FOUND: &str = "
+values of sn
+insert b
+insert A
+has B -> yes
+get a -> A
+get c -> none
+insert a -> E2 Twice
+length -> 2
+all -> A | b
+";
+
+/// A value gets other bytes; one that is not there gets none.
+const SET: &str = "
+values of sn
+insert a
+set a=A
+set b=b
+length -> 1
+get a -> A
+remove a -> A
+empty -> yes
+";
+
+/// How many values a long list has. There is one for each number below this, and its bytes come in the order of the numbers.
+/// `each STEP FIRST END` takes a step with each of the numbers that a count from FIRST to before END gives, times STEP, by the
+/// remainder: all of them, in no order, if STEP has no divisor in common with this.
+const COUNT: usize = 5000;
+
+/// Values are listed in order however they are put in: in no order, upwards and downwards.
+const LISTED: [&str; 3] = [
+    "
+values of sn
+each 1237 0 5000: insert #
+numbers -> 5000
+",
+    "
+values of sn
+each 1 0 5000: insert #
+numbers -> 5000
+",
+    "
+values of sn
+each 4999 1 5001: insert #
+numbers -> 5000
+",
+];
+
+/// Values of a long list are found, and put in once.
+const FOUND_AMONG_MANY: &str = "
+values of sn
+each 1237 0 5000: insert #
+each 3001 0 5000: get # -> #
+each 3001 0 5000: insert # -> E2 Twice
+get 05000 -> none
+length -> 5000
+";
+
+/// Values of a long list get other bytes; one that is not there gets none.
+const SET_AMONG_MANY: &str = "
+values of sn
+each 1237 0 5000: insert #
+set 05000=new
+numbers -> 5000
+each 3001 0 5000: set #=new
+each 3001 0 5000: get # -> new
+length -> 5000
+";
+
+/// Values of a long list are removed.
+const REMOVED: &str = "
+values of sn
+each 2743 0 4000: remove # -> #
+each 2743 0 4000: has # -> no
+each 2743 4000 5000: has # -> yes
+length -> 1000
+each 2743 4000 5000: remove # -> #
+empty -> yes
+numbers -> 0
+";
+
+/// The list takes other values then.
+const PUT_AGAIN: &str = "
+values of sn
+each 3001 0 5000: insert #
+numbers -> 5000
+";
+
+#[test]
+fn values_are_found_by_their_keys_and_put_in_once(rt: HostRuntime) {
+    let _ = run(&rt, rt.alloc(), FOUND);
+}
+
+#[test]
+fn a_value_gets_other_bytes(rt: HostRuntime) {
+    let _ = run(&rt, rt.alloc(), SET);
+}
+
+#[test]
+fn values_are_listed_in_order_however_they_are_put_in(rt: HostRuntime) {
+    for script in &LISTED {
+        let _ = run(&rt, rt.alloc(), script);
+    }
+}
+
+#[test]
+fn values_of_a_long_list_are_found_and_put_in_once(rt: HostRuntime) {
+    let _ = run(&rt, rt.alloc(), FOUND_AMONG_MANY);
+}
+
+#[test]
+fn values_of_a_long_list_get_other_bytes(rt: HostRuntime) {
+    let _ = run(&rt, rt.alloc(), SET_AMONG_MANY);
+}
+
+/// A copy keeps its own.
+#[test]
+fn values_of_a_long_list_are_removed(rt: HostRuntime) {
+    let mut values = run(&rt, rt.alloc(), LISTED[0]);
+    let copy = values.try_clone(rt.alloc()).expect(&rt, "memory");
+    take_steps(&rt, rt.alloc(), &mut values, REMOVED);
+    let count = numbers(&rt, rt.alloc(), &copy);
+    check(&rt, count == Some(COUNT), "a copy keeps its own");
+    take_steps(&rt, rt.alloc(), &mut values, PUT_AGAIN);
+}
+
+#[test]
+fn values_of_a_long_list_are_found_by_their_texts(rt: HostRuntime) {
+    let mut attributes = AttributeMap::empty(rt.alloc());
+    let values = run(&rt, rt.alloc(), LISTED[0]);
+    let attribute = Attribute::of(description(&rt, rt.alloc(), "sn"), values);
+    attributes.put(attribute).expect(&rt, "memory");
+    let sn = description(&rt, rt.alloc(), "sn");
+    check_texts(&rt, rt.alloc(), &attributes, sn.key());
+}
+
+fn check_texts(rt: &impl Abort, alloc: Global, attributes: &AttributeMap, sn: &AttrKey) {
+    for number in 0..COUNT {
+        let found = has_text(rt, alloc, attributes, sn, number * 3001 % COUNT);
+        check(rt, found, "found");
+    }
+    check(rt, !has_text(rt, alloc, attributes, sn, COUNT), "no other");
+}
+
+/// Whether there is a value of `sn` with the text of a number as its key.
+fn has_text(
+    rt: &impl Abort,
+    alloc: Global,
+    attributes: &AttributeMap,
+    sn: &AttrKey,
+    number: usize,
+) -> bool {
+    let sought = numbered(rt, alloc, "#", number);
+    attributes.has_text(sn, sought.as_bytes())
+}
+
+/// The values after a script that begins with none.
+fn run(rt: &impl Abort, alloc: Global, script: &str) -> ValueMap {
+    let mut values = ValueMap::empty(alloc);
+    take_steps(rt, alloc, &mut values, script);
+    values
+}
+
+/// The type of the values.
+#[derive(Drop)]
+struct Typed {
+    schema: Schema,
+    description: Description,
+}
+
+/// Takes the steps of a script, and asserts each answer.
+fn take_steps(rt: &impl Abort, alloc: Global, values: &mut ValueMap, script: &str) {
+    let typed = Typed {
+        schema: schema(rt, alloc),
+        description: description(rt, alloc, "sn"),
+    };
+    for line in begun(script).1.lines() {
+        check(rt, line_answers(rt, alloc, &typed, values, line), line);
+    }
+}
+
+/// Whether the steps of a line have the answers that are wanted.
+fn line_answers(
+    rt: &impl Abort,
+    alloc: Global,
+    typed: &Typed,
+    values: &mut ValueMap,
+    line: &str,
+) -> bool {
+    let step = step_of(line);
+    if step.verb == "each" {
+        return each_answers(rt, alloc, typed, values, &step);
+    }
+    answers(rt, alloc, typed, values, &step)
+}
+
+/// Whether a step that is taken with numbers has the answers that are wanted.
+fn each_answers(
+    rt: &impl Abort,
+    alloc: Global,
+    typed: &Typed,
+    values: &mut ValueMap,
+    step: &Step<'_>,
+) -> bool {
+    let (range, each) = split(step.given, ": ");
+    let (times, range) = split(range, " ");
+    let (first, end) = split(range, " ");
+    for i in number_of(rt, first)..number_of(rt, end) {
+        let number = i.wrapping_mul(number_of(rt, times)) % COUNT;
+        if !number_answers(rt, alloc, typed, values, each, step.want, number) {
+            return false;
+        }
+    }
+    true
+}
+
+fn number_of(rt: &impl Abort, text: &str) -> usize {
+    text.parse::<usize>().expect(rt, "a number")
+}
+
+/// Whether a step that is taken with a number has the answer that is wanted.
+fn number_answers(
+    rt: &impl Abort,
+    alloc: Global,
+    typed: &Typed,
+    values: &mut ValueMap,
+    asked: &str,
+    want: &str,
+    number: usize,
+) -> bool {
+    let (verb, given) = split(asked, " ");
+    let given = numbered(rt, alloc, given, number);
+    let want = numbered(rt, alloc, want, number);
+    let step = Step {
+        verb,
+        given: given.as_str(),
+        want: want.as_str(),
+    };
+    answers(rt, alloc, typed, values, &step)
+}
+
+/// A text with a number in the place of `#`.
+fn numbered(rt: &impl Abort, alloc: Global, text: &str, number: usize) -> String {
+    let text = match text.split_once("#") {
+        Some((before, after)) => format!(in alloc; "{before}{number:05}{after}"),
+        None => String::from_str(alloc, text),
+    };
+    text.expect(rt, "memory")
+}
+
+/// Whether a step has the answer that is wanted.
+fn answers(
+    rt: &impl Abort,
+    alloc: Global,
+    typed: &Typed,
+    values: &mut ValueMap,
+    step: &Step<'_>,
+) -> bool {
+    match step.verb {
+        "insert" => is_inserted(rt, alloc, typed, values, step),
+        "set" => is_set(rt, alloc, typed, values, step),
+        "remove" => is_removed(rt, alloc, typed, values, step),
+        _ => asked(rt, alloc, typed, values, step),
+    }
+}
+
+/// Whether a question is answered so.
+fn asked(
+    rt: &impl Abort,
+    alloc: Global,
+    typed: &Typed,
+    values: &ValueMap,
+    step: &Step<'_>,
+) -> bool {
+    match step.verb {
+        "has" => says(
+            step.want,
+            values.contains_key(&key(rt, alloc, typed, step.given)),
+        ),
+        "get" => is_told(values.get(&key(rt, alloc, typed, step.given)), step.want),
+        "length" => counts(rt, alloc, step.want, values.len()),
+        "empty" => says(step.want, values.is_empty()),
+        "all" => are_all_of_copy(rt, alloc, values, step.want),
+        "numbers" => match numbers(rt, alloc, values) {
+            Some(count) => counts(rt, alloc, step.want, count),
+            None => false,
+        },
+        _ => false,
+    }
+}
+
+/// The key of a value.
+fn key(rt: &impl Abort, alloc: Global, typed: &Typed, text: &str) -> ValueKey {
+    let key = typed
+        .schema
+        .value_key(alloc, typed.description.key(), text.as_bytes());
+    key.expect(rt, "a key")
+}
+
+fn is_inserted(
+    rt: &impl Abort,
+    alloc: Global,
+    typed: &Typed,
+    values: &mut ValueMap,
+    step: &Step<'_>,
+) -> bool {
+    let key = key(rt, alloc, typed, step.given);
+    match values.insert(alloc, key, bytes(rt, alloc, step.given)) {
+        Ok(()) => step.want.is_empty(),
+        Err(EntryFault::Twice) => step.want == "E2 Twice",
+        Err(_) => panic!(rt; "memory"),
+    }
+}
+
+fn is_set(
+    rt: &impl Abort,
+    alloc: Global,
+    typed: &Typed,
+    values: &mut ValueMap,
+    step: &Step<'_>,
+) -> bool {
+    let (text, new) = split(step.given, "=");
+    values.set(&key(rt, alloc, typed, text), bytes(rt, alloc, new));
+    step.want.is_empty()
+}
+
+fn is_removed(
+    rt: &impl Abort,
+    alloc: Global,
+    typed: &Typed,
+    values: &mut ValueMap,
+    step: &Step<'_>,
+) -> bool {
+    let removed = values.remove(alloc, &key(rt, alloc, typed, step.given));
+    is_told(removed.as_ref(), step.want)
+}
+
+/// Whether these bytes, if any, are the answer that is wanted.
+fn is_told(bytes: Option<&Bytes>, want: &str) -> bool {
+    match bytes {
+        Some(bytes) => bytes.as_slice() == want.as_bytes(),
+        None => want == "none",
+    }
+}
+
+/// Whether a copy has these values, in order of their keys.
+fn are_all_of_copy(rt: &impl Abort, alloc: Global, values: &ValueMap, want: &str) -> bool {
+    let copy = values.try_clone(alloc).expect(rt, "memory");
+    are_all(rt, alloc, &copy, want)
+}
+
+pub(crate) fn are_all(rt: &impl Abort, alloc: Global, values: &ValueMap, want: &str) -> bool {
+    let mut told = Vec::new(alloc);
+    for (_, bytes) in values.iter() {
+        tell(rt, &mut told, bytes.as_slice());
+    }
+    told.as_slice() == want.as_bytes()
+}
+
+/// How many values there are, if they are those of the first numbers, in order.
+fn numbers(rt: &impl Abort, alloc: Global, values: &ValueMap) -> Option<usize> {
+    let mut number = 0usize;
+    for (_, bytes) in values.iter() {
+        if bytes.as_slice() != numbered(rt, alloc, "#", number).as_bytes() {
+            return None;
+        }
+        number = number.wrapping_add(1);
+    }
+    if number == values.len() {
+        Some(number)
+    } else {
+        None
+    }
+}
