@@ -46,9 +46,13 @@ const STEPS: [&str; 4] = ["put", "lines", "put-back", "lines"];
 #[test]
 fn entries_that_are_alike_keep_their_own_values(rt: HostRuntime) {
     let mut tree = TreeDirectory::new(rt.alloc(), key_of(&rt, rt.alloc(), "dc=com"));
-    fill(&rt, rt.alloc(), &mut tree, "dc=com");
+    take_steps(&rt, rt.alloc(), &mut tree);
+}
+
+fn take_steps(rt: &impl Abort, alloc: Global, tree: &mut TreeDirectory) {
+    fill(rt, alloc, tree, "dc=com");
     for verb in &STEPS {
-        take_step(&rt, rt.alloc(), &mut tree, verb);
+        take_step(rt, alloc, tree, verb);
     }
 }
 

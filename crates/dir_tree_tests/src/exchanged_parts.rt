@@ -116,14 +116,19 @@ const GROWN: [(usize, usize, &str, bool); 7] = [
 /// An entry that grows too large is left to be changed in place.
 #[test]
 fn a_small_entry_has_few_values_and_little_text(rt: HostRuntime) {
-    for (values, size, is_small) in &SIZES {
-        let entry = sized(&rt, rt.alloc(), *values, *size);
-        check(&rt, entry.is_small() == *is_small, "an entry of a size");
+    for (values, size, want) in &SIZES {
+        let is_small = sized(&rt, rt.alloc(), *values, *size).is_small();
+        check_sized(&rt, is_small == *want, *values, *size);
     }
-    for (values, size, part, takes) in &GROWN {
-        let taken = takes_part(&rt, rt.alloc(), *values, *size, part);
-        check(&rt, taken == *takes, part);
+    for (values, size, part, want) in &GROWN {
+        let takes = takes_part(&rt, rt.alloc(), *values, *size, part);
+        check_sized(&rt, takes == *want, *values, *size);
     }
+}
+
+/// Asserts what is said of an entry of a size.
+fn check_sized(rt: &impl Abort, holds: bool, values: usize, size: usize) {
+    assert!(rt; holds, "{values} {size}");
 }
 
 /// Whether there is a packed entry with a part of one with this many values, of so many bytes.

@@ -1,9 +1,8 @@
 //! The texts of the faults.
 
 use crate::make::check;
+use crate::script::is_shown;
 use dir_tree::EntryFault;
-use std::alloc::AllocError;
-use std::process::Abort;
 
 const TEXTS: [(EntryFault, &str); 5] = [
     (EntryFault::BadValue, "E1 BadValue"),
@@ -22,9 +21,4 @@ fn each_fault_shows_its_text(rt: HostRuntime) {
         let styled = format!(in rt.alloc(); "{fault:#}");
         check(&rt, is_shown(&rt, styled, want), want);
     }
-}
-
-/// Whether a fault is shown by this text.
-fn is_shown(rt: &impl Abort, shown: Result<String, AllocError>, want: &str) -> bool {
-    shown.expect(rt, "memory").as_str() == want
 }

@@ -3,7 +3,7 @@
 use crate::make::{check, lines_of, name, schema};
 use crate::script::split;
 use crate::views::has_lines;
-use dir_tree::{EntryFault, EntryMaker};
+use dir_tree::{Entry, EntryFault, EntryMaker};
 use std::alloc::Global;
 use std::process::Abort;
 
@@ -101,7 +101,18 @@ fn makes(
     let (own, lines) = split(text, " | ");
     let own = name(rt, alloc, own).into_rdns();
     let lines = lines_of(rt, alloc, lines);
-    match maker.make(alloc, &schema(rt, alloc), own, lines) {
+    let outcome = maker.make(alloc, &schema(rt, alloc), own, lines);
+    is_outcome(rt, alloc, outcome, text, want)
+}
+
+fn is_outcome(
+    rt: &impl Abort,
+    alloc: Global,
+    outcome: Result<Entry, EntryFault>,
+    text: &str,
+    want: Option<EntryFault>,
+) -> bool {
+    match outcome {
         Ok(entry) => want.is_none() && has_lines(rt, alloc, &entry, text),
         Err(EntryFault::Memory) => panic!(rt; "memory"),
         Err(fault) => want == Some(fault),

@@ -1,7 +1,7 @@
 //! Scripts: what is done with a value under test and what is asked of it, a step in a line; and what is told of it.
 
-use dir_names::{Dn, Rdn};
-use std::alloc::Global;
+use dir_names::{Dn, NameFault, Rdn};
+use std::alloc::{AllocError, Global};
 use std::process::Abort;
 
 /// A step, as in `height dc=com -> 2`: what is done or asked, of what, and the answer that is wanted, if any.
@@ -37,24 +37,29 @@ pub(crate) fn says(want: &str, holds: bool) -> bool {
 
 /// Whether this number is the answer that is wanted.
 pub(crate) fn counts(rt: &impl Abort, alloc: Global, want: &str, count: usize) -> bool {
-    let told = format!(in alloc; "{count}").expect(rt, "memory");
-    told.as_str() == want
+    is_shown(rt, format!(in alloc; "{count}"), want)
+}
+
+/// Whether a value is shown by this text. A text that goes straight on to here makes the proof of a function short.
+pub(crate) fn is_shown(rt: &impl Abort, shown: Result<String, AllocError>, want: &str) -> bool {
+    shown.expect(rt, "memory").as_str() == want
 }
 
 /// Whether a name is the answer that is wanted.
 pub(crate) fn names(rt: &impl Abort, alloc: Global, want: &str, name: &Dn) -> bool {
-    let told = name.print(alloc).expect(rt, "memory");
-    told.as_slice() == want.as_bytes()
+    is_printed(rt, name.print(alloc), want)
 }
 
-/// Whether an own name is the answer that is wanted.
+/// Whether an own name of one RDN is the answer that is wanted.
 pub(crate) fn names_own(rt: &impl Abort, alloc: Global, want: &str, own: &[Rdn]) -> bool {
-    let mut told = Vec::new(alloc);
-    for rdn in own {
-        let rdn = rdn.print(alloc).expect(rt, "memory");
-        tell(rt, &mut told, rdn.as_slice());
+    match own {
+        [rdn] => is_printed(rt, rdn.print(alloc), want),
+        _ => false,
     }
-    told.as_slice() == want.as_bytes()
+}
+
+fn is_printed(rt: &impl Abort, printed: Result<Vec<u8>, NameFault>, want: &str) -> bool {
+    printed.expect(rt, "memory").as_slice() == want.as_bytes()
 }
 
 /// Appends a piece to a text.

@@ -131,7 +131,7 @@ fn values_of_a_long_list_are_removed(rt: HostRuntime) {
     let copy = values.try_clone(rt.alloc()).expect(&rt, "memory");
     take_steps(&rt, rt.alloc(), &mut values, REMOVED);
     let count = numbers(&rt, rt.alloc(), &copy);
-    check(&rt, count == Some(COUNT), "a copy keeps its own");
+    check(&rt, count == COUNT, "a copy keeps its own");
     take_steps(&rt, rt.alloc(), &mut values, PUT_AGAIN);
 }
 
@@ -268,34 +268,35 @@ fn answers(
     step: &Step<'_>,
 ) -> bool {
     match step.verb {
-        "insert" => is_inserted(rt, alloc, typed, values, step),
-        "set" => is_set(rt, alloc, typed, values, step),
-        "remove" => is_removed(rt, alloc, typed, values, step),
-        _ => asked(rt, alloc, typed, values, step),
-    }
-}
-
-/// Whether a question is answered so.
-fn asked(
-    rt: &impl Abort,
-    alloc: Global,
-    typed: &Typed,
-    values: &ValueMap,
-    step: &Step<'_>,
-) -> bool {
-    match step.verb {
-        "has" => says(
-            step.want,
-            values.contains_key(&key(rt, alloc, typed, step.given)),
-        ),
-        "get" => is_told(values.get(&key(rt, alloc, typed, step.given)), step.want),
         "length" => counts(rt, alloc, step.want, values.len()),
         "empty" => says(step.want, values.is_empty()),
         "all" => are_all_of_copy(rt, alloc, values, step.want),
-        "numbers" => match numbers(rt, alloc, values) {
-            Some(count) => counts(rt, alloc, step.want, count),
-            None => false,
-        },
+        "numbers" => counts(rt, alloc, step.want, numbers(rt, alloc, values)),
+        _ => {
+            let (text, new) = split(step.given, "=");
+            key_answers(rt, alloc, values, &key(rt, alloc, typed, text), step, new)
+        }
+    }
+}
+
+/// Whether a step with the value of a key has the answer that is wanted.
+fn key_answers(
+    rt: &impl Abort,
+    alloc: Global,
+    values: &mut ValueMap,
+    key: &ValueKey,
+    step: &Step<'_>,
+    new: &str,
+) -> bool {
+    match step.verb {
+        "insert" => is_inserted(rt, alloc, values, key, step),
+        "set" => {
+            values.set(key, bytes(rt, alloc, new));
+            step.want.is_empty()
+        }
+        "remove" => is_told(values.remove(alloc, key).as_ref(), step.want),
+        "has" => says(step.want, values.contains_key(key)),
+        "get" => is_told(values.get(key), step.want),
         _ => false,
     }
 }
@@ -311,39 +312,16 @@ fn key(rt: &impl Abort, alloc: Global, typed: &Typed, text: &str) -> ValueKey {
 fn is_inserted(
     rt: &impl Abort,
     alloc: Global,
-    typed: &Typed,
     values: &mut ValueMap,
+    key: &ValueKey,
     step: &Step<'_>,
 ) -> bool {
-    let key = key(rt, alloc, typed, step.given);
+    let key = key.try_clone(alloc).expect(rt, "memory");
     match values.insert(alloc, key, bytes(rt, alloc, step.given)) {
         Ok(()) => step.want.is_empty(),
         Err(EntryFault::Twice) => step.want == "E2 Twice",
         Err(_) => panic!(rt; "memory"),
     }
-}
-
-fn is_set(
-    rt: &impl Abort,
-    alloc: Global,
-    typed: &Typed,
-    values: &mut ValueMap,
-    step: &Step<'_>,
-) -> bool {
-    let (text, new) = split(step.given, "=");
-    values.set(&key(rt, alloc, typed, text), bytes(rt, alloc, new));
-    step.want.is_empty()
-}
-
-fn is_removed(
-    rt: &impl Abort,
-    alloc: Global,
-    typed: &Typed,
-    values: &mut ValueMap,
-    step: &Step<'_>,
-) -> bool {
-    let removed = values.remove(alloc, &key(rt, alloc, typed, step.given));
-    is_told(removed.as_ref(), step.want)
 }
 
 /// Whether these bytes, if any, are the answer that is wanted.
@@ -368,18 +346,18 @@ pub(crate) fn are_all(rt: &impl Abort, alloc: Global, values: &ValueMap, want: &
     told.as_slice() == want.as_bytes()
 }
 
-/// How many values there are, if they are those of the first numbers, in order.
-fn numbers(rt: &impl Abort, alloc: Global, values: &ValueMap) -> Option<usize> {
+/// How many values there are. They must be those of the first numbers, in order.
+fn numbers(rt: &impl Abort, alloc: Global, values: &ValueMap) -> usize {
     let mut number = 0usize;
     for (_, bytes) in values.iter() {
-        if bytes.as_slice() != numbered(rt, alloc, "#", number).as_bytes() {
-            return None;
-        }
+        check(rt, is_number(rt, alloc, bytes, number), "a number in order");
         number = number.wrapping_add(1);
     }
-    if number == values.len() {
-        Some(number)
-    } else {
-        None
-    }
+    check(rt, number == values.len(), "as many as are listed");
+    number
+}
+
+/// Whether these are the bytes of the value with a number.
+fn is_number(rt: &impl Abort, alloc: Global, bytes: &Bytes, number: usize) -> bool {
+    bytes.as_slice() == numbered(rt, alloc, "#", number).as_bytes()
 }
