@@ -1,4 +1,7 @@
-//! What an add makes of its lines, and each fault before the next.
+//! What an add makes of its lines, and each fault before the next; and entries that get the attributes of a part.
+//!
+//! A script begins with an entry: its name, and the lines of an add. Of an attribute the answer is its spelling and its values,
+//! in order. `part TYPES: LINES` puts what a part of these lines has in the place of the attributes of these types.
 
 use crate::alike::opened;
 use crate::exchanged_parts::{with_attribute, with_part};

@@ -1,4 +1,7 @@
 //! The attributes of an entry as it lends them, packed as it is made and open as it is changed.
+//!
+//! The script begins with an entry: its name, and the lines of an add. Of values the answer is the key and the bytes of each, in
+//! order.
 
 use crate::make::{check, description, made, schema};
 use crate::script::{Step, begun, counts, says, split, step_of};

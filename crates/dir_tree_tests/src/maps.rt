@@ -1,4 +1,6 @@
 //! The map of attributes, in which attributes and values are exchanged in place. All values are those of `sn`.
+//!
+//! A script begins with an entry or with the line of one attribute. What is replaced is the answer.
 
 use crate::make::{check, description, made, schema, value};
 use crate::script::{Step, begun, counts, says, split, step_of};

@@ -1,4 +1,6 @@
 //! Fields that are closed to an entry, or refused.
+//!
+//! A script begins with the entry whose fields are changed. The fields of an entry that is closed are taken again.
 
 use crate::make::{bytes, check, description, made, schema, value};
 use crate::script::{begun, counts, split, step_of};

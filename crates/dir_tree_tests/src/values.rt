@@ -1,5 +1,9 @@
 //! The map of values, short and long. A long one is kept in pieces: values are put in, found, changed and removed in orders
 //! of their own.
+//!
+//! A script begins with no values, and each of its values is one of `sn`. What is found or removed, or a fault, is the answer.
+//! `each STEP FIRST END` takes a step with each of the numbers that a count from FIRST to before END gives, times STEP, by the
+//! remainder of `COUNT`: all of them, in no order, if STEP has no divisor in common with that. A number stands for `#`.
 
 use crate::make::{bytes, check, description, schema};
 use crate::script::{Step, begun, counts, says, split, step_of, tell};
@@ -34,8 +38,6 @@ empty -> yes
 ";
 
 /// How many values a long list has. There is one for each number below this, and its bytes come in the order of the numbers.
-/// `each STEP FIRST END` takes a step with each of the numbers that a count from FIRST to before END gives, times STEP, by the
-/// remainder: all of them, in no order, if STEP has no divisor in common with this.
 const COUNT: usize = 5000;
 
 /// Values are listed in order however they are put in: in no order, upwards and downwards.
@@ -64,6 +66,7 @@ each 1237 0 5000: insert #
 each 3001 0 5000: get # -> #
 each 3001 0 5000: insert # -> E2 Twice
 get 05000 -> none
+numbers -> 5000
 length -> 5000
 ";
 
