@@ -1,8 +1,7 @@
 //! Questions of access, and their reports.
 
-use crate::asking::{Ask, ENTRY, PEOPLE, PHONE, PHONES, assert_reports, assert_reports_over};
-use crate::running::{Ran, STOP, assert_summary, run, run_back};
-use dir_ldif::Script;
+use crate::asking::{Ask, ENTRY, PEOPLE, PHONE, assert_ask};
+use crate::running::{ACCEPTED, Ran, Run, WHOLE, run_back, run_both};
 use std::alloc::Global;
 use std::process::Abort;
 
@@ -18,212 +17,182 @@ const USERS: &str = "database mdb\nsuffix dc=com\naccess to * by users read\n";
 const U: Option<&str> = Some("cn=u,dc=com");
 
 /// The number is for the manager alone, and only if the entry has a description.
-const DESCRIBED: &str =
-    "database mdb\nsuffix dc=com\naccess to filter=(description=*) by dnattr=manager write\n\
-    access to * by * compare\n";
+const DESCRIBED: Ask<'static> = Ask {
+    shows: "a filter looks at the attributes of the entry",
+    config: "database mdb\nsuffix dc=com\naccess to filter=(description=*) by dnattr=manager write\n\
+        access to * by * compare\n",
+    copy: "dn: dc=com\n\ndn: cn=t,dc=com\nmanager: cn=m,dc=com\ndescription: d\n",
+    words: &["sn"],
+    report: "sn: =wrscxd\n",
+    ..PHONE
+};
 
 /// Questions, and the report of each.
-const REPORTS: [(Ask<'static>, &str); 17] = [
-    // `continue` goes on with the later clauses
-    (
-        Ask {
-            config: CONTINUE,
-            ..ENTRY
-        },
-        "entry: =0\n",
-    ),
-    (
-        Ask {
-            config: CONTINUE,
-            authc: U,
-            ..ENTRY
-        },
-        "entry: =rsc\n",
-    ),
-    // rules that run out after `break` grant nothing
-    (
-        Ask {
-            config: BREAK,
-            authc: U,
-            ..ENTRY
-        },
-        "entry: =0\n",
-    ),
-    // without rules all may read
-    (ENTRY, "entry: =rscxd\n"),
-    // the rootdn has each privilege
-    (
-        Ask {
-            config: ROOT,
-            authc: U,
-            ..ENTRY
-        },
-        "entry: =mwrscxd\n",
-    ),
-    // levels, and the part of a word that is not used
-    (
-        Ask {
-            config: USERS,
-            authc: U,
-            words: &["cn/write:foo", "cn/read"],
-            ..ENTRY
-        },
-        "cn/write: DENIED\ncn/read: ALLOWED\n",
-    ),
-    // the words in their order and as they are written; a level is cut at the first `/`, and a value at the first `:`
-    (
-        Ask {
-            words: &["CN;lang-en", "ENTRY/Read", "Children:a/write:b", "sn/NONE"],
-            ..ENTRY
-        },
-        "CN;lang-en: =rscxd\nENTRY/Read: ALLOWED\nChildren: =rscxd\nsn/NONE: ALLOWED\n",
-    ),
-    (
-        Ask {
-            words: &["cn/manage", "2.5.4.3/disclose"],
-            ..ENTRY
-        },
-        "cn/manage: DENIED\n2.5.4.3/disclose: ALLOWED\n",
-    ),
-    // the requester's name as it is printed; nobody's is `anonymous`
-    (
-        Ask {
-            config: USERS,
-            authc: Some("CN = U\\,V, dc=com"),
-            verbose: true,
-            ..ENTRY
-        },
-        "authcDN: CN=U\\2CV,dc=com\nentry: =rscxd\n",
-    ),
-    (
-        Ask {
-            verbose: true,
-            ..ENTRY
-        },
-        "authcDN: anonymous\nentry: =rscxd\n",
-    ),
-    (
-        Ask {
-            config: USERS,
-            authc: Some(""),
-            verbose: true,
-            ..ENTRY
-        },
-        "authcDN: anonymous\nentry: =0\n",
-    ),
-    // `self`, `dnattr` and a group
-    (
-        Ask {
-            authc: Some("CN=T,DC=Com"),
-            ..PHONE
-        },
-        "telephoneNumber: =wrscxd\n",
-    ),
-    (PHONE, "telephoneNumber: =rscxd\n"),
-    (
-        Ask {
-            authc: Some("cn=k,dc=com"),
-            ..PHONE
-        },
-        "telephoneNumber: =scxd\n",
-    ),
-    (
-        Ask {
-            authc: None,
-            ..PHONE
-        },
-        "telephoneNumber: =0\n",
-    ),
-    // an entry that is made up has no attributes; the copy's groups are looked up all the same
-    (
-        Ask {
-            fake: true,
-            ..PHONE
-        },
-        "telephoneNumber: =0\n",
-    ),
-    (
-        Ask {
-            base: "cn=no,dc=com",
-            authc: Some("cn=k,dc=com"),
-            fake: true,
-            ..PHONE
-        },
-        "telephoneNumber: =scxd\n",
-    ),
-];
-
-#[test]
-fn questions_have_their_reports(rt: HostRuntime) {
-    for (ask, want) in &REPORTS {
-        assert_reports(&rt, rt.alloc(), ask, want);
-    }
-}
-
-/// The same over readers that give one byte in a call.
-#[test]
-fn reports_are_the_same_byte_by_byte(rt: HostRuntime) {
-    let config = Script::new(PHONES.as_bytes()).pieces(1);
-    let copy = Script::new(PEOPLE.as_bytes()).pieces(1);
-    let want = "telephoneNumber: =rscxd\n";
-    assert_reports_over(&rt, rt.alloc(), &PHONE, config, copy, want);
-}
-
-/// A filter looks at the attributes of the entry, and those that are made up have none.
-#[test]
-fn filters_look_at_the_copy(rt: HostRuntime) {
-    let copy = "dn: dc=com\n\ndn: cn=t,dc=com\nmanager: cn=m,dc=com\ndescription: d\n";
-    let ask = Ask {
-        config: DESCRIBED,
-        copy,
-        words: &["sn"],
+const REPORTS: [Ask<'static>; 21] = [
+    Ask {
+        shows: "`continue` goes on with the later clauses, of which none is for nobody",
+        config: CONTINUE,
+        report: "entry: =0\n",
+        ..ENTRY
+    },
+    Ask {
+        shows: "`continue` goes on with the later clauses",
+        config: CONTINUE,
+        authc: U,
+        report: "entry: =rsc\n",
+        ..ENTRY
+    },
+    Ask {
+        shows: "rules that run out after `break` grant nothing",
+        config: BREAK,
+        authc: U,
+        report: "entry: =0\n",
+        ..ENTRY
+    },
+    ENTRY,
+    Ask {
+        shows: "the rootdn has each privilege",
+        config: ROOT,
+        authc: U,
+        report: "entry: =mwrscxd\n",
+        ..ENTRY
+    },
+    Ask {
+        shows: "levels, and the part of a word that is not used",
+        config: USERS,
+        authc: U,
+        words: &["cn/write:foo", "cn/read"],
+        report: "cn/write: DENIED\ncn/read: ALLOWED\n",
+        ..ENTRY
+    },
+    // a level is cut at the first `/`, and a value at the first `:`
+    Ask {
+        shows: "the words in their order and as they are written",
+        words: &["CN;lang-en", "ENTRY/Read", "Children:a/write:b", "sn/NONE"],
+        report: "CN;lang-en: =rscxd\nENTRY/Read: ALLOWED\nChildren: =rscxd\nsn/NONE: ALLOWED\n",
+        ..ENTRY
+    },
+    Ask {
+        shows: "the first level and the last",
+        words: &["cn/manage", "2.5.4.3/disclose"],
+        report: "cn/manage: DENIED\n2.5.4.3/disclose: ALLOWED\n",
+        ..ENTRY
+    },
+    Ask {
+        shows: "the requester's name as it is printed",
+        config: USERS,
+        authc: Some("CN = U\\,V, dc=com"),
+        verbose: true,
+        report: "authcDN: CN=U\\2CV,dc=com\nentry: =rscxd\n",
+        ..ENTRY
+    },
+    Ask {
+        shows: "nobody's name is `anonymous`",
+        verbose: true,
+        report: "authcDN: anonymous\nentry: =rscxd\n",
+        ..ENTRY
+    },
+    Ask {
+        shows: "so is the name without RDNs",
+        config: USERS,
+        authc: Some(""),
+        verbose: true,
+        report: "authcDN: anonymous\nentry: =0\n",
+        ..ENTRY
+    },
+    Ask {
+        shows: "`self`",
+        authc: Some("CN=T,DC=Com"),
+        report: "telephoneNumber: =wrscxd\n",
         ..PHONE
-    };
-    assert_reports(&rt, rt.alloc(), &ask, "sn: =wrscxd\n");
-    let made_up = Ask { fake: true, ..ask };
-    assert_reports(&rt, rt.alloc(), &made_up, "sn: =cxd\n");
-}
-
-/// The manager is exchanged.
-const CHANGES: &str =
-    "dn: cn=t,dc=com\nchangetype: modify\nreplace: manager\nmanager: cn=k,dc=com\n-\n";
-
-/// Asserts the privileges of the old manager and the new one on a copy.
-fn assert_managers(rt: &impl Abort, alloc: Global, ran: &Ran, old: &str, new: &str) {
-    assert_manager(rt, alloc, ran.out.as_slice(), Some("cn=m,dc=com"), old);
-    assert_manager(rt, alloc, ran.out.as_slice(), Some("cn=k,dc=com"), new);
-}
-
-fn assert_manager(rt: &impl Abort, alloc: Global, copy: &[u8], authc: Option<&str>, want: &str) {
-    let ask = Ask { authc, ..PHONE };
-    let config = Script::new(PHONES.as_bytes());
-    assert_reports_over(rt, alloc, &ask, config, Script::new(copy), want);
-}
-
-#[test]
-fn access_is_as_before_once_a_run_is_taken_back(rt: HostRuntime) {
-    let there = run(&rt, rt.alloc(), STOP, PEOPLE, CHANGES);
-    assert_summary(&rt, &there, 1, 0);
-    let (old, new) = ("telephoneNumber: =0\n", "telephoneNumber: =rscxd\n");
-    assert_managers(&rt, rt.alloc(), &there, old, new);
-    let back = run_back(&rt, rt.alloc(), "dc=com", &there);
-    let (old, new) = ("telephoneNumber: =rscxd\n", "telephoneNumber: =scxd\n");
-    assert_managers(&rt, rt.alloc(), &back, old, new);
-}
-
-/// Of several configurations the one with another suffix has another answer.
-#[test]
-fn the_suffix_is_the_configurations(rt: HostRuntime) {
-    let org = Ask {
+    },
+    // `dnattr`
+    PHONE,
+    Ask {
+        shows: "a group",
+        authc: Some("cn=k,dc=com"),
+        report: "telephoneNumber: =scxd\n",
+        ..PHONE
+    },
+    Ask {
+        shows: "nobody is none of them",
+        authc: None,
+        report: "telephoneNumber: =0\n",
+        ..PHONE
+    },
+    Ask {
+        shows: "an entry that is made up has no attributes",
+        fake: true,
+        report: "telephoneNumber: =0\n",
+        ..PHONE
+    },
+    Ask {
+        shows: "for an entry that is made up the copy's groups are looked up all the same",
+        base: "cn=no,dc=com",
+        authc: Some("cn=k,dc=com"),
+        fake: true,
+        report: "telephoneNumber: =scxd\n",
+        ..PHONE
+    },
+    DESCRIBED,
+    Ask {
+        shows: "a filter finds nothing in an entry that is made up",
+        fake: true,
+        report: "sn: =cxd\n",
+        ..DESCRIBED
+    },
+    Ask {
+        shows: "of several configurations the one with another suffix has another answer",
         config: "database mdb\nsuffix dc=org\n",
         copy: "dn: dc=org\n",
         base: "dc=org",
         ..ENTRY
-    };
-    assert_reports(&rt, rt.alloc(), &org, "entry: =rscxd\n");
-    let spelled = Ask {
+    },
+    Ask {
+        shows: "a suffix in another spelling",
         config: "database mdb\nsuffix \"DC = Com\"\n",
         ..ENTRY
+    },
+];
+
+#[test]
+fn questions_have_their_reports(rt: HostRuntime) {
+    for ask in &REPORTS {
+        assert_ask(&rt, rt.alloc(), &WHOLE, ask);
+    }
+}
+
+/// The manager is exchanged.
+const EXCHANGE: Run<'static> = Run {
+    copy: PEOPLE,
+    changes: "dn: cn=t,dc=com\nchangetype: modify\nreplace: manager\nmanager: cn=k,dc=com\n-\n",
+    ..ACCEPTED
+};
+
+/// Asserts the privileges of the old manager and of the new one on the copy that a run wrote.
+fn assert_managers(rt: &impl Abort, alloc: Global, ran: &Ran, old: &str, new: &str) {
+    let copy = ran.out.as_str();
+    let ask = Ask {
+        copy,
+        report: old,
+        ..PHONE
     };
-    assert_reports(&rt, rt.alloc(), &spelled, "entry: =rscxd\n");
+    assert_ask(rt, alloc, &WHOLE, &ask);
+    let ask = Ask {
+        copy,
+        authc: Some("cn=k,dc=com"),
+        report: new,
+        ..PHONE
+    };
+    assert_ask(rt, alloc, &WHOLE, &ask);
+}
+
+#[test]
+fn access_is_as_before_once_a_run_is_taken_back(rt: HostRuntime) {
+    let there = run_both(&rt, rt.alloc(), &WHOLE, &EXCHANGE);
+    let (old, new) = ("telephoneNumber: =0\n", "telephoneNumber: =rscxd\n");
+    assert_managers(&rt, rt.alloc(), &there, old, new);
+    let back = run_back(&rt, rt.alloc(), &EXCHANGE, &there);
+    let (old, new) = ("telephoneNumber: =rscxd\n", "telephoneNumber: =scxd\n");
+    assert_managers(&rt, rt.alloc(), &back, old, new);
 }

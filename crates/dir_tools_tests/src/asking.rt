@@ -1,15 +1,16 @@
 //! Questions of access over devices in memory, and what they are to report.
 
-use crate::running::{COM, assert_text, zeros};
-use dir_ldif::{Script, Sink, Source, Tape};
+use crate::running::{COM, Devices, assert_text, fault_text, script, taken, tape, zeros};
+use dir_ldif::{Source, Tape};
 use dir_names::{Bytes, Schema, Texts};
 use dir_tools::{Question, ToolFault, run_acl};
 use std::alloc::Global;
 use std::process::Abort;
 
-/// A configuration and a copy, and a question on them.
+/// A question on a configuration and a copy, and what must come of it.
 #[derive(Clone, Copy)]
 pub(crate) struct Ask<'a> {
+    pub(crate) shows: &'a str,
     pub(crate) config: &'a str,
     pub(crate) copy: &'a str,
     pub(crate) base: &'a str,
@@ -17,6 +18,9 @@ pub(crate) struct Ask<'a> {
     pub(crate) words: &'a [&'a str],
     pub(crate) fake: bool,
     pub(crate) verbose: bool,
+    pub(crate) report: &'a str,
+    /// The text of the fault that the question ends in; empty where there is none.
+    pub(crate) fault: &'a str,
 }
 
 /// A configuration without rules: all may read.
@@ -24,6 +28,7 @@ pub(crate) const READ: &str = "database mdb\nsuffix dc=com\n";
 
 /// Nobody asks for the entry of the suffix, which all may read.
 pub(crate) const ENTRY: Ask<'static> = Ask {
+    shows: "without rules all may read",
     config: READ,
     copy: COM,
     base: "dc=com",
@@ -31,6 +36,8 @@ pub(crate) const ENTRY: Ask<'static> = Ask {
     words: &[],
     fake: false,
     verbose: false,
+    report: "entry: =rscxd\n",
+    fault: "",
 };
 
 pub(crate) const PHONES: &str =
@@ -44,11 +51,13 @@ pub(crate) const PEOPLE: &str =
 
 /// The manager asks for the telephone number.
 pub(crate) const PHONE: Ask<'static> = Ask {
+    shows: "the manager",
     config: PHONES,
     copy: PEOPLE,
     base: "cn=t,dc=com",
     authc: Some("cn=m,dc=com"),
     words: &["telephoneNumber"],
+    report: "telephoneNumber: =rscxd\n",
     ..ENTRY
 };
 
@@ -78,65 +87,56 @@ fn question(rt: &impl Abort, alloc: Global, ask: &Ask<'_>) -> Question {
     }
 }
 
-/// Asks over these devices, whatever the texts of `ask`.
-pub(crate) fn ask_over<R: Source, R2: Source, W: Sink>(
+/// Asks over these devices, with the configuration that a reader gives.
+fn answer_onto<R: Source>(
     rt: &impl Abort,
     alloc: Global,
+    devices: &Devices,
     ask: &Ask<'_>,
     config: &mut R,
-    copy: &mut R2,
-    report: &mut W,
+    report: &mut Tape<'_>,
 ) -> Result<(), ToolFault> {
-    let schema = Schema::builtin(alloc).expect(rt, "a schema");
-    let question = question(rt, alloc, ask);
-    run_acl(alloc, &schema, &question, config, copy, report)
+    let schema = Schema::builtin(alloc).expect(rt, "memory");
+    let answer = run_acl(
+        alloc,
+        &schema,
+        &question(rt, alloc, ask),
+        config,
+        &mut script(devices, ask.copy.as_bytes(), devices.copy),
+        report,
+    );
+    if let Err(ToolFault::Memory) = answer {
+        panic!(rt; "memory");
+    }
+    answer
 }
 
-/// Asserts the report over these readers.
-pub(crate) fn assert_reports_over(
+/// Asserts what comes of a question over these devices, with the configuration that a reader gives.
+pub(crate) fn assert_ask_over<R: Source>(
     rt: &impl Abort,
     alloc: Global,
-    ask: &Ask<'_>,
-    mut config: Script<'_>,
-    mut copy: Script<'_>,
-    want: &str,
-) {
-    let mut room = zeros(rt, alloc, 512);
-    let mut report = Tape::new(room.as_mut_slice());
-    let answer = ask_over(rt, alloc, ask, &mut config, &mut copy, &mut report);
-    assert!(rt; answer == Ok(()));
-    assert_text(rt, report.flushed(), want);
-}
-
-pub(crate) fn assert_reports(rt: &impl Abort, alloc: Global, ask: &Ask<'_>, want: &str) {
-    let config = Script::new(ask.config.as_bytes());
-    let copy = Script::new(ask.copy.as_bytes());
-    assert_reports_over(rt, alloc, ask, config, copy, want);
-}
-
-/// The fault over these readers, after which nothing is written.
-pub(crate) fn fault_over<R: Source, R2: Source>(
-    rt: &impl Abort,
-    alloc: Global,
+    devices: &Devices,
     ask: &Ask<'_>,
     config: &mut R,
-    copy: &mut R2,
-) -> ToolFault {
-    let mut room = zeros(rt, alloc, 512);
-    let mut report = Tape::new(room.as_mut_slice());
-    let answer = ask_over(rt, alloc, ask, config, copy, &mut report);
-    assert!(rt; report.as_slice().is_empty());
-    let Err(fault) = answer else {
-        panic!(rt; "no fault");
-    };
-    fault
+) {
+    let mut room = zeros(rt, alloc, devices.room);
+    let mut report = tape(devices, &mut room, devices.report);
+    let answer = answer_onto(rt, alloc, devices, ask, config, &mut report);
+    let report = taken(rt, alloc, &report, answer.is_ok());
+    assert_text(rt, ask.shows, report.as_str(), ask.report);
+    assert_answer(rt, alloc, ask, answer);
 }
 
-/// Asserts the text of the fault that a question ends in.
-pub(crate) fn assert_ends(rt: &impl Abort, alloc: Global, ask: &Ask<'_>, want: &str) {
-    let mut config = Script::new(ask.config.as_bytes());
-    let mut copy = Script::new(ask.copy.as_bytes());
-    let fault = fault_over(rt, alloc, ask, &mut config, &mut copy);
-    let text = format!(in alloc; "{fault}").expect(rt, "memory");
-    assert_text(rt, text.as_bytes(), want);
+fn assert_answer(rt: &impl Abort, alloc: Global, ask: &Ask<'_>, answer: Result<(), ToolFault>) {
+    let fault = match answer {
+        Ok(()) => String::new(alloc),
+        Err(fault) => fault_text(rt, alloc, fault),
+    };
+    assert_text(rt, ask.shows, fault.as_str(), ask.fault);
+}
+
+/// Asserts what comes of a question over these devices.
+pub(crate) fn assert_ask(rt: &impl Abort, alloc: Global, devices: &Devices, ask: &Ask<'_>) {
+    let mut config = script(devices, ask.config.as_bytes(), devices.config);
+    assert_ask_over(rt, alloc, devices, ask, &mut config);
 }

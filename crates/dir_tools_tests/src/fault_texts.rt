@@ -10,21 +10,9 @@ use std::process::Abort;
 
 /// Asserts the text of a fault, plain, with `#`, and with a width and a precision.
 fn assert_shown(rt: &impl Abort, alloc: Global, fault: ToolFault, want: &str) {
-    assert_text(rt, plain(rt, alloc, fault).as_bytes(), want);
-    assert_text(rt, styled(rt, alloc, fault).as_bytes(), want);
-    assert_text(rt, padded(rt, alloc, fault).as_bytes(), want);
-}
-
-fn plain(rt: &impl Abort, alloc: Global, fault: ToolFault) -> String {
-    format!(in alloc; "{fault}").expect(rt, "memory")
-}
-
-fn styled(rt: &impl Abort, alloc: Global, fault: ToolFault) -> String {
-    format!(in alloc; "{fault:#}").expect(rt, "memory")
-}
-
-fn padded(rt: &impl Abort, alloc: Global, fault: ToolFault) -> String {
-    format!(in alloc; "{fault:<80.3}").expect(rt, "memory")
+    let text = format!(in alloc; "{fault}; {fault:#}; {fault:<80.3}").expect(rt, "memory");
+    let want = format!(in alloc; "{want}; {want}; {want}").expect(rt, "memory");
+    assert_text(rt, "the text of a fault", text.as_str(), want.as_str());
 }
 
 /// Faults, and the text of each.

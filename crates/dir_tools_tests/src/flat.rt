@@ -1,25 +1,26 @@
 //! The same records over a flat directory, one map of whole names: what the tree of a run is compared with.
 
-use crate::running::{Ran, zeros};
-use dir_change::{History, apply};
+use crate::running::{Ran, Run, zeros};
+use dir_change::{History, Refusal, apply};
 use dir_ldif::{Record, RecordFault, RecordReader, Script, Tape};
 use dir_names::{Dn, Schema};
-use dir_tools::{ModifyOptions, ToolFault, read_copy, write_copy};
+use dir_tools::{ToolFault, read_copy, write_copy};
 use dir_tree::FlatDirectory;
 use std::alloc::Global;
 use std::process::Abort;
 
-/// The flat directory of a copy.
-pub(crate) fn directory_of(
+/// The flat directory of a copy that is read in pieces of this size.
+fn directory_of(
     rt: &impl Abort,
     alloc: Global,
-    suffix: &str,
-    mut copy: Script<'_>,
+    schema: &Schema,
+    piece: usize,
+    one: &Run<'_>,
 ) -> Result<FlatDirectory, ToolFault> {
-    let schema = Schema::builtin(alloc).expect(rt, "a schema");
-    let name = Dn::read(alloc, suffix.as_bytes()).expect(rt, "a name");
-    let empty = FlatDirectory::new(alloc, name.key(alloc, &schema).expect(rt, "a key"));
-    read_copy(alloc, &schema, empty, &mut copy)
+    let name = Dn::read(alloc, one.suffix.as_bytes()).expect(rt, "memory");
+    let empty = FlatDirectory::new(alloc, name.key(alloc, schema).expect(rt, "memory"));
+    let mut copy = Script::new(one.copy.as_bytes()).pieces(piece);
+    read_copy(alloc, schema, empty, &mut copy)
 }
 
 /// Applies a record, and keeps what takes it back. Whether it was accepted.
@@ -34,78 +35,75 @@ fn take(
     let Ok(Record::Change(change)) = record else {
         return false;
     };
-    let Ok(undo) = apply(alloc, schema, directory, change) else {
-        return false;
-    };
-    history.push(undo).expect(rt, "memory");
-    true
+    match apply(alloc, schema, directory, change) {
+        Ok(undo) => {
+            history.push(undo).expect(rt, "memory");
+            true
+        }
+        Err(Refusal::Memory) => panic!(rt; "memory"),
+        Err(Refusal::Code(_)) => false,
+    }
 }
 
 /// Applies the records of changes, and gives the text that takes them back.
 fn undo_text_of(
     rt: &impl Abort,
     alloc: Global,
+    schema: &Schema,
     directory: &mut FlatDirectory,
-    options: ModifyOptions,
-    changes: &[u8],
+    one: &Run<'_>,
 ) -> Vec<u8> {
-    let schema = Schema::builtin(alloc).expect(rt, "a schema");
     let mut history = History::new(alloc);
-    let mut reader = RecordReader::new(alloc, &schema, Script::new(changes)).expect(rt, "memory");
-    for _ in 0..changes.len() {
-        let Some((_, record)) = reader.next().expect(rt, "a record") else {
+    let changes = Script::new(one.changes.as_bytes());
+    let mut reader = RecordReader::new(alloc, schema, changes).expect(rt, "memory");
+    for _ in 0..one.changes.len() {
+        let Some((_, record)) = reader.next().expect(rt, "memory") else {
             break;
         };
-        let accepted = take(rt, alloc, &schema, directory, &mut history, &record);
-        if !accepted && !options.go_on {
+        let is_accepted = take(rt, alloc, schema, directory, &mut history, &record);
+        if !is_accepted && !one.options.go_on {
             break;
         }
     }
     history.undo_text(alloc).expect(rt, "memory")
 }
 
-/// Asserts the canonical text of a directory.
-fn assert_copy(rt: &impl Abort, alloc: Global, directory: &FlatDirectory, want: &[u8]) {
+/// Asserts the canonical text of a directory, which is written in pieces of this size.
+fn assert_copy(
+    rt: &impl Abort,
+    alloc: Global,
+    directory: &FlatDirectory,
+    piece: usize,
+    want: &[u8],
+) {
     let mut room = zeros(rt, alloc, 65536);
-    let mut out = Tape::new(room.as_mut_slice());
-    assert!(rt; write_copy(alloc, directory, &mut out) == Ok(()));
+    let mut out = Tape::new(room.as_mut_slice()).pieces(piece);
+    write_copy(alloc, directory, &mut out).expect(rt, "memory");
     assert!(rt;
         out.as_slice() == want,
         "another copy over a flat directory"
     );
 }
 
-/// Asserts the fault of a copy that is read into a flat directory.
-pub(crate) fn assert_copy_fault(
-    rt: &impl Abort,
-    alloc: Global,
-    suffix: &str,
-    copy: &[u8],
-    want: ToolFault,
-) {
-    let Err(fault) = directory_of(rt, alloc, suffix, Script::new(copy)) else {
-        panic!(rt; "the copy is accepted over a flat directory");
-    };
-    assert!(rt; fault == want);
-}
-
-/// Asserts that the records give the same texts over a flat directory as those that a run wrote.
-pub(crate) fn assert_same(
-    rt: &impl Abort,
-    alloc: Global,
-    suffix: &str,
-    options: ModifyOptions,
-    copy: &[u8],
-    changes: &[u8],
-    ran: &Ran,
-) {
-    let Ok(mut directory) = directory_of(rt, alloc, suffix, Script::new(copy)) else {
-        panic!(rt; "the copy is refused over a flat directory");
-    };
-    let undo = undo_text_of(rt, alloc, &mut directory, options, changes);
-    assert!(rt;
-        undo.as_slice() == ran.undo.as_slice(),
-        "another undo text over a flat directory"
-    );
-    assert_copy(rt, alloc, &directory, ran.out.as_slice());
+/// Asserts that the records of a run give the same texts over a flat directory as those that it wrote, or the copy the same
+/// fault.
+pub(crate) fn assert_flat(rt: &impl Abort, alloc: Global, piece: usize, one: &Run<'_>, ran: &Ran) {
+    let schema = Schema::builtin(alloc).expect(rt, "memory");
+    match directory_of(rt, alloc, &schema, piece, one) {
+        Ok(mut directory) => {
+            let undo = undo_text_of(rt, alloc, &schema, &mut directory, one);
+            assert!(rt;
+                undo.as_slice() == ran.undo.as_bytes(),
+                "another undo text over a flat directory"
+            );
+            assert_copy(rt, alloc, &directory, piece, ran.out.as_bytes());
+        }
+        Err(fault) => {
+            assert!(rt; fault != ToolFault::Memory, "memory");
+            assert!(rt;
+                ran.answer == Err(fault),
+                "another fault over a flat directory"
+            );
+        }
+    }
 }

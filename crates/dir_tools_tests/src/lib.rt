@@ -9,8 +9,6 @@ mod access_faults;
 #[cfg(test)]
 mod asking;
 #[cfg(test)]
-mod devices;
-#[cfg(test)]
 mod fault_texts;
 #[cfg(test)]
 mod faults;

@@ -1,6 +1,6 @@
 //! Runs of changes drawn at random, there and back, over a tree and over a flat directory.
 
-use crate::running::{COM, GO_ON, assert_text, run, run_back};
+use crate::running::{ACCEPTED, COM, GO_ON, Run, WHOLE, assert_text, run_back, run_both};
 use std::alloc::Global;
 use std::process::Abort;
 
@@ -85,8 +85,7 @@ fn changes_of(rt: &impl Abort, alloc: Global, draws: &mut Draws, count: usize) -
     for _ in 0..count {
         let name = draws.pick(&NAMES);
         let body = body_of(draws);
-        let record = format!(in alloc; "dn: {name}\n{body}\n").expect(rt, "memory");
-        changes.push_str(record.as_str()).expect(rt, "memory");
+        write!(changes, "dn: {name}\n{body}\n").expect(rt, "memory");
     }
     changes
 }
@@ -100,9 +99,13 @@ fn random_changes_are_taken_back_over_both_directories(rt: HostRuntime) {
 
 /// Asserts that a hundred changes drawn from this seed are taken back.
 fn assert_taken_back(rt: &impl Abort, alloc: Global, seed: u64) {
-    let mut draws = Draws { state: seed };
-    let changes = changes_of(rt, alloc, &mut draws, 100);
-    let one = run(rt, alloc, GO_ON, COM, changes.as_str());
-    let back = run_back(rt, alloc, "dc=com", &one);
-    assert_text(rt, back.out.as_slice(), COM);
+    let changes = changes_of(rt, alloc, &mut Draws { state: seed }, 100);
+    let one = Run {
+        options: GO_ON,
+        changes: changes.as_str(),
+        ..ACCEPTED
+    };
+    let there = run_both(rt, alloc, &WHOLE, &one);
+    let back = run_back(rt, alloc, &one, &there);
+    assert_text(rt, changes.as_str(), back.out.as_str(), COM);
 }

@@ -1,144 +1,41 @@
 //! Refused records, and faults that end a run.
 
-use crate::running::{
-    COM, GO_ON, NO_UNDO, NOTHING, Ran, STOP, Want, assert_fault, assert_text, assert_wrote, run,
-    run_over,
-};
-use dir_ldif::StreamFault;
-use dir_tools::{Item, ToolFault};
-use std::alloc::Global;
-use std::process::Abort;
+use crate::running::{ACCEPTED, FAULTY, GO_ON, Run, WHOLE, assert_run};
 
-/// A copy with something to refuse changes for.
+/// A run that refuses one record of a copy with something to refuse changes for.
+const REFUSED: Run<'static> = Run {
+    copy: COPY,
+    out: COPY,
+    answer: "accepted 0, refused 1",
+    back: Some(COPY),
+    ..ACCEPTED
+};
+
 const COPY: &str = "dn: dc=com\ndc: com\n\ndn: cn=e,dc=com\ncn: e\ndescription: foo\n\n\
     dn: cn=p,dc=com\ncn: p\n\ndn: cn=q,cn=p,dc=com\ncn: q\n\ndn: cn=r,dc=com\ncn: r\n\ndn: dc=a,dc=com\ndc: a\n\n";
 
-/// One record, and the code or fault that it is refused with.
-const RECORDS: [(&str, &str); 13] = [
-    ("dn: dc=com\nchangetype: delete\n", "66 notAllowedOnNonLeaf"),
-    (
-        "dn: cn=none,dc=com\nchangetype: delete\n",
-        "32 noSuchObject",
-    ),
-    (
-        "dn: CN=E,dc=com\nchangetype: add\n",
-        "68 entryAlreadyExists",
-    ),
-    ("dn: cn=f,dc=org\nchangetype: add\n", "32 noSuchObject"),
-    (
-        "dn: cn=f,cn=none,dc=com\nchangetype: add\n",
-        "32 noSuchObject",
-    ),
-    (
-        "dn: cn=f,dc=com\nchangetype: add\nuidNumber: 007\nuidNumber: 1\nuidNumber: 1\n",
-        "21 invalidAttributeSyntax",
-    ),
-    (
-        "dn: cn=f,dc=com\nchangetype: add\nsn: A\nsurname: a\n",
-        "20 attributeOrValueExists",
-    ),
-    (
-        "dn: uidNumber=1,dc=com\nchangetype: add\nuidNumber: 2\n",
-        "19 constraintViolation",
-    ),
-    ("dn: dc=com\ndc: com\n\n", "L5 BadChangetype"),
-    (
-        "dn: cn=f,dc=com\nchangetype: modify\nadd: title\n-\n",
-        "32 noSuchObject",
-    ),
-    (
-        "dn: dc=a,dc=com\nchangetype: modrdn\nnewrdn: dc=b\ndeleteoldrdn: 0\n",
-        "19 constraintViolation",
-    ),
-    (
-        "dn: dc=com\nchangetype: modrdn\nnewrdn: dc=org\ndeleteoldrdn: 1\n",
-        "53 unwillingToPerform",
-    ),
-    (
-        "dn: cn=none,dc=com\nchangetype: modrdn\nnewrdn: cn=b\ndeleteoldrdn: 1\n",
-        "32 noSuchObject",
-    ),
-];
-
-/// Modifications of `cn=e`, and the code that each modify is refused with.
-const MODIFIES: [(&str, &str); 15] = [
-    (
-        "replace: title\ntitle: x\n-\ndelete: description\n-\ndelete: sn\n-\n",
-        "16 noSuchAttribute",
-    ),
-    ("add: title\n-\n", "2 protocolError"),
-    ("delete: cn\n-\n", "67 notAllowedOnRDN"),
-    ("delete: cn\ncn: E\n-\n", "67 notAllowedOnRDN"),
-    ("replace: cn\ncn: f\n-\n", "67 notAllowedOnRDN"),
-    (
-        "delete: cn\n-\nadd: uidNumber\nuidNumber: 1\nuidNumber: 2\n-\n",
-        "67 notAllowedOnRDN",
-    ),
-    (
-        "add: uidNumber\nuidNumber: 1\nuidNumber: 2\n-\n",
-        "19 constraintViolation",
-    ),
-    ("delete: sn\nsn: x\n-\n", "16 noSuchAttribute"),
-    (
-        "delete: description\ndescription: bar\n-\n",
-        "16 noSuchAttribute",
-    ),
-    (
-        "delete: description\ndescription: foo\ndescription: FOO\n-\n",
-        "16 noSuchAttribute",
-    ),
-    (
-        "add: description\ndescription: FOO\n-\n",
-        "20 attributeOrValueExists",
-    ),
-    ("add: sn\nsn: a\nsn: A\n-\n", "20 attributeOrValueExists"),
-    (
-        "replace: sn\nsn: a\nsn: A\n-\n",
-        "20 attributeOrValueExists",
-    ),
-    (
-        "add: uidNumber\nuidNumber: 007\n-\n",
-        "21 invalidAttributeSyntax",
-    ),
-    (
-        "delete: uidNumber\nuidNumber: 007\n-\n",
-        "21 invalidAttributeSyntax",
-    ),
-];
-
-#[test]
-fn what_is_refused_stays_as_it_was(rt: HostRuntime) {
-    for (changes, cause) in &RECORDS {
-        assert_refused(&rt, rt.alloc(), changes, cause);
-    }
-}
-
-#[test]
-fn a_refused_modify_leaves_the_entry_as_it_was(rt: HostRuntime) {
-    for (mods, cause) in &MODIFIES {
-        assert_modify_refused(&rt, rt.alloc(), mods, cause);
-    }
-}
-
-fn assert_modify_refused(rt: &impl Abort, alloc: Global, mods: &str, cause: &str) {
-    let changes = format!(in alloc; "dn: cn=e,dc=com\nchangetype: modify\n{mods}\n");
-    assert_refused(rt, alloc, changes.expect(rt, "memory").as_str(), cause);
-}
-
-/// Asserts that the record is refused with this cause, and leaves the copy as it was.
-fn assert_refused(rt: &impl Abort, alloc: Global, changes: &str, cause: &str) {
-    let report = format!(in alloc; "line 1: refused, {cause}\naccepted 0, refused 1\n");
-    let ran = run(rt, alloc, STOP, COPY, changes);
-    assert_nothing_done(rt, &ran, report.expect(rt, "memory").as_str());
-}
-
-fn assert_nothing_done(rt: &impl Abort, ran: &Ran, report: &str) {
-    let want = Want {
-        undo: NO_UNDO,
-        out: COPY,
-        report,
+/// A run of one record, which is refused with this code or fault.
+macro_rules! refused {
+    ($shows:literal, $record:literal, $cause:literal) => {
+        Run {
+            shows: $shows,
+            changes: $record,
+            report: concat!("line 1: refused, ", $cause, "\naccepted 0, refused 1\n"),
+            ..REFUSED
+        }
     };
-    assert_wrote(rt, ran, &want);
+}
+
+/// The same of a modify of `cn=e`.
+macro_rules! modify_refused {
+    ($shows:literal, $mods:literal, $cause:literal) => {
+        Run {
+            shows: $shows,
+            changes: concat!("dn: cn=e,dc=com\nchangetype: modify\n", $mods, "\n"),
+            report: concat!("line 1: refused, ", $cause, "\naccepted 0, refused 1\n"),
+            ..REFUSED
+        }
+    };
 }
 
 /// Moves below the entry itself, below no entry, and to a name that is taken.
@@ -147,100 +44,240 @@ const MOVES: &str =
     dn: cn=p,dc=com\nchangetype: modrdn\nnewrdn: cn=r\ndeleteoldrdn: 1\nnewsuperior: cn=none,dc=com\n\n\
     dn: cn=p,dc=com\nchangetype: modrdn\nnewrdn: cn=r\ndeleteoldrdn: 1\n";
 
+const REFUSALS: [Run<'static>; 30] = [
+    refused!(
+        "a delete of an entry with children",
+        "dn: dc=com\nchangetype: delete\n",
+        "66 notAllowedOnNonLeaf"
+    ),
+    refused!(
+        "a delete of no entry",
+        "dn: cn=none,dc=com\nchangetype: delete\n",
+        "32 noSuchObject"
+    ),
+    refused!(
+        "an add of a name that is taken",
+        "dn: CN=E,dc=com\nchangetype: add\n",
+        "68 entryAlreadyExists"
+    ),
+    refused!(
+        "an add outside the suffix",
+        "dn: cn=f,dc=org\nchangetype: add\n",
+        "32 noSuchObject"
+    ),
+    refused!(
+        "an add without its parent",
+        "dn: cn=f,cn=none,dc=com\nchangetype: add\n",
+        "32 noSuchObject"
+    ),
+    refused!(
+        "a value of bad syntax comes before one that is twice there",
+        "dn: cn=f,dc=com\nchangetype: add\nuidNumber: 007\nuidNumber: 1\nuidNumber: 1\n",
+        "21 invalidAttributeSyntax"
+    ),
+    refused!(
+        "an add of a value twice",
+        "dn: cn=f,dc=com\nchangetype: add\nsn: A\nsurname: a\n",
+        "20 attributeOrValueExists"
+    ),
+    refused!(
+        "a second value where one is allowed",
+        "dn: uidNumber=1,dc=com\nchangetype: add\nuidNumber: 2\n",
+        "19 constraintViolation"
+    ),
+    refused!(
+        "a content record",
+        "dn: dc=com\ndc: com\n\n",
+        "L5 BadChangetype"
+    ),
+    refused!(
+        "a modify of no entry",
+        "dn: cn=f,dc=com\nchangetype: modify\nadd: title\n-\n",
+        "32 noSuchObject"
+    ),
+    refused!(
+        "a rename that leaves two values where one is allowed",
+        "dn: dc=a,dc=com\nchangetype: modrdn\nnewrdn: dc=b\ndeleteoldrdn: 0\n",
+        "19 constraintViolation"
+    ),
+    refused!(
+        "a rename of the suffix's entry",
+        "dn: dc=com\nchangetype: modrdn\nnewrdn: dc=org\ndeleteoldrdn: 1\n",
+        "53 unwillingToPerform"
+    ),
+    refused!(
+        "a rename of no entry",
+        "dn: cn=none,dc=com\nchangetype: modrdn\nnewrdn: cn=b\ndeleteoldrdn: 1\n",
+        "32 noSuchObject"
+    ),
+    modify_refused!(
+        "the first modification that is at fault",
+        "replace: title\ntitle: x\n-\ndelete: description\n-\ndelete: sn\n-\n",
+        "16 noSuchAttribute"
+    ),
+    modify_refused!("an add of no value", "add: title\n-\n", "2 protocolError"),
+    modify_refused!(
+        "a delete of the naming type",
+        "delete: cn\n-\n",
+        "67 notAllowedOnRDN"
+    ),
+    modify_refused!(
+        "a delete of the naming value",
+        "delete: cn\ncn: E\n-\n",
+        "67 notAllowedOnRDN"
+    ),
+    modify_refused!(
+        "a replace of the naming value",
+        "replace: cn\ncn: f\n-\n",
+        "67 notAllowedOnRDN"
+    ),
+    modify_refused!(
+        "the naming value comes before two values where one is allowed",
+        "delete: cn\n-\nadd: uidNumber\nuidNumber: 1\nuidNumber: 2\n-\n",
+        "67 notAllowedOnRDN"
+    ),
+    modify_refused!(
+        "two values where one is allowed",
+        "add: uidNumber\nuidNumber: 1\nuidNumber: 2\n-\n",
+        "19 constraintViolation"
+    ),
+    modify_refused!(
+        "a delete of a type that is not there",
+        "delete: sn\nsn: x\n-\n",
+        "16 noSuchAttribute"
+    ),
+    modify_refused!(
+        "a delete of a value that is not there",
+        "delete: description\ndescription: bar\n-\n",
+        "16 noSuchAttribute"
+    ),
+    modify_refused!(
+        "a delete of a value twice",
+        "delete: description\ndescription: foo\ndescription: FOO\n-\n",
+        "16 noSuchAttribute"
+    ),
+    modify_refused!(
+        "an add of a value that is there",
+        "add: description\ndescription: FOO\n-\n",
+        "20 attributeOrValueExists"
+    ),
+    modify_refused!(
+        "an add of a value twice",
+        "add: sn\nsn: a\nsn: A\n-\n",
+        "20 attributeOrValueExists"
+    ),
+    modify_refused!(
+        "a replace by a value twice",
+        "replace: sn\nsn: a\nsn: A\n-\n",
+        "20 attributeOrValueExists"
+    ),
+    modify_refused!(
+        "an add of a value of bad syntax",
+        "add: uidNumber\nuidNumber: 007\n-\n",
+        "21 invalidAttributeSyntax"
+    ),
+    modify_refused!(
+        "a delete of a value of bad syntax",
+        "delete: uidNumber\nuidNumber: 007\n-\n",
+        "21 invalidAttributeSyntax"
+    ),
+    Run {
+        shows: "refusals of renames come in order",
+        options: GO_ON,
+        changes: MOVES,
+        report: "line 1: refused, 53 unwillingToPerform\nline 7: refused, 32 noSuchObject\n\
+            line 13: refused, 68 entryAlreadyExists\naccepted 0, refused 3\n",
+        answer: "accepted 0, refused 3",
+        ..REFUSED
+    },
+    Run {
+        shows: "the first of them",
+        changes: MOVES,
+        report: "line 1: refused, 53 unwillingToPerform\naccepted 0, refused 1\n",
+        ..REFUSED
+    },
+];
+
 #[test]
-fn refusals_of_renames_come_in_order(rt: HostRuntime) {
-    let ran = run(&rt, rt.alloc(), GO_ON, COPY, MOVES);
-    let want = "line 1: refused, 53 unwillingToPerform\nline 7: refused, 32 noSuchObject\n\
-        line 13: refused, 68 entryAlreadyExists\naccepted 0, refused 3\n";
-    assert_nothing_done(&rt, &ran, want);
-    let ran = run(&rt, rt.alloc(), STOP, COPY, MOVES);
-    let want = "line 1: refused, 53 unwillingToPerform\naccepted 0, refused 1\n";
-    assert_nothing_done(&rt, &ran, want);
+fn what_is_refused_stays_as_it_was(rt: HostRuntime) {
+    for one in &REFUSALS {
+        assert_run(&rt, rt.alloc(), &WHOLE, one);
+    }
 }
 
-/// Suffixes, copies and changes that end a run in a fault, and the text of each fault.
-const ENDINGS: [(&str, &str, &str, &str); 11] = [
-    ("", COM, "", "bad question: suffix"),
-    ("cn", COM, "", "bad question: suffix"),
-    (
-        "dc=com",
-        "dn: cn=a,dc=com\n",
-        "",
-        "copy, line 1: 32 noSuchObject",
-    ),
-    (
-        "dc=com",
-        "dn: cn=b,cn=a,dc=com\n\ndn: cn=a,dc=com\n",
-        "",
-        "copy, line 3: 32 noSuchObject",
-    ),
-    (
-        "dc=com",
-        "dn: dc=com\n\ndn: cn=a,dc=com\n\ndn: CN=A,dc=com\n",
-        "",
-        "copy, line 5: 68 entryAlreadyExists",
-    ),
-    (
-        "dc=com",
-        "dn: dc=com\nchangetype: delete\n",
-        "",
-        "copy, line 1: L5 BadChangetype",
-    ),
-    (
-        "dc=com",
-        "dn: dc=org\n",
-        "",
-        "copy, line 1: 32 noSuchObject",
-    ),
-    (
-        "dc=com",
-        "\ndn: cn=a,dc=com\nuidNumber: x\n",
-        "",
-        "copy, line 2: 21 invalidAttributeSyntax",
-    ),
-    ("dc=com", "dn: dc=com\nsn\n", "", "copy, line 1: L1 BadLine"),
-    (
-        "dc=com",
-        "version: 2\n\ndn: dc=com\n",
-        "",
-        "copy, line 0: L15 BadVersion",
-    ),
-    ("dc=com", COM, "version: 3\n", "changes: L15 BadVersion"),
+/// Runs that end in a fault.
+const ENDINGS: [Run<'static>; 11] = [
+    Run {
+        shows: "the suffix has no RDN",
+        suffix: "",
+        answer: "bad question: suffix",
+        ..FAULTY
+    },
+    Run {
+        shows: "the suffix has no value",
+        suffix: "cn",
+        answer: "bad question: suffix",
+        ..FAULTY
+    },
+    Run {
+        shows: "an entry of the copy has no parent",
+        copy: "dn: cn=a,dc=com\n",
+        answer: "copy, line 1: 32 noSuchObject",
+        ..FAULTY
+    },
+    Run {
+        shows: "an entry after its child has no parent",
+        copy: "dn: cn=b,cn=a,dc=com\n\ndn: cn=a,dc=com\n",
+        answer: "copy, line 3: 32 noSuchObject",
+        ..FAULTY
+    },
+    Run {
+        shows: "a name that is twice in the copy",
+        copy: "dn: dc=com\n\ndn: cn=a,dc=com\n\ndn: CN=A,dc=com\n",
+        answer: "copy, line 5: 68 entryAlreadyExists",
+        ..FAULTY
+    },
+    Run {
+        shows: "a change record in the copy",
+        copy: "dn: dc=com\nchangetype: delete\n",
+        answer: "copy, line 1: L5 BadChangetype",
+        ..FAULTY
+    },
+    Run {
+        shows: "a copy of another suffix",
+        copy: "dn: dc=org\n",
+        answer: "copy, line 1: 32 noSuchObject",
+        ..FAULTY
+    },
+    Run {
+        shows: "a value of bad syntax in the copy",
+        copy: "\ndn: cn=a,dc=com\nuidNumber: x\n",
+        answer: "copy, line 2: 21 invalidAttributeSyntax",
+        ..FAULTY
+    },
+    Run {
+        shows: "a bad line in the copy",
+        copy: "dn: dc=com\nsn\n",
+        answer: "copy, line 1: L1 BadLine",
+        ..FAULTY
+    },
+    Run {
+        shows: "an unknown version of the copy",
+        copy: "version: 2\n\ndn: dc=com\n",
+        answer: "copy, line 0: L15 BadVersion",
+        ..FAULTY
+    },
+    Run {
+        shows: "an unknown version of the changes",
+        changes: "version: 3\n",
+        answer: "changes: L15 BadVersion",
+        ..FAULTY
+    },
 ];
 
 #[test]
 fn a_fault_that_ends_the_run_is_named_and_nothing_is_written(rt: HostRuntime) {
-    for (suffix, copy, changes, want) in &ENDINGS {
-        assert_ends(&rt, rt.alloc(), suffix, copy, changes, want);
+    for one in &ENDINGS {
+        assert_run(&rt, rt.alloc(), &WHOLE, one);
     }
-}
-
-/// Asserts that a run ends in a fault with this text, and writes nothing.
-fn assert_ends(
-    rt: &impl Abort,
-    alloc: Global,
-    suffix: &str,
-    copy: &str,
-    changes: &str,
-    want: &str,
-) {
-    let ran = run_over(rt, alloc, suffix, STOP, copy.as_bytes(), changes.as_bytes());
-    assert_wrote(rt, &ran, &NOTHING);
-    let Err(fault) = ran.answer else {
-        panic!(rt; "no fault: {want}");
-    };
-    assert_fault_text(rt, alloc, fault, want);
-}
-
-fn assert_fault_text(rt: &impl Abort, alloc: Global, fault: ToolFault, want: &str) {
-    let text = format!(in alloc; "{fault}").expect(rt, "memory");
-    assert_text(rt, text.as_bytes(), want);
-}
-
-#[test]
-fn faults_have_their_causes(rt: HostRuntime) {
-    let ran = run(&rt, rt.alloc(), STOP, COM, "version: 3\n");
-    assert_fault(&rt, &ran, ToolFault::BadChanges(StreamFault::BadVersion));
-    let ran = run_over(&rt, rt.alloc(), "cn", STOP, COM.as_bytes(), b"");
-    assert_fault(&rt, &ran, ToolFault::BadQuestion(Item::Suffix));
 }
