@@ -3,16 +3,19 @@
 use crate::folder::{Asked, Folder};
 use dir_files::slapmodify::run;
 use dir_files::{Fault, ModifyWords, Refusal};
-use dir_tools::{ModifyOptions, Summary};
-use std::alloc::{AllocError, Global};
+use dir_tools::{ModifyOptions, Summary, ToolFault};
+use std::alloc::Global;
 use std::process::Abort;
-use std::test::Fail;
 
 const COPY: &[u8] = b"dn: dc=com\ndc: com\n\n";
 
 const ADD: &[u8] = b"dn: ou=people,dc=com\nchangetype: add\n";
 
 const MISSING: &[u8] = b"dn: ou=none,dc=com\nchangetype: delete\n";
+
+/// Both, the one that is refused first.
+const BOTH: &[u8] =
+    b"dn: ou=none,dc=com\nchangetype: delete\n\ndn: ou=people,dc=com\nchangetype: add\n";
 
 const NEW: &[u8] = b"dn: dc=com\ndc: com\n\ndn: ou=people,dc=com\nou: people\n\n";
 
@@ -45,61 +48,239 @@ const DRY_ON: ModifyOptions = ModifyOptions {
 /// A folder whose calls are all done.
 const ALL: u64 = u64::MAX;
 
-fn words<'a>(
-    data: &'a str,
-    changes: Option<&'a str>,
-    onto: [&'a str; 2],
+/// A run, its words, and what must come of it.
+#[derive(Clone, Copy)]
+struct Run {
+    shows: &'static str,
+    data: &'static str,
+    changes: Option<&'static str>,
+    /// The paths of the new copy and of the undo file.
+    onto: [&'static str; 2],
     options: ModifyOptions,
-) -> ModifyWords<'a> {
-    let [out, undo] = onto;
-    ModifyWords {
+    /// What the standard input has.
+    typed: &'static [u8],
+    /// How many calls are done before one is refused.
+    good: u64,
+    /// The calls, and then the numbers of the run or its fault.
+    told: &'static str,
+}
+
+/// The changes are in a file; other ones are typed.
+const NAMED: Run = Run {
+    shows: "",
+    data: "copy",
+    changes: Some("changes"),
+    onto: ["new", "undo"],
+    options: STOP,
+    typed: MISSING,
+    good: ALL,
+    told: "",
+};
+
+/// The changes are typed.
+const TYPED: Run = Run {
+    changes: None,
+    typed: ADD,
+    ..NAMED
+};
+
+const RUNS: [Run; 19] = [
+    Run {
+        shows: "each file is made in its turn and takes its own text",
+        told: "open copy;open changes;create undo 640;create new 640;sync undo UNDO;sync new NEW;publish undo UNDO;publish new NEW;report ACCEPTED;1, 0",
+        ..NAMED
+    },
+    Run {
+        shows: "the changes may come from standard input",
+        told: "open copy;standard input;create undo 640;create new 640;sync undo UNDO;sync new NEW;publish undo UNDO;publish new NEW;report ACCEPTED;1, 0",
+        ..TYPED
+    },
+    Run {
+        shows: "a copy that is not there ends the run",
+        data: "none",
+        changes: Some("nothing"),
+        typed: ADD,
+        told: "open none, refused;cannot open none",
+        ..NAMED
+    },
+    Run {
+        shows: "so do changes that are not there",
+        changes: Some("nothing"),
+        typed: ADD,
+        told: "open copy;open nothing, refused;cannot open nothing",
+        ..NAMED
+    },
+    Run {
+        shows: "so does an undo file that is there",
+        data: "changes",
+        onto: ["new", "copy"],
+        told: "open changes;standard input;create copy 644, which exists;exists already: copy",
+        ..TYPED
+    },
+    Run {
+        shows: "so does a new copy that is there",
+        onto: ["changes", "undo"],
+        told: "open copy;standard input;create undo 640;create changes 640, which exists;discard undo;exists already: changes",
+        ..TYPED
+    },
+    Run {
+        shows: "no copy is written over, in a dry run too",
+        onto: ["copy", "undo"],
+        options: DRY,
+        typed: ADD,
+        told: "same path twice: copy",
+        ..NAMED
+    },
+    Run {
+        shows: "a copy is not its own changes",
+        changes: Some("copy"),
+        typed: ADD,
+        told: "same path twice: copy",
+        ..NAMED
+    },
+    Run {
+        shows: "after the undo file is refused nothing is left",
+        good: 0,
+        told: "open copy;open changes;create undo 640, refused;cannot open undo",
+        ..NAMED
+    },
+    Run {
+        shows: "nor after the new copy is",
+        good: 1,
+        told: "open copy;open changes;create undo 640;create new 640, refused;discard undo;cannot open new",
+        ..NAMED
+    },
+    Run {
+        shows: "nor after a sync of the undo file",
+        good: 2,
+        told: "open copy;open changes;create undo 640;create new 640;sync undo UNDO, refused;discard new;discard undo;cannot write undo",
+        ..NAMED
+    },
+    Run {
+        shows: "nor after a sync of the new copy",
+        good: 3,
+        told: "open copy;open changes;create undo 640;create new 640;sync undo UNDO;sync new NEW, refused;discard new;discard undo;cannot write out",
+        ..NAMED
+    },
+    Run {
+        shows: "nor after the undo file's name",
+        good: 4,
+        told: "open copy;open changes;create undo 640;create new 640;sync undo UNDO;sync new NEW;publish undo UNDO, refused;discard new;cannot write undo",
+        ..NAMED
+    },
+    Run {
+        shows: "nor after the new copy's name",
+        good: 5,
+        told: "open copy;open changes;create undo 640;create new 640;sync undo UNDO;sync new NEW;publish undo UNDO;publish new NEW, refused;withdraw undo;cannot write out",
+        ..NAMED
+    },
+    Run {
+        shows: "nor after the report",
+        good: 6,
+        told: "open copy;open changes;create undo 640;create new 640;sync undo UNDO;sync new NEW;publish undo UNDO;publish new NEW;report ACCEPTED, refused;withdraw new;withdraw undo;cannot write report",
+        ..NAMED
+    },
+    Run {
+        shows: "nor after a fault of the tool",
+        typed: b"version: 2\n",
+        told: "open copy;standard input;create undo 640;create new 640;discard new;discard undo;changes: L15 BadVersion",
+        ..TYPED
+    },
+    Run {
+        shows: "a dry run makes no file",
+        options: DRY,
+        typed: BOTH,
+        told: "open copy;standard input;report REFUSED;0, 1",
+        ..TYPED
+    },
+    Run {
+        shows: "and goes on where it is asked",
+        options: DRY_ON,
+        typed: BOTH,
+        told: "open copy;standard input;report WENT_ON;1, 1",
+        ..TYPED
+    },
+    Run {
+        shows: "its report may be refused",
+        options: DRY,
+        typed: BOTH,
+        good: 0,
+        told: "open copy;standard input;report REFUSED, refused;cannot write report",
+        ..TYPED
+    },
+];
+
+#[test]
+fn each_run_makes_its_calls_in_their_order(rt: HostRuntime) {
+    for one in &RUNS {
+        assert_run(&rt, rt.alloc(), one);
+    }
+}
+
+fn assert_run(rt: &impl Abort, alloc: Global, one: &Run) {
+    let mut folder = Folder::new(alloc, COPY, ADD, one.typed, one.good);
+    let answer = answer_over(alloc, &mut folder, one);
+    let mut text = String::new(alloc);
+    for call in folder.calls().expect(rt, "memory") {
+        push_call(rt, &mut text, call);
+    }
+    push_answer(rt, &mut text, &answer);
+    let shows = one.shows;
+    assert!(rt; text.as_str() == one.told, "{shows}: {text}");
+}
+
+fn answer_over(
+    alloc: Global,
+    folder: &mut Folder<'_>,
+    one: &Run,
+) -> Result<Summary, Fault<'static>> {
+    let [out, undo] = one.onto;
+    let words = ModifyWords {
         suffix: "dc=com",
-        data,
+        data: one.data,
         out: Some(out),
         undo: Some(undo),
-        changes,
-        options,
-    }
+        changes: one.changes,
+        options: one.options,
+    };
+    run(alloc, folder, &words)
 }
 
-/// The calls of a run, each on a line, and its answer.
-fn told(alloc: Global, folder: &mut Folder<'_>, words: &ModifyWords<'_>) -> Result<String, Fail> {
-    let answer = run(alloc, folder, words);
-    let mut text = String::new(alloc);
-    if let Some(calls) = folder.calls() {
-        for call in calls {
-            push_call(&mut text, call)?;
-        }
-    }
-    push_answer(&mut text, &answer)?;
-    Ok(text)
-}
-
-fn push_answer(text: &mut String, answer: &Result<Summary, Fault<'_>>) -> Result<(), Fail> {
+fn push_answer(rt: &impl Abort, text: &mut String, answer: &Result<Summary, Fault<'_>>) {
     match answer {
-        Ok(summary) => write!(text, "{}, {}", summary.accepted, summary.refused)?,
-        Err(fault) => write!(text, "{fault}")?,
+        Ok(Summary { accepted, refused }) => write!(text, "{accepted}, {refused}"),
+        Err(Fault::Tool(ToolFault::Memory)) => panic!(rt; "memory"),
+        Err(fault) => write!(text, "{fault}"),
     }
-    Ok(())
+    .expect(rt, "memory");
 }
 
-fn push_call(text: &mut String, call: &Asked) -> Result<(), AllocError> {
-    match call {
-        Asked::Opens(path, why) => push_all(text, "open ", path.as_str(), "", *why),
-        Asked::StandardInput => push_all(text, "standard input", "", "", None),
-        Asked::Creates(path, mode, why) => {
-            write!(text, "create {path} {mode:o}")?;
-            push_all(text, "", "", "", *why)
-        }
-        Asked::Syncs(path, bytes, why) => {
-            push_all(text, "sync ", path.as_str(), shown(bytes), *why)
-        }
-        Asked::Publishes(path, bytes, why) => {
-            push_all(text, "publish ", path.as_str(), shown(bytes), *why)
-        }
-        Asked::Discards(path) => push_all(text, "discard ", path.as_str(), "", None),
-        Asked::Withdraws(path) => push_all(text, "withdraw ", path.as_str(), "", None),
-        Asked::Reports(bytes, why) => push_all(text, "report", "", shown(bytes), *why),
+/// Appends what was asked, of which path, with what text or mode, and whether it was refused.
+fn push_call(rt: &impl Abort, text: &mut String, call: &Asked) {
+    let (what, path, with, why) = match call {
+        Asked::Opens(path, why) => ("open ", path.as_str(), "", *why),
+        Asked::StandardInput => ("standard input", "", "", None),
+        Asked::Creates(path, mode, why) => ("create ", path.as_str(), mode_text(*mode), *why),
+        Asked::Syncs(path, bytes, why) => ("sync ", path.as_str(), shown(bytes), *why),
+        Asked::Publishes(path, bytes, why) => ("publish ", path.as_str(), shown(bytes), *why),
+        Asked::Discards(path) => ("discard ", path.as_str(), "", None),
+        Asked::Withdraws(path) => ("withdraw ", path.as_str(), "", None),
+        Asked::Reports(bytes, why) => ("report", "", shown(bytes), *why),
+    };
+    let end = match why {
+        None => "",
+        Some(Refusal::Exists) => ", which exists",
+        Some(Refusal::Memory) => ", no memory",
+        Some(Refusal::Other) => ", refused",
+    };
+    write!(text, "{what}{path}{with}{end};").expect(rt, "memory");
+}
+
+fn mode_text(mode: u32) -> &'static str {
+    match mode {
+        0o640 => " 640",
+        0o644 => " 644",
+        _ => " ?",
     }
 }
 
@@ -113,154 +294,4 @@ fn shown(bytes: &Vec<u8>) -> &'static str {
         WENT_ON => " WENT_ON",
         _ => " ?",
     }
-}
-
-fn push_all(
-    text: &mut String,
-    what: &str,
-    path: &str,
-    with: &str,
-    why: Option<Refusal>,
-) -> Result<(), AllocError> {
-    text.push_str(what)?;
-    text.push_str(path)?;
-    text.push_str(with)?;
-    text.push_str(match why {
-        None => "",
-        Some(Refusal::Exists) => ", which exists",
-        Some(Refusal::Memory) => ", no memory",
-        Some(Refusal::Other) => ", refused",
-    })?;
-    text.push_str(";")
-}
-
-fn expect(
-    rt: &impl Abort,
-    alloc: Global,
-    words: &ModifyWords<'_>,
-    typed: &[u8],
-    good: u64,
-    want: &str,
-) -> Result<(), Fail> {
-    let mut folder = Folder::new(alloc, COPY, ADD, typed, good);
-    let found = told(alloc, &mut folder, words)?;
-    assert_eq!(rt; found.as_str(), want);
-    Ok(())
-}
-
-#[test]
-fn each_file_is_made_in_its_turn_and_takes_its_own_text(rt: HostRuntime) -> Result<(), Fail> {
-    let alloc = rt.alloc();
-    let made =
-        "create undo 640;create new 640;sync undo UNDO;sync new NEW;publish undo UNDO;publish new NEW;report ACCEPTED;1, 0";
-    let want = format!(in alloc; "open copy;open changes;{made}")?;
-    let named = words("copy", Some("changes"), ["new", "undo"], STOP);
-    expect(&rt, alloc, &named, MISSING, ALL, want.as_str())?;
-    let want = format!(in alloc; "open copy;standard input;{made}")?;
-    let typed = words("copy", None, ["new", "undo"], STOP);
-    expect(&rt, alloc, &typed, ADD, ALL, want.as_str())
-}
-
-#[test]
-fn a_path_that_is_refused_ends_the_run(rt: HostRuntime) -> Result<(), Fail> {
-    let alloc = rt.alloc();
-    let changes = Some("changes");
-    let rows = [
-        (
-            words("none", Some("nothing"), ["new", "undo"], STOP),
-            "open none, refused;cannot open none",
-        ),
-        (
-            words("copy", Some("nothing"), ["new", "undo"], STOP),
-            "open copy;open nothing, refused;cannot open nothing",
-        ),
-        (
-            words("changes", None, ["new", "copy"], STOP),
-            "open changes;standard input;create copy 644, which exists;exists already: copy",
-        ),
-        (
-            words("copy", None, ["changes", "undo"], STOP),
-            "open copy;standard input;create undo 640;create changes 640, which exists;discard undo;exists already: changes",
-        ),
-        (
-            words("copy", changes, ["copy", "undo"], DRY),
-            "same path twice: copy",
-        ),
-        (
-            words("copy", Some("copy"), ["new", "undo"], STOP),
-            "same path twice: copy",
-        ),
-    ];
-    for (words, want) in &rows {
-        expect(&rt, alloc, words, ADD, ALL, want)?;
-    }
-    Ok(())
-}
-
-/// How many calls are done before one is refused, and what is told then.
-const REFUSALS: [(u64, &str); 7] = [
-    (0, "create undo 640, refused;cannot open undo"),
-    (
-        1,
-        "create undo 640;create new 640, refused;discard undo;cannot open new",
-    ),
-    (
-        2,
-        "create undo 640;create new 640;sync undo UNDO, refused;discard new;discard undo;cannot write undo",
-    ),
-    (
-        3,
-        "create undo 640;create new 640;sync undo UNDO;sync new NEW, refused;discard new;discard undo;cannot write out",
-    ),
-    (
-        4,
-        "create undo 640;create new 640;sync undo UNDO;sync new NEW;publish undo UNDO, refused;discard new;cannot write undo",
-    ),
-    (
-        5,
-        "create undo 640;create new 640;sync undo UNDO;sync new NEW;publish undo UNDO;publish new NEW, refused;withdraw undo;cannot write out",
-    ),
-    (
-        6,
-        "create undo 640;create new 640;sync undo UNDO;sync new NEW;publish undo UNDO;publish new NEW;report ACCEPTED, refused;withdraw new;withdraw undo;cannot write report",
-    ),
-];
-
-#[test]
-fn after_a_call_that_is_refused_nothing_is_left(rt: HostRuntime) -> Result<(), Fail> {
-    let alloc = rt.alloc();
-    let words = words("copy", Some("changes"), ["new", "undo"], STOP);
-    for (good, want) in &REFUSALS {
-        let want = format!(in alloc; "open copy;open changes;{want}")?;
-        expect(&rt, alloc, &words, MISSING, *good, want.as_str())?;
-    }
-    Ok(())
-}
-
-#[test]
-fn after_a_fault_of_the_tool_nothing_is_left(rt: HostRuntime) -> Result<(), Fail> {
-    let alloc = rt.alloc();
-    let typed = words("copy", None, ["new", "undo"], STOP);
-    let made = "open copy;standard input;create undo 640;create new 640;discard new;discard undo";
-    let want = format!(in alloc; "{made};changes: L15 BadVersion")?;
-    expect(&rt, alloc, &typed, b"version: 2\n", ALL, want.as_str())
-}
-
-#[test]
-fn a_dry_run_makes_no_file_and_goes_on_where_it_is_asked(rt: HostRuntime) -> Result<(), Fail> {
-    let alloc = rt.alloc();
-    let typed = format!(in alloc;
-        "dn: ou=none,dc=com\nchangetype: delete\n\ndn: ou=people,dc=com\nchangetype: add\n"
-    )?;
-    let rows = [
-        (DRY, ALL, "report REFUSED;0, 1"),
-        (DRY_ON, ALL, "report WENT_ON;1, 1"),
-        (DRY, 0, "report REFUSED, refused;cannot write report"),
-    ];
-    for (options, good, ended) in rows {
-        let want = format!(in alloc; "open copy;standard input;{ended}")?;
-        let words = words("copy", None, ["new", "undo"], options);
-        expect(&rt, alloc, &words, typed.as_bytes(), good, want.as_str())?;
-    }
-    Ok(())
 }

@@ -5,8 +5,9 @@ use dir_files::{Amount, Doing, Fault, ModifyWords, Progress};
 use dir_ldif::{RecordFault, StreamFault};
 use dir_names::NameFault;
 use dir_tools::{Cause, Input, Item, ModifyOptions, Output, ToolFault};
+use std::alloc::Global;
 use std::io;
-use std::test::Fail;
+use std::process::Abort;
 
 const STOP: ModifyOptions = ModifyOptions {
     go_on: false,
@@ -14,160 +15,153 @@ const STOP: ModifyOptions = ModifyOptions {
     verbose: false,
 };
 
+/// The paths of the copy, the new copy, the undo file and the changes, and the first that is the same as one before it.
+const PATHS: [([&str; 4], &str); 7] = [
+    (["a", "a", "b", "c"], "a"),
+    (["a", "b", "a", "c"], "a"),
+    (["a", "b", "b", "c"], "b"),
+    (["a", "b", "c", "a"], "a"),
+    (["a", "b", "c", "b"], "b"),
+    (["a", "b", "c", "c"], "c"),
+    (["a", "b", "c", "d"], ""),
+];
+
 #[test]
 fn paths_must_differ(rt: HostRuntime) {
-    let rows = [
-        ("a", "a", "b", "c", "a"),
-        ("a", "b", "a", "c", "a"),
-        ("a", "b", "b", "c", "b"),
-        ("a", "b", "c", "a", "a"),
-        ("a", "b", "c", "b", "b"),
-        ("a", "b", "c", "c", "c"),
-        ("a", "b", "c", "d", ""),
-    ];
-    for (data, out, undo, changes, want) in rows {
-        let words = ModifyWords {
-            suffix: "dc=com",
-            data,
-            out: Some(out),
-            undo: Some(undo),
-            changes: Some(changes),
-            options: STOP,
+    for (paths, want) in &PATHS {
+        assert_repeated(&rt, paths, want);
+    }
+}
+
+fn assert_repeated(rt: &impl Abort, paths: &[&str; 4], want: &str) {
+    let [data, out, undo, changes] = *paths;
+    let words = ModifyWords {
+        suffix: "dc=com",
+        data,
+        out: Some(out),
+        undo: Some(undo),
+        changes: Some(changes),
+        options: STOP,
+    };
+    let found = first_repeated(&words).unwrap_or("");
+    assert!(rt; found == want, "{data} {out} {undo} {changes}: {found}");
+}
+
+const BAD_NAME: Cause = Cause::Fault(RecordFault::Name(NameFault::BadDn));
+
+/// The tool's own faults, and the text of each.
+const TOOL_FAULTS: [(ToolFault, &str); 14] = [
+    (ToolFault::BadCopy(7, BAD_NAME), "copy, line 7: L9 N4 BadDn"),
+    (ToolFault::Read(Input::Copy), "cannot read copy"),
+    (ToolFault::Read(Input::Changes), "cannot read changes"),
+    (ToolFault::Write(Output::Undo), "cannot write undo"),
+    (ToolFault::Write(Output::Out), "cannot write out"),
+    (ToolFault::Write(Output::Report), "cannot write report"),
+    (ToolFault::Memory, "out of memory"),
+    (ToolFault::Read(Input::Config), "cannot read config"),
+    (ToolFault::BadQuestion(Item::Suffix), "bad question: suffix"),
+    (ToolFault::BadQuestion(Item::Base), "bad question: base"),
+    (ToolFault::BadQuestion(Item::Authc), "bad question: authcDN"),
+    (
+        ToolFault::BadQuestion(Item::Word(12)),
+        "bad question: word 12",
+    ),
+    (
+        ToolFault::BadChanges(StreamFault::LineTooLong),
+        "changes: L10 LineTooLong",
+    ),
+    (ToolFault::NoEntry, "no such entry"),
+];
+
+#[test]
+fn each_fault_of_the_tool_has_its_text(rt: HostRuntime) {
+    for (fault, want) in &TOOL_FAULTS {
+        assert_shown(&rt, rt.alloc(), &Fault::Tool(*fault), want);
+    }
+}
+
+#[test]
+fn each_fault_has_its_text(rt: HostRuntime) {
+    let alloc = rt.alloc();
+    let no_words = Fault::NoWords(io::Error::from(io::ErrorKind::InvalidData));
+    let want = "cannot read the command line: invalid data";
+    assert_shown(&rt, alloc, &no_words, want);
+    assert_shown(&rt, alloc, &Fault::SamePath("a"), "same path twice: a");
+    assert_shown(&rt, alloc, &Fault::CannotOpen("a"), "cannot open a");
+    let controls = Fault::CannotOpen("\tM\u{fc}ller\u{9b}\n\x7f");
+    let want = "cannot open \\x09M\u{fc}ller\\x9b\\x0a\\x7f";
+    assert_shown(&rt, alloc, &controls, want);
+    assert_shown(&rt, alloc, &Fault::Exists("a"), "exists already: a");
+}
+
+/// Asserts the text of a fault, plain and with `#`.
+fn assert_shown(rt: &impl Abort, alloc: Global, fault: &Fault<'_>, want: &str) {
+    let text = format!(in alloc; "{fault}; {fault:#}").expect(rt, "memory");
+    let want = format!(in alloc; "{want}; {want}").expect(rt, "memory");
+    assert!(rt; text.as_str() == want.as_str(), "{text}");
+}
+
+/// What is done with a text, its path, how much of it is done, its size, and what is told.
+const PROGRESS: [(Doing, &str, u64, Option<u64>, &str); 9] = [
+    (
+        Doing::Reading,
+        "a",
+        48_999_999,
+        Some(98_200_000),
+        "reading a, 48 of 98 MB",
+    ),
+    (
+        Doing::Reading,
+        "a",
+        0,
+        Some(1_000_000),
+        "reading a, 0 of 1 MB",
+    ),
+    (Doing::Reading, "a", 999_999, Some(999_999), "reading a"),
+    // more than the size was read: it is another one
+    (
+        Doing::Reading,
+        "a",
+        12_000_000,
+        Some(11_999_999),
+        "reading a, 12 MB",
+    ),
+    (Doing::Reading, "\x1b[2J", 999_999, None, "reading \\x1b[2J"),
+    (Doing::HasRead, "a", 12_000_000, None, "read a, 12 MB"),
+    (Doing::Writing, "a", 8_388_608, None, "writing a, 8 MB"),
+    (
+        Doing::Syncing,
+        "0123456789012345678901234567890123456789",
+        0,
+        None,
+        "syncing 0123456789012345678901234567890123456789",
+    ),
+    (
+        Doing::Syncing,
+        "/0123456789012345678901234567890123456789",
+        0,
+        None,
+        "syncing ...0123456789012345678901234567890123456789",
+    ),
+];
+
+#[test]
+fn each_progress_has_its_text(rt: HostRuntime) {
+    for (doing, path, done, size, want) in &PROGRESS {
+        let amount = Amount {
+            done: *done,
+            size: *size,
         };
-        assert_eq!(rt; first_repeated(&words).unwrap_or(""), want);
-    }
-}
-
-#[test]
-fn each_fault_has_its_text(rt: HostRuntime) -> Result<(), Fail> {
-    let alloc = rt.alloc();
-    let bad_name = Cause::Fault(RecordFault::Name(NameFault::BadDn));
-    let rows = [
-        (
-            Fault::NoWords(io::Error::from(io::ErrorKind::InvalidData)),
-            "cannot read the command line: invalid data",
-        ),
-        (Fault::SamePath("a"), "same path twice: a"),
-        (Fault::CannotOpen("a"), "cannot open a"),
-        (
-            Fault::CannotOpen("\tM\u{fc}ller\u{9b}\n\x7f"),
-            "cannot open \\x09M\u{fc}ller\\x9b\\x0a\\x7f",
-        ),
-        (Fault::Exists("a"), "exists already: a"),
-        (
-            Fault::Tool(ToolFault::BadCopy(7, bad_name)),
-            "copy, line 7: L9 N4 BadDn",
-        ),
-        (
-            Fault::Tool(ToolFault::Read(Input::Copy)),
-            "cannot read copy",
-        ),
-        (
-            Fault::Tool(ToolFault::Read(Input::Changes)),
-            "cannot read changes",
-        ),
-        (
-            Fault::Tool(ToolFault::Write(Output::Undo)),
-            "cannot write undo",
-        ),
-        (
-            Fault::Tool(ToolFault::Write(Output::Out)),
-            "cannot write out",
-        ),
-        (
-            Fault::Tool(ToolFault::Write(Output::Report)),
-            "cannot write report",
-        ),
-        (Fault::Tool(ToolFault::Memory), "out of memory"),
-        (
-            Fault::Tool(ToolFault::Read(Input::Config)),
-            "cannot read config",
-        ),
-        (
-            Fault::Tool(ToolFault::BadQuestion(Item::Suffix)),
-            "bad question: suffix",
-        ),
-        (
-            Fault::Tool(ToolFault::BadQuestion(Item::Base)),
-            "bad question: base",
-        ),
-        (
-            Fault::Tool(ToolFault::BadQuestion(Item::Authc)),
-            "bad question: authcDN",
-        ),
-        (
-            Fault::Tool(ToolFault::BadQuestion(Item::Word(12))),
-            "bad question: word 12",
-        ),
-        (
-            Fault::Tool(ToolFault::BadChanges(StreamFault::LineTooLong)),
-            "changes: L10 LineTooLong",
-        ),
-        (Fault::Tool(ToolFault::NoEntry), "no such entry"),
-    ];
-    for (fault, want) in rows {
-        let text = format!(in alloc; "{fault}")?;
-        assert_eq!(rt; text.as_str(), want);
-        let styled = format!(in alloc; "{fault:#}")?;
-        assert_eq!(rt; styled.as_str(), want);
-    }
-    Ok(())
-}
-
-#[test]
-fn each_progress_has_its_text(rt: HostRuntime) -> Result<(), Fail> {
-    let alloc = rt.alloc();
-    let rows = [
-        (
-            Doing::Reading,
-            "a",
-            48_999_999,
-            Some(98_200_000),
-            "reading a, 48 of 98 MB",
-        ),
-        (
-            Doing::Reading,
-            "a",
-            0,
-            Some(1_000_000),
-            "reading a, 0 of 1 MB",
-        ),
-        (Doing::Reading, "a", 999_999, Some(999_999), "reading a"),
-        // more than the size was read: it is another one
-        (
-            Doing::Reading,
-            "a",
-            12_000_000,
-            Some(11_999_999),
-            "reading a, 12 MB",
-        ),
-        (Doing::Reading, "\x1b[2J", 999_999, None, "reading \\x1b[2J"),
-        (Doing::HasRead, "a", 12_000_000, None, "read a, 12 MB"),
-        (Doing::Writing, "a", 8_388_608, None, "writing a, 8 MB"),
-        (
-            Doing::Syncing,
-            "0123456789012345678901234567890123456789",
-            0,
-            None,
-            "syncing 0123456789012345678901234567890123456789",
-        ),
-        (
-            Doing::Syncing,
-            "/0123456789012345678901234567890123456789",
-            0,
-            None,
-            "syncing ...0123456789012345678901234567890123456789",
-        ),
-    ];
-    for (doing, path, done, size, want) in rows {
-        let amount = Amount { done, size };
         let progress = Progress {
-            doing,
+            doing: *doing,
             path,
             amount,
         };
-        let text = format!(in alloc; "{progress}")?;
-        assert_eq!(rt; text.as_str(), want);
+        assert_told(&rt, rt.alloc(), &progress, want);
     }
-    Ok(())
+}
+
+fn assert_told(rt: &impl Abort, alloc: Global, progress: &Progress<'_>, want: &str) {
+    let text = format!(in alloc; "{progress}").expect(rt, "memory");
+    assert!(rt; text.as_str() == want, "{text}");
 }
