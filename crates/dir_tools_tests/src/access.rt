@@ -28,7 +28,7 @@ const DESCRIBED: Ask<'static> = Ask {
 };
 
 /// Questions, and the report of each.
-const REPORTS: [Ask<'static>; 21] = [
+static REPORTS: [Ask<'static>; 21] = [
     Ask {
         shows: "`continue` goes on with the later clauses, of which none is for nobody",
         config: CONTINUE,
@@ -163,26 +163,33 @@ fn questions_have_their_reports(rt: HostRuntime) {
 }
 
 /// The manager is exchanged.
-const EXCHANGE: Run<'static> = Run {
+static EXCHANGE: Run<'static> = Run {
     copy: PEOPLE,
     changes: "dn: cn=t,dc=com\nchangetype: modify\nreplace: manager\nmanager: cn=k,dc=com\n-\n",
     ..ACCEPTED
 };
 
+/// The manager asks on the copy that a run wrote.
+static MANAGER: Ask<'static> = PHONE;
+
 /// Asserts the privileges of the old manager and of the new one on the copy that a run wrote.
 fn assert_managers(rt: &impl Abort, alloc: Global, ran: &Ran, old: &str, new: &str) {
-    let copy = ran.out.as_str();
+    assert_manager(rt, alloc, ran.out.as_str(), "cn=m,dc=com", old);
+    assert_manager(rt, alloc, ran.out.as_str(), "cn=k,dc=com", new);
+}
+
+fn assert_manager<'a>(
+    rt: &impl Abort,
+    alloc: Global,
+    copy: &'a str,
+    name: &'a str,
+    report: &'a str,
+) {
     let ask = Ask {
         copy,
-        report: old,
-        ..PHONE
-    };
-    assert_ask(rt, alloc, &WHOLE, &ask);
-    let ask = Ask {
-        copy,
-        authc: Some("cn=k,dc=com"),
-        report: new,
-        ..PHONE
+        authc: Some(name),
+        report,
+        ..MANAGER
     };
     assert_ask(rt, alloc, &WHOLE, &ask);
 }

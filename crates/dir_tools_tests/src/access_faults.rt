@@ -14,7 +14,7 @@ const FAULTY: Ask<'static> = Ask {
 };
 
 /// Questions, and the fault of each.
-const FAULTS: [Ask<'static>; 26] = [
+static FAULTS: [Ask<'static>; 26] = [
     Ask {
         shows: "rules before the database",
         config: "access to * by * read\n",
@@ -190,15 +190,17 @@ fn faults_of_configurations_and_questions_are_named_in_their_order(rt: HostRunti
     }
 }
 
+const REPORT: &str = "authcDN: cn=m,dc=com\ntelephoneNumber: =rscxd\n";
+
 /// The manager's question, with the requester's name.
 const NAMED: Ask<'static> = Ask {
     verbose: true,
-    report: "authcDN: cn=m,dc=com\ntelephoneNumber: =rscxd\n",
+    report: REPORT,
     ..PHONE
 };
 
 /// Devices, and what comes of a question over them.
-const DEVICES: [(Devices, Ask<'static>); 6] = [
+static DEVICES: [(Devices, Ask<'static>); 6] = [
     (
         Devices { piece: 1, ..WHOLE },
         Ask {
@@ -257,76 +259,86 @@ fn devices_that_fail_are_named_in_their_order(rt: HostRuntime) {
     }
 }
 
-/// Asserts that the manager's question ends in the fault of the configuration, in this call.
-fn assert_config_fails(rt: &impl Abort, alloc: Global, call: u64) {
-    let devices = Devices {
-        config: call,
-        ..IN_EIGHTS
-    };
-    let ask = Ask {
-        report: "",
-        fault: "cannot read config",
-        ..PHONE
-    };
-    assert_ask(rt, alloc, &devices, &ask);
+/// A device of a question.
+enum Device {
+    Config,
+    Copy,
+    Report,
 }
 
-/// The same of the copy.
-fn assert_copy_fails(rt: &impl Abort, alloc: Global, call: u64) {
-    let devices = Devices {
-        copy: call,
-        ..IN_EIGHTS
-    };
-    let ask = Ask {
-        report: "",
-        fault: "cannot read copy",
-        ..PHONE
-    };
-    assert_ask(rt, alloc, &devices, &ask);
-}
-
-/// The same of the report, of which it took what was written before.
-fn assert_report_fails(rt: &impl Abort, alloc: Global, call: u64) {
-    let devices = Devices {
-        report: call,
-        ..IN_EIGHTS
-    };
-    let ask = Ask {
-        report: front(NAMED.report, call),
-        fault: "cannot write report",
-        ..NAMED
-    };
-    assert_ask(rt, alloc, &devices, &ask);
-}
+/// The devices of a question, and the text of each.
+static TEXTS: [(Device, &str); 3] = [
+    (Device::Config, PHONES),
+    (Device::Copy, PEOPLE),
+    (Device::Report, REPORT),
+];
 
 /// Each of the reads, of eight bytes at most, and the one that finds the end; each of the writes, and then the flush.
 #[test]
 fn each_call_of_each_device_of_a_question_fails_in_turn(rt: HostRuntime) {
-    for call in 1..=PHONES.len().div_ceil(8) as u64 + 1 {
-        assert_config_fails(&rt, rt.alloc(), call);
-    }
-    for call in 1..=PEOPLE.len().div_ceil(8) as u64 + 1 {
-        assert_copy_fails(&rt, rt.alloc(), call);
-    }
-    for call in 1..=NAMED.report.len().div_ceil(8) as u64 + 1 {
-        assert_report_fails(&rt, rt.alloc(), call);
+    for (device, text) in &TEXTS {
+        assert_each_call_fails(&rt, rt.alloc(), device, text);
     }
 }
 
+fn assert_each_call_fails(rt: &impl Abort, alloc: Global, device: &Device, text: &str) {
+    for call in 1..=text.len().div_ceil(8) as u64 + 1 {
+        assert_fails(rt, alloc, device, text, call);
+    }
+}
+
+/// The manager's question, which ends in a fault.
+static FAILING: Ask<'static> = NAMED;
+
+/// Asserts what comes of a question where the device of this text fails from this call on.
+fn assert_fails(rt: &impl Abort, alloc: Global, device: &Device, text: &str, call: u64) {
+    let mut devices = IN_EIGHTS;
+    let (report, fault) = match device {
+        Device::Config => {
+            devices.config = call;
+            ("", "cannot read config")
+        }
+        Device::Copy => {
+            devices.copy = call;
+            ("", "cannot read copy")
+        }
+        Device::Report => {
+            devices.report = call;
+            (front(text, call), "cannot write report")
+        }
+    };
+    let ask = Ask {
+        shows: fault,
+        report,
+        fault,
+        ..FAILING
+    };
+    assert_ask(rt, alloc, &devices, &ask);
+}
+
+/// A configuration of the longest length.
+static LONG: Ask<'static> = Ask {
+    fault: "config, line 0: C10 NoSuffix",
+    ..FAULTY
+};
+
+/// One that is a byte longer.
+static TOO_LONG: Ask<'static> = Ask {
+    fault: "config, line 0: C11 ConfigTooLong",
+    ..FAULTY
+};
+
 /// Asserts what comes of a configuration that is a comment of this length.
-fn assert_long_config(rt: &impl Abort, alloc: Global, length: usize, fault: &str) {
+fn assert_long_config(rt: &impl Abort, alloc: Global, length: usize, ask: &Ask<'_>) {
     let text = vec![in alloc; b'#'; length].expect(rt, "memory");
-    let ask = Ask { fault, ..FAULTY };
-    assert_ask_over(rt, alloc, &WHOLE, &ask, &mut Script::new(text.as_slice()));
+    assert_ask_over(rt, alloc, &WHOLE, ask, &mut Script::new(text.as_slice()));
 }
 
 #[test]
 fn a_configuration_may_have_16_777_216_bytes(rt: HostRuntime) {
-    assert_long_config(&rt, rt.alloc(), 16_777_216, "config, line 0: C10 NoSuffix");
-    assert_long_config(&rt, rt.alloc(), 16_777_217, TOO_LONG);
+    assert_long_config(&rt, rt.alloc(), 16_777_216, &LONG);
+    assert_long_config(&rt, rt.alloc(), 16_777_217, &TOO_LONG);
 }
-
-const TOO_LONG: &str = "config, line 0: C11 ConfigTooLong";
 
 /// A comment without end, of which the bytes are counted that were given.
 #[derive(Drop)]
@@ -357,10 +369,6 @@ impl Source for Endless {
 #[test]
 fn a_configuration_without_end_is_too_long(rt: HostRuntime) {
     let mut config = Endless { given: 0 };
-    let ask = Ask {
-        fault: TOO_LONG,
-        ..FAULTY
-    };
-    assert_ask_over(&rt, rt.alloc(), &WHOLE, &ask, &mut config);
+    assert_ask_over(&rt, rt.alloc(), &WHOLE, &TOO_LONG, &mut config);
     assert!(rt; config.given <= 16_785_408);
 }

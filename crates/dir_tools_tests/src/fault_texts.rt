@@ -16,7 +16,7 @@ fn assert_shown(rt: &impl Abort, alloc: Global, fault: ToolFault, want: &str) {
 }
 
 /// Faults, and the text of each.
-const FAULTS: [(ToolFault, &str); 18] = [
+static FAULTS: [(ToolFault, &str); 18] = [
     (
         ToolFault::BadCopy(7, Cause::Code(ResultCode::NoSuchObject)),
         "copy, line 7: 32 noSuchObject",

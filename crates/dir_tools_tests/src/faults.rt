@@ -2,6 +2,7 @@
 
 use crate::running::{
     ACCEPTED, COM, Devices, FAULTY, GO_ON, IN_EIGHTS, NO_UNDO, Run, WHOLE, assert_run, text_of,
+    with_texts,
 };
 use std::alloc::Global;
 use std::process::Abort;
@@ -26,7 +27,7 @@ const TOLD: Run<'static> = Run {
 };
 
 /// Devices, and what comes of a run over them.
-const DEVICES: [(Devices, Run<'static>); 12] = [
+static DEVICES: [(Devices, Run<'static>); 12] = [
     (
         IN_EIGHTS,
         Run {
@@ -194,7 +195,7 @@ enum Device {
 }
 
 /// The devices of a run, and the text of each.
-const TEXTS: [(Device, &str); 5] = [
+static TEXTS: [(Device, &str); 5] = [
     (Device::Copy, COM),
     (Device::Changes, CHANGES),
     (Device::Undo, UNDO),
@@ -212,63 +213,50 @@ fn each_call_of_each_device_fails_in_turn(rt: HostRuntime) {
 
 fn assert_each_call_fails(rt: &impl Abort, alloc: Global, device: &Device, text: &str) {
     for call in 1..=text.len().div_ceil(8) as u64 + 1 {
-        let (devices, one) = failing(device, call);
-        assert_run(rt, alloc, &devices, &one);
+        assert_fails(rt, alloc, device, call);
     }
 }
 
-/// Devices of which one fails from this call on, and what a run over them writes and answers.
-fn failing(device: &Device, call: u64) -> (Devices, Run<'static>) {
-    match device {
-        Device::Copy => (
-            Devices {
-                copy: call,
-                ..IN_EIGHTS
-            },
-            ended("", "", "", "cannot read copy"),
-        ),
-        Device::Changes => (
-            Devices {
-                changes: call,
-                ..IN_EIGHTS
-            },
-            ended("", "", "", "cannot read changes"),
-        ),
-        Device::Undo => (
-            Devices {
-                undo: call,
-                ..IN_EIGHTS
-            },
-            ended(front(UNDO, call), "", "", "cannot write undo"),
-        ),
-        Device::Out => (
-            Devices {
-                out: call,
-                ..IN_EIGHTS
-            },
-            ended(UNDO, front(OUT, call), "", "cannot write out"),
-        ),
-        Device::Report => (
-            Devices {
-                report: call,
-                ..IN_EIGHTS
-            },
-            ended(UNDO, OUT, front(REPORT, call), "cannot write report"),
-        ),
-    }
-}
+/// A run that ends in a fault.
+static FAILING: Run<'static> = Run {
+    changes: CHANGES,
+    ..FAULTY
+};
 
-/// A run of the changes that writes these texts and ends in this fault.
-fn ended<'a>(undo: &'a str, out: &'a str, report: &'a str, answer: &'a str) -> Run<'a> {
-    Run {
+/// Asserts what a run writes and answers where a device fails from this call on.
+fn assert_fails(rt: &impl Abort, alloc: Global, device: &Device, call: u64) {
+    let mut devices = IN_EIGHTS;
+    let (undo, out, report, answer) = match device {
+        Device::Copy => {
+            devices.copy = call;
+            ("", "", "", "cannot read copy")
+        }
+        Device::Changes => {
+            devices.changes = call;
+            ("", "", "", "cannot read changes")
+        }
+        Device::Undo => {
+            devices.undo = call;
+            (front(UNDO, call), "", "", "cannot write undo")
+        }
+        Device::Out => {
+            devices.out = call;
+            (UNDO, front(OUT, call), "", "cannot write out")
+        }
+        Device::Report => {
+            devices.report = call;
+            (UNDO, OUT, front(REPORT, call), "cannot write report")
+        }
+    };
+    let one = Run {
         shows: answer,
-        changes: CHANGES,
         undo,
         out,
         report,
         answer,
-        ..FAULTY
-    }
+        ..FAILING
+    };
+    assert_run(rt, alloc, &devices, &one);
 }
 
 /// What was written before this call.
@@ -287,17 +275,20 @@ fn refused_and_long_line(rt: &impl Abort, alloc: Global) -> String {
     format!(in alloc; "{REFUSED}{line}").expect(rt, "memory")
 }
 
-/// In stop mode a line that is too long after the first refused record is not reached.
+/// In stop mode it is not reached.
+static STOPPED: Run<'static> = TOLD;
+
+static WENT_ON: Run<'static> = Run {
+    options: GO_ON,
+    answer: "changes: L10 LineTooLong",
+    ..FAULTY
+};
+
 #[test]
 fn a_long_line_after_the_first_refusal_is_not_reached(rt: HostRuntime) {
     let changes = refused_and_long_line(&rt, rt.alloc());
-    let changes = changes.as_str();
-    assert_run(&rt, rt.alloc(), &WHOLE, &Run { changes, ..TOLD });
-    let one = Run {
-        options: GO_ON,
-        changes,
-        answer: "changes: L10 LineTooLong",
-        ..FAULTY
-    };
-    assert_run(&rt, rt.alloc(), &WHOLE, &one);
+    let stopped = with_texts(&STOPPED, COM, changes.as_str());
+    assert_run(&rt, rt.alloc(), &WHOLE, &stopped);
+    let went_on = with_texts(&WENT_ON, COM, changes.as_str());
+    assert_run(&rt, rt.alloc(), &WHOLE, &went_on);
 }

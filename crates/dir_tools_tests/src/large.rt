@@ -1,8 +1,11 @@
 //! A thousand entries, and names as deep as they may be.
 
-use crate::running::{ACCEPTED, COM, Run, WHOLE, assert_text, run_back, run_both};
+use crate::running::{ACCEPTED, COM, Run, WHOLE, assert_text, run_back, run_both, with_texts};
 use std::alloc::Global;
 use std::process::Abort;
+
+/// A run below `dc=com`.
+static LARGE: Run<'static> = ACCEPTED;
 
 /// A copy with a thousand entries below the first one, and the changes that delete them, in order.
 fn thousand(rt: &impl Abort, alloc: Global) -> (String, String) {
@@ -22,11 +25,7 @@ fn thousand(rt: &impl Abort, alloc: Global) -> (String, String) {
 #[test]
 fn a_thousand_entries_are_deleted_in_order_and_taken_back(rt: HostRuntime) {
     let (copy, changes) = thousand(&rt, rt.alloc());
-    let one = Run {
-        copy: copy.as_str(),
-        changes: changes.as_str(),
-        ..ACCEPTED
-    };
+    let one = with_texts(&LARGE, copy.as_str(), changes.as_str());
     assert_thousand(&rt, rt.alloc(), &one);
 }
 
@@ -78,11 +77,7 @@ fn assert_move(rt: &impl Abort, alloc: Global, copy: &str, depth: usize, want: &
             .to_string(alloc)
             .expect(rt, "memory");
     push_name(rt, &mut changes, depth);
-    let one = Run {
-        copy,
-        changes: changes.as_str(),
-        ..ACCEPTED
-    };
+    let one = with_texts(&LARGE, copy, changes.as_str());
     let ran = run_both(rt, alloc, &WHOLE, &one);
     assert_text(rt, "a move", ran.report.as_str(), want);
 }

@@ -36,7 +36,7 @@ macro_rules! modify {
 }
 
 /// Modifies, alone and between other changes.
-const MODIFIES: [Run<'static>; 15] = [
+static MODIFIES: [Run<'static>; 15] = [
     modify!(
         "the undo says only what the modify changes",
         "cn=e",

@@ -1,6 +1,8 @@
 //! Runs of changes drawn at random, there and back, over a tree and over a flat directory.
 
-use crate::running::{ACCEPTED, COM, GO_ON, Run, WHOLE, assert_text, run_back, run_both};
+use crate::running::{
+    ACCEPTED, COM, GO_ON, Run, WHOLE, assert_text, run_back, run_both, with_texts,
+};
 use std::alloc::Global;
 use std::process::Abort;
 
@@ -97,14 +99,15 @@ fn random_changes_are_taken_back_over_both_directories(rt: HostRuntime) {
     }
 }
 
+static DRAWN: Run<'static> = Run {
+    options: GO_ON,
+    ..ACCEPTED
+};
+
 /// Asserts that a hundred changes drawn from this seed are taken back.
 fn assert_taken_back(rt: &impl Abort, alloc: Global, seed: u64) {
     let changes = changes_of(rt, alloc, &mut Draws { state: seed }, 100);
-    let one = Run {
-        options: GO_ON,
-        changes: changes.as_str(),
-        ..ACCEPTED
-    };
+    let one = with_texts(&DRAWN, COM, changes.as_str());
     let there = run_both(rt, alloc, &WHOLE, &one);
     let back = run_back(rt, alloc, &one, &there);
     assert_text(rt, changes.as_str(), back.out.as_str(), COM);

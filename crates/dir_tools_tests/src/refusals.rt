@@ -44,7 +44,7 @@ const MOVES: &str =
     dn: cn=p,dc=com\nchangetype: modrdn\nnewrdn: cn=r\ndeleteoldrdn: 1\nnewsuperior: cn=none,dc=com\n\n\
     dn: cn=p,dc=com\nchangetype: modrdn\nnewrdn: cn=r\ndeleteoldrdn: 1\n";
 
-const REFUSALS: [Run<'static>; 30] = [
+static REFUSALS: [Run<'static>; 30] = [
     refused!(
         "a delete of an entry with children",
         "dn: dc=com\nchangetype: delete\n",
@@ -206,7 +206,7 @@ fn what_is_refused_stays_as_it_was(rt: HostRuntime) {
 }
 
 /// Runs that end in a fault.
-const ENDINGS: [Run<'static>; 11] = [
+static ENDINGS: [Run<'static>; 11] = [
     Run {
         shows: "the suffix has no RDN",
         suffix: "",

@@ -213,6 +213,15 @@ fn answer_onto(
     answer
 }
 
+/// The same run on another copy, with other changes.
+pub(crate) fn with_texts<'a>(one: &Run<'a>, copy: &'a str, changes: &'a str) -> Run<'a> {
+    Run {
+        copy,
+        changes,
+        ..*one
+    }
+}
+
 /// A run over these devices. Asserts that the same records over a flat directory give the same texts, or that the copy has
 /// the same fault there.
 pub(crate) fn run_both(rt: &impl Abort, alloc: Global, devices: &Devices, one: &Run<'_>) -> Ran {

@@ -6,7 +6,7 @@ const PEOPLE: &str =
     "dn: dc=com\ndc: com\n\ndn: ou=people,dc=com\ndescription: staff\nou: people\n\n";
 
 /// Adds and deletes.
-const ENTRIES: [Run<'static>; 9] = [
+static ENTRIES: [Run<'static>; 9] = [
     Run {
         shows: "the first entry of a directory",
         suffix: "dc=Example,dc=com",
@@ -115,7 +115,7 @@ fn adds_and_deletes_are_taken_back(rt: HostRuntime) {
 }
 
 /// Renames.
-const RENAMES: [Run<'static>; 5] = [
+static RENAMES: [Run<'static>; 5] = [
     Run {
         shows: "the old value goes",
         copy: "dn: dc=com\ndc: com\n\ndn: dc=a,dc=com\ndc: a\n\n",
@@ -194,7 +194,7 @@ const CUT: &str =
     "dn: cn=e,dc=com\nchangetype: add\nnote: x\n\ndn: cn=f,dc=com\nchangetype: add\nnote:: AAE";
 
 /// Runs by their options, and what is read of their texts.
-const OPTIONS: [Run<'static>; 7] = [
+static OPTIONS: [Run<'static>; 7] = [
     Run {
         shows: "a run stops after a refusal",
         changes: REFUSED_FIRST,
