@@ -26,7 +26,7 @@ struct Question {
     calls: usize,
 }
 
-const QUESTIONS: [Question; 7] = [
+static QUESTIONS: [Question; 7] = [
     Question {
         config: "changes",
         data: "copy",

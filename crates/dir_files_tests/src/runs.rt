@@ -84,7 +84,7 @@ const TYPED: Run = Run {
     ..NAMED
 };
 
-const RUNS: [Run; 19] = [
+static RUNS: [Run; 19] = [
     Run {
         shows: "each file is made in its turn and takes its own text",
         told: "open copy;open changes;create undo 640;create new 640;sync undo UNDO;sync new NEW;publish undo UNDO;publish new NEW;report ACCEPTED;1, 0",

@@ -16,7 +16,7 @@ const STOP: ModifyOptions = ModifyOptions {
 };
 
 /// The paths of the copy, the new copy, the undo file and the changes, and the first that is the same as one before it.
-const PATHS: [([&str; 4], &str); 7] = [
+static PATHS: [([&str; 4], &str); 7] = [
     (["a", "a", "b", "c"], "a"),
     (["a", "b", "a", "c"], "a"),
     (["a", "b", "b", "c"], "b"),
@@ -50,7 +50,7 @@ fn assert_repeated(rt: &impl Abort, paths: &[&str; 4], want: &str) {
 const BAD_NAME: Cause = Cause::Fault(RecordFault::Name(NameFault::BadDn));
 
 /// The tool's own faults, and the text of each.
-const TOOL_FAULTS: [(ToolFault, &str); 14] = [
+static TOOL_FAULTS: [(ToolFault, &str); 14] = [
     (ToolFault::BadCopy(7, BAD_NAME), "copy, line 7: L9 N4 BadDn"),
     (ToolFault::Read(Input::Copy), "cannot read copy"),
     (ToolFault::Read(Input::Changes), "cannot read changes"),
@@ -102,7 +102,7 @@ fn assert_shown(rt: &impl Abort, alloc: Global, fault: &Fault<'_>, want: &str) {
 }
 
 /// What is done with a text, its path, how much of it is done, its size, and what is told.
-const PROGRESS: [(Doing, &str, u64, Option<u64>, &str); 9] = [
+static PROGRESS: [(Doing, &str, u64, Option<u64>, &str); 9] = [
     (
         Doing::Reading,
         "a",
