@@ -1,6 +1,6 @@
 //! The same records over a flat directory, one map of whole names: what the tree of a run is compared with.
 
-use crate::running::{Ran, Run, zeros};
+use crate::running::{Ran, Run, assert_text, text_of, zeros};
 use dir_change::{History, Refusal, apply};
 use dir_ldif::{Record, RecordFault, RecordReader, Script, Tape};
 use dir_names::{Dn, Schema};
@@ -24,7 +24,7 @@ fn directory_of(
 }
 
 /// Applies a record, and keeps what takes it back. Whether it was accepted.
-fn take(
+fn apply_record(
     rt: &impl Abort,
     alloc: Global,
     schema: &Schema,
@@ -45,6 +45,19 @@ fn take(
     }
 }
 
+/// Applies the next record of a text, if there is one. Whether it was accepted.
+fn apply_next(
+    rt: &impl Abort,
+    alloc: Global,
+    schema: &Schema,
+    directory: &mut FlatDirectory,
+    history: &mut History,
+    reader: &mut RecordReader<'_, Script<'_>>,
+) -> Option<bool> {
+    let (_, record) = reader.next().expect(rt, "memory")?;
+    Some(apply_record(rt, alloc, schema, directory, history, &record))
+}
+
 /// Applies the records of changes, and gives the text that takes them back.
 fn undo_text_of(
     rt: &impl Abort,
@@ -57,12 +70,9 @@ fn undo_text_of(
     let changes = Script::new(one.changes.as_bytes());
     let mut reader = RecordReader::new(alloc, schema, changes).expect(rt, "memory");
     for _ in 0..one.changes.len() {
-        let Some((_, record)) = reader.next().expect(rt, "memory") else {
-            break;
-        };
-        let is_accepted = take(rt, alloc, schema, directory, &mut history, &record);
-        if !is_accepted && !one.options.go_on {
-            break;
+        match apply_next(rt, alloc, schema, directory, &mut history, &mut reader) {
+            Some(is_accepted) if is_accepted || one.options.go_on => {}
+            _ => break,
         }
     }
     history.undo_text(alloc).expect(rt, "memory")
@@ -74,14 +84,34 @@ fn assert_copy(
     alloc: Global,
     directory: &FlatDirectory,
     piece: usize,
-    want: &[u8],
+    want: &str,
 ) {
     let mut room = zeros(rt, alloc, 65536);
     let mut out = Tape::new(room.as_mut_slice()).pieces(piece);
     write_copy(alloc, directory, &mut out).expect(rt, "memory");
-    assert!(rt;
-        out.as_slice() == want,
-        "another copy over a flat directory"
+    assert_text(
+        rt,
+        "another copy over a flat directory",
+        text_of(rt, out.as_slice()),
+        want,
+    );
+}
+
+/// Asserts the undo text that the records of a run give over a flat directory.
+fn assert_undo(
+    rt: &impl Abort,
+    alloc: Global,
+    schema: &Schema,
+    directory: &mut FlatDirectory,
+    one: &Run<'_>,
+    ran: &Ran,
+) {
+    let undo = undo_text_of(rt, alloc, schema, directory, one);
+    assert_text(
+        rt,
+        "another undo text over a flat directory",
+        text_of(rt, undo.as_slice()),
+        ran.undo.as_str(),
     );
 }
 
@@ -91,19 +121,17 @@ pub(crate) fn assert_flat(rt: &impl Abort, alloc: Global, piece: usize, one: &Ru
     let schema = Schema::builtin(alloc).expect(rt, "memory");
     match directory_of(rt, alloc, &schema, piece, one) {
         Ok(mut directory) => {
-            let undo = undo_text_of(rt, alloc, &schema, &mut directory, one);
-            assert!(rt;
-                undo.as_slice() == ran.undo.as_bytes(),
-                "another undo text over a flat directory"
-            );
-            assert_copy(rt, alloc, &directory, piece, ran.out.as_bytes());
+            assert_undo(rt, alloc, &schema, &mut directory, one, ran);
+            assert_copy(rt, alloc, &directory, piece, ran.out.as_str());
         }
-        Err(fault) => {
-            assert!(rt; fault != ToolFault::Memory, "memory");
-            assert!(rt;
-                ran.answer == Err(fault),
-                "another fault over a flat directory"
-            );
-        }
+        Err(ToolFault::Memory) => panic!(rt; "memory"),
+        Err(fault) => assert_fault(rt, ran, fault),
     }
+}
+
+fn assert_fault(rt: &impl Abort, ran: &Ran, fault: ToolFault) {
+    assert!(rt;
+        ran.answer == Err(fault),
+        "another fault over a flat directory"
+    );
 }
