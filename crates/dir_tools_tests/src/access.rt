@@ -162,15 +162,17 @@ fn questions_have_their_reports(rt: HostRuntime) {
     }
 }
 
-/// The manager is exchanged.
 static EXCHANGE: Run<'static> = Run {
+    shows: "the manager is exchanged",
     copy: PEOPLE,
     changes: "dn: cn=t,dc=com\nchangetype: modify\nreplace: manager\nmanager: cn=k,dc=com\n-\n",
     ..ACCEPTED
 };
 
-/// The manager asks on the copy that a run wrote.
-static MANAGER: Ask<'static> = PHONE;
+static MANAGER: Ask<'static> = Ask {
+    shows: "a manager asks on the copy that a run wrote",
+    ..PHONE
+};
 
 /// Asserts the privileges of the old manager and of the new one on the copy that a run wrote.
 fn assert_managers(rt: &impl Abort, alloc: Global, ran: &Ran, old: &str, new: &str) {

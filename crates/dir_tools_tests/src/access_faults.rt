@@ -192,8 +192,8 @@ fn faults_of_configurations_and_questions_are_named_in_their_order(rt: HostRunti
 
 const REPORT: &str = "authcDN: cn=m,dc=com\ntelephoneNumber: =rscxd\n";
 
-/// The manager's question, with the requester's name.
 const NAMED: Ask<'static> = Ask {
+    shows: "the manager's question, with the requester's name",
     verbose: true,
     report: REPORT,
     ..PHONE
@@ -316,14 +316,14 @@ fn assert_fails(rt: &impl Abort, alloc: Global, device: &Device, text: &str, cal
     assert_ask(rt, alloc, &devices, &ask);
 }
 
-/// A configuration of the longest length.
 static LONG: Ask<'static> = Ask {
+    shows: "a configuration of the longest length",
     fault: "config, line 0: C10 NoSuffix",
     ..FAULTY
 };
 
-/// One that is a byte longer.
 static TOO_LONG: Ask<'static> = Ask {
+    shows: "a configuration that is longer",
     fault: "config, line 0: C11 ConfigTooLong",
     ..FAULTY
 };

@@ -275,10 +275,13 @@ fn refused_and_long_line(rt: &impl Abort, alloc: Global) -> String {
     format!(in alloc; "{REFUSED}{line}").expect(rt, "memory")
 }
 
-/// In stop mode it is not reached.
-static STOPPED: Run<'static> = TOLD;
+static STOPPED: Run<'static> = Run {
+    shows: "in stop mode a line that is too long after the first refused record is not reached",
+    ..TOLD
+};
 
 static WENT_ON: Run<'static> = Run {
+    shows: "a run that goes on comes to the line that is too long",
     options: GO_ON,
     answer: "changes: L10 LineTooLong",
     ..FAULTY
