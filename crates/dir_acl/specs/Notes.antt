@@ -8,20 +8,16 @@ use Rattle.dir_names.specs.Ascii.{comma, equals_sign}
 use Rattle.dir_names.specs.Cut.{after_first_separator, parts_at}
 use Rattle.dir_names.specs.Described.{Described}
 use Rattle.dir_names.specs.Descriptions.{description_of}
-use Rattle.dir_names.specs.Results.{and_then}
 use Rattle.dir_names.specs.Table.{is_known}
 use Rattle.dir_names.specs.declared.fault.NameFault.{NameFault}
 use Rattle.dir_names.specs.declared.schema.TypeRow.{TypeRow}
-use Rattle.dir_acl.specs.declared.fault.ConfigFault.{ConfigFault}
 use Rattle.dir_acl.specs.declared.note.Note.{Note}
 use Rattle.dir_acl.specs.declared.note.NoteCause.{NoteCause}
 use Rattle.dir_acl.specs.declared.note.NoteCause.TheVariants.{Include, UnknownType, ObjectClass, OtherDatabase, NoRule}
-use Rattle.dir_acl.specs.Config.{config_of}
 use Rattle.dir_acl.specs.Config.Arguments.{arguments_of}
 use Rattle.dir_acl.specs.Config.Lines.{is_comment, logical_lines}
 use Rattle.dir_acl.specs.Config.Names.{form_of, is_word}
 use Rattle.dir_acl.specs.Filters.{begins_test, in_parentheses}
-use Rattle.dir_acl.specs.Rules.{Configuration}
 use Rattle.dir_acl.specs.Signs.{open_parenthesis}
 use Rattle.dir_acl.specs.Tests.{described_by, operator_of}
 
@@ -155,7 +151,3 @@ lines_notes rows passed has (line ∷ lines) =
 -- the notes on a text that reads as a configuration
 abbrev pub notes_of : List TypeRow → List ℕ → List Note
 notes_of rows text = lines_notes rows false false (logical_lines text)
-
--- a configuration with its notes
-abbrev pub noted_config_of : List TypeRow → List ℕ → Result (Configuration × List Note) ConfigFault
-noted_config_of rows text = and_then (config_of rows text) (λ config. Ok (config, notes_of rows text))

@@ -1,12 +1,12 @@
 //! The configuration of a slapd.conf (slapd.conf(5)): the suffix and the rootdn of its database, and its access rules.
 //! `lines` cuts the text, `arguments` its lines, `directives` reads these, and `access_rules` the rules among them.
 
-ghost use Rattle.std.specs.Prelude.{◌≡◌, option_copied};
+ghost use Rattle.std.specs.Prelude.{◌≡◌, IfOk, option_copied};
 ghost use Rattle.dir_acl.specs.Config.{config_of, of_suffix};
 ghost use Rattle.dir_acl.specs.Decision.{is_granted};
 ghost use Rattle.dir_acl.specs.Inside.ReadingConfig.{configuration_of, settings_of};
 ghost use Rattle.dir_acl.specs.Inside.Requests.{question_of};
-ghost use Rattle.dir_acl.specs.Notes.{noted_config_of};
+ghost use Rattle.dir_acl.specs.Notes.{notes_of};
 ghost use Rattle.dir_acl.specs.Outcome.{GivesConfig};
 ghost use Rattle.dir_acl.specs.Privileges.{has};
 ghost use Rattle.dir_acl.specs.Rules.{rules_of};
@@ -67,7 +67,8 @@ impl Config {
         schema: &Schema,
         text: &[u8],
     ) -> Result<(Config, Vec<Note>), ConfigFault>
-        ensures { GivesConfig (λ noted. (configuration_of noted.0, noted.1.items)) result (noted_config_of schema.now text.now) }
+        ensures read { GivesConfig (λ noted. configuration_of noted.0) result (config_of schema.now text.now) }
+        ensures notes { IfOk result (λ noted. noted.1.items ≡ notes_of schema.now text.now) }
     {
         let config = Config::read(alloc, schema, text)?;
         if text.len() > MAX_CONFIG {
