@@ -1,26 +1,32 @@
 -- What `run_acl` answers, in the words of its definition.
-use Rattle.std.proofs.Common.{◌≡◌, ℕ, List, Option, IfSome, Ok, sym, subst}
+use Rattle.std.proofs.Common.{◌≡◌, ◌≢◌, ℕ, List, [], Option, None, Some, IfSome, IfErr, Result, Ok, Err, refl, sym, ap, subst, ◌∙◌}
+use Rattle.dir_names.specs.Results.{and_then}
+use Rattle.dir_acl.specs.declared.fault.ConfigFault.{ConfigFault}
+use Rattle.dir_tools.specs.Headline.{ok_or_bad_copy}
+use Rattle.dir_tools.specs.StoppedReading.{KnownBytes}
+use Rattle.dir_tools.specs.Writing.{WroteReport}
 use Rattle.dir_names.specs.declared.schema.TypeRow.{TypeRow}
 use Rattle.dir_names.specs.Keys.{DnKeys}
 use Rattle.dir_ldif.specs.declared.faults.StreamFault.TheVariants as stream
+use Rattle.dir_tree.specs.Content.{Content}
 use Rattle.dir_tree.specs.Dir.{Dir}
 use Rattle.dir_tools.specs.declared.fault.Cause.TheVariants as cause
 use Rattle.dir_tools.specs.declared.fault.Input.TheVariants as input
+use Rattle.dir_tools.specs.declared.fault.Output.{Output}
 use Rattle.dir_tools.specs.declared.fault.ToolFault.{ToolFault}
 use Rattle.dir_tools.specs.declared.fault.ToolFault.TheVariants as tool
-use Rattle.dir_acl.specs.Config.{config_of}
-use Rattle.dir_tools.specs.AccessAnswers.{AccessHeldBefore, AccessSources, Asking, IsAccessFault, IsAsked}
+use Rattle.dir_tools.specs.AccessAnswers.{AccessHeldBefore, AccessSources, AnswersQuestion, Asking, ComesAfterConfig, HasNoEntry, IsAccessFault, IsAsked, IsBadQuestion, IsConfigFault, IsReportAnswer, IsTextOf, IsWholeReport, access_sources}
 use Rattle.dir_acl.specs.Rules.{Configuration}
-use Rattle.dir_tools.specs.AccessReport.{AccessTerms, parts_of}
+use Rattle.dir_tools.specs.AccessReport.{AccessTerms, QuestionParts, acl_report_of, ok_or_bad_config, parts_of, report_on, target_of}
 use Rattle.dir_tools.specs.CompleteRecords.{CompleteRecordsLoad, GaveBytes, IsReaderFault, answers_after}
 use Rattle.dir_tools.specs.CopyFaults.{HasNoEntries, IsBadCopy, IsCopyFaultCause}
-use Rattle.dir_tools.specs.CopyOf.{copy_of, empty_copy}
+use Rattle.dir_tools.specs.CopyOf.{CopyFault, copy_of, empty_copy}
 use Rattle.dir_tools.specs.Inside.Asking.{IsPartFault}
 
 -- ---- the question
 
 -- a faulty part of the question
-pub question_blamed : (t : AccessTerms) (known : AccessSources) (c : Configuration) (fault : ToolFault) → IfSome known.config (λ text. config_of t.rows text ≡ Ok c) → IsPartFault fault (parts_of t) → IsAccessFault t known fault
+pub question_blamed : (t : AccessTerms) (known : AccessSources) (c : Configuration) (fault : ToolFault) → IsTextOf t.rows known.config c → IsPartFault fault (parts_of t) → IsAccessFault t known fault
 question_blamed t known c (tool.BadQuestion item) reads h = record { configuration = c; reads = reads; parts = h }
 question_blamed t known c tool.Memory reads h = tt
 question_blamed t known c (tool.BadCopy line why) reads h = absurd (h)
@@ -81,3 +87,107 @@ copy_first t config asking copy copy' empty failures failures' (tool.BadQuestion
 copy_first t config asking copy copy' empty failures failures' (tool.BadChanges fault) asked named h settled = absurd (h)
 copy_first t config asking copy copy' empty failures failures' (tool.Config fault) asked named h settled = absurd (h)
 copy_first t config asking copy copy' empty failures failures' tool.NoEntry asked named h settled = absurd (h)
+
+-- ---- a fault before the report is written
+
+-- the fault of a configuration is one
+pub blamed : (t : AccessTerms) (known : AccessSources) (e : ToolFault) → IsConfigFault t.rows known.config e → IsAccessFault t known e
+blamed t known (tool.Config why) h = h
+blamed t known (tool.Read input.Config) h = tt
+blamed t known (tool.Read input.Copy) h = absurd (h)
+blamed t known (tool.Read input.Changes) h = absurd (h)
+blamed t known tool.Memory h = tt
+blamed t known (tool.Write to) h = absurd (h)
+blamed t known (tool.BadCopy line why) h = absurd (h)
+blamed t known (tool.BadQuestion item) h = absurd (h)
+blamed t known (tool.BadChanges why) h = absurd (h)
+blamed t known tool.NoEntry h = absurd (h)
+
+-- nothing is written
+pub nothing_written : (A : Type 0) (t : AccessTerms) (known : AccessSources) (e : ToolFault) (taken : Option (List ℕ)) → IsAccessFault t known e → WroteReport {A = A} (Err e) (taken, taken) []
+nothing_written A t known (tool.Config why) taken h = refl
+nothing_written A t known (tool.Read from) taken h = refl
+nothing_written A t known tool.Memory taken h = refl
+nothing_written A t known (tool.BadCopy line why) taken h = refl
+nothing_written A t known (tool.BadQuestion item) taken h = refl
+nothing_written A t known tool.NoEntry taken h = refl
+nothing_written A t known (tool.Write to) taken h = absurd (h)
+nothing_written A t known (tool.BadChanges why) taken h = absurd (h)
+
+-- the writer has no fault
+pub not_writing : (t : AccessTerms) (known : AccessSources) (e : ToolFault) (to : Output) → IsAccessFault t known e → e ≢ tool.Write to
+not_writing t known e to h is = subst (IsAccessFault t known) is h
+
+-- it is the answer to the question
+pub answers_so : (A : Type 0) (t : AccessTerms) (known : AccessSources) (e : ToolFault) (report : List ℕ) → IsAccessFault t known e → AnswersQuestion {A = A} t known (Err e) report
+answers_so A t known (tool.Config why) report h = h
+answers_so A t known (tool.Read from) report h = h
+answers_so A t known tool.Memory report h = h
+answers_so A t known (tool.BadCopy line why) report h = h
+answers_so A t known (tool.BadQuestion item) report h = h
+answers_so A t known tool.NoEntry report h = h
+answers_so A t known (tool.Write to) report h = absurd (h)
+answers_so A t known (tool.BadChanges why) report h = absurd (h)
+
+module _ (A : Type 0) (t : AccessTerms) (config copy report : List ℕ) where
+  abbrev known : AccessSources
+  known = access_sources (Some config) (Some copy)
+
+  abbrev under_target : Configuration → Dir → QuestionParts → Result (Option Content) ToolFault → Result (List ℕ) ToolFault
+  under_target c d parts target = and_then target (λ target. Ok (report_on t.question.verbose c d parts target))
+
+  abbrev under_copy : Configuration → QuestionParts → Result Dir CopyFault → Result (List ℕ) ToolFault
+  under_copy c parts d = and_then (ok_or_bad_copy d) (λ d. under_target c d parts (target_of t.question.fake d parts.base))
+
+  abbrev under_parts : Configuration → Result QuestionParts ToolFault → Result (List ℕ) ToolFault
+  under_parts c parts = and_then parts (λ parts. under_copy c parts (copy_of t.rows c.suffix copy))
+
+  abbrev under_config : Result Configuration ConfigFault → Result (List ℕ) ToolFault
+  under_config c = and_then (ok_or_bad_config c) (λ c. under_parts c (parts_of t))
+
+  bad_question : (e : ToolFault) → IsBadQuestion t (Some config) e → acl_report_of t config copy ≡ Err e
+  bad_question e h = ap under_config h.reads ∙ ap (under_parts h.configuration) h.parts
+
+  bad_copy : (asking : Asking) (fault : CopyFault) → IsAsked t (Some config) asking → copy_of t.rows asking.config.suffix copy ≡ Err fault → acl_report_of t config copy ≡ Err (tool.BadCopy fault.0 fault.1)
+  bad_copy asking fault asked is = ap under_config asked.reads ∙ ap (under_parts asking.config) asked.parts ∙ ap (under_copy asking.config asking.parts) is
+
+  no_entry : HasNoEntry t known → acl_report_of t config copy ≡ Err tool.NoEntry
+  no_entry h =
+      ap under_config h.asked.reads ∙ ap (under_parts h.asking.config) h.asked.parts ∙ ap (under_copy h.asking.config h.asking.parts) h.copy
+      ∙ ap (under_target h.asking.config h.directory h.asking.parts) h.target_is
+
+  wholly : (e : ToolFault) → IsAccessFault t known e → IsReportAnswer {A = A} (Err e) report (acl_report_of t config copy)
+  wholly (tool.Config why) h = ap under_config h.1
+  wholly (tool.Read from) h = tt
+  wholly tool.Memory h = tt
+  wholly (tool.BadQuestion item) h = bad_question (tool.BadQuestion item) h
+  wholly (tool.BadCopy line (cause.Code code)) h = bad_copy h.0 (line, cause.Code code) h.1 h.2
+  wholly (tool.BadCopy line (cause.Fault why)) h = bad_copy h.0 (line, cause.Fault why) h.1 h.2
+  wholly (tool.BadCopy line (cause.Ended stream.TooManyTurns)) h = tt
+  wholly (tool.BadCopy line (cause.Ended stream.LineTooLong)) h = bad_copy h.0 (line, cause.Ended stream.LineTooLong) h.1 h.2
+  wholly (tool.BadCopy line (cause.Ended stream.Read)) h = bad_copy h.0 (line, cause.Ended stream.Read) h.1 h.2
+  wholly (tool.BadCopy line (cause.Ended stream.Memory)) h = bad_copy h.0 (line, cause.Ended stream.Memory) h.1 h.2
+  wholly (tool.BadCopy line (cause.Ended stream.Ended)) h = bad_copy h.0 (line, cause.Ended stream.Ended) h.1 h.2
+  wholly (tool.BadCopy line (cause.Ended stream.BadVersion)) h = bad_copy h.0 (line, cause.Ended stream.BadVersion) h.1 h.2
+  wholly tool.NoEntry h = no_entry h
+  wholly (tool.Write to) h = absurd (h)
+  wholly (tool.BadChanges why) h = absurd (h)
+
+-- where both texts are known, it is that of the definition
+pub whole_answer : (A : Type 0) (t : AccessTerms) (config copy : Option (List ℕ)) (e : ToolFault) (report : List ℕ) → IsAccessFault t (access_sources config copy) e → IsWholeReport {A = A} t (access_sources config copy) (Err e) report
+whole_answer A t None copy e report h = tt
+whole_answer A t (Some config) None e report h = tt
+whole_answer A t (Some config) (Some copy) e report h = wholly A t config copy report e h
+
+-- ---- a configuration that is read
+
+-- what holds of the complete records before a fault of the copy's reader, under each text of the configuration
+pub held_before : {A : Type 0} (t : AccessTerms) (config : Option (List ℕ)) (c : Configuration) (copy : KnownBytes) (result : Result A ToolFault) → IsTextOf t.rows config c
+    → IfErr result (λ e. (known : Option (List ℕ)) → IsTextOf t.rows known c → AccessHeldBefore t known copy e) → IfErr result (AccessHeldBefore t config copy)
+held_before t config c copy (Ok x) is h = tt
+held_before t config c copy (Err e) is h = h config is
+
+-- its reader has not failed
+pub not_before : {A : Type 0} (result : Result A ToolFault) → IfErr result ComesAfterConfig → result ≢ Err (tool.Read input.Config)
+not_before (Ok x) after is = cc is
+not_before {A = A} (Err e) after is = subst (λ (r : Result A ToolFault). IfErr r ComesAfterConfig) is after

@@ -1,6 +1,7 @@
 -- What `run_acl` answers over devices, which may tell their bytes or not.
 use Rattle.std.specs.Prelude.{◌≡◌, ◌≢◌, ℕ, ⊤, List, Option, IfSome, Result, Ok, Err}
 use Rattle.dir_ldif.specs.declared.faults.StreamFault.TheVariants as stream
+use Rattle.dir_names.specs.declared.schema.TypeRow.{TypeRow}
 use Rattle.dir_tree.specs.Content.{Content}
 use Rattle.dir_tree.specs.Dir.{Dir}
 use Rattle.dir_acl.specs.declared.fault.ConfigCause.TheVariants.{Memory}
@@ -24,6 +25,25 @@ pub record AccessSources : Type 0 where
 abbrev pub access_sources : Option (List ℕ) → Option (List ℕ) → AccessSources
 access_sources config copy = record { config = config; copy = copy }
 
+-- ---- a configuration
+
+-- the text, where it is known, is that of this configuration
+abbrev pub IsTextOf : List TypeRow → Option (List ℕ) → Configuration → Type 0
+IsTextOf rows text configuration = IfSome text (λ text. config_of rows text ≡ Ok configuration)
+
+-- the text is no configuration, and this is its first fault; or it could not be read, or memory ran out
+abbrev pub IsConfigFault : List TypeRow → Option (List ℕ) → ToolFault → Type 0
+IsConfigFault rows text (tool.Config fault) = (fault.cause ≢ Memory) × IfSome text (λ text. config_of rows text ≡ Err fault)
+IsConfigFault rows text (tool.Read input.Config) = ⊤
+IsConfigFault rows text tool.Memory = ⊤
+IsConfigFault rows text fault = ⊥
+
+-- a fault of what is read after the configuration, or of the report's writer, or out of memory
+abbrev pub ComesAfterConfig : ToolFault → Type 0
+ComesAfterConfig (tool.Config fault) = ⊥
+ComesAfterConfig (tool.Read input.Config) = ⊥
+ComesAfterConfig fault = ⊤
+
 -- ---- a report
 
 -- a configuration, and what the parts of the question say
@@ -33,7 +53,7 @@ pub record Asking : Type 0 where
 
 -- the text is that of the configuration, and the question has these parts
 pub record IsAsked (t : AccessTerms) (config : Option (List ℕ)) (asking : Asking) : Type 0 where
-  pub reads : IfSome config (λ text. config_of t.rows text ≡ Ok asking.config)
+  pub reads : IsTextOf t.rows config asking.config
   pub parts : parts_of t ≡ Ok asking.parts
 
 -- the report on a directory that the copy is the text of
@@ -51,7 +71,7 @@ pub record IsStatedReport (t : AccessTerms) (known : AccessSources) (report : Li
 -- the configuration is one, and the question has this fault
 pub record IsBadQuestion (t : AccessTerms) (config : Option (List ℕ)) (fault : ToolFault) : Type 0 where
   pub configuration : Configuration
-  pub reads : IfSome config (λ text. config_of t.rows text ≡ Ok configuration)
+  pub reads : IsTextOf t.rows config configuration
   pub parts : parts_of t ≡ Err fault
 
 -- the copy is the text of a directory, and the base is no entry of it

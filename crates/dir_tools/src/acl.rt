@@ -1,4 +1,5 @@
-//! `run_acl`: what a requester may do, by a configuration and a copy, and the report written (slapacl(8)).
+//! `run_acl`: what a requester may do, by a configuration and a copy, and the report written (slapacl(8)). Whoever is to hear the
+//! notes on the configuration first calls `read_config_with_notes`, and then `run_acl_under`.
 
 mod configuration;
 mod cut;
@@ -6,14 +7,17 @@ mod parts;
 mod report;
 
 ghost use Rattle.std.specs.Io.KnownBytes.{Consumes};
-ghost use Rattle.std.specs.Prelude.{◌≡◌, ◌⊎◌, ◌≤◌, ℕ, Err, IfErr, IfOk, List, Ok, OnOk, length, option_copied};
+ghost use Rattle.std.specs.Prelude.{◌≡◌, ◌⊎◌, ◌≤◌, ℕ, Err, IfErr, IfOk, List, Ok, OnOk, Option, length, option_copied};
+ghost use Rattle.dir_acl.specs.Inside.ReadingConfig.{configuration_of};
 ghost use Rattle.dir_ldif.specs.Device.{HasFailed};
-ghost use Rattle.dir_tools.specs.AccessAnswers.{AccessHeldBefore, AnswersQuestion, IsAccessFault, IsStatedReport, IsWholeReport, access_sources};
+ghost use Rattle.dir_tools.specs.AccessAnswers.{AccessHeldBefore, AnswersQuestion, ComesAfterConfig, IsAccessFault, IsStatedReport, IsTextOf, IsWholeReport, access_sources};
 ghost use Rattle.dir_tools.specs.AccessReport.{access_terms, target_of};
 ghost use Rattle.dir_tools.specs.Writing.{WroteReport};
 ghost use Rattle.dir_tools.specs.declared.fault.Input.TheVariants as Input;
 ghost use Rattle.dir_tools.specs.declared.fault.Output.TheVariants as Output;
 ghost use Rattle.dir_tools.specs.declared.fault.ToolFault.TheVariants as ToolFault;
+
+pub use crate::acl::configuration::read_config_with_notes;
 
 use crate::acl::configuration::read_config;
 use crate::acl::parts::read_parts;
@@ -21,6 +25,7 @@ use crate::acl::report::report_text;
 use crate::copy::read_copy;
 use crate::write::write_text;
 use crate::{Output, ToolFault};
+use dir_acl::Config;
 use dir_ldif::{Sink, Source};
 use dir_names::{Bytes, DnKey, Schema, Texts};
 use dir_tree::{Directory, Entry, TreeDirectory};
@@ -73,33 +78,65 @@ pub fn run_acl<R: Source, R2: Source, W: Sink>(
     ensures flushed { OnOk result (W.is_flushed report.new) }
     ensures write_report { result ≡ Err (ToolFault.Write Output.Report) → HasFailed (W.failures report.old) (W.failures report.new) ⊎ W.may_stall report.new }
 {
-    let text = match make_report(alloc, schema, question, config, copy) {
+    let config = match read_config(alloc, schema, config) {
+        Ok(config) => config,
+        Err(fault) => return Err(fault),
+    };
+    run_acl_under(alloc, schema, question, &config, copy, report)
+}
+
+/// Reports as `run_acl` does, under a configuration that was read.
+///
+/// # Errors
+///
+/// Those of `run_acl` that come after the configuration's.
+pub fn run_acl_under<R: Source, W: Sink>(
+    alloc: Global,
+    schema: &Schema,
+    question: &Question,
+    config: &Config,
+    copy: &mut R,
+    report: &mut W,
+) -> Result<(), ToolFault>
+    ensures unfailed { OnOk result (W.failures report.new ≡ W.failures report.old) }
+    ensures answer { (text : List ℕ)
+        × WroteReport result (W.taken report.old, W.taken report.new) text
+        × ((known : Option (List ℕ)) → IsTextOf schema.now known (configuration_of config.now)
+            → AnswersQuestion (access_terms schema.now question.now) (access_sources known (R.left copy.old)) result text
+            × IsWholeReport (access_terms schema.now question.now) (access_sources known (R.left copy.old)) result text) }
+    ensures first { IfErr result (λ fault. (known : Option (List ℕ)) → IsTextOf schema.now known (configuration_of config.now)
+        → AccessHeldBefore (access_terms schema.now question.now) known (R.left copy.old, R.left copy.new) fault) }
+    ensures unfailed_copy { OnOk result (R.failures copy.new ≡ R.failures copy.old) }
+    ensures after { IfErr result ComesAfterConfig }
+    ensures read_copy { result ≡ Err (ToolFault.Read Input.Copy) → HasFailed (R.failures copy.old) (R.failures copy.new) }
+    ensures flushed { OnOk result (W.is_flushed report.new) }
+    ensures write_report { result ≡ Err (ToolFault.Write Output.Report) → HasFailed (W.failures report.old) (W.failures report.new) ⊎ W.may_stall report.new }
+{
+    let text = match report_under(alloc, schema, question, config, copy) {
         Ok(text) => text,
         Err(fault) => return Err(fault),
     };
     write_text(report, text.as_slice(), Output::Report)
 }
 
-fn make_report<R: Source, R2: Source>(
+/// The report under a configuration that was read.
+fn report_under<R: Source>(
     alloc: Global,
     schema: &Schema,
     question: &Question,
-    config: &mut R,
-    copy: &mut R2,
+    config: &Config,
+    copy: &mut R,
 ) -> Result<Vec<u8>, ToolFault>
-    ensures ok { IfOk result (λ text. IsStatedReport (access_terms schema.now question.now) (access_sources (R.left config.old) (R2.left copy.old)) text.items) }
-    ensures blamed { IfErr result (IsAccessFault (access_terms schema.now question.now) (access_sources (R.left config.old) (R2.left copy.old))) }
-    ensures first { IfErr result (AccessHeldBefore (access_terms schema.now question.now) (R.left config.old) (R2.left copy.old, R2.left copy.new)) }
-    ensures bounded { (bytes : List ℕ) × Consumes (R.left config.old) (R.left config.new) bytes × (length bytes ≤ 16785408) }
-    ensures unfailed_config { OnOk result (R.failures config.new ≡ R.failures config.old) }
-    ensures unfailed_copy { OnOk result (R2.failures copy.new ≡ R2.failures copy.old) }
-    ensures read_config { result ≡ Err (ToolFault.Read Input.Config) → HasFailed (R.failures config.old) (R.failures config.new) }
-    ensures read_copy { result ≡ Err (ToolFault.Read Input.Copy) → HasFailed (R2.failures copy.old) (R2.failures copy.new) }
+    ensures ok { IfOk result (λ text. (known : Option (List ℕ)) → IsTextOf schema.now known (configuration_of config.now)
+        → IsStatedReport (access_terms schema.now question.now) (access_sources known (R.left copy.old)) text.items) }
+    ensures blamed { IfErr result (λ fault. (known : Option (List ℕ)) → IsTextOf schema.now known (configuration_of config.now)
+        → IsAccessFault (access_terms schema.now question.now) (access_sources known (R.left copy.old)) fault) }
+    ensures first { IfErr result (λ fault. (known : Option (List ℕ)) → IsTextOf schema.now known (configuration_of config.now)
+        → AccessHeldBefore (access_terms schema.now question.now) known (R.left copy.old, R.left copy.new) fault) }
+    ensures unfailed_copy { OnOk result (R.failures copy.new ≡ R.failures copy.old) }
+    ensures after { IfErr result ComesAfterConfig }
+    ensures read_copy { result ≡ Err (ToolFault.Read Input.Copy) → HasFailed (R.failures copy.old) (R.failures copy.new) }
 {
-    let config = match read_config(alloc, schema, config) {
-        Ok(config) => config,
-        Err(fault) => return Err(fault),
-    };
     let parts = match read_parts(alloc, schema, question) {
         Ok(parts) => parts,
         Err(fault) => return Err(fault),
@@ -115,7 +152,7 @@ fn make_report<R: Source, R2: Source>(
         Ok(target) => target,
         Err(fault) => return Err(fault),
     };
-    match report_text(alloc, question.verbose, &config, &directory, &parts, target) {
+    match report_text(alloc, question.verbose, config, &directory, &parts, target) {
         Ok(text) => Ok(text),
         Err(_) => Err(ToolFault::Memory),
     }

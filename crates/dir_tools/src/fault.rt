@@ -156,9 +156,9 @@ impl Display for Item {
     }
 }
 
-/// A number, shown by its decimal digits alone, as `{}` shows it.
+/// A number, shown by its decimal digits alone, whatever the options of the format.
 #[derive(Drop)]
-struct Number(u64);
+pub struct Number(pub u64);
 
 impl Display for Number {
     ghost output = { λ number. Some (decimal number.0) };

@@ -15,9 +15,9 @@ mod run;
 mod taking;
 mod write;
 
-pub use acl::{Question, run_acl};
+pub use acl::{Question, read_config_with_notes, run_acl, run_acl_under};
 pub use copy::{read_copy, write_copy};
-pub use fault::{Cause, Input, Item, Output, ToolFault};
+pub use fault::{Cause, Input, Item, Number, Output, ToolFault};
 pub use laws::{
     access_is_as_before, canonical_texts_read_back, copies_are_sound, groups_are_undos, headline,
     runs_accept_changes, written_runs_are_taken_back,

@@ -1,14 +1,12 @@
 -- The views of the parts of a question, and how they and the configuration are read. No public contract needs this file.
-use Rattle.std.specs.Prelude.{◌≡◌, ◌≢◌, ℕ, ⊤, List, map, Option, option_map, IfSome, Result, Err}
+use Rattle.std.specs.Prelude.{◌≡◌, ℕ, ⊤, List, map, Option, option_map, Result, Err}
 use Rattle.std.specs.Borrow.{Bor}
-use Rattle.dir_names.specs.declared.schema.TypeRow.{TypeRow}
 use Rattle.dir_names.specs.Results.{Meets}
 use Rattle.dir_ldif.specs.Device.{HasFailed}
 use Rattle.dir_acl.specs.declared.fault.ConfigCause.{ConfigCause}
 use Rattle.dir_acl.specs.declared.fault.ConfigCause.TheVariants as cause
 use Rattle.dir_acl.specs.declared.fault.ConfigFault.{ConfigFault}
 use Rattle.dir_acl.specs.declared.privileges.Level.{Level}
-use Rattle.dir_acl.specs.Config.{config_of}
 use Rattle.dir_tools.specs.declared.acl.parts.Parts.{Parts}
 use Rattle.dir_tools.specs.declared.acl.parts.Word as code
 use Rattle.dir_tools.specs.declared.fault.Input.TheVariants as input
@@ -53,10 +51,3 @@ abbrev pub IsReadFault : ℕ → ℕ → ToolFault → Type 0
 IsReadFault failures failures' (tool.Read input.Config) = HasFailed failures failures'
 IsReadFault failures failures' tool.Memory = ⊤
 IsReadFault failures failures' fault = ⊥
-
--- the text is no configuration, and this is its first fault; or there is no text, or no memory
-abbrev pub IsConfigFault : List TypeRow → Option (List ℕ) → ToolFault → Type 0
-IsConfigFault rows config (tool.Config fault) = (fault.cause ≢ cause.Memory) × IfSome config (λ text. config_of rows text ≡ Err fault)
-IsConfigFault rows config (tool.Read input.Config) = ⊤
-IsConfigFault rows config tool.Memory = ⊤
-IsConfigFault rows config fault = ⊥

@@ -2,15 +2,16 @@
 
 ghost use Rattle.std.specs.Io.KnownBytes.{Consumes, IsAtEnd};
 ghost use Rattle.std.specs.Prelude.{◌≡◌, ◌⊎◌, ◌<◌, ◌≤◌, ℕ, Err, IfErr, IfOk, IfSome, List, Ok, OnOk, length};
-ghost use Rattle.dir_acl.specs.Config.{config_of};
 ghost use Rattle.dir_acl.specs.Inside.ReadingConfig.{configuration_of};
+ghost use Rattle.dir_acl.specs.Notes.{notes_of};
 ghost use Rattle.dir_ldif.specs.Device.{HasFailed};
-ghost use Rattle.dir_tools.specs.Inside.Asking.{IsConfigFault, IsReadFault, config_fault};
+ghost use Rattle.dir_tools.specs.Inside.Asking.{IsReadFault, config_fault};
+ghost use Rattle.dir_tools.specs.AccessAnswers.{IsConfigFault, IsTextOf};
 ghost use Rattle.dir_tools.specs.declared.fault.Input.TheVariants as Input;
 ghost use Rattle.dir_tools.specs.declared.fault.ToolFault.TheVariants as ToolFault;
 
 use crate::{Input, ToolFault};
-use dir_acl::{Config, ConfigCause, ConfigFault, MAX_CONFIG};
+use dir_acl::{Config, ConfigCause, ConfigFault, MAX_CONFIG, Note};
 use dir_ldif::Source;
 use dir_names::Schema;
 use std::alloc::Global;
@@ -28,7 +29,7 @@ pub(super) fn read_config<R: Source>(
     schema: &Schema,
     source: &mut R,
 ) -> Result<Config, ToolFault>
-    ensures ok { IfOk result (λ config. IfSome (R.left source.old) (λ text. config_of schema.now text ≡ Ok (configuration_of config))) }
+    ensures ok { IfOk result (λ config. IsTextOf schema.now (R.left source.old) (configuration_of config)) }
     ensures fault { IfErr result (IsConfigFault schema.now (R.left source.old)) }
     ensures bounded { (bytes : List ℕ) × Consumes (R.left source.old) (R.left source.new) bytes × (length bytes ≤ 16785408) }
     ensures read { result ≡ Err (ToolFault.Read Input.Config) → HasFailed (R.failures source.old) (R.failures source.new) }
@@ -40,6 +41,35 @@ pub(super) fn read_config<R: Source>(
     };
     match Config::read(alloc, schema, text.as_slice()) {
         Ok(config) => Ok(config),
+        Err(fault) => Err(config_fault(fault)),
+    }
+}
+
+/// Reads a slapd.conf as `run_acl` does, with the notes on it (`Config::read_with_notes`).
+///
+/// At most 16,785,408 bytes are read, whatever the reader gives.
+///
+/// # Errors
+///
+/// A read fault; the configuration's first fault; out of memory.
+pub fn read_config_with_notes<R: Source>(
+    alloc: Global,
+    schema: &Schema,
+    source: &mut R,
+) -> Result<(Config, Vec<Note>), ToolFault>
+    ensures config { IfOk result (λ noted. IsTextOf schema.now (R.left source.old) (configuration_of noted.0)) }
+    ensures notes { IfOk result (λ noted. IfSome (R.left source.old) (λ text. noted.1.items ≡ notes_of schema.now text)) }
+    ensures fault { IfErr result (IsConfigFault schema.now (R.left source.old)) }
+    ensures bounded { (bytes : List ℕ) × Consumes (R.left source.old) (R.left source.new) bytes × (length bytes ≤ 16785408) }
+    ensures read { result ≡ Err (ToolFault.Read Input.Config) → HasFailed (R.failures source.old) (R.failures source.new) }
+    ensures unfailed { OnOk result (R.failures source.new ≡ R.failures source.old) }
+{
+    let text = match read_text(alloc, source) {
+        Ok(text) => text,
+        Err(fault) => return Err(fault),
+    };
+    match Config::read_with_notes(alloc, schema, text.as_slice()) {
+        Ok(noted) => Ok(noted),
         Err(fault) => Err(config_fault(fault)),
     }
 }

@@ -7,58 +7,58 @@ use Rattle.dir_tools.specs.AccessReport.{AccessTerms, access_terms}
 use Rattle.dir_tools.specs.CopyFaults.{HasNoEntries}
 use Rattle.dir_tools.specs.Inside.Asking.{parts_in}
 use Rattle.dir_tools.proofs.AccessLemmas.{copy_blamed, copy_first, question_blamed, read_under}
-use Rattle.dir_tools.proofs.acl.make_report.Goals as goal
+use Rattle.dir_tools.proofs.acl.report_under.Goals as goal
 
-pub returns-in-Err-read_parts-clause-blamed : goal.returns-in-Err-read_parts-clause-blamed
-returns-in-Err-read_parts-clause-blamed g c =
-    question_blamed (access_terms c.args.schema.now c.args.question.now) (access_sources (g.R.Source.left c.args.config.now) (g.R2.Source.left c.args.copy.now)) (configuration_of c.in-Ok.config) c.in-Err-read_parts.fault
-    c.in-Ok.ensures.ok c.in-Err-read_parts.ensures
+pub returns-in-Err-clause-blamed : goal.returns-in-Err-clause-blamed
+returns-in-Err-clause-blamed g c known is =
+    let t : AccessTerms = access_terms c.args.schema.now c.args.question.now in
+    let sources : AccessSources = access_sources known (g.R.Source.left c.args.copy.now) in
+    question_blamed t sources (configuration_of c.args.config.now) c.in-Err.fault is c.in-Err.ensures
 
 pub returns-in-Err-read_copy-clause-blamed : goal.returns-in-Err-read_copy-clause-blamed
-returns-in-Err-read_copy-clause-blamed g c =
+returns-in-Err-read_copy-clause-blamed g c known is =
     let t : AccessTerms = access_terms c.args.schema.now c.args.question.now in
-    let known : AccessSources = access_sources (g.R.Source.left c.args.config.now) (g.R2.Source.left c.args.copy.now) in
-    let asking : Asking = record { config = configuration_of c.in-Ok.config; parts = parts_in c.in-Ok-read_parts.parts } in
-    let asked : IsAsked t known.config asking = record { reads = c.in-Ok.ensures.ok; parts = c.in-Ok-read_parts.ensures } in
+    let sources : AccessSources = access_sources known (g.R.Source.left c.args.copy.now) in
+    let asking : Asking = record { config = configuration_of c.args.config.now; parts = parts_in c.in-Ok.parts } in
+    let asked : IsAsked t known asking = record { reads = is; parts = c.in-Ok.ensures } in
     let cloned : c.suffix.result.now ≡ c.in-Ok-try_clone.suffix = cc c.in-Ok-try_clone.ensures in
     let named : asking.config.suffix ≡ c.new.result.suffix = sym c.suffix.ensures ∙ cloned ∙ sym (ap (λ (d : Dir). d.suffix) c.new.ensures) in
     let bare : HasNoEntries c.new.result = ap (λ (d : Dir). d.entries) c.new.ensures in
-    copy_blamed t known asking c.new.result _ _ c.in-Err-read_copy.fault asked named bare c.in-Err-read_copy.ensures.blamed
+    copy_blamed t sources asking c.new.result _ _ c.in-Err-read_copy.fault asked named bare c.in-Err-read_copy.ensures.blamed
 
 pub returns-in-Err-read_copy-clause-first : goal.returns-in-Err-read_copy-clause-first
-returns-in-Err-read_copy-clause-first g c =
+returns-in-Err-read_copy-clause-first g c known is =
     let t : AccessTerms = access_terms c.args.schema.now c.args.question.now in
-    let config = g.R.Source.left c.args.config.now in
-    let asking : Asking = record { config = configuration_of c.in-Ok.config; parts = parts_in c.in-Ok-read_parts.parts } in
-    let asked : IsAsked t config asking = record { reads = c.in-Ok.ensures.ok; parts = c.in-Ok-read_parts.ensures } in
+    let asking : Asking = record { config = configuration_of c.args.config.now; parts = parts_in c.in-Ok.parts } in
+    let asked : IsAsked t known asking = record { reads = is; parts = c.in-Ok.ensures } in
     let cloned : c.suffix.result.now ≡ c.in-Ok-try_clone.suffix = cc c.in-Ok-try_clone.ensures in
     let named : asking.config.suffix ≡ c.new.result.suffix = sym c.suffix.ensures ∙ cloned ∙ sym (ap (λ (d : Dir). d.suffix) c.new.ensures) in
     let bare : HasNoEntries c.new.result = ap (λ (d : Dir). d.entries) c.new.ensures in
-    copy_first t config asking _ _ c.new.result _ _ c.in-Err-read_copy.fault asked named c.in-Err-read_copy.ensures.blamed (λ is. c.in-Err-read_copy.ensures.settled is bare)
+    copy_first t known asking _ _ c.new.result _ _ c.in-Err-read_copy.fault asked named c.in-Err-read_copy.ensures.blamed (λ is. c.in-Err-read_copy.ensures.settled is bare)
 
 pub returns-in-Err-find_target-clause-blamed : goal.returns-in-Err-find_target-clause-blamed
-returns-in-Err-find_target-clause-blamed g c =
+returns-in-Err-find_target-clause-blamed g c known is =
     let t : AccessTerms = access_terms c.args.schema.now c.args.question.now in
-    let known : AccessSources = access_sources (g.R.Source.left c.args.config.now) (g.R2.Source.left c.args.copy.now) in
-    let asking : Asking = record { config = configuration_of c.in-Ok.config; parts = parts_in c.in-Ok-read_parts.parts } in
-    let asked : IsAsked t known.config asking = record { reads = c.in-Ok.ensures.ok; parts = c.in-Ok-read_parts.ensures } in
+    let sources : AccessSources = access_sources known (g.R.Source.left c.args.copy.now) in
+    let asking : Asking = record { config = configuration_of c.args.config.now; parts = parts_in c.in-Ok.parts } in
+    let asked : IsAsked t known asking = record { reads = is; parts = c.in-Ok.ensures } in
     let cloned : c.suffix.result.now ≡ c.in-Ok-try_clone.suffix = cc c.in-Ok-try_clone.ensures in
     let named : asking.config.suffix ≡ c.new.result.suffix = sym c.suffix.ensures ∙ cloned ∙ sym (ap (λ (d : Dir). d.suffix) c.new.ensures) in
     let bare : HasNoEntries c.new.result = ap (λ (d : Dir). d.entries) c.new.ensures in
-    subst (IsAccessFault t known) (sym c.in-Err-find_target.ensures.none.0) (record {
+    subst (IsAccessFault t sources) (sym c.in-Err-find_target.ensures.none.0) (record {
       asking = asking;
       asked = asked;
       directory = c.in-Ok-read_copy.directory;
-      copy = read_under t.rows known.copy asking.config.suffix c.new.result.suffix c.in-Ok-read_copy.directory named (c.in-Ok-read_copy.ensures.reads bare);
+      copy = read_under t.rows sources.copy asking.config.suffix c.new.result.suffix c.in-Ok-read_copy.directory named (c.in-Ok-read_copy.ensures.reads bare);
       target_is = c.in-Err-find_target.ensures.none.1;
     })
 
 pub returns-in-Ok-report_text-clause-ok : goal.returns-in-Ok-report_text-clause-ok
-returns-in-Ok-report_text-clause-ok g c =
+returns-in-Ok-report_text-clause-ok g c known is =
     let t : AccessTerms = access_terms c.args.schema.now c.args.question.now in
-    let known : AccessSources = access_sources (g.R.Source.left c.args.config.now) (g.R2.Source.left c.args.copy.now) in
-    let asking : Asking = record { config = configuration_of c.in-Ok.config; parts = parts_in c.in-Ok-read_parts.parts } in
-    let asked : IsAsked t known.config asking = record { reads = c.in-Ok.ensures.ok; parts = c.in-Ok-read_parts.ensures } in
+    let sources : AccessSources = access_sources known (g.R.Source.left c.args.copy.now) in
+    let asking : Asking = record { config = configuration_of c.args.config.now; parts = parts_in c.in-Ok.parts } in
+    let asked : IsAsked t known asking = record { reads = is; parts = c.in-Ok.ensures } in
     let cloned : c.suffix.result.now ≡ c.in-Ok-try_clone.suffix = cc c.in-Ok-try_clone.ensures in
     let named : asking.config.suffix ≡ c.new.result.suffix = sym c.suffix.ensures ∙ cloned ∙ sym (ap (λ (d : Dir). d.suffix) c.new.ensures) in
     let bare : HasNoEntries c.new.result = ap (λ (d : Dir). d.entries) c.new.ensures in
@@ -66,7 +66,7 @@ returns-in-Ok-report_text-clause-ok g c =
       asking = asking;
       asked = asked;
       directory = c.in-Ok-read_copy.directory;
-      copy = read_under t.rows known.copy asking.config.suffix c.new.result.suffix c.in-Ok-read_copy.directory named (c.in-Ok-read_copy.ensures.reads bare);
+      copy = read_under t.rows sources.copy asking.config.suffix c.new.result.suffix c.in-Ok-read_copy.directory named (c.in-Ok-read_copy.ensures.reads bare);
       target = option_copied c.in-Ok-find_target.target;
       target_is = c.in-Ok-find_target.ensures.ok;
       report_is = c.in-Ok-report_text.ensures;
