@@ -12,15 +12,27 @@ zoe='uid=zoe,ou=people,dc=example,dc=com'
 juergen='cn=J\C3\BCrgen M\C3\BCller,ou=people,dc=example,dc=com'
 mei='uid=mei,ou=trainees,dc=example,dc=com'
 
-# Three questions about Zoe's entry: of Juergen, of Mei, and of somebody who has not logged in.
+# Three questions about Zoe's entry: of Juergen, of Mei, and of somebody who has not logged in. The notes on slapd.conf, which are the same
+# for each, go to a file.
 ask() {
-    "$program" slapacl -b "$zoe" -f slapd.conf --data "$1" -v -D "$juergen" mail/write
-    "$program" slapacl -b "$zoe" -f slapd.conf --data "$1" -v -D "$mei" title mail
-    "$program" slapacl -b "$zoe" -f slapd.conf --data "$1" -v mail userPassword
+    "$program" slapacl -b "$zoe" -f slapd.conf --data "$1" -v -D "$juergen" mail/write 2> "$work/notes" || told
+    "$program" slapacl -b "$zoe" -f slapd.conf --data "$1" -v -D "$mei" title mail 2> "$work/notes" || told
+    "$program" slapacl -b "$zoe" -f slapd.conf --data "$1" -v mail userPassword 2> "$work/notes" || told
 }
 
-echo "slapkit slapacl -b $zoe -f slapd.conf --data company.ldif -v -D NAME WORD.."
-ask company.ldif | tee "$work/before"
+# A question that was not answered ends the demo, with what was told.
+told() {
+    cat "$work/notes" >&2
+    exit 1
+}
+
+echo "slapkit slapacl -b $zoe -f slapd.conf --data company.ldif -v -D NAME WORD.. 2> notes"
+ask company.ldif > "$work/before"
+cat "$work/before"
+
+echo
+echo "The notes on slapd.conf:"
+cat "$work/notes"
 
 echo
 echo "slapkit slapmodify -b dc=example,dc=com --data company.ldif -l changes.ldif --out new.ldif --undo undo.ldif -v"

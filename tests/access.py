@@ -4,7 +4,9 @@ The rules are read from whole lines here and asked one after the other.
 """
 import dataclasses
 import enum
+import itertools
 import re
+import unicodedata
 
 import answers
 import names
@@ -121,10 +123,11 @@ PIECE = re.compile(rb"(?:[^\\]|\\[0-9A-Fa-f]{2})*")
 
 
 class FilterReader:
-    """Reads a filter from left to right."""
+    """Reads a filter from left to right, and keeps of each test its description and whether it asks for more than presence."""
 
     def __init__(self, text):
         self.text, self.at = text if text.startswith(b"(") else b"(" + text + b")", 0
+        self.tests = []
 
     def whole(self):
         found = self.filter(1)
@@ -167,6 +170,7 @@ class FilterReader:
             kind = description_key(as_text(found[1]))
         except NameFault:
             raise Refused(BAD_FILTER) from None
+        self.tests.append((as_text(found[1]), found[3] != b"*"))
         pieces = [unescaped(piece) for piece in found[3].split(b"*")]
         if len(pieces) == 1:
             value = pieces[0]
@@ -320,6 +324,71 @@ def read_config(data):
     if config.suffix is None:
         raise Fault(f"config, line 0: {NO_SUFFIX}")
     return config
+
+
+# ---- notes: what a configuration that can be read says, and slapkit passes over or may take otherwise than slapd does
+
+
+CLASSES = "objectClass: only the classes that an entry lists are looked at"
+OTHER_DATABASE = "access rule of database config or monitor is passed over"
+NO_RULE = "slapkit: note: config: no access rule, so everybody may read\n"
+HAS_NOTES = "not answered, because there are notes"
+
+
+def shown_text(text):
+    """A text of the configuration on a terminal: control characters are escaped."""
+    if any("\udc80" <= char <= "\udcff" for char in text):
+        return "(not UTF-8)"
+    return "".join(f"\\x{ord(char):02x}" if unicodedata.category(char) == "Cc" else char for char in text)
+
+
+def unknown_type(spelling):
+    """The note on a description, unless its type, which its options follow, is known."""
+    return [] if spelling.split(";")[0].lower() in names.KEY_OF_TYPE else [f'unknown attribute "{spelling}"']
+
+
+def notes_on_test(spelling, is_for_more):
+    """The notes on a test of a filter, which may ask for more than presence."""
+    asks_for_class = is_for_more and spelling.lower() in ("objectclass", "2.5.4.0")
+    return [*unknown_type(spelling), *([CLASSES] if asks_for_class else [])]
+
+
+def notes_on_what(word):
+    form, _, value = word.partition("=")
+    if form.lower() == "attrs":
+        return [note for text in value.split(",") if text.lower() not in ("entry", "children") for note in unknown_type(text)]
+    if form.lower() == "filter":
+        reader = FilterReader(as_bytes(value))
+        reader.whole()
+        return [note for test in reader.tests for note in notes_on_test(*test)]
+    return []
+
+
+def notes_on_line(keyword, words):
+    """The notes on a line that is in no part which is passed over."""
+    if keyword == "include":
+        return [f'include "{shown_text(words[0] if words else "")}" is not read']
+    if keyword == "access":
+        whats = itertools.takewhile(lambda word: word.lower() != "by", words[1:])
+        return [note for word in whats for note in notes_on_what(word)]
+    return []
+
+
+def notes_of(data):
+    """What is told of a configuration that can be read: a line for each note."""
+    told, has_rule, is_passed_over = "", False, False
+    for number, line in logical_lines(data):
+        keyword, *words = arguments(line)
+        keyword = keyword.lower()
+        if is_passed_over:
+            notes = [OTHER_DATABASE] if keyword == "access" else []
+        else:
+            notes = notes_on_line(keyword, words)
+            has_rule |= keyword == "access"
+        if keyword == "database":
+            is_passed_over = words[0].lower() in ("config", "monitor")
+        told += "".join(f"slapkit: note: config, line {number}: {note}\n" for note in notes)
+    return told if has_rule else told + NO_RULE
 
 
 # ---- rules
@@ -548,9 +617,10 @@ class Question:
     words: tuple = ()
     is_fake: bool = False
     is_verbose: bool = False
+    is_strict: bool = False
 
     def options(self):
-        flags = [*(["-u"] if self.is_fake else []), *(["-v"] if self.is_verbose else [])]
+        flags = [*(["-u"] if self.is_fake else []), *(["-v"] if self.is_verbose else []), *(["--strict"] if self.is_strict else [])]
         return ["-b", self.base, *([] if self.requester is None else ["-D", self.requester]), *flags, "--", *self.words]
 
 
@@ -580,8 +650,7 @@ def told(config, request, text, level):
     return f"{text}/{level}: {'ALLOWED' if set(OWN[level.lower()]) <= held else 'DENIED'}\n"
 
 
-def report_of(data, copy, question):
-    config = read_config(data)
+def report_of(config, copy, question):
     _, target = name_asked(question.base, "base")
     name, requester = name_asked(question.requester or "", "authcDN")
     words = [word_asked(number, word) for number, word in enumerate(question.words or ("entry",), 1)]
@@ -596,9 +665,14 @@ def report_of(data, copy, question):
     return report
 
 
-def access_answer(config, copy, question):
+def access_answer(data, copy, question):
     """The exit status, and what goes to standard output and to standard error."""
+    notes = ""
     try:
-        return 0, report_of(config, copy, question), ""
+        config = read_config(data)
+        notes = notes_of(data)
+        if question.is_strict and notes:
+            raise Fault(HAS_NOTES)
+        return 0, report_of(config, copy, question), notes
     except Fault as fault:
-        return 1, "", f"slapkit: {fault}\n"
+        return 1, "", f"{notes}slapkit: {fault}\n"

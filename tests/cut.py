@@ -5,9 +5,10 @@ usage: cut.py PROGRAM [WORD]
 
 With a word, only the texts whose names have it.
 
-Each run must end by itself, with status 0 or 1 and at most one line on standard error. And it must answer what the definitions say of the
-texts as they are then: a run of slapmodify by answers.py, which reads LDIF and makes the changes in another language (the report, both
-files, or the fault with its line), a question by access.py, which reads rules in another language (the report, or the fault with its line).
+Each run must end by itself, with status 0 or 1 and, after notes on a configuration, at most one line on standard error. And it must answer what
+the definitions say of the texts as they are then: a run of slapmodify by answers.py, which reads LDIF and makes the changes in another language
+(the report, both files, or the fault with its line), a question by access.py, which reads rules in another language (the notes, and the report or
+the fault with its line).
 
 Last, a line without end comes through a pipe: slapkit may take no more than 8,192 bytes after the limit of a line.
 """

@@ -6,8 +6,8 @@ usage: fuzz.py PROGRAM [--seed S] [--runs N] [--minutes M] [--jobs J] [--failure
 Each case begins with texts that are right, or with the random directories of operations.py, and changes bytes, lines, words, records,
 folds, base64, names, options and characters of them. Then
 
-- each run ends by itself with status 0 or 1 and at most one line on standard error, and a fault leaves no file;
-- the report, the new copy and the undo file, or the fault, are those of answers.py; what a requester may do is what access.py says;
+- each run ends by itself with status 0 or 1 and, after notes on a configuration, at most one line on standard error, and a fault leaves no file;
+- the report, the new copy and the undo file, or the fault, are those of answers.py; what a requester may do, and each note, is what access.py says;
 - the undo file, run on the new copy, is accepted whole and gives the first copy's canonical text, byte for byte, and its own undo file
   gives the new copy again;
 - questions are answered before the run as after it was taken back.
@@ -75,6 +75,17 @@ access to dn.children=cn=a,dc=com attrs=children,note
   by anonymous auth
 access to * by users -d continue by * +xd
 """
+CONFIG_OF_ALL_NOTES = b"""include /etc/ldap/schema/core.schema
+database mdb
+suffix dc=com
+include "acl.conf"
+access to attrs=gn,cn,posixAccount,entry,mail;lang-en,rfc822Mailbox;x by * read break
+access to dn.sub=dc=com
+  filter=(&(objectClass=person)(!(foo=bar))(|(objectClass=*)(2.5.4.0=grou*)(employeeType>=Internal)(cn=a)))
+  attrs=children,1.2.3 by users write
+database config
+access to * by * none
+"""
 
 
 def random_texts(rng):
@@ -94,7 +105,7 @@ WORDS = """dn changetype control version add delete modify modrdn moddn replace 
     description note title member manager owner seeAlso objectClass uidNumber gidNumber telephoneNumber userPassword displayName mail
     homeDirectory commonName 2.5.4.3 2.5.4.13 0.9.2342.19200300.100.1.25 1.2.3 groupOfNames com a A b none 0 1 2 007 -1 -
     access to by stop continue break read write auth search compare disclose manage users anonymous self dnattr group filter attrs suffix
-    rootdn database monitor config dn.base dn.one dn.children dn.sub dn.regex entry children * =wx +r -s =0 (cn=a) (&) (!(cn=*)) (cn>=1)"""
+    rootdn database monitor config include gn objectClass 2.5.4.0 foo dn.base dn.one dn.children dn.sub dn.regex entry children * =wx +r -s =0 (cn=a) (&) (!(cn=*)) (cn>=1)"""
 WORDS = [word.encode() for word in WORDS.split()]
 SIGNS = [sign.encode() for sign in list('\0\t\r\n "#+,;<=>\\:-*()&|!/.@') + ["\n ", "\n\n", "\r\n", ": ", ":: ", ":< ", "\n-\n", "\\20", "\\5c", "\\,", "  "]]
 CHARACTERS = [
@@ -231,13 +242,13 @@ def random_question(rng, suffix, copy):
     known = [name.decode() for name in found] + [suffix, f"cn=a,{suffix}", f"cn=none,{suffix}", f"cn=root,{suffix}"]
     words = ["entry", "children", "cn", "sn/read", "description/write", "description;lang-en", "mail/add", "note", "member/disclose", "Entry/none"]
     requester = rng.choice([None, "", *known]) if rng.random() < 0.8 else rng.choice(known)
-    return Question(rng.choice(known), requester, tuple(rng.sample(words, rng.randrange(4))), rng.random() < 0.3, rng.random() < 0.5)
+    return Question(rng.choice(known), requester, tuple(rng.sample(words, rng.randrange(4))), rng.random() < 0.3, rng.random() < 0.5, rng.random() < 0.1)
 
 
 def random_case(rng):
     suffix, copy, changes, config = random_texts(rng) if rng.random() < 0.5 else rng.choice(FIXED)
     if config is None:
-        config = rng.choice([CONFIG_OF_ALL_PARTS, *CONFIGS]).replace(b"dc=com", suffix.encode())
+        config = rng.choice([CONFIG_OF_ALL_PARTS, CONFIG_OF_ALL_NOTES, *CONFIGS]).replace(b"dc=com", suffix.encode())
     others = [text for texts in FIXED for text in texts[1:3] if text]
     if rng.random() < 0.8:
         changes = changed(rng, changes, [*others, changes])
@@ -312,11 +323,18 @@ class Trial:
         found = self.ask(case, "copy")
         if other != "copy" and found[0] == 0:
             expect(self.ask(case, other), found, "the question about the copy that came back")
-        self.told[f"question: {re.sub('[0-9]+:', 'N:', found[2][9:-1]) if found[2] else 'answered'}"] += 1
+        self.count_question(found)
         try:
             expect(found, access_answer(case.config, case.copy, case.question), "the question")
         except UnknownCharacter:
             self.told["not compared: a character that Python does not know"] += 1
+
+    def count_question(self, ended):
+        """Counts the notes on a configuration, and what a question came to."""
+        status, _, message = ended
+        lines = [re.sub("[0-9]+:", "N:", re.sub('".*"', "..", line[9:])) for line in message.splitlines()]
+        self.told[f"question: {lines.pop() if status else 'answered'}"] += 1
+        self.told.update(lines)
 
     def count(self, ended):
         """Counts what a run of changes came to."""

@@ -1,12 +1,15 @@
 #!/usr/bin/env python3
 """Compares the manual pages and the completions of the tools with the program's own options, and their codes with those of docs/CODES.md.
 
+The notes that docs/CODES.md and the manual page of slapacl explain are compared with those that the program tells.
+
 usage: manual.py PROGRAM
 """
 import pathlib
 import re
 import subprocess
 import sys
+import tempfile
 
 import checks
 from checks import expect
@@ -61,6 +64,34 @@ def the_manual_pages_have_the_codes(_):
         expect(sorted(code for code in those if code not in page_of(tool)), [], f"codes that the page of {tool} lacks")
 
 
-CHECKS = [the_manual_pages_have_the_options, the_completions_have_the_options, the_manual_pages_have_the_codes]
+def notes_told(program):
+    """Each kind of note, and the fault where there are some, as the program tells them. What a configuration names stands in capitals."""
+    told = []
+    rules = "include FILE\naccess to attrs=X-DESCRIPTION filter=(objectClass=a) by * read\ndatabase config\naccess to *\n"
+    with tempfile.TemporaryDirectory() as name:
+        folder = pathlib.Path(name)
+        (folder / "copy").write_text("")
+        for more in (rules, ""):
+            (folder / "conf").write_text(f"database mdb\nsuffix dc=com\n{more}")
+            words = [program, "slapacl", "--strict", "-b", "dc=com", "-f", folder / "conf", "--data", folder / "copy"]
+            told += subprocess.run(words, capture_output=True, text=True, timeout=60).stderr.splitlines()
+    return {re.sub(r"^slapkit: (note: )?", "", re.sub(r"line \d+", "line N", line)).replace("X-DESCRIPTION", "DESCRIPTION") for line in told}
+
+
+def the_documents_have_the_notes(program):
+    notes = notes_told(program)
+    expect(len(notes), 6, f"kinds of notes, and the fault: {notes}")
+    explained = set(re.findall(r"^\| `(config(?:, line N)?: [^`]*|not answered[^`]*)` \|", (ROOT / "docs/CODES.md").read_text(), re.M))
+    expect(explained, notes, "explained by docs/CODES.md")
+    items = re.findall(r"^\.It ((?:config(?:, line N)?: (?!C\d)|not answered).*)", page_of("slapacl").replace("\\(dq", '"'), re.M)
+    expect(set(items), notes, "explained by the manual page")
+
+
+CHECKS = [
+    the_manual_pages_have_the_options,
+    the_completions_have_the_options,
+    the_manual_pages_have_the_codes,
+    the_documents_have_the_notes,
+]
 
 sys.exit(checks.run("manual", [(check.__name__.replace("_", " "), lambda check=check: check(sys.argv[1])) for check in CHECKS]))

@@ -488,6 +488,149 @@ def faults_of_questions_are_told(trial):
         expect(trial.run(["slapacl", "-b", "dc=com", "-f", conf, "--data", data]), (1, "", f"slapkit: {told}\n"))
 
 
+RULED = "database mdb\nsuffix dc=com\n"
+READ_BY_ALL = "access to * by * read\n"
+NOT_ANSWERED = "slapkit: not answered, because there are notes\n"
+
+
+def noted(*notes):
+    """The lines on standard error, of the number of a line of the configuration and a note."""
+    return "".join(f"slapkit: note: config, line {line}: {note}\n" for line, note in notes)
+
+
+def question_under(trial, conf, *words, **how):
+    trial.write("conf", conf)
+    return trial.run(["slapacl", "-b", "dc=com", "-f", "conf", "--data", "copy", *words, "dc"], **how)
+
+
+CLASSES = "objectClass: only the classes that an entry lists are looked at"
+PASSED_OVER = "access rule of database config or monitor is passed over"
+NO_RULE = "slapkit: note: config: no access rule, so everybody may read\n"
+# Rules that slapd reads otherwise, or reads more of, with what the kit answers by them and what it tells of them.
+READ_OTHERWISE = [
+    ("include acl.conf\n", "=rscxd", ['include "acl.conf" is not read']),
+    ("access to attrs=posixAccount by * none\n", "=rscxd", ['unknown attribute "posixAccount"']),
+    ("access to attrs=gn filter=(rfc822Mailbox=*) by * none\n", "=rscxd", ['unknown attribute "gn"', 'unknown attribute "rfc822Mailbox"']),
+    ("access to attrs=userPasswrd by * none\n", "=rscxd", ['unknown attribute "userPasswrd"']),
+    ("access to filter=(objectClass=person) by * none\n", "=rscxd", [CLASSES]),
+    ("access to filter=(employeeType=Internal) by * none\n", "=rscxd", ['unknown attribute "employeeType"']),
+    ("access to filter=(!(foo=bar)) by * none\n", "=0", ['unknown attribute "foo"']),
+]
+
+
+def each_note_is_told(trial):
+    for line, answer, notes in READ_OTHERWISE:
+        wanted = (0, f"dc: {answer}\n", noted(*((3, note) for note in notes)))
+        expect(question_under(trial, RULED + line + READ_BY_ALL), wanted, line)
+        # all on one line that is folded after its first word
+        folded = "# a comment\n" + RULED + READ_BY_ALL.replace(" to", "\n  to") + line.replace(" ", "\n\t ", 1)
+        wanted = (0, "dc: =rscxd\n", noted(*((6, note) for note in notes)))
+        expect(question_under(trial, folded), wanted, folded)
+    for part in ("config", "Monitor"):
+        passed_over = f"{RULED}{READ_BY_ALL}database {part}\ninclude x\naccess to attrs=gn by * none\naccess\n"
+        expect(question_under(trial, passed_over), (0, "dc: =rscxd\n", noted((6, PASSED_OVER), (7, PASSED_OVER))), part)
+    expect(question_under(trial, RULED), (0, "dc: =rscxd\n", NO_RULE), "no rule")
+
+
+def the_notes_on_classes_are_told(trial):
+    # of any test but that of presence, by the name or the number of objectClass
+    for test, is_noted in (
+        ("(objectClass=domain)", True),
+        ("(OBJECTCLASS=dom*)", True),
+        ("(2.5.4.0~=domain)", True),
+        ("(!(objectClass>=domain))", True),
+        ("objectClass=domain", True),
+        ("(objectClass=*)", False),
+        ("(2.5.4.0=*)", False),
+        ("objectClass=*", False),
+        ("(dc=objectClass)", False),
+    ):
+        conf = f"{RULED}access to filter={test} by * none\n{READ_BY_ALL}"
+        expect(question_under(trial, conf)[2], noted((3, CLASSES)) if is_noted else "", test)
+
+
+def a_configuration_without_notes_has_nothing_on_standard_error(trial):
+    rules = "access to attrs=dc,domainComponent;x,entry,CHILDREN,2.5.4.3 filter=(&(cn=*)(!(2.5.4.4>=a))(objectClass=*)) by dnattr=manager write\n"
+    other = "modulepath /usr/lib/ldap\n# include x\nattrs=gn filter=(gn=a)\n"
+    passed_over = "database monitor\ninclude x\nrootdn x\n# access to *\n"
+    for words in ([], ["--strict"]):
+        expect(question_under(trial, other + RULED + rules + READ_BY_ALL + passed_over, *words), (0, "dc: =rscxd\n", ""))
+
+
+def notes_are_told_in_the_order_of_the_lines(trial):
+    rule = "access to attrs=gn\n  filter=(&(foo=a)(|(objectClass=b)(gn=c)))\n  by users read\n"
+    conf = f"include a b\n{RULED}\n{rule}database config\naccess to *\n"
+    unknown = [(5, f'unknown attribute "{name}"') for name in ("gn", "foo", "gn")]
+    told = noted((1, 'include "a" is not read'), *unknown[:2], (5, CLASSES), unknown[2], (9, PASSED_OVER))
+    expect(question_under(trial, conf), (0, "dc: =0\n", told))
+    conf = f"{RULED}include\ndatabase config\naccess to *\ninclude x\n"
+    told = noted((3, 'include "" is not read'), (5, PASSED_OVER)) + NO_RULE
+    expect(question_under(trial, conf), (0, "dc: =rscxd\n", told), "no rule comes last")
+
+
+def notes_come_before_the_faults_of_what_is_read_later(trial):
+    conf = f"include x\n{RULED}"
+    told = noted((1, 'include "x" is not read')) + NO_RULE
+    for words, copy, fault in (
+        ([], f"{COPY}dn: cn=a,ou=none,dc=com\ncn: a\n\n", "copy, line 4: 32 noSuchObject"),
+        ([], "", "no such entry"),
+        (["-D", "x"], COPY, "bad question: authcDN"),
+        (["cn/peek"], COPY, "bad question: word 1"),
+    ):
+        trial.write("copy", copy)
+        expect(question_under(trial, conf, *words), (1, "", f"{told}slapkit: {fault}\n"), fault)
+    trial.write("copy", COPY)
+    with open("/dev/full", "w") as full:
+        expect(question_under(trial, conf, out=full), (1, "", f"{told}slapkit: cannot write report\n"))
+
+
+def a_faulty_configuration_has_its_fault_and_no_note(trial):
+    with_notes = f"include x\n{RULED}access to attrs=gn by * read\n"
+    for more, fault in (
+        ("access to * by peername=x read\n", "line 5: C2 Unsupported"),
+        ("database config\naccess to *\ndatabase mdb\n", "line 7: C5 SecondDatabase"),
+    ):
+        for words in ([], ["--strict"]):
+            expect(question_under(trial, with_notes + more, *words), (1, "", f"slapkit: config, {fault}\n"), fault)
+    # nor has one that was not read, since a file can't be opened
+    words = ["slapacl", "-b", "dc=com", "-f", "conf", "--data", "none"]
+    expect(trial.run(words), (1, "", "slapkit: cannot open none\n"))
+
+
+def a_strict_question_is_answered_only_where_there_is_no_note(trial):
+    told = noted((1, 'include "x" is not read'), (4, 'unknown attribute "gn"'))
+    with_notes = f"include x\n{RULED}access to attrs=gn by * none\n{READ_BY_ALL}"
+    expect(question_under(trial, with_notes, "--strict"), (1, "", told + NOT_ANSWERED))
+    expect(question_under(trial, with_notes, "--strict", "-v", "-D", "x"), (1, "", told + NOT_ANSWERED), "before other faults")
+    expect(question_under(trial, with_notes), (0, "dc: =rscxd\n", told))
+    expect(question_under(trial, RULED, "--strict"), (1, "", NO_RULE + NOT_ANSWERED))
+    expect(question_under(trial, RULED + READ_BY_ALL, "--strict"), (0, "dc: =rscxd\n", ""))
+
+
+def control_characters_of_a_note_are_escaped(trial):
+    for name, told in (
+        ("a\tb", "a\\x09b"),
+        ("\x1b[31mred", "\\x1b[31mred"),
+        ("\x7f\x80\x9bm", "\\x7f\\x80\\x9bm"),
+        ("M\u00fcller \u65e5\u672c \xa0", "M\u00fcller \u65e5\u672c \xa0"),
+    ):
+        expect(question_under(trial, f'include "{name}"\n{RULED}{READ_BY_ALL}')[2], noted((1, f'include "{told}" is not read')))
+    for data in (b"\xff", b"a\xc3", b"\xc0\x80", b"\xed\xa0\x80\n\t"):
+        (trial.folder / "conf").write_bytes(b"include " + data + b"\n" + (RULED + READ_BY_ALL).encode())
+        words = ["slapacl", "-b", "dc=com", "-f", "conf", "--data", "copy", "dc"]
+        expect(trial.run(words), (0, "dc: =rscxd\n", noted((1, 'include "(not UTF-8)" is not read'))), data)
+
+
+def notes_that_cannot_be_told_end_the_run(trial):
+    with open("/dev/full", "wb") as full:
+        for words in ([], ["--strict"]):
+            expect(question_under(trial, RULED, *words, err=full), (1, "", ""))
+            expect(question_under(trial, RULED, *words, closed=[2]), (1, "", ""))
+            # where there is no note, nothing is to be written there
+            expect(question_under(trial, RULED + READ_BY_ALL, *words, err=full), (0, "dc: =rscxd\n", ""))
+            expect(question_under(trial, RULED + READ_BY_ALL, *words, closed=[2]), (0, "dc: =rscxd\n", ""))
+
+
 def a_question_is_not_answered_on_a_full_device(trial):
     with open("/dev/full", "w") as full:
         expect(ask(trial, out=full), (1, "", "slapkit: cannot write report\n"))
@@ -618,6 +761,15 @@ TRIALS = [
     a_question_is_answered,
     a_question_of_a_missing_entry_needs_its_option,
     faults_of_questions_are_told,
+    each_note_is_told,
+    the_notes_on_classes_are_told,
+    a_configuration_without_notes_has_nothing_on_standard_error,
+    notes_are_told_in_the_order_of_the_lines,
+    notes_come_before_the_faults_of_what_is_read_later,
+    a_faulty_configuration_has_its_fault_and_no_note,
+    a_strict_question_is_answered_only_where_there_is_no_note,
+    control_characters_of_a_note_are_escaped,
+    notes_that_cannot_be_told_end_the_run,
     a_question_is_not_answered_on_a_full_device,
     access_is_as_before_once_a_run_is_taken_back,
     letters_are_folded_and_not_only_made_small,

@@ -6,7 +6,8 @@ usage: refusals.py PROGRAM
 The program makes the changes of examples/ on the copy there, and answers a question about it, once for each call that is
 refused: that call alone, or it and all after it. A shared object, made by cc and preloaded, refuses the call. Each run must
 end with the fault that docs/CODES.md names, and leave no file; where files can't be removed, none that is cut under the name
-that it was to have, and no new copy without its undo file.
+that it was to have, and no new copy without its undo file. There are notes on the configuration: a fault of what comes after them
+is told after all of them, and where one can't be written there is no report.
 """
 import dataclasses
 import os
@@ -16,10 +17,12 @@ import sys
 import tempfile
 
 import checks
+from access import notes_of
 from checks import Wrong
 
 EXAMPLES = pathlib.Path(__file__).resolve().parent.parent / "examples"
 COPY, CHANGES, CONF = EXAMPLES / "company.ldif", EXAMPLES / "changes.ldif", EXAMPLES / "slapd.conf"
+NOTES = notes_of(CONF.read_bytes())
 
 # Counts the calls of the kind that REFUSE_KIND names, and refuses number REFUSE_AT, with REFUSE_ON all after
 # it too. A call that is refused leaves the file REFUSE_TOLD. With NO_LINKS the file system has no hard links.
@@ -106,7 +109,12 @@ ssize_t read(int file, void *to, size_t size) {
 }
 
 ssize_t write(int file, const void *from, size_t size) {
-    if (file == 2) return syscall(SYS_write, file, from, size);
+    if (file == 2) {
+        if (is_refused("write to standard error")) { errno = ENOSPC; return -1; }
+        if (is_refused("write to standard error, by a signal")) { errno = EINTR; return -1; }
+        if (size > 1 && is_refused("all but a byte of a write to standard error")) size = 1;
+        return syscall(SYS_write, file, from, size);
+    }
     if (is_refused("write")) { errno = ENOSPC; return -1; }
     if (is_refused("write, by a signal")) { errno = EINTR; return -1; }
     if (size > 1 && is_refused("all but a byte of a write")) size = 1;
@@ -162,9 +170,9 @@ def ends(left, *told):
 
 
 def memory_is_told(left, whole):
-    # The program asks for more room than it needs in some places, and goes on without it.
+    # The program asks for more room than it needs in some places, and goes on without it. The notes are told before the copy is read.
     told = ("slapkit: out of memory\n", "error: out of memory\n", "slapkit: cannot read the command line: out of memory\n")
-    return left == whole or ends(left, *told)
+    return left == whole or ends(left, *told, f"{whole.message}slapkit: out of memory\n")
 
 
 def opening_is_told(left, whole):
@@ -174,13 +182,23 @@ def opening_is_told(left, whole):
 
 
 def read_is_told(left, whole):
-    return ends(left, *(f"slapkit: cannot read {text}\n" for text in ("config", "copy", "changes")))
+    return ends(left, "slapkit: cannot read config\n", *(f"{whole.message}slapkit: cannot read {text}\n" for text in ("copy", "changes")))
 
 
 def write_is_told(left, whole):
-    if left.message == "slapkit: cannot write report\n":
+    if left.message == f"{whole.message}slapkit: cannot write report\n":
         return left.status == 1 and not left.files and whole.report.startswith(left.report) and left.report != whole.report
     return ends(left, *NOT_WRITTEN)
+
+
+def notes_are_told_in_part(left, whole, told=""):
+    """Whether the run ends for the notes that can't be told: some of what is told of them was, and then, where it can be, the fault."""
+    begun = left.message.removesuffix(told)
+    return ends(left, begun + told) and whole.message.startswith(begun) and begun != whole.message
+
+
+def unwritten_notes_are_told(left, whole):
+    return notes_are_told_in_part(left, whole, "slapkit: cannot write notes\n")
 
 
 def a_file_is_not_written(left, whole):
@@ -239,18 +257,22 @@ KINDS_OF_QUESTIONS = {
     "opening": (opening_is_told, opening_is_told),
     "read": (read_is_told, read_is_told),
     "write": (write_is_told, write_is_told),
+    "write to standard error": (unwritten_notes_are_told, notes_are_told_in_part),
     "all but a byte of a read": (run_is_whole, run_is_whole),
     "all but a byte of a write": (run_is_whole, run_is_whole),
+    "all but a byte of a write to standard error": (run_is_whole, run_is_whole),
     "opening, by a signal": (run_is_whole, None),
     "read, by a signal": (run_is_whole, None),
     "write, by a signal": (run_is_whole, None),
+    "write to standard error, by a signal": (run_is_whole, None),
 }
 
-# The runs that are tried: what a run is called, its words, the files that it makes, the kinds of calls, and what else is set.
+# The runs that are tried: what a run is called, its words, the files that it makes, what goes to standard error, the kinds of calls, and what
+# else is set.
 RUNS = [
-    ("", changes_in, ["new", "undo"], KINDS, {}),
-    (", without hard links", changes_in, ["new", "undo"], KINDS_WITHOUT_LINKS, NO_LINKS),
-    (" of a question", question_in, [], KINDS_OF_QUESTIONS, {}),
+    ("", changes_in, ["new", "undo"], "", KINDS, {}),
+    (", without hard links", changes_in, ["new", "undo"], "", KINDS_WITHOUT_LINKS, NO_LINKS),
+    (" of a question", question_in, [], NOTES, KINDS_OF_QUESTIONS, {}),
 ]
 
 
@@ -276,10 +298,12 @@ def main():
         source, shim = f"{folder}/shim.c", f"{folder}/shim.so"
         pathlib.Path(source).write_text(SHIM)
         subprocess.run([os.environ.get("CC", "cc"), "-shared", "-fPIC", "-o", shim, source, "-ldl"], check=True)
+        if not NOTES:
+            sys.exit("refusals: there is no note on the configuration of the question")
         trials = []
-        for called, words_in, files, kinds, more in RUNS:
+        for called, words_in, files, message, kinds, more in RUNS:
             whole, _ = run(program, shim, words_in, {})
-            if whole.status != 0 or sorted(whole.files) != files or not whole.report:
+            if whole.status != 0 or sorted(whole.files) != files or not whole.report or whole.message != message:
                 sys.exit(f"refusals: the run{called} is not whole where nothing is refused: {whole}")
             for kind, (alone, on) in kinds.items():
                 trials.append((f"{kind} refused{called}", (words_in, whole, kind, alone, more)))

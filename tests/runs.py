@@ -49,7 +49,10 @@ class Place:
             pathlib.Path(name).unlink(missing_ok=True)
 
     def run(self, *words):
-        """The exit status, and what went to standard output and to standard error. The program ends by itself, soon, and with one line at most."""
+        """The exit status, and what went to standard output and to standard error.
+
+        The program ends by itself, soon, and with one line at most after the notes of slapacl.
+        """
         flags = os.O_WRONLY | os.O_CREAT | os.O_TRUNC
         streams = [(os.POSIX_SPAWN_OPEN, 0, "/dev/null", os.O_RDONLY, 0)]
         streams += [(os.POSIX_SPAWN_OPEN, stream, name, flags, 0o600) for stream, name in ((1, REPORT), (2, MESSAGE))]
@@ -64,9 +67,16 @@ class Place:
         finally:
             signal.setitimer(signal.ITIMER_REAL, 0)
         status, report, message = os.waitstatus_to_exitcode(status), self.read(REPORT), self.read(MESSAGE)
-        if status not in (0, 1) or message.count(b"\n") > 1:
+        if status not in (0, 1) or not is_message(message, words[0]):
             raise Wrong(f"status {status}, standard error: {message!r}")
         return status, report.decode(), message.decode()
+
+
+def is_message(message, tool):
+    """Whether it has whole lines, of which at most the last is no note. slapacl alone has notes."""
+    *lines, rest = message.split(b"\n")
+    others = lines if tool != "slapacl" else [line for line in lines if not line.startswith(b"slapkit: note: ")]
+    return not rest and (not others or others == lines[-1:])
 
 
 def too_long(*_):

@@ -1,12 +1,19 @@
 #!/usr/bin/env python3
 """Asks OpenLDAP's slapacl and `slapkit slapacl` the same random questions under the same random rules, and compares the answers.
 
-usage: slapd_access.py PROGRAM [--seed S] [--sets N] [--keep FOLDER]
+usage: slapd_access.py PROGRAM [--seed S] [--sets N] [--keep FOLDER] [--any-word]
 
 It is outside the gate, and wants OpenLDAP's slapacl and slapadd with their schema files (Debian's package slapd). Each set of rules has
-20 questions, each of 20 words, so 50 sets have 20,000 answers. The rules have the forms that the kit reads, over the types that it knows;
-what README.md names under "What differs from slapd's slapacl" is left out, but for rules that run out: each word asks for a level, and
-there slapacl decides as a running slapd does. It fails where two answers differ, and tells the rules and the question.
+5 questions, each of 20 words, so 200 sets have 20,000 answers. Half of the sets have rules of the forms that the kit reads, over the types
+that it knows. Each of the others may have what wants a note: types that the kit doesn't know, other names of known ones, classes
+among attributes, tests of objectClass, an include with a rule in it, a rule in the part of another database, or no rule at all.
+
+What else README.md names under "What differs from slapd's slapacl" is left out, but for rules that run out: each word asks for a level, and there
+slapacl decides as a running slapd does. So words name no type by a name that the built-in table lacks while it has the type, and no operational
+attribute that only slapd writes: no word has a note, and the answers differ. With --any-word these words are drawn too, and it fails.
+
+An answer may differ from slapd's, or slapd may refuse the rules, only where there was a note. Else it fails, and tells the rules and the question;
+and so it does where the notes are not those of access.py.
 """
 import argparse
 import base64
@@ -19,16 +26,26 @@ import subprocess
 import sys
 import tempfile
 
+from access import notes_of
+
 SCHEMA = "/etc/ldap/schema"
 SCHEMAS = ("core", "cosine", "nis", "inetorgperson")
 # Debian has slapd's tools where only root looks.
 TOOLS = os.environ.get("PATH", "") + ":/usr/sbin:/sbin"
 SUFFIX = "dc=example,dc=com"
-QUESTIONS = 20
+QUESTIONS = 5
 WORDS = 20
 LEVELS = ("disclose", "auth", "compare", "search", "read", "write", "add", "delete", "manage")
 TEXTS = ("cn", "sn", "title", "description", "givenName", "displayName", "employeeNumber", "l", "street", "mail", "uid", "ou")
 TYPES = (*TEXTS, "commonName", "surname", "telephoneNumber", "userPassword", "uidNumber", "gidNumber", "homeDirectory", "loginShell", "manager", "seeAlso", "member", "owner")
+# What wants a note: other names of known types, types that the kit doesn't know, those that slapd doesn't know either, and classes.
+ALIASES = ("gn", "rfc822Mailbox", "stateOrProvinceName", "streetAddress", "fax")
+OTHERS = ("mobile", "employeeType", "name", "distinguishedName", "uniqueMember", "postalCode", "initials", "memberUid", "createTimestamp")
+MISSPELT = ("foo", "userPasswrd")
+CLASSES = ("posixAccount", "inetOrgPerson", "organizationalPerson", "person", "top", "groupOfNames", "domain")
+ASKED = (*TYPES, "objectClass", "mobile", "employeeType")
+# Words that slapd answers otherwise, without a note: names of known types that the kit doesn't know, and what nobody but slapd writes.
+ANSWERED_OTHERWISE = ("gn", "rfc822Mailbox", "streetAddress", "entryUUID", "createTimestamp")
 GIVEN = ("Anna", "Björn", "Chen", "Dag", "Eve", "Farah", "Gül", "Hugo", "Ines", "Jörg", "Kim", "Lars")
 
 
@@ -51,6 +68,7 @@ def person(at, name):
     uid = name.split(",")[0][4:]
     yield from ("objectClass: inetOrgPerson", "objectClass: posixAccount", f"uid: {uid}", f"cn: {GIVEN[at]} {'ABC'[at % 3]}", f"sn: {'ABC'[at % 3]}", f"givenName: {GIVEN[at]}")
     yield from (f"mail: {uid}@Example.com", f"uidNumber: {1000 + 7 * at}", f"gidNumber: {100 + at % 2}", f"homeDirectory: /home/{uid}", f"userPassword: secret{at}")
+    yield from (f"employeeType: {('Internal', 'External')[at % 2]}", f"st: {'ABC'[at % 3]}", f"mobile: +49 170 {at}")
     if at % 2:
         yield from (f"title: {('Senior', 'Deputy', 'Chief')[at % 3]}  Engineer", f"telephoneNumber: +49 30 {1000 + at}", f"manager: {people()[at // 2]}")
     if at % 4 == 0:
@@ -93,29 +111,51 @@ def tested_value(rng, kind):
         return str(rng.choice([100, 101, 1000, 1007, 1014, 1050]))
     if kind in ("manager", "seeAlso", "member", "owner"):
         return any_name(rng)
+    if kind == "employeeType":
+        return rng.choice(["Internal", "internal", "EXTERNAL", "int*"])
+    if kind in ("distinguishedName", "uniqueMember"):
+        return any_name(rng)
     if kind in ("homeDirectory", "loginShell"):
         return rng.choice(["/home/anna0", "/bin/Sh", "/bin/sh"])
     return rng.choice(["Anna", "anna a", "A", "b", "senior engineer", "Number 4", "a b\\2ac", "chen2@EXAMPLE.com", "chen2", "+49301003", "B*", "*ngin*", "s*r", "*", "*e*e*"])
 
 
-def filter_text(rng, depth=0):
+def class_test(rng):
+    kind, draw = rng.choice(["objectClass", "objectClass", "objectclass", "2.5.4.0"]), rng.random()
+    return f"({kind}={rng.choice(['*', 'inetOrg*', 'noClass']) if draw < 0.2 else rng.choice(CLASSES)})"
+
+
+def tested_type(rng, odd):
+    return rng.choice([*ALIASES, *OTHERS, *MISSPELT]) if "types" in odd and rng.random() < 0.3 else rng.choice(TYPES)
+
+
+def filter_text(rng, odd, depth=0):
     draw = rng.random()
     if depth < 3 and draw < 0.35:
-        inner = "".join(filter_text(rng, depth + 1) for _ in range(rng.randrange(1, 4)))
+        inner = "".join(filter_text(rng, odd, depth + 1) for _ in range(rng.randrange(1, 4)))
         return f"({rng.choice('&|')}{inner})"
     if depth < 3 and draw < 0.5:
-        return f"(!{filter_text(rng, depth + 1)})"
-    kind = rng.choice(TYPES)
+        return f"(!{filter_text(rng, odd, depth + 1)})"
+    if "objectClass" in odd and rng.random() < 0.4:
+        return class_test(rng)
+    kind = tested_type(rng, odd)
     operator = rng.choice([">=", "<="]) if kind in ("uidNumber", "gidNumber") and rng.random() < 0.5 else "="
     return f"({kind}{operator}{tested_value(rng, kind)})"
 
 
-def listed(rng):
-    return "attrs=" + ",".join(rng.sample(["entry", "children", *TYPES], rng.randrange(1, 5)))
+def listed(rng, odd):
+    names = rng.sample(["entry", "children", "objectClass", *TYPES], rng.randrange(1, 5))
+    if "types" in odd and rng.random() < 0.4:
+        names.append(rng.choice([*ALIASES, *OTHERS]) if rng.random() < 0.95 else rng.choice(MISSPELT))
+    if "classes" in odd and rng.random() < 0.5:
+        names.append(rng.choice(CLASSES))
+    rng.shuffle(names)
+    return "attrs=" + ",".join(names)
 
 
-def what(rng):
-    parts = [make(rng) for make, share in ((named, 0.5), (listed, 0.5), (lambda r: f'filter="{filter_text(r)}"', 0.35)) if rng.random() < share]
+def what(rng, odd):
+    makes = ((named, 0.5), (lambda r: listed(r, odd), 0.5), (lambda r: f'filter="{filter_text(r, odd)}"', 0.35))
+    parts = [make(rng) for make, share in makes if rng.random() < share]
     rng.shuffle(parts)
     return " ".join(parts) or "*"
 
@@ -151,15 +191,35 @@ def clause(rng):
     return " ".join(parts)
 
 
-def rules(rng):
-    lines = [f"access to {what(rng)} {' '.join(clause(rng) for _ in range(rng.randrange(1, 5)))}" for _ in range(rng.randrange(1, 8))]
-    if rng.random() < 0.5:
+# what a set of rules may have that wants a note
+ODD = ("types", "classes", "objectClass", "include", "database", "no rule")
+
+
+def rule(rng, odd):
+    return f"access to {what(rng, odd)} {' '.join(clause(rng) for _ in range(rng.randrange(1, 5)))}"
+
+
+def rules(rng, folder):
+    """The lines of a set of rules. A file that they include has a rule."""
+    odd = [] if rng.random() < 0.5 else rng.sample(ODD, rng.choice([1, 1, 1, 2]))
+    lines = [] if "no rule" in odd else [rule(rng, odd) for _ in range(rng.randrange(1, 8))]
+    if "include" in odd:
+        (folder / "acl.conf").write_text(f"{rule(rng, [])}\n")
+        lines.insert(rng.randrange(len(lines) + 1), f"include {folder}/acl.conf")
+    if rng.random() < 0.5 and "no rule" not in odd:
         lines.append("access to * by * read")
+    if "database" in odd:
+        lines += [f"database {rng.choice(['config', 'monitor'])}", *(rule(rng, []) for _ in range(rng.randrange(1, 3)))]
     return "".join(f"{line}\n" for line in lines)
 
 
-def words(rng):
-    return [f"{rng.choice(['entry', 'children', *TYPES])}/{rng.choice(LEVELS)}" for _ in range(WORDS)]
+def words(rng, is_any):
+    kinds = ["entry", "children", *ASKED, *(ANSWERED_OTHERWISE if is_any else ())]
+    return [f"{rng.choice(kinds)}/{rng.choice(LEVELS)}" for _ in range(WORDS)]
+
+
+FAILURES = ("different without a note", "not answered by slapkit, or with other notes")
+COUNTED = ("sets of rules", "sets of rules with a note", "questions", "equal", "allowed", "refused by slapd", "different with a note", *FAILURES)
 
 
 # ---- the two tools
@@ -172,7 +232,7 @@ def run(command):
 def head(folder):
     """The configuration of slapd but for its rules."""
     loads = "".join(f"include {SCHEMA}/{name}.schema\n" for name in SCHEMAS)
-    return f"{loads}modulepath /usr/lib/ldap\nmoduleload back_mdb\ndatabase mdb\nsuffix {SUFFIX}\ndirectory {folder}/db\n"
+    return f"{loads}modulepath /usr/lib/ldap\nmoduleload back_mdb\nmoduleload back_monitor\ndatabase mdb\nsuffix {SUFFIX}\ndirectory {folder}/db\n"
 
 
 def asked(tool, conf, copy, base, requester, wanted):
@@ -180,37 +240,45 @@ def asked(tool, conf, copy, base, requester, wanted):
     return run(command)
 
 
-def answers(ran):
+def answers(text):
     """The last word of each line that answers a word."""
-    return [line.rsplit(": ", 1)[1] for line in (ran.stdout + ran.stderr).splitlines() if line.endswith((": ALLOWED", ": DENIED"))]
+    return [line.rsplit(": ", 1)[1] for line in text.splitlines() if line.endswith((": ALLOWED", ": DENIED"))]
 
 
-def compare(program, folder, rng, counts):
-    """Asks under one set of rules. Tells where the two differ."""
-    text = rules(rng)
+def compare(program, folder, rng, counts, is_any_word):
+    """Asks under one set of rules. Tells where the two differ without a note."""
+    text = rules(rng, folder)
     theirs, ours = folder / "slapd.conf", folder / "slapkit.conf"
     theirs.write_text(head(folder) + text)
     ours.write_text(f"database mdb\nsuffix {SUFFIX}\n{text}")
+    notes = notes_of(ours.read_bytes())
+    counts["sets of rules"] += 1
+    counts["sets of rules with a note"] += notes != ""
     for _ in range(QUESTIONS):
         base = rng.choice([SUFFIX, f"ou=staff,{SUFFIX}", *people(), *groups()])
         requester = rng.choice([None, *people(), f"uid=nobody,{SUFFIX}"])
-        wanted = words(rng)
+        wanted = words(rng, is_any_word)
         slapd = asked(["slapacl"], theirs, None, base, requester, wanted)
         slapkit = asked([program, "slapacl"], ours, folder / "copy.ldif", base, requester, wanted)
-        if "bad configuration file" in slapd.stderr or slapkit.returncode:
-            counts["different"] += 1
-            print(f"these rules, or this question, are refused: {base} {requester} {wanted}\n{text}{slapd.stderr[:300]}{slapkit.stderr}", flush=True)
-            return
-        here, there = answers(slapkit), answers(slapd)
-        counts["answers"] += len(wanted)
-        counts["allowed"] += there.count("ALLOWED")
-        if len(there) != len(wanted) or len(here) != len(wanted):
-            counts["different"] += 1
-            print(f"not each word was answered: {base} {requester} {wanted}\n{slapd.stdout}{slapd.stderr}{slapkit.stdout}{slapkit.stderr}", flush=True)
+        here, there = answers(slapkit.stdout), answers(slapd.stdout + slapd.stderr)
+        counts["questions"] += len(wanted)
+        if slapkit.stderr != notes or slapkit.returncode or len(here) != len(wanted):
+            counts["not answered by slapkit, or with other notes"] += len(wanted)
+            print(f"{base}, asked by {requester}: {wanted}\n{slapkit.stdout}{slapkit.stderr}under\n{text}with these notes:\n{notes}", flush=True)
             continue
+        if len(there) != len(wanted):
+            there = ["REFUSED"] * len(wanted)
+            counts["refused by slapd"] += len(wanted)
+            if not notes:
+                print(f"slapd: {slapd.stdout}{slapd.stderr}", flush=True)
+        counts["allowed"] += there.count("ALLOWED")
         for word, mine, other in zip(wanted, here, there):
-            if mine != other:
-                counts["different"] += 1
+            if mine == other:
+                counts["equal"] += 1
+            elif notes:
+                counts["different with a note"] += 1
+            else:
+                counts["different without a note"] += 1
                 print(f"{base}, asked by {requester}: {word} is {mine} by slapkit and {other} by slapd, under\n{text}", flush=True)
 
 
@@ -218,8 +286,9 @@ def main():
     parser = argparse.ArgumentParser(description=__doc__, formatter_class=argparse.RawDescriptionHelpFormatter)
     parser.add_argument("program")
     parser.add_argument("--seed", type=int, default=1)
-    parser.add_argument("--sets", type=int, default=50)
+    parser.add_argument("--sets", type=int, default=200)
     parser.add_argument("--keep", metavar="FOLDER")
+    parser.add_argument("--any-word", action="store_true")
     args = parser.parse_args()
     if not shutil.which("slapacl", path=TOOLS):
         sys.exit("slapd_access.py: OpenLDAP's slapacl is not here (Debian's package slapd has it)")
@@ -234,9 +303,10 @@ def main():
             sys.exit(f"slapd_access.py: slapadd: {loaded.stderr}")
         counts = collections.Counter()
         for number in range(args.sets):
-            compare(os.path.abspath(args.program), folder, random.Random(f"{args.seed} {number}"), counts)
-    print(", ".join(f"{name} {count}" for name, count in sorted(counts.items())))
-    sys.exit(1 if counts["different"] else 0)
+            compare(os.path.abspath(args.program), folder, random.Random(f"{args.seed} {number}"), counts, args.any_word)
+    for name in COUNTED:
+        print(f"{counts[name]:9} {name}")
+    sys.exit(1 if any(counts[name] for name in FAILURES) else 0)
 
 
 main()

@@ -30,6 +30,9 @@ CHANGES = added(UNIT)
 UNIT_TEXT = block(("dn", UNIT), ("ou", "unit"))
 UNDO = NOTHING + deleted(UNIT)
 CONF = "database mdb\nsuffix dc=com\naccess to * by * read\n"
+CONF_WITH_NOTES = f"include core.schema\n{CONF}access to attrs=gn by * read\n"
+NOTES = 'slapkit: note: config, line 1: include "core.schema" is not read\nslapkit: note: config, line 5: unknown attribute "gn"\n'
+QUESTION = ["slapacl", "-b", "dc=com", "-f", "conf", "--data", "copy", "dc"]
 REQUEST = "slapkit: reading changes from the terminal; end with Ctrl-D"
 ONTO = ["--out", "new", "--undo", "undo"]
 
@@ -222,10 +225,38 @@ def a_question_tells_how_far_it_is(trial):
     copy = ROOT + comments(17_000_000)
     trial.write("copy", copy)
     terminal = Terminal()
-    words = ["slapacl", "-b", "dc=com", "-f", "conf", "--data", "copy", "dc"]
-    expect(trial.on(terminal, words, stdout="terminal"), (0, None))
+    expect(trial.on(terminal, QUESTION, stdout="terminal"), (0, None))
     expect(terminal.screen.text(), "dc: =rscxd\n", "what is left on the screen")
     expect(terminal.screen.erased, read_by_steps("copy", len(copy)), "what was told")
+
+
+def notes_stay_on_the_screen_without_the_line_of_progress(trial):
+    # what is told of reading the configuration is gone before the first note, and what is told of reading the copy before the report
+    conf, copy = CONF_WITH_NOTES + comments(9_000_000), ROOT + comments(17_000_000)
+    trial.write("conf", conf)
+    told = read_by_steps("conf", len(conf)), read_by_steps("copy", len(copy))
+    for text, options, ended, left, erased in (
+        (copy, [], 0, f"{NOTES}dc: =rscxd\n", [*told[0], *told[1]]),
+        (copy, ["--strict"], 1, f"{NOTES}slapkit: not answered, because there are notes\n", told[0]),
+        (ROOT, [], 0, f"{NOTES}dc: =rscxd\n", told[0]),
+        (copy.replace("dc=com", "dc=org"), [], 1, f"{NOTES}slapkit: copy, line 1: 32 noSuchObject\n", None),
+    ):
+        trial.write("copy", text)
+        terminal = Terminal()
+        expect(trial.on(terminal, [*QUESTION, *options], stdout="terminal"), (ended, None), options)
+        expect(terminal.screen.text(), left, "what is left on the screen")
+        if erased is not None:
+            expect(terminal.screen.erased, erased, "what was told")
+
+
+def notes_are_told_on_a_narrow_terminal(trial):
+    # a note is no line of progress: it is told whole, also where it takes several rows, as is what comes after it
+    trial.write("conf", CONF_WITH_NOTES + comments(9_000_000))
+    trial.write("copy", ROOT + comments(17_000_000))
+    terminal = Terminal(30)
+    expect(trial.on(terminal, QUESTION, stdout="terminal"), (0, None))
+    rows = [line[at : at + 30] for line in f"{NOTES}dc: =rscxd".splitlines() for at in range(0, len(line), 30)]
+    expect(terminal.screen.text(), "".join(f"{row}\n" for row in rows), "what is left on the screen")
 
 
 def nothing_is_told_where_standard_error_is_no_terminal(trial):
@@ -352,6 +383,8 @@ def a_terminal_that_goes_away_changes_nothing(trial):
 TRIALS = [
     a_long_run_tells_how_far_it_is,
     a_question_tells_how_far_it_is,
+    notes_stay_on_the_screen_without_the_line_of_progress,
+    notes_are_told_on_a_narrow_terminal,
     nothing_is_told_where_standard_error_is_no_terminal,
     nothing_is_told_of_a_short_run,
     nothing_is_told_on_a_terminal_without_control_sequences,

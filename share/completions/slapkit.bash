@@ -15,7 +15,7 @@ _slapkit() {
         -b | -D) return ;;
     esac
     if [ "${COMP_WORDS[1]}" = slapacl ]; then
-        COMPREPLY=($(compgen -W "-b -f --data -D -u -v --help" -- "$cur"))
+        COMPREPLY=($(compgen -W "-b -f --data -D -u -v --strict --help" -- "$cur"))
         return
     fi
     COMPREPLY=($(compgen -W "-b --data --out --undo -l -c -u -v --help" -- "$cur"))

@@ -3,3 +3,4 @@ pub mod CallLemmas
 pub mod EndLemmas
 pub mod EscapeLemmas
 pub mod Examples
+pub mod NoteLemmas

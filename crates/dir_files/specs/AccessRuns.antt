@@ -1,5 +1,5 @@
 -- The calls of slapacl on its file system, and what it asks (slapacl(8)).
-use Rattle.std.specs.Prelude.{◌≡◌, ◌⊎◌, ℕ, List, [], map, cond, Option, None, Some, Result, Ok, Err, ⊤}
+use Rattle.std.specs.Prelude.{◌≡◌, ◌⊎◌, ℕ, Bool, true, List, [], map, cond, Option, None, Some, Result, Ok, Err, ⊤}
 use Rattle.std.specs.Option.{option_copied}
 use Rattle.dir_names.specs.Orders.{bytes_eq}
 use Rattle.dir_names.specs.Table.Builtin.{builtin_rows}
@@ -10,7 +10,8 @@ use Rattle.dir_tools.specs.AccessReport.{AccessTerms, access_terms}
 use Rattle.dir_tools.specs.Writing.{TakenBytes, WroteReport}
 use Rattle.dir_files.specs.declared.words.AccessWords.{AccessWords}
 use Rattle.dir_files.specs.declared.fault.Fault.{Fault}
-use Rattle.dir_files.specs.declared.fault.Fault.TheVariants.{CannotOpen, SamePath, Tool}
+use Rattle.dir_files.specs.declared.fault.Fault.TheVariants.{CannotOpen, HasNotes, NotesUntold, SamePath, Tool}
+use Rattle.dir_files.specs.Faults.{FailsSo}
 use Rattle.dir_files.specs.Files.{Disk}
 use Rattle.dir_files.specs.Runs.{Calls, EndsWithoutOutputs, Opens}
 
@@ -42,13 +43,23 @@ pub record AsksOver {A : Type 0} (t : AccessTerms) (known : AccessSources) (answ
 abbrev pub Asks : {A : Type 0} → AccessTerms → AccessSources → Result A Fault → Calls
 Asks {A} t known result calls = (answer : Result A ToolFault) × (report : List ℕ) × AsksOver t known answer (Some [], Some report) × EndsWithoutOutputs report answer result calls
 
+-- the notes on the configuration end the run: they can't be told, or only an answer without notes is wanted
+abbrev pub IsEndOfNotes : Bool → Fault → Type 0
+IsEndOfNotes strict NotesUntold = ⊤
+IsEndOfNotes strict HasNotes = strict ≡ true
+IsEndOfNotes strict fault = ⊥
+
+-- they end it without another call; or the tool answers
+abbrev pub AsksOrStops : {A : Type 0} → AccessWords → AccessSources → Result A Fault → Calls
+AsksOrStops words known result calls = ((calls ≡ []) × FailsSo (IsEndOfNotes words.strict) result) ⊎ Asks (access_terms_of words) known result calls
+
 -- the texts of the configuration and of the copy
 abbrev pub access_sources_of : AccessWords → Disk → AccessSources
 access_sources_of words d = access_sources (d.text_at words.config.now) (d.text_at words.data.now)
 
 -- the configuration is opened first, then the copy
 abbrev pub AccessCalls : {A : Type 0} → AccessWords → Disk → Result A Fault → Calls
-AccessCalls words d result = Opens words.config.now result (Opens words.data.now result (Asks (access_terms_of words) (access_sources_of words d) result))
+AccessCalls words d result = Opens words.config.now result (Opens words.data.now result (AsksOrStops words (access_sources_of words d) result))
 
 -- ---- the paths
 
@@ -61,11 +72,11 @@ abbrev pub AllAccessCalls : {A : Type 0} → Option (List ℕ) → AccessWords �
 AllAccessCalls (Some path) words d result calls = calls ≡ []
 AllAccessCalls None words d result calls = AccessCalls words d result calls
 
--- the fault names one of the two paths, or is the tool's own
+-- the fault names one of the two paths, is that of the notes, or is the tool's own
 abbrev pub NamesItsFile : AccessWords → Fault → Type 0
 NamesItsFile words (CannotOpen path) = (path.now ≡ words.config.now) ⊎ (path.now ≡ words.data.now)
 NamesItsFile words (Tool fault) = ⊤
-NamesItsFile words other = ⊥
+NamesItsFile words other = IsEndOfNotes words.strict other
 
 abbrev pub IsSameFile : {A : Type 0} → List ℕ → Result A Fault → Type 0
 IsSameFile path (Err (SamePath named)) = named.now ≡ path

@@ -3,5 +3,7 @@ pub mod Escape
 pub mod FaultText
 pub mod Faults
 pub mod Files
+pub mod NoteText
+pub mod Notes
 pub mod Paths
 pub mod Runs

@@ -20,6 +20,10 @@ pub enum Fault<'a> {
     CannotOpen(&'a str),
     /// A file that is to be written exists already.
     Exists(&'a str),
+    /// There are notes on the configuration, and an answer is wanted only where there are none.
+    HasNotes,
+    /// The notes on the configuration can't be written.
+    NotesUntold,
     /// The tool's own fault.
     Tool(ToolFault),
 }
@@ -35,6 +39,8 @@ impl fmt::Display for Fault<'_> {
             Fault::SamePath(path) => show_path(f, "same path twice: ", path),
             Fault::CannotOpen(path) => show_path(f, "cannot open ", path),
             Fault::Exists(path) => show_path(f, "exists already: ", path),
+            Fault::HasNotes => f.write_str("not answered, because there are notes"),
+            Fault::NotesUntold => f.write_str("cannot write notes"),
             Fault::Tool(fault) => fault.fmt(f),
         }
     }

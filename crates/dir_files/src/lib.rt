@@ -6,6 +6,7 @@ mod escape;
 mod fault;
 mod files;
 mod limit;
+mod note;
 mod progress;
 pub mod slapacl;
 pub mod slapmodify;
@@ -14,6 +15,7 @@ mod words;
 
 pub use fault::Fault;
 pub use files::{FileSystem, Opened, Refusal};
+pub use note::{NoteTeller, ShownNote};
 pub use progress::{Amount, Doing, Progress, ProgressLine};
 pub use system::SystemFiles;
 pub use words::{AccessWords, ModifyWords, OutputPaths};

@@ -1,33 +1,43 @@
 //! `slapkit slapacl`: the files that a command line names, and the question over them.
 
-ghost use Rattle.std.specs.Prelude.{◌≡◌, ℕ, Err, IfErr, IfOk, List, OnOk, map};
-ghost use Rattle.dir_tools.specs.AccessAnswers.{AccessHeldBefore, AnswersQuestion, IsWholeReport, access_sources};
+ghost use Rattle.std.specs.Prelude.{◌≡◌, ◌≢◌, [], ℕ, Err, IfErr, IfOk, List, OnErr, OnOk, Option, map};
+ghost use Rattle.dir_acl.specs.Inside.ReadingConfig.{configuration_of};
+ghost use Rattle.dir_tools.specs.AccessAnswers.{AccessHeldBefore, AnswersQuestion, ComesAfterConfig, IsTextOf, IsWholeReport, access_sources};
+ghost use Rattle.dir_tools.specs.AccessReport.{access_terms};
 ghost use Rattle.dir_tools.specs.Writing.{WroteReport};
-ghost use Rattle.dir_files.specs.AccessRuns.{AllAccessCalls, Asks, NamesItsFile, RefusesSameFile, access_terms_of, asked_for, first_repeated_file};
+ghost use Rattle.dir_files.specs.AccessRuns.{AllAccessCalls, Asks, AsksOrStops, IsEndOfNotes, NamesItsFile, RefusesSameFile, asked_for, first_repeated_file};
+ghost use Rattle.dir_files.specs.Notes.{EndsIfUntold, IsAfterConfig, MayBeAnswered, TellsFor, WereGiven, told_text};
 ghost use Rattle.dir_files.specs.Runs.{Made};
 
 use crate::fault::Fault;
 use crate::files::FileSystem;
 use crate::slapmodify::{not_opened, not_reported, run_fault};
+use crate::note::NoteTeller;
 use crate::words::AccessWords;
+use dir_acl::{Config, Note};
 use dir_ldif::{Sink, Source};
 use dir_names::{Bytes, Memory, Schema, Texts};
-use dir_tools::{Buffer, Question, ToolFault, run_acl};
+use dir_tools::{Buffer, Question, ToolFault, read_config_with_notes, run_acl_under};
 use std::alloc::Global;
 
-/// Runs `slapacl` on the files that the words name.
+/// Runs `slapacl` on the files that the words name. The notes on the configuration are told before anything is answered; where a
+/// strict answer is wanted and there are some, nothing is.
 ///
 /// # Errors
 ///
 /// In this order: two paths that are the same; a file that can't be opened, the configuration before the copy;
-/// the tool's own fault; the report can't be written.
-pub fn run<'a, F: FileSystem>(
+/// the configuration's fault; notes that can't be told, or are there though a strict answer is wanted; the tool's other faults; the
+/// report can't be written.
+pub fn run<'a, F: FileSystem, T: NoteTeller>(
     alloc: Global,
     files: &mut F,
+    teller: &mut T,
     words: &AccessWords<'a>,
 ) -> Result<(), Fault<'a>>
     ensures faults { RefusesSameFile words.now (first_repeated_file words.now) result }
     ensures calls { Made (F.disk files.old) (F.disk files.new) (λ d. AllAccessCalls (first_repeated_file words.now) words.now d result) }
+    ensures notes { TellsFor words.now.strict (told_text (F.disk files.old) (F.disk files.new) words.now.config.now) result (T.given teller.old) (T.given teller.new) }
+    ensures untold { EndsIfUntold result (T.failures teller.old) (T.failures teller.new) }
 {
     if words.data == words.config {
         return Err(Fault::SamePath(words.data));
@@ -40,22 +50,69 @@ pub fn run<'a, F: FileSystem>(
         Ok(opened) => opened.file,
         Err(why) => return Err(not_opened(words.data, why)),
     };
-    answer(alloc, files, words, &mut config, &mut copy)
+    answer(alloc, files, teller, words, &mut config, &mut copy)
 }
 
-/// Asks, and writes the report.
-fn answer<'a, F: FileSystem, R: Source, R2: Source>(
+/// Reads the configuration, tells the notes on it, asks, and writes the report.
+fn answer<'a, F: FileSystem, T: NoteTeller, R: Source, R2: Source>(
     alloc: Global,
     files: &mut F,
+    teller: &mut T,
     words: &AccessWords<'a>,
     config: &mut R,
     copy: &mut R2,
 ) -> Result<(), Fault<'a>>
     ensures faults { IfErr result (NamesItsFile words.now) }
-    ensures calls { Made (F.disk files.old) (F.disk files.new) (λ _. Asks (access_terms_of words.now) (access_sources (R.left config.old) (R2.left copy.old)) result) }
+    ensures calls { Made (F.disk files.old) (F.disk files.new) (λ _. AsksOrStops words.now (access_sources (R.left config.old) (R2.left copy.old)) result) }
+    ensures notes { TellsFor words.now.strict (R.left config.old) result (T.given teller.old) (T.given teller.new) }
+    ensures untold { EndsIfUntold result (T.failures teller.old) (T.failures teller.new) }
+{
+    let Ok(schema) = Schema::builtin(alloc) else {
+        return Err(run_fault(ToolFault::Memory));
+    };
+    let (config, notes) = match read_config_with_notes(alloc, &schema, config) {
+        Ok(noted) => noted,
+        Err(fault) => return Err(run_fault(fault)),
+    };
+    tell(teller, notes.as_slice(), words.strict)?;
+    report(alloc, files, &schema, words, &config, copy)
+}
+
+/// Tells the notes, if there are any. Where a strict answer is wanted, that ends the run.
+fn tell<'a, T: NoteTeller>(teller: &mut T, notes: &[Note], strict: bool) -> Result<(), Fault<'a>>
+    ensures given { WereGiven (T.given teller.old) (T.given teller.new) notes.now }
+    ensures untold { EndsIfUntold result (T.failures teller.old) (T.failures teller.new) }
+    ensures ok { OnOk result (MayBeAnswered strict notes.now) }
+    ensures some { OnErr result (notes.now ≢ []) }
+    ensures err { IfErr result (IsEndOfNotes strict) }
+{
+    if notes.is_empty() {
+        return Ok(());
+    }
+    if teller.tell(notes).is_err() {
+        return Err(Fault::NotesUntold);
+    }
+    if strict {
+        return Err(Fault::HasNotes);
+    }
+    Ok(())
+}
+
+/// Asks, and writes the report.
+fn report<'a, F: FileSystem, R: Source>(
+    alloc: Global,
+    files: &mut F,
+    schema: &Schema,
+    words: &AccessWords<'a>,
+    config: &Config,
+    copy: &mut R,
+) -> Result<(), Fault<'a>>
+    ensures faults { IfErr result IsAfterConfig }
+    ensures calls { (known : Option (List ℕ)) → IsTextOf schema.now known (configuration_of config.now)
+        → Made (F.disk files.old) (F.disk files.new) (λ _. Asks (access_terms schema.now (asked_for words.now)) (access_sources known (R.left copy.old)) result) }
 {
     let mut report = Buffer::new(alloc);
-    match ask(alloc, words, config, copy, &mut report) {
+    match ask(alloc, schema, words, config, copy, &mut report) {
         Ok(()) => match files.report(report.as_slice()) {
             Ok(()) => Ok(()),
             Err(why) => Err(not_reported(why)),
@@ -64,28 +121,29 @@ fn answer<'a, F: FileSystem, R: Source, R2: Source>(
     }
 }
 
-/// Asks what the words ask, with the built-in types.
-fn ask<R: Source, R2: Source, W: Sink>(
+/// Asks what the words ask.
+fn ask<R: Source, W: Sink>(
     alloc: Global,
+    schema: &Schema,
     words: &AccessWords<'_>,
-    config: &mut R,
-    copy: &mut R2,
+    config: &Config,
+    copy: &mut R,
     report: &mut W,
 ) -> Result<(), ToolFault>
     ensures answer { (text : List ℕ)
         × WroteReport result (W.taken report.old, W.taken report.new) text
-        × AnswersQuestion (access_terms_of words.now) (access_sources (R.left config.old) (R2.left copy.old)) result text
-        × IsWholeReport (access_terms_of words.now) (access_sources (R.left config.old) (R2.left copy.old)) result text }
-    ensures first { IfErr result (AccessHeldBefore (access_terms_of words.now) (R.left config.old) (R2.left copy.old, R2.left copy.new)) }
+        × ((known : Option (List ℕ)) → IsTextOf schema.now known (configuration_of config.now)
+            → AnswersQuestion (access_terms schema.now (asked_for words.now)) (access_sources known (R.left copy.old)) result text
+            × IsWholeReport (access_terms schema.now (asked_for words.now)) (access_sources known (R.left copy.old)) result text) }
+    ensures first { IfErr result (λ fault. (known : Option (List ℕ)) → IsTextOf schema.now known (configuration_of config.now)
+        → AccessHeldBefore (access_terms schema.now (asked_for words.now)) known (R.left copy.old, R.left copy.new) fault) }
+    ensures after { IfErr result ComesAfterConfig }
     ensures flushed { OnOk result (W.is_flushed report.new) }
 {
-    let Ok(schema) = Schema::builtin(alloc) else {
-        return Err(ToolFault::Memory);
-    };
     let Ok(question) = question(alloc, words) else {
         return Err(ToolFault::Memory);
     };
-    run_acl(alloc, &schema, &question, config, copy, report)
+    run_acl_under(alloc, schema, &question, config, copy, report)
 }
 
 /// What the words ask.

@@ -28,6 +28,8 @@ pub struct AccessWords<'a> {
     pub words: Vec<&'a str>,
     pub fake: bool,
     pub verbose: bool,
+    /// Where there are notes on the configuration, nothing is answered.
+    pub strict: bool,
 }
 
 /// The files to be written: the new copy and the undo file.

@@ -1,6 +1,7 @@
 //! Questions of access over a folder in memory.
 
 use crate::folder::{Asked, Folder};
+use crate::notes::KeptNotes;
 use dir_files::slapacl::run;
 use dir_files::{AccessWords, Fault};
 use dir_tools::ToolFault;
@@ -123,11 +124,17 @@ fn ask(
         words: question.words.to_vec(alloc).expect(rt, "memory"),
         fake: false,
         verbose: true,
+        strict: false,
     };
-    run(alloc, folder, &words)
+    run(alloc, folder, &mut KeptNotes::new(alloc, false), &words)
 }
 
-fn assert_fault(rt: &impl Abort, alloc: Global, answer: &Result<(), Fault<'_>>, want: &str) {
+pub(super) fn assert_fault(
+    rt: &impl Abort,
+    alloc: Global,
+    answer: &Result<(), Fault<'_>>,
+    want: &str,
+) {
     let text = match answer {
         Ok(()) => String::new(alloc),
         Err(Fault::Tool(ToolFault::Memory)) => panic!(rt; "memory"),

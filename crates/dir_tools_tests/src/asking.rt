@@ -3,7 +3,7 @@
 use crate::running::{COM, Devices, assert_text, fault_text, script, taken, tape, zeros};
 use dir_ldif::{Source, Tape};
 use dir_names::{Bytes, Schema, Texts};
-use dir_tools::{Question, ToolFault, run_acl};
+use dir_tools::{Question, ToolFault, read_config_with_notes, run_acl, run_acl_under};
 use std::alloc::Global;
 use std::process::Abort;
 
@@ -111,6 +111,39 @@ fn answer_onto<R: Source>(
     answer
 }
 
+/// Asks in two calls, between which the notes on the configuration could be told.
+fn answer_in_two<R: Source, R2: Source>(
+    rt: &impl Abort,
+    alloc: Global,
+    ask: &Ask<'_>,
+    config: &mut R,
+    copy: &mut R2,
+    report: &mut Tape<'_>,
+) -> Result<(), ToolFault> {
+    let schema = Schema::builtin(alloc).expect(rt, "memory");
+    let question = question(rt, alloc, ask);
+    let (config, _notes) = match read_config_with_notes(alloc, &schema, config) {
+        Ok(noted) => noted,
+        Err(fault) => return Err(fault),
+    };
+    run_acl_under(alloc, &schema, &question, &config, copy, report)
+}
+
+/// Asserts that the same comes of a question in two calls.
+fn assert_ask_in_two(rt: &impl Abort, alloc: Global, devices: &Devices, ask: &Ask<'_>) {
+    let mut config = script(devices, ask.config.as_bytes(), devices.config);
+    let mut copy = script(devices, ask.copy.as_bytes(), devices.copy);
+    let mut room = zeros(rt, alloc, devices.room);
+    let mut report = tape(devices, &mut room, devices.report);
+    let answer = answer_in_two(rt, alloc, ask, &mut config, &mut copy, &mut report);
+    if let Err(ToolFault::Memory) = answer {
+        panic!(rt; "memory");
+    }
+    let report = taken(rt, alloc, &report, answer.is_ok());
+    assert_text(rt, ask.shows, report.as_str(), ask.report);
+    assert_answer(rt, alloc, ask, answer);
+}
+
 /// Asserts what comes of a question over these devices, with the configuration that a reader gives.
 pub(crate) fn assert_ask_over<R: Source>(
     rt: &impl Abort,
@@ -139,4 +172,5 @@ fn assert_answer(rt: &impl Abort, alloc: Global, ask: &Ask<'_>, answer: Result<(
 pub(crate) fn assert_ask(rt: &impl Abort, alloc: Global, devices: &Devices, ask: &Ask<'_>) {
     let mut config = script(devices, ask.config.as_bytes(), devices.config);
     assert_ask_over(rt, alloc, devices, ask, &mut config);
+    assert_ask_in_two(rt, alloc, devices, ask);
 }

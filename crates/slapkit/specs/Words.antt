@@ -45,3 +45,4 @@ pub record AreAccessWordsOf (m : ArgMatches) (words : AccessWords) : Type 0 wher
   pub asked : map (λ word. word.now) words.words.items ≡ words_or_none (option_map raw_values (matched_of (found_of m) (codes "words")))
   pub fake : IsFlag (found_of m) (codes "fake") words.fake
   pub verbose : IsFlag (found_of m) (codes "verbose") words.verbose
+  pub strict : IsFlag (found_of m) (codes "strict") words.strict

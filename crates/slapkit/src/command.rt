@@ -66,6 +66,7 @@ fn access_words<'a>(alloc: Global, matches: &ArgMatches<'a>) -> Result<AccessWor
         words,
         fake: matches.get_flag("fake"),
         verbose: matches.get_flag("verbose"),
+        strict: matches.get_flag("strict"),
     })
 }
 
@@ -186,6 +187,12 @@ fn slapacl<'a>(alloc: Global) -> Result<Command<'a>, AllocError> {
             "Do not look the entry up: take it to have no attributes",
         ))?
         .arg(flag(alloc, "verbose", 'v', "Report the requester's name first"))?
+        .arg(
+            Arg::new(alloc, "strict")
+                .long("strict")
+                .help("Answer nothing where there is a note on the configuration")
+                .action(ArgAction::SetTrue),
+        )?
         .arg(
             Arg::new(alloc, "words")
                 .value_name("WORD")

@@ -1,29 +1,31 @@
-use Rattle.std.proofs.Common.{Err, Ok, Result, refl}
-use Rattle.dir_tools.specs.declared.fault.ToolFault.{ToolFault}
-use Rattle.dir_tools.specs.AccessAnswers.{AccessSources, access_sources}
-use Rattle.dir_tools.specs.AccessReport.{AccessTerms}
-use Rattle.dir_files.specs.AccessRuns.{access_terms_of}
-use Rattle.dir_files.proofs.AccessCalls.{asks_and_ends, asks_over}
-use Rattle.dir_files.proofs.CallLemmas.{no_report_due, report_refused}
+use Rattle.std.proofs.Common.{◌≡◌, IfSome, List, subst, sym}
+use Rattle.dir_names.specs.Table.Builtin.{builtin_rows}
+use Rattle.dir_names.specs.declared.schema.TypeRow.{TypeRow}
+use Rattle.dir_acl.specs.Notes.{notes_of}
+use Rattle.dir_tools.specs.declared.fault.ToolFault.TheVariants as tool
+use Rattle.dir_tools.specs.AccessAnswers.{IsConfigFault}
+use Rattle.dir_files.specs.Notes.{AreNotesOf}
+use Rattle.dir_files.proofs.AccessCalls.{unread}
+use Rattle.dir_files.proofs.NoteLemmas.{all_told}
 use Rattle.dir_files.proofs.slapacl.answer.Goals as goal
 
-pub returns-in-Ok-clause-calls : goal.returns-in-Ok-clause-calls
-returns-in-Ok-clause-calls g c =
-    let t : AccessTerms = access_terms_of c.args.words.now in
-    let known : AccessSources = access_sources (g.R.Source.left c.args.config.now) (g.R2.Source.left c.args.copy.now) in
-    let answer : Result Unit ToolFault = Ok c.in-Ok.field-0 in
-    let h = c.in-Ok.ensures.answer in
-    asks_and_ends t known answer c.as_slice.result.now (Err c.not_reported.result) (g.F.FileSystem.disk c.args.files.now) (g.F.FileSystem.disk c.report.new.self)
-    (asks_over t known answer h.0 _ _ c.as_slice.result.now h.1 h.2 h.3 c.new-report.ensures c.as_slice.ensures)
-    (report_refused c.as_slice.result.now c.in-Ok.field-0 c.in-Err-report.why c.not_reported.result (g.F.FileSystem.disk c.args.files.now) (g.F.FileSystem.disk c.report.new.self)
-    c.in-Err-report.ensures c.not_reported.ensures)
+pub returns-in_default-clause-calls : goal.returns-in_default-clause-calls
+returns-in_default-clause-calls g c =
+    unread Unit c.args.words.now (g.R.Source.left c.args.config.now) (g.R2.Source.left c.args.copy.now) tool.Memory c.run_fault.result (g.F.FileSystem.disk c.args.files.now) tt c.run_fault.ensures
 
-pub returns-clause-calls : goal.returns-clause-calls
-returns-clause-calls g c =
-    let t : AccessTerms = access_terms_of c.args.words.now in
-    let known : AccessSources = access_sources (g.R.Source.left c.args.config.now) (g.R2.Source.left c.args.copy.now) in
-    let answer : Result Unit ToolFault = Err c.in-Err.fault in
-    let h = c.in-Err.ensures.answer in
-    asks_and_ends t known answer c.ask.new.report.bytes.items (Err c.run_fault.result) (g.F.FileSystem.disk c.args.files.now) (g.F.FileSystem.disk c.args.files.now)
-    (asks_over t known answer h.0 _ _ c.ask.new.report.bytes.items h.1 h.2 h.3 c.new-report.ensures refl)
-    (no_report_due Unit c.ask.new.report.bytes.items c.in-Err.fault c.run_fault.result (g.F.FileSystem.disk c.args.files.now) c.run_fault.ensures)
+pub returns-in-Err-clause-calls : goal.returns-in-Err-clause-calls
+returns-in-Err-clause-calls g c =
+    let rows : c.in-Ok.schema ≡ builtin_rows = cc c.in-Ok.ensures in
+    let fault : IsConfigFault builtin_rows (g.R.Source.left c.args.config.now) c.in-Err.fault =
+        subst (λ (rows : List TypeRow). IsConfigFault rows (g.R.Source.left c.args.config.now) c.in-Err.fault) rows c.in-Err.ensures.fault in
+    unread Unit c.args.words.now (g.R.Source.left c.args.config.now) (g.R2.Source.left c.args.copy.now) c.in-Err.fault c.run_fault-in-Err.result (g.F.FileSystem.disk c.args.files.now) fault c.run_fault-in-Err.ensures
+
+pub returns-clause-notes : goal.returns-clause-notes
+returns-clause-notes g c =
+    let rows : c.in-Ok.schema ≡ builtin_rows = cc c.in-Ok.ensures in
+    let text = g.R.Source.left c.args.config.now in
+    let noted = c.in-Ok-read_config_with_notes.noted.1.items in
+    let read : AreNotesOf text noted = subst (λ (rows : List TypeRow). IfSome text (λ text. noted ≡ notes_of rows text)) rows c.in-Ok-read_config_with_notes.ensures.notes in
+    let notes = c.as_slice.result.now in
+    let are : AreNotesOf text notes = subst (AreNotesOf text) (sym c.as_slice.ensures.value) read in
+    (notes, c.in_ok-tell.ensures.given, all_told c.args.words.now.strict text notes c.report.result c.report.ensures.faults are c.in_ok-tell.ensures.ok)

@@ -1,0 +1,184 @@
+-- The notes that are told before slapacl answers.
+use Rattle.std.proofs.Common.{◌≡◌, ◌≢◌, ℕ, Bool, cond, List, [], ◌++◌, codes, Option, None, Some, IfSome, IfErr, Result, IsOk, Ok, Err, inl, inr, refl, sym, ap, subst, ◌∙◌, append-nil}
+use Rattle.std.specs.declared.fmt.Error.{Error}
+use Rattle.std.specs.declared.fmt.Formatter.{Formatter}
+use Rattle.std.specs.Fmt.{HasWritten, WritesOnOk}
+use Rattle.std.specs.Str.{IsUtf8}
+use Rattle.std.proofs.lemmas.Str.{is_utf8-from_IsUtf8}
+use Rattle.std.proofs.Output.{has_written_append, has_written_of_eq}
+use Rattle.dir_names.proofs.AsciiFolding.{not_utf8}
+use Rattle.dir_names.specs.Table.Builtin.{builtin_rows}
+use Rattle.dir_acl.specs.declared.note.Note.{Note}
+use Rattle.dir_tools.specs.declared.fault.Input.TheVariants as input
+use Rattle.dir_tools.specs.declared.fault.ToolFault.{ToolFault}
+use Rattle.dir_tools.specs.declared.fault.ToolFault.TheVariants as tool
+use Rattle.dir_tools.specs.AccessAnswers.{ComesAfterConfig, IsConfigFault}
+use Rattle.dir_files.specs.declared.fault.Fault.{Fault}
+use Rattle.dir_files.specs.declared.fault.Fault.TheVariants as fault
+use Rattle.dir_files.specs.AccessRuns.{IsEndOfNotes}
+use Rattle.dir_files.specs.Escape.{escaped}
+use Rattle.dir_files.specs.Faults.{IsRunFault, IsTool}
+use Rattle.dir_files.specs.Files.{Call, Disk, Told, opens}
+use Rattle.dir_files.specs.NoteText.{shown_bytes}
+use Rattle.dir_files.specs.Notes.{EndsIfUntold, AreNotesOf, AreToldBefore, AreToldFor, IsAfterConfig, MayBeAnswered, TellsFor, WereGiven, told_text}
+use Rattle.dir_files.specs.Runs.{Made}
+
+-- ---- texts
+
+pub shown_text : (bytes : List ℕ) → IsUtf8 bytes → shown_bytes bytes ≡ escaped bytes
+shown_text bytes is = ap (λ (b : Bool). cond b (escaped bytes) (codes "(not UTF-8)")) (is_utf8-from_IsUtf8 bytes is)
+
+pub shown_none : (bytes : List ℕ) → ¬ (IsUtf8 bytes) → shown_bytes bytes ≡ codes "(not UTF-8)"
+shown_none bytes none = ap (λ (b : Bool). cond b (escaped bytes) (codes "(not UTF-8)")) (not_utf8 bytes none)
+
+-- two texts in a row
+pub two_written : {W : Type 0} (took : W → List ℕ → W → Type 0) (f g h : Formatter W) (r s : Result (Unit {0}) Error) (a b all : List ℕ)
+    → WritesOnOk took f r a g → IsOk r → WritesOnOk took g s b h → a ++ b ≡ all → WritesOnOk took f s all h
+two_written took f g h r s a b all first ok second whole plain ok' =
+    let w : HasWritten took f a g = first plain ok in
+    has_written_of_eq took f (a ++ b) all h whole (has_written_append took f a g b h w (second w.plain ok'))
+
+-- ---- a teller
+
+-- a teller that isn't called was given none
+pub none_given : (a : Option (List Note)) → WereGiven a a []
+none_given None = tt
+none_given (Some before) = sym (append-nil before)
+
+-- ---- a configuration that isn't read
+
+-- its fault, or out of memory, is the program's
+pub is_told : (text : Option (List ℕ)) (e : ToolFault) (shown : Fault) → IsConfigFault builtin_rows text e → IsRunFault e shown → IsTool e shown
+is_told text (tool.Config why) shown h is = is
+is_told text (tool.Read from) shown h is = is
+is_told text tool.Memory shown h is = is
+is_told text (tool.Write to) shown h is = absurd (h)
+is_told text (tool.BadCopy line why) shown h is = absurd (h)
+is_told text (tool.BadQuestion item) shown h is = absurd (h)
+is_told text (tool.BadChanges why) shown h is = absurd (h)
+is_told text tool.NoEntry shown h is = absurd (h)
+
+unread : (strict : Bool) (text : Option (List ℕ)) (e : ToolFault) → IsConfigFault builtin_rows text e → AreToldBefore strict text e []
+unread strict text (tool.Config why) h = refl
+unread strict text (tool.Read input.Config) h = refl
+unread strict text (tool.Read input.Copy) h = absurd (h)
+unread strict text (tool.Read input.Changes) h = absurd (h)
+unread strict text tool.Memory h = inl refl
+unread strict text (tool.Write to) h = absurd (h)
+unread strict text (tool.BadCopy line why) h = absurd (h)
+unread strict text (tool.BadQuestion item) h = absurd (h)
+unread strict text (tool.BadChanges why) h = absurd (h)
+unread strict text tool.NoEntry h = absurd (h)
+
+as_shown : (A : Type 0) (strict : Bool) (text : Option (List ℕ)) (notes : List Note) (e : ToolFault) (shown : Fault) → AreToldBefore strict text e notes → IsTool e shown → AreToldFor {A = A} strict text (Err shown) notes
+as_shown A strict text notes e (fault.Tool told) h is = subst (λ (f : ToolFault). AreToldBefore strict text f notes) (sym is) h
+as_shown A strict text notes e (fault.NoWords why) h is = absurd (is)
+as_shown A strict text notes e (fault.SamePath path) h is = absurd (is)
+as_shown A strict text notes e (fault.CannotOpen path) h is = absurd (is)
+as_shown A strict text notes e (fault.Exists path) h is = absurd (is)
+as_shown A strict text notes e fault.HasNotes h is = absurd (is)
+as_shown A strict text notes e fault.NotesUntold h is = absurd (is)
+
+-- no note is told
+pub none_told : (A : Type 0) (strict : Bool) (text : Option (List ℕ)) (e : ToolFault) (shown : Fault) (a : Option (List Note)) → IsConfigFault builtin_rows text e → IsRunFault e shown
+    → TellsFor {A = A} strict text (Err shown) a a
+none_told A strict text e shown a h is = ([], none_given a, as_shown A strict text [] e shown (unread strict text e h) (is_told text e shown h is))
+
+-- ---- a configuration that is read
+
+told_before : (strict : Bool) (text : Option (List ℕ)) (notes : List Note) (e : ToolFault) → ComesAfterConfig e → AreNotesOf text notes → MayBeAnswered strict notes → AreToldBefore strict text e notes
+told_before strict text notes (tool.Config why) h are may = absurd (h)
+told_before strict text notes (tool.Read input.Config) h are may = absurd (h)
+told_before strict text notes (tool.Read input.Copy) h are may = (are, may)
+told_before strict text notes (tool.Read input.Changes) h are may = (are, may)
+told_before strict text notes tool.Memory h are may = inr (are, may)
+told_before strict text notes (tool.Write to) h are may = (are, may)
+told_before strict text notes (tool.BadCopy line why) h are may = (are, may)
+told_before strict text notes (tool.BadQuestion item) h are may = (are, may)
+told_before strict text notes (tool.BadChanges why) h are may = (are, may)
+told_before strict text notes tool.NoEntry h are may = (are, may)
+
+-- they are told before the tool's answer
+pub all_told : {A : Type 0} (strict : Bool) (text : Option (List ℕ)) (notes : List Note) (result : Result A Fault) → IfErr result IsAfterConfig → AreNotesOf text notes → MayBeAnswered strict notes
+    → AreToldFor strict text result notes
+all_told strict text notes (Ok answer) h are may = (are, may)
+all_told strict text notes (Err (fault.Tool e)) h are may = told_before strict text notes e h are may
+all_told strict text notes (Err (fault.NoWords why)) h are may = absurd (h)
+all_told strict text notes (Err (fault.SamePath path)) h are may = absurd (h)
+all_told strict text notes (Err (fault.CannotOpen path)) h are may = absurd (h)
+all_told strict text notes (Err (fault.Exists path)) h are may = absurd (h)
+all_told strict text notes (Err fault.HasNotes) h are may = absurd (h)
+all_told strict text notes (Err fault.NotesUntold) h are may = absurd (h)
+
+-- they end the run
+pub ended : (A : Type 0) (strict : Bool) (text : Option (List ℕ)) (notes : List Note) (e : Fault) → IsEndOfNotes strict e → AreNotesOf text notes → notes ≢ [] → AreToldFor {A = A} strict text (Err e) notes
+ended A strict text notes fault.HasNotes h are some = (are, some, h)
+ended A strict text notes fault.NotesUntold h are some = (are, some)
+ended A strict text notes (fault.Tool e) h are some = absurd (h)
+ended A strict text notes (fault.NoWords why) h are some = absurd (h)
+ended A strict text notes (fault.SamePath path) h are some = absurd (h)
+ended A strict text notes (fault.CannotOpen path) h are some = absurd (h)
+ended A strict text notes (fault.Exists path) h are some = absurd (h)
+
+-- ---- the text, where the file system tells its calls until the end
+
+unknown_before : (strict : Bool) (text : Option (List ℕ)) (notes : List Note) (e : ToolFault) → AreToldBefore strict text e notes → AreToldBefore strict None e notes
+unknown_before strict text notes (tool.Config why) h = h
+unknown_before strict text notes (tool.Read input.Config) h = h
+unknown_before strict text notes (tool.Read input.Copy) h = (tt, h.1)
+unknown_before strict text notes (tool.Read input.Changes) h = (tt, h.1)
+unknown_before strict text notes tool.Memory (inl none) = inl none
+unknown_before strict text notes tool.Memory (inr h) = inr (tt, h.1)
+unknown_before strict text notes (tool.Write to) h = (tt, h.1)
+unknown_before strict text notes (tool.BadCopy line why) h = (tt, h.1)
+unknown_before strict text notes (tool.BadQuestion item) h = (tt, h.1)
+unknown_before strict text notes (tool.BadChanges why) h = (tt, h.1)
+unknown_before strict text notes tool.NoEntry h = (tt, h.1)
+
+unknown : {A : Type 0} (strict : Bool) (text : Option (List ℕ)) (notes : List Note) (result : Result A Fault) → AreToldFor strict text result notes → AreToldFor strict None result notes
+unknown strict text notes (Ok answer) h = (tt, h.1)
+unknown strict text notes (Err fault.HasNotes) h = (tt, h.1, h.2)
+unknown strict text notes (Err fault.NotesUntold) h = (tt, h.1)
+unknown strict text notes (Err (fault.Tool e)) h = unknown_before strict text notes e h
+unknown strict text notes (Err (fault.NoWords why)) h = h
+unknown strict text notes (Err (fault.SamePath path)) h = h
+unknown strict text notes (Err (fault.CannotOpen path)) h = h
+unknown strict text notes (Err (fault.Exists path)) h = h
+
+-- before a file was read there is no note
+pub none_yet : (A : Type 0) (strict : Bool) (text : Option (List ℕ)) (e : Fault) (a : Option (List Note)) → AreToldFor {A = A} strict text (Err e) [] → TellsFor {A = A} strict text (Err e) a a
+none_yet A strict text e a h = ([], none_given a, h)
+
+-- what is said of the text that the reader of the configuration had is said of that at its path
+pub told_at : {A : Type 0} (strict : Bool) (path other : List ℕ) (result : Result A Fault) (P : Disk → List Call → Type 0) (a b c e : Option Disk) (text : Option (List ℕ)) (g g' : Option (List Note))
+    → Told a b (opens path None) → Told b c (opens other None) → Made c e P → IfSome b (λ d. text ≡ d.text_at path)
+    → TellsFor strict text result g g' → TellsFor strict (told_text a e path) result g g'
+told_at strict path other result P None b c e text g g' first second made is h = (h.0, h.1, unknown strict text h.0 result h.2)
+told_at strict path other result P (Some d) b c None text g g' first second made is h = (h.0, h.1, unknown strict text h.0 result h.2)
+told_at strict path other result P (Some d) b None (Some last) text g g' first second made is h = absurd (made)
+told_at strict path other result P (Some d) None (Some next) (Some last) text g g' first second made is h = absurd (second)
+told_at strict path other result P (Some d) (Some opened) (Some next) (Some last) text g g' first second made is h =
+    subst (λ (t : Option (List ℕ)). TellsFor strict t result g g') (is ∙ ap (λ (x : Disk). x.text_at path) first) h
+
+-- ---- a teller that didn't fail
+
+-- the tool's answer
+pub told_well : {A : Type 0} (result : Result A Fault) (failures : ℕ) → IfErr result IsAfterConfig → EndsIfUntold result failures failures
+told_well (Ok answer) failures h = refl
+told_well (Err (fault.Tool e)) failures h = refl
+told_well (Err (fault.NoWords why)) failures h = absurd (h)
+told_well (Err (fault.SamePath path)) failures h = absurd (h)
+told_well (Err (fault.CannotOpen path)) failures h = absurd (h)
+told_well (Err (fault.Exists path)) failures h = absurd (h)
+told_well (Err fault.HasNotes) failures h = absurd (h)
+told_well (Err fault.NotesUntold) failures h = absurd (h)
+
+-- a fault of the tool, or a file that isn't opened
+pub not_asked : (A : Type 0) (e : ToolFault) (shown : Fault) (failures : ℕ) → IsTool e shown → EndsIfUntold {A = A} (Err shown) failures failures
+not_asked A e (fault.Tool told) failures is = refl
+not_asked A e (fault.NoWords why) failures is = absurd (is)
+not_asked A e (fault.SamePath path) failures is = absurd (is)
+not_asked A e (fault.CannotOpen path) failures is = absurd (is)
+not_asked A e (fault.Exists path) failures is = absurd (is)
+not_asked A e fault.HasNotes failures is = absurd (is)
+not_asked A e fault.NotesUntold failures is = absurd (is)

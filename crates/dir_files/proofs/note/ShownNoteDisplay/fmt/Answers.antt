@@ -1,0 +1,48 @@
+use Rattle.std.proofs.Common.{◌++◌, ℕ, List, Ok, Result, ap, codes, refl}
+use Rattle.std.specs.declared.fmt.Error.{Error}
+use Rattle.dir_tools.proofs.Shown.{two_shown}
+use Rattle.dir_files.specs.NoteText.{note_text, place_text, shown_bytes}
+use Rattle.dir_files.proofs.NoteLemmas.{two_written}
+use Rattle.dir_files.proofs.note.ShownNoteDisplay.fmt.Goals as goal
+
+pub returns-in_ok-show_place-in-Include-clause-writes : goal.returns-in_ok-show_place-in-Include-clause-writes
+returns-in_ok-show_place-in-Include-clause-writes g c =
+    let ok : Result (Unit {0}) Error = Ok tt in
+    let line = c.args.self.now.0.now.line in
+    two_written g.W.Write.write_str_gives c.args.f.now c.show_place.new.f c.show_between.new.f ok c.show_between.result
+    (place_text line) (codes "include \"" ++ shown_bytes c.as_slice.result.now ++ codes "\" is not read") (note_text c.args.self.now.0.now) c.in_ok-show_place-in-Include.ensures.writes refl c.show_between.ensures.writes (rw c.in-Include.is (ap (λ (t : List ℕ). place_text line ++ (codes "include \"" ++ shown_bytes t ++ codes "\" is not read")) c.as_slice.ensures))
+
+pub returns-in_ok-show_place-in-Include-clause-styled : goal.returns-in_ok-show_place-in-Include-clause-styled
+returns-in_ok-show_place-in-Include-clause-styled g c =
+    let ok : Result (Unit {0}) Error = Ok tt in
+    let line = c.args.self.now.0.now.line in
+    two_shown g.W.Write.write_str_gives c.args.f.now c.show_place.new.f c.show_between.new.f ok c.show_between.result
+    (place_text line) (codes "include \"" ++ shown_bytes c.as_slice.result.now ++ codes "\" is not read") (note_text c.args.self.now.0.now) c.in_ok-show_place-in-Include.ensures.styled refl c.show_between.ensures.styled (rw c.in-Include.is (ap (λ (t : List ℕ). place_text line ++ (codes "include \"" ++ shown_bytes t ++ codes "\" is not read")) c.as_slice.ensures))
+
+pub returns-in_ok-show_place-in-UnknownType-clause-writes : goal.returns-in_ok-show_place-in-UnknownType-clause-writes
+returns-in_ok-show_place-in-UnknownType-clause-writes g c =
+    let ok : Result (Unit {0}) Error = Ok tt in
+    let line = c.args.self.now.0.now.line in
+    two_written g.W.Write.write_str_gives c.args.f.now c.show_place-in-UnknownType.new.f c.show_between-in-UnknownType.new.f ok c.show_between-in-UnknownType.result
+    (place_text line) (codes "unknown attribute \"" ++ shown_bytes c.as_slice-in-UnknownType.result.now ++ codes "\"") (note_text c.args.self.now.0.now) c.in_ok-show_place-in-UnknownType.ensures.writes refl c.show_between-in-UnknownType.ensures.writes (rw c.in-UnknownType.is (ap (λ (t : List ℕ). place_text line ++ (codes "unknown attribute \"" ++ shown_bytes t ++ codes "\"")) c.as_slice-in-UnknownType.ensures))
+
+pub returns-in_ok-show_place-in-UnknownType-clause-styled : goal.returns-in_ok-show_place-in-UnknownType-clause-styled
+returns-in_ok-show_place-in-UnknownType-clause-styled g c =
+    let ok : Result (Unit {0}) Error = Ok tt in
+    let line = c.args.self.now.0.now.line in
+    two_shown g.W.Write.write_str_gives c.args.f.now c.show_place-in-UnknownType.new.f c.show_between-in-UnknownType.new.f ok c.show_between-in-UnknownType.result
+    (place_text line) (codes "unknown attribute \"" ++ shown_bytes c.as_slice-in-UnknownType.result.now ++ codes "\"") (note_text c.args.self.now.0.now) c.in_ok-show_place-in-UnknownType.ensures.styled refl c.show_between-in-UnknownType.ensures.styled (rw c.in-UnknownType.is (ap (λ (t : List ℕ). place_text line ++ (codes "unknown attribute \"" ++ shown_bytes t ++ codes "\"")) c.as_slice-in-UnknownType.ensures))
+
+pub returns-in_ok-show_place-in-ObjectClass-clause-styled : goal.returns-in_ok-show_place-in-ObjectClass-clause-styled
+returns-in_ok-show_place-in-ObjectClass-clause-styled g c =
+    let ok : Result (Unit {0}) Error = Ok tt in
+    let line = c.args.self.now.0.now.line in
+    two_shown g.W.Write.write_str_gives c.args.f.now c.show_place-in-ObjectClass.new.f c.write_str-in-ObjectClass.new.self ok c.write_str-in-ObjectClass.result
+    (place_text line) (codes "objectClass: only the classes that an entry lists are looked at") (note_text c.args.self.now.0.now) c.in_ok-show_place-in-ObjectClass.ensures.styled refl c.write_str-in-ObjectClass.ensures.styled (rw c.in-ObjectClass.is refl)
+
+pub returns-in_ok-show_place-in-OtherDatabase-clause-styled : goal.returns-in_ok-show_place-in-OtherDatabase-clause-styled
+returns-in_ok-show_place-in-OtherDatabase-clause-styled g c =
+    let ok : Result (Unit {0}) Error = Ok tt in
+    let line = c.args.self.now.0.now.line in
+    two_shown g.W.Write.write_str_gives c.args.f.now c.show_place-in-OtherDatabase.new.f c.write_str-in-OtherDatabase.new.self ok c.write_str-in-OtherDatabase.result
+    (place_text line) (codes "access rule of database config or monitor is passed over") (note_text c.args.self.now.0.now) c.in_ok-show_place-in-OtherDatabase.ensures.styled refl c.write_str-in-OtherDatabase.ensures.styled (rw c.in-OtherDatabase.is refl)

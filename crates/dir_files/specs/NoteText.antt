@@ -1,0 +1,26 @@
+-- The texts of the notes on a configuration.
+use Rattle.std.specs.Prelude.{ℕ, List, ◌++◌, codes, cond}
+use Rattle.std.specs.Fmt.{decimal}
+use Rattle.std.specs.Str.{is_utf8}
+use Rattle.dir_acl.specs.declared.note.Note.{Note}
+use Rattle.dir_acl.specs.declared.note.NoteCause.{NoteCause}
+use Rattle.dir_acl.specs.declared.note.NoteCause.TheVariants.{Include, UnknownType, ObjectClass, OtherDatabase, NoRule}
+use Rattle.dir_files.specs.Escape.{escaped}
+
+-- a text of the configuration, its control characters escaped
+abbrev pub shown_bytes : List ℕ → List ℕ
+shown_bytes bytes = cond (is_utf8 bytes) (escaped bytes) (codes "(not UTF-8)")
+
+abbrev pub place_text : ℕ → List ℕ
+place_text line = codes "note: config, line " ++ decimal line ++ codes ": "
+
+abbrev pub noted_text : ℕ → NoteCause → List ℕ
+noted_text line (Include file) = place_text line ++ (codes "include \"" ++ shown_bytes file ++ codes "\" is not read")
+noted_text line (UnknownType description) = place_text line ++ (codes "unknown attribute \"" ++ shown_bytes description ++ codes "\"")
+noted_text line ObjectClass = place_text line ++ codes "objectClass: only the classes that an entry lists are looked at"
+noted_text line OtherDatabase = place_text line ++ codes "access rule of database config or monitor is passed over"
+noted_text line NoRule = codes "note: config: no access rule, so everybody may read"
+
+-- a note, as it stands after the program's name
+abbrev pub note_text : Note → List ℕ
+note_text note = noted_text note.line note.cause

@@ -1,0 +1,103 @@
+//! The notes on a configuration: how they are shown, and whoever tells them.
+
+ghost use Rattle.std.specs.Prelude.{◌++◌, ℕ, Option, List, Some};
+ghost use Rattle.std.specs.Fmt.{WritesOnOk, WritesStyledOnOk};
+ghost use Rattle.dir_acl.specs.declared.note.Note.{Note};
+ghost use Rattle.dir_ldif.specs.Device.{Counts};
+ghost use Rattle.dir_files.specs.NoteText.{note_text, place_text, shown_bytes};
+ghost use Rattle.dir_files.specs.Notes.{WereGiven};
+
+use crate::escape::show_escaped;
+use crate::files::Refusal;
+use dir_acl::{Note, NoteCause};
+use dir_tools::Number;
+use std::fmt::{self, Display};
+
+/// Whoever tells an administrator what a configuration says that isn't known or not looked at.
+pub trait NoteTeller {
+    // The notes that it was given so far, if it can say.
+    ghost given: { Self → Option (List Note) };
+
+    // How often it could not tell them.
+    ghost failures: { Self → ℕ };
+
+    /// Tells these notes.
+    ///
+    /// # Errors
+    ///
+    /// They can't be told.
+    fn tell(&mut self, notes: &[Note]) -> Result<(), Refusal>
+        ensures given { WereGiven (given self.old) (given self.new) notes.now }
+        ensures count { Counts result (failures self.old) (failures self.new) };
+}
+
+/// A note, as standard error shows it after the program's name.
+#[derive(Drop)]
+pub struct ShownNote<'a>(pub &'a Note);
+
+impl Display for ShownNote<'_> {
+    ghost output = { λ note. Some (note_text note.0.now) };
+
+    ghost styled_output = { λ note _. Some (note_text note.0.now) };
+
+    fn fmt<W: fmt::Write>(&self, f: &mut fmt::Formatter<W>) -> fmt::Result {
+        let Note { line, cause } = self.0;
+        match cause {
+            NoteCause::NoRule => {
+                f.write_str("note: config: no access rule, so everybody may read")
+            }
+            NoteCause::Include(file) => {
+                show_place(f, *line)?;
+                show_between(f, "include \"", file.as_slice(), "\" is not read")
+            }
+            NoteCause::UnknownType(description) => {
+                show_place(f, *line)?;
+                show_between(f, "unknown attribute \"", description.as_slice(), "\"")
+            }
+            NoteCause::ObjectClass => {
+                show_place(f, *line)?;
+                f.write_str("objectClass: only the classes that an entry lists are looked at")
+            }
+            NoteCause::OtherDatabase => {
+                show_place(f, *line)?;
+                f.write_str("access rule of database config or monitor is passed over")
+            }
+        }
+    }
+}
+
+/// Shows on which line of the configuration it is.
+fn show_place<W: fmt::Write>(f: &mut fmt::Formatter<W>, line: u64) -> fmt::Result
+    ensures writes { WritesOnOk W.write_str_gives f.old result (place_text line) f.new }
+    ensures styled { WritesStyledOnOk W.write_str_gives f.old result (place_text line) f.new }
+{
+    f.write_str("note: config, line ")?;
+    Number(line).fmt(f)?;
+    f.write_str(": ")
+}
+
+/// Shows a text of the configuration between words.
+fn show_between<W: fmt::Write>(
+    f: &mut fmt::Formatter<W>,
+    before: &str,
+    text: &[u8],
+    after: &str,
+) -> fmt::Result
+    ensures writes { WritesOnOk W.write_str_gives f.old result (before.now ++ shown_bytes text.now ++ after.now) f.new }
+    ensures styled { WritesStyledOnOk W.write_str_gives f.old result (before.now ++ shown_bytes text.now ++ after.now) f.new }
+{
+    f.write_str(before)?;
+    show_bytes(f, text)?;
+    f.write_str(after)
+}
+
+/// Shows bytes with the control characters escaped; of those that are no text, that they are none.
+fn show_bytes<W: fmt::Write>(f: &mut fmt::Formatter<W>, bytes: &[u8]) -> fmt::Result
+    ensures writes { WritesOnOk W.write_str_gives f.old result (shown_bytes bytes.now) f.new }
+    ensures styled { WritesStyledOnOk W.write_str_gives f.old result (shown_bytes bytes.now) f.new }
+{
+    match std::str::from_utf8(bytes) {
+        Ok(text) => show_escaped(f, text),
+        Err(_) => f.write_str("(not UTF-8)"),
+    }
+}
