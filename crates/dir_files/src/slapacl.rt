@@ -11,8 +11,8 @@ ghost use Rattle.dir_files.specs.Runs.{Made};
 
 use crate::fault::Fault;
 use crate::files::FileSystem;
-use crate::slapmodify::{not_opened, not_reported, run_fault};
 use crate::note::NoteTeller;
+use crate::slapmodify::{not_opened, not_reported, run_fault};
 use crate::words::AccessWords;
 use dir_acl::{Config, Note};
 use dir_ldif::{Sink, Source};
@@ -133,8 +133,8 @@ fn ask<R: Source, W: Sink>(
     ensures answer { (text : List ℕ)
         × WroteReport result (W.taken report.old, W.taken report.new) text
         × ((known : Option (List ℕ)) → IsTextOf schema.now known (configuration_of config.now)
-            → AnswersQuestion (access_terms schema.now (asked_for words.now)) (access_sources known (R.left copy.old)) result text
-            × IsWholeReport (access_terms schema.now (asked_for words.now)) (access_sources known (R.left copy.old)) result text) }
+        → AnswersQuestion (access_terms schema.now (asked_for words.now)) (access_sources known (R.left copy.old)) result text
+        × IsWholeReport (access_terms schema.now (asked_for words.now)) (access_sources known (R.left copy.old)) result text) }
     ensures first { IfErr result (λ fault. (known : Option (List ℕ)) → IsTextOf schema.now known (configuration_of config.now)
         → AccessHeldBefore (access_terms schema.now (asked_for words.now)) known (R.left copy.old, R.left copy.new) fault) }
     ensures after { IfErr result ComesAfterConfig }

@@ -17,9 +17,8 @@ ghost use Rattle.dir_tools.specs.declared.fault.Input.TheVariants as Input;
 ghost use Rattle.dir_tools.specs.declared.fault.Output.TheVariants as Output;
 ghost use Rattle.dir_tools.specs.declared.fault.ToolFault.TheVariants as ToolFault;
 
-pub use crate::acl::configuration::read_config_with_notes;
-
 use crate::acl::configuration::read_config;
+pub use crate::acl::configuration::read_config_with_notes;
 use crate::acl::parts::read_parts;
 use crate::acl::report::report_text;
 use crate::copy::read_copy;
@@ -102,8 +101,8 @@ pub fn run_acl_under<R: Source, W: Sink>(
     ensures answer { (text : List ℕ)
         × WroteReport result (W.taken report.old, W.taken report.new) text
         × ((known : Option (List ℕ)) → IsTextOf schema.now known (configuration_of config.now)
-            → AnswersQuestion (access_terms schema.now question.now) (access_sources known (R.left copy.old)) result text
-            × IsWholeReport (access_terms schema.now question.now) (access_sources known (R.left copy.old)) result text) }
+        → AnswersQuestion (access_terms schema.now question.now) (access_sources known (R.left copy.old)) result text
+        × IsWholeReport (access_terms schema.now question.now) (access_sources known (R.left copy.old)) result text) }
     ensures first { IfErr result (λ fault. (known : Option (List ℕ)) → IsTextOf schema.now known (configuration_of config.now)
         → AccessHeldBefore (access_terms schema.now question.now) known (R.left copy.old, R.left copy.new) fault) }
     ensures unfailed_copy { OnOk result (R.failures copy.new ≡ R.failures copy.old) }

@@ -17,7 +17,7 @@ pub returns-in-Err-clause-calls : goal.returns-in-Err-clause-calls
 returns-in-Err-clause-calls g c =
     let rows : c.in-Ok.schema ≡ builtin_rows = cc c.in-Ok.ensures in
     let fault : IsConfigFault builtin_rows (g.R.Source.left c.args.config.now) c.in-Err.fault =
-        subst (λ (rows : List TypeRow). IsConfigFault rows (g.R.Source.left c.args.config.now) c.in-Err.fault) rows c.in-Err.ensures.fault in
+    subst (λ (rows : List TypeRow). IsConfigFault rows (g.R.Source.left c.args.config.now) c.in-Err.fault) rows c.in-Err.ensures.fault in
     unread Unit c.args.words.now (g.R.Source.left c.args.config.now) (g.R2.Source.left c.args.copy.now) c.in-Err.fault c.run_fault-in-Err.result (g.F.FileSystem.disk c.args.files.now) fault c.run_fault-in-Err.ensures
 
 pub returns-clause-notes : goal.returns-clause-notes
