@@ -255,9 +255,21 @@ fn push_answer(rt: &impl Abort, text: &mut String, answer: &Result<Summary, Faul
     .expect(rt, "memory");
 }
 
-/// Appends what was asked, of which path, with what text or mode, and whether it was refused.
+/// Appends a call, and whether it was refused.
 fn push_call(rt: &impl Abort, text: &mut String, call: &Asked) {
-    let (what, path, with, why) = match call {
+    let (what, path, with, why) = parts_of(call);
+    let end = match why {
+        None => "",
+        Some(Refusal::Exists) => ", which exists",
+        Some(Refusal::Memory) => ", no memory",
+        Some(Refusal::Other) => ", refused",
+    };
+    write!(text, "{what}{path}{with}{end};").expect(rt, "memory");
+}
+
+/// What was asked, of which path, with what text or mode, and why it was refused.
+fn parts_of(call: &Asked) -> (&'static str, &str, &'static str, Option<Refusal>) {
+    match call {
         Asked::Opens(path, why) => ("open ", path.as_str(), "", *why),
         Asked::StandardInput => ("standard input", "", "", None),
         Asked::Creates(path, mode, why) => ("create ", path.as_str(), mode_text(*mode), *why),
@@ -266,14 +278,7 @@ fn push_call(rt: &impl Abort, text: &mut String, call: &Asked) {
         Asked::Discards(path) => ("discard ", path.as_str(), "", None),
         Asked::Withdraws(path) => ("withdraw ", path.as_str(), "", None),
         Asked::Reports(bytes, why) => ("report", "", shown(bytes), *why),
-    };
-    let end = match why {
-        None => "",
-        Some(Refusal::Exists) => ", which exists",
-        Some(Refusal::Memory) => ", no memory",
-        Some(Refusal::Other) => ", refused",
-    };
-    write!(text, "{what}{path}{with}{end};").expect(rt, "memory");
+    }
 }
 
 fn mode_text(mode: u32) -> &'static str {
@@ -284,14 +289,21 @@ fn mode_text(mode: u32) -> &'static str {
     }
 }
 
+/// The texts that are written, each with a word for it.
+static WORDS: [(&[u8], &str); 5] = [
+    (NEW, " NEW"),
+    (UNDO, " UNDO"),
+    (ACCEPTED, " ACCEPTED"),
+    (REFUSED, " REFUSED"),
+    (WENT_ON, " WENT_ON"),
+];
+
 /// A text that was written, in one word.
 fn shown(bytes: &Vec<u8>) -> &'static str {
-    match bytes.as_slice() {
-        NEW => " NEW",
-        UNDO => " UNDO",
-        ACCEPTED => " ACCEPTED",
-        REFUSED => " REFUSED",
-        WENT_ON => " WENT_ON",
-        _ => " ?",
+    for (text, word) in &WORDS {
+        if bytes.as_slice() == *text {
+            return word;
+        }
     }
+    " ?"
 }
