@@ -8,7 +8,7 @@ use std::alloc::Global;
 use std::process::Abort;
 
 /// Entries of which neighbours differ in one thing: a value, a spelling, a class, a creator, or how many values there are.
-const ENTRIES: [&str; 12] = [
+static ENTRIES: [&str; 12] = [
     "cn=a,dc=com | objectClass=person | sn=A | manager=cn=x",
     "cn=b,dc=com | objectClass=person | sn=B | manager=cn=y",
     "cn=c,dc=com | objectClass=Person | sn=C | manager=cn=y",
@@ -41,7 +41,7 @@ pub(crate) fn opened(rt: &impl Abort, alloc: Global, entry: Entry) -> Entry {
 }
 
 /// As they are put in, and as they are put back with their attributes opened.
-const STEPS: [&str; 4] = ["put", "lines", "put-back", "lines"];
+static STEPS: [&str; 4] = ["put", "lines", "put-back", "lines"];
 
 #[test]
 fn entries_that_are_alike_keep_their_own_values(rt: HostRuntime) {

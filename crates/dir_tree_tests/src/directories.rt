@@ -126,7 +126,7 @@ put dc=com
 long-own-name
 ";
 
-const SCRIPTS: [&str; 9] = [
+static SCRIPTS: [&str; 9] = [
     PUT,
     SPELLED,
     EMPTY,
@@ -139,7 +139,7 @@ const SCRIPTS: [&str; 9] = [
 ];
 
 /// The same, with names of 64 RDNs.
-const LONG_SCRIPTS: [&str; 2] = [LEVELS, LONG_OWN_NAME];
+static LONG_SCRIPTS: [&str; 2] = [LEVELS, LONG_OWN_NAME];
 
 #[test]
 fn a_map_of_whole_names_answers_each_step(rt: HostRuntime) {

@@ -239,7 +239,7 @@ fn are_notes(notes: &AttributeView<'_>) -> bool {
 }
 
 /// Texts of entries, and what each is refused for; the last has no name.
-const FAULTS: [(&str, Option<EntryFault>); 5] = [
+static FAULTS: [(&str, Option<EntryFault>); 5] = [
     ("cn=Kim | note=", None),
     (
         "cn=Kim | uidNumber=1 | uidNumber=2",

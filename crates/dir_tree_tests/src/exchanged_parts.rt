@@ -94,7 +94,7 @@ fn is_like(found: &AttributeView<'_>, attribute: &Attribute) -> bool {
 }
 
 /// How many values an entry has, how many bytes of text, and whether it is small.
-const SIZES: [(usize, usize, bool); 4] = [
+static SIZES: [(usize, usize, bool); 4] = [
     (64, 1000, true),
     (65, 1000, false),
     (3, 65535, true),
@@ -103,7 +103,7 @@ const SIZES: [(usize, usize, bool); 4] = [
 
 /// How many values an entry has, how many bytes of text, the new value of an attribute that it lacks or has, and whether
 /// there is a packed entry with it.
-const GROWN: [(usize, usize, &str, bool); 7] = [
+static GROWN: [(usize, usize, &str, bool); 7] = [
     (63, 1000, "title: title=t", true),
     (64, 1000, "title: title=t", false),
     (64, 1000, "cn: cn=b", true),

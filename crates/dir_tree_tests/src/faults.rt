@@ -4,7 +4,7 @@ use crate::make::check;
 use crate::script::is_shown;
 use dir_tree::EntryFault;
 
-const TEXTS: [(EntryFault, &str); 5] = [
+static TEXTS: [(EntryFault, &str); 5] = [
     (EntryFault::BadValue, "E1 BadValue"),
     (EntryFault::Twice, "E2 Twice"),
     (EntryFault::NotNamed, "E3 NotNamed"),

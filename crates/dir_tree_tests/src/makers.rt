@@ -11,7 +11,7 @@ use std::process::Abort;
 type Row = (&'static str, Option<EntryFault>);
 
 /// Entries whose lines are arranged alike, or in another order.
-const ARRANGED: [Row; 8] = [
+static ARRANGED: [Row; 8] = [
     (
         "cn=a | objectClass=top | objectClass=person | sn=A | cn=a | cn=Anna A | seeAlso=cn=x",
         None,
@@ -44,7 +44,7 @@ const ARRANGED: [Row; 8] = [
 ];
 
 /// An entry that is arranged as another is refused for its own faults.
-const FAULTY: [Row; 4] = [
+static FAULTY: [Row; 4] = [
     ("cn=a | cn=a | sn=A | sn=B | title=t", None),
     (
         "cn=a | cn=a | sn=A | sn=a | title=t",
@@ -58,7 +58,7 @@ const FAULTY: [Row; 4] = [
 ];
 
 /// Names that were values before are refused for their own faults.
-const NAMES: [Row; 4] = [
+static NAMES: [Row; 4] = [
     ("cn=a | cn=a | seeAlso=cn=x | seeAlso=cn=y", None),
     (
         "cn=a | cn=a | seeAlso=cn=y | seeAlso=cn=y",

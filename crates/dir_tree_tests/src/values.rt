@@ -41,7 +41,7 @@ empty -> yes
 const COUNT: usize = 5000;
 
 /// Values are listed in order however they are put in: in no order, upwards and downwards.
-const LISTED: [&str; 3] = [
+static LISTED: [&str; 3] = [
     "
 values of sn
 each 1237 0 5000: insert #
