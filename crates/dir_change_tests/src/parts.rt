@@ -12,7 +12,7 @@ use std::process::Abort;
 /// An entry: how many notes it has, of how many bytes each, how many values of other types, and of how many bytes one more is.
 type Row = (usize, usize, usize, usize);
 
-const ROWS: [Row; 11] = [
+static ROWS: [Row; 11] = [
     (0, 0, 0, 1),
     // five notes are copied whole, six are not
     (5, 8, 10, 1),
@@ -123,7 +123,7 @@ fn changes_by_part_are_as_changes_of_the_whole(rt: HostRuntime) {
 }
 
 /// How many attributes one modify names. 16 are copied whole, 17 are not.
-const NAMED: [usize; 3] = [16, 17, 70];
+static NAMED: [usize; 3] = [16, 17, 70];
 
 /// Appends a modify of so many attributes, each with an operation and a value.
 fn push_modify(

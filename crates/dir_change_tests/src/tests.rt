@@ -283,7 +283,7 @@ const TRIED: &str = "dn: dc=org\nchangetype: add\n\n\
     dn: dc=com\nchangetype: modrdn\nnewrdn: dc=org\ndeleteoldrdn: 1\n\n";
 
 /// What each of them is refused with; none for those that are accepted.
-const REFUSED: [Option<ResultCode>; 18] = [
+static REFUSED: [Option<ResultCode>; 18] = [
     Some(ResultCode::NoSuchObject),
     Some(ResultCode::NoSuchObject),
     None,
@@ -331,7 +331,7 @@ fn assert_shown(rt: &impl Abort, alloc: Global, code: ResultCode, want: &str) {
 }
 
 /// Each result code, and what it is shown as.
-const SHOWN: [(ResultCode, &str); 11] = [
+static SHOWN: [(ResultCode, &str); 11] = [
     (ResultCode::ProtocolError, "2 protocolError"),
     (ResultCode::AdminLimitExceeded, "11 adminLimitExceeded"),
     (ResultCode::NoSuchAttribute, "16 noSuchAttribute"),
