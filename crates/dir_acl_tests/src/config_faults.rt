@@ -8,7 +8,7 @@ use std::alloc::Global;
 use std::process::Abort;
 
 /// Texts, and the line and the cause of the fault of each.
-const FAULTS: [(&str, u64, ConfigCause); 15] = [
+static FAULTS: [(&str, u64, ConfigCause); 15] = [
     ("access to * by * read\n", 1, ConfigCause::GlobalAccess),
     ("suffix dc=com", 1, ConfigCause::BadDirective),
     ("\ndatabase mdb\nsuffix BAD EXTRA", 3, ConfigCause::Name),
@@ -47,7 +47,7 @@ const FAULTS: [(&str, u64, ConfigCause); 15] = [
 ];
 
 /// Lines after `database mdb` and `suffix dc=com`, and the cause of the fault of each.
-const THIRD_LINES: [(&str, ConfigCause); 29] = [
+static THIRD_LINES: [(&str, ConfigCause); 29] = [
     ("access to * by", ConfigCause::BadDirective),
     ("access * by * read", ConfigCause::BadDirective),
     ("access", ConfigCause::BadDirective),

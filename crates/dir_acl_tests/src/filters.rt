@@ -6,7 +6,7 @@ use std::alloc::Global;
 use std::process::Abort;
 
 /// Filters, and what they are on the entry `cn=Foo Bar` with `uidNumber: 10` and `sn;lang-de: Kim`.
-const TRUTHS: [(&str, Truth); 22] = [
+static TRUTHS: [(&str, Truth); 22] = [
     ("(&(cn=foo  bar)(uidNumber>=9))", Truth::True),
     ("(cn=f*b*r)", Truth::True),
     ("(&)", Truth::True),
@@ -53,7 +53,7 @@ fn assert_truth(rt: &impl Abort, alloc: Global, text: &str, want: Truth) {
 }
 
 /// Filters of RFC 4515, section 4.
-const READ: [&str; 11] = [
+static READ: [&str; 11] = [
     "(cn=Babs Jensen)",
     "(!(cn=Tim Howes))",
     "(&(objectClass=Person)(|(sn=Jensen)(cn=Babs J*)))",
@@ -68,7 +68,7 @@ const READ: [&str; 11] = [
 ];
 
 /// Texts that are no filters; the last is an extensible match.
-const REFUSED: [&str; 7] = [
+static REFUSED: [&str; 7] = [
     "(cn=a",
     "(cn:=a)",
     "(cn=a)(cn=b)",

@@ -51,7 +51,7 @@ const LISTS: &str = "database mdb\nsuffix dc=com\n\
 /// A configuration, a requester, a target, what is asked of it (the entry itself where that is empty), and the answer.
 type Grant<'a> = (&'a str, &'a str, &'a str, &'a str, &'a str);
 
-const GRANTS: [Grant<'static>; 26] = [
+static GRANTS: [Grant<'static>; 26] = [
     // `continue` goes on with the later clauses
     (CONTINUE, "", "dc=com", "", "=0"),
     (CONTINUE, "cn=u,dc=com", "dc=com", "", "=rsc"),
@@ -189,7 +189,7 @@ const NONE_ANSWERS: &str = "database mdb\nsuffix dc=com\n\
 /// A configuration, a requester and a target.
 type Asking<'a> = (&'a str, &'a str, &'a str);
 
-const ASKINGS: [Asking<'static>; 12] = [
+static ASKINGS: [Asking<'static>; 12] = [
     (MANY, "cn=u,dc=com", "cn=t,dc=com"),
     (MANY, "cn=t,dc=com", "cn=t,dc=com"),
     (MANY, "", "cn=t,dc=com"),
@@ -205,7 +205,7 @@ const ASKINGS: [Asking<'static>; 12] = [
     (PHONES, "cn=m,dc=com", "cn=t,dc=com"),
 ];
 
-const WORDS: [&str; 8] = [
+static WORDS: [&str; 8] = [
     "telephoneNumber",
     "cn",
     "sn",
@@ -216,7 +216,7 @@ const WORDS: [&str; 8] = [
     "telephoneNumber",
 ];
 
-const BACKWARDS: [&str; 8] = [
+static BACKWARDS: [&str; 8] = [
     "telephoneNumber",
     "uid",
     "sn",
@@ -241,7 +241,7 @@ fn words_may_come_in_any_order(rt: HostRuntime) {
     }
 }
 
-const LIST_ASKINGS: [Asking<'static>; 4] = [
+static LIST_ASKINGS: [Asking<'static>; 4] = [
     (LISTS, "cn=u,dc=com", "cn=t,dc=com"),
     (LISTS, "cn=u,dc=com", "dc=com"),
     (LISTS, "cn=u,dc=com", "cn=x,dc=com"),
@@ -249,9 +249,9 @@ const LIST_ASKINGS: [Asking<'static>; 4] = [
 ];
 
 /// `cn` is in none of the lists, `sn` in each.
-const OUTSIDE_FIRST: [&str; 5] = ["cn", "sn", "cn", "", "sn"];
+static OUTSIDE_FIRST: [&str; 5] = ["cn", "sn", "cn", "", "sn"];
 
-const INSIDE_FIRST: [&str; 5] = ["sn", "cn", "sn", "", "cn"];
+static INSIDE_FIRST: [&str; 5] = ["sn", "cn", "sn", "", "cn"];
 
 #[test]
 fn a_word_outside_of_a_list_comes_first(rt: HostRuntime) {
@@ -321,7 +321,7 @@ fn a_list_of_rules_grants_without_a_configuration(rt: HostRuntime) {
 }
 
 /// Rules of the manual's examples, and rules like them.
-const RULES: [&str; 8] = [
+static RULES: [&str; 8] = [
     "to * by * read",
     "to *\n\tby self write\n\tby anonymous auth\n\tby * read",
     "to attrs=userPassword by self =w by anonymous auth",

@@ -7,7 +7,7 @@ use std::process::Abort;
 
 /// Lines after `database mdb` and `suffix dc=com`, which are the first two, and the notes on them: the number of the line, what
 /// is noted, and its text.
-const NOTED: [(&str, &[(u64, &str, &str)]); 22] = [
+static NOTED: [(&str, &[(u64, &str, &str)]); 22] = [
     (
         "include acl.conf",
         &[(3, "include", "acl.conf"), (0, "no rule", "")],
@@ -104,7 +104,7 @@ const NOTED: [(&str, &[(u64, &str, &str)]); 22] = [
 ];
 
 /// Lines after the same two on which there is nothing to note.
-const PLAIN: [&str; 9] = [
+static PLAIN: [&str; 9] = [
     "access to * by * read",
     "access to attrs=cn,commonName,2.5.4.3,sn,SURNAME,c,l,st,street,o,ou,title,description,givenName by * read",
     "access to attrs=uid,userid,displayName,employeeNumber,mail,dc,telephoneNumber,member,owner,seeAlso by * read",

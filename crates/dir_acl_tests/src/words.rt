@@ -7,7 +7,7 @@ use std::fmt::Display;
 use std::process::Abort;
 
 /// Levels, and their privileges.
-const LEVELS: [(&str, Level, &str); 10] = [
+static LEVELS: [(&str, Level, &str); 10] = [
     ("none", Level::None, "=0"),
     ("Disclose", Level::Disclose, "=d"),
     ("auth", Level::Auth, "=xd"),
@@ -43,13 +43,13 @@ fn a_level_is_allowed_by_its_own_privilege(rt: HostRuntime) {
     assert!(rt; !Privileges::none().allows(Level::Disclose));
 }
 
-const FILTER_FAULTS: [(FilterFault, &str); 3] = [
+static FILTER_FAULTS: [(FilterFault, &str); 3] = [
     (FilterFault::BadFilter, "Q1 BadFilter"),
     (FilterFault::TooDeep, "Q2 TooDeep"),
     (FilterFault::Memory, "Q3 Memory"),
 ];
 
-const CONFIG_CAUSES: [(ConfigCause, &str); 11] = [
+static CONFIG_CAUSES: [(ConfigCause, &str); 11] = [
     (ConfigCause::BadDirective, "C1 BadDirective"),
     (ConfigCause::Unsupported, "C2 Unsupported"),
     (ConfigCause::BadFilter, "C3 BadFilter"),
