@@ -6,7 +6,7 @@ use std::alloc::Global;
 use std::process::Abort;
 
 /// Descriptions with the same type and options.
-const EQUAL: [(&str, &str); 4] = [
+static EQUAL: [(&str, &str); 4] = [
     ("CommonName;lang-en", "cn;lang-en"),
     ("2.5.4.3", "cn"),
     ("commonName", "CN"),
@@ -27,7 +27,7 @@ fn is_equal(rt: &impl Abort, alloc: Global, one: &str, other: &str) -> bool {
 }
 
 /// Descriptions, whether the first covers the second, and whether the second covers the first.
-const COVERS: [(&str, &str, bool, bool); 5] = [
+static COVERS: [(&str, &str, bool, bool); 5] = [
     ("cn", "CommonName;lang-en", true, false),
     ("cn", "commonName", true, true),
     ("x-unknown", "X-Unknown", true, true),
@@ -51,7 +51,7 @@ fn covered(rt: &impl Abort, alloc: Global, one: &str, other: &str) -> (bool, boo
 }
 
 /// Texts, and the fault of each that is not read as a description.
-const READ: [(&str, Option<NameFault>); 17] = [
+static READ: [(&str, Option<NameFault>); 17] = [
     ("1.2", None),
     ("0.0.1", None),
     ("x-y-", None),
@@ -84,7 +84,7 @@ fn fault_of(rt: &impl Abort, alloc: Global, text: &str) -> Option<NameFault> {
 }
 
 /// Types, with their rules, and whether they are single-valued (RFC 4519, 4524, 2798, 2307 and 4512).
-const TYPES: [(&str, Rule, bool); 12] = [
+static TYPES: [(&str, Rule, bool); 12] = [
     ("cn", Rule::CaseIgnore, false),
     ("countryName", Rule::CaseIgnore, true),
     ("displayName", Rule::CaseIgnore, true),
@@ -115,7 +115,7 @@ fn rule_of(rt: &impl Abort, alloc: Global, attr_type: &str) -> (Rule, bool) {
 }
 
 /// Descriptions, and whether their type is known.
-const KNOWN: [(&str, bool); 8] = [
+static KNOWN: [(&str, bool); 8] = [
     ("cn", true),
     ("USERID", true),
     ("2.5.4.31", true),

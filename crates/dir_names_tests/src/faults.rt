@@ -6,7 +6,7 @@ use std::alloc::Global;
 use std::fmt::Display;
 use std::process::Abort;
 
-const TEXTS: [(NameFault, &str); 6] = [
+static TEXTS: [(NameFault, &str); 6] = [
     (NameFault::BadDescription, "N1 BadDescription"),
     (NameFault::ReservedName, "N2 ReservedName"),
     (NameFault::BadValue, "N3 BadValue"),

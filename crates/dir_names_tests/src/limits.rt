@@ -16,7 +16,7 @@ enum Kind {
 /// Texts, each a first one, a second one so many times and a last one, and the fault of each. A description has at
 /// most 512 bytes, an RDN 4,096 as it is printed, and a name 64 RDNs; a text past a limit is first of its kind, which
 /// is told once all of it is read.
-const TEXTS: [(Kind, &str, &str, usize, &str, Option<NameFault>); 13] = [
+static TEXTS: [(Kind, &str, &str, usize, &str, Option<NameFault>); 13] = [
     (Kind::Rdn, "cn=", "a", 4093, "", None),
     (Kind::Rdn, "cn=", "a", 4094, "", Some(NameFault::NameLimit)),
     (Kind::Rdn, "cn=", "\u{e9}", 682, "", None),
@@ -143,7 +143,7 @@ fn a_name_is_not_made_of_65_rdns(rt: HostRuntime) {
 }
 
 /// Numbers of RDNs, with the leaf of the name of one RDN more, and their number.
-const CHILDREN: [(usize, &str, usize); 2] = [(62, "ou=62", 63), (63, "ou=63", 64)];
+static CHILDREN: [(usize, &str, usize); 2] = [(62, "ou=62", 63), (63, "ou=63", 64)];
 
 #[test]
 fn a_key_of_62_or_63_rdns_has_a_child_and_one_of_64_has_none(rt: HostRuntime) {

@@ -6,7 +6,7 @@ use std::alloc::Global;
 use std::process::Abort;
 
 /// Texts of names, and how the names are printed. The first is the example of the crate's README.
-const PRINTED: [(&str, &str); 14] = [
+static PRINTED: [(&str, &str); 14] = [
     (" cn = a\\,b , DC=com", "cn=a\\2Cb,DC=com"),
     ("cn=a\\,b , OU = x y", "cn=a\\2Cb,OU=x y"),
     ("cn=J\u{fc}rgen", "cn=J\\C3\\BCrgen"),
@@ -24,7 +24,7 @@ const PRINTED: [(&str, &str); 14] = [
 ];
 
 /// Texts that are no names.
-const NO_NAMES: [&str; 17] = [
+static NO_NAMES: [&str; 17] = [
     "cn",
     "dn=x",
     "=a",
@@ -66,7 +66,7 @@ fn other_texts_are_no_names(rt: HostRuntime) {
 }
 
 /// Texts of names, and how the names are shown.
-const SHOWN: [(&str, &str); 2] = [
+static SHOWN: [(&str, &str); 2] = [
     (
         "l=b",
         "Dn { rdns: [Rdn { pairs: One((Bytes { items: [108] }, Bytes { items: [98] })) }] }",
@@ -97,7 +97,7 @@ pub(crate) fn assert_shown(rt: &impl Abort, alloc: Global, name: &Dn, want: &str
 }
 
 /// Names, and the faults of those that have no key.
-const KEYS: [(&str, Option<NameFault>); 7] = [
+static KEYS: [(&str, Option<NameFault>); 7] = [
     ("", None),
     ("cn=a,dc=com", None),
     ("cn=\\20,x-unknown=", None),
@@ -125,7 +125,7 @@ fn key_of(rt: &impl Abort, alloc: Global, text: &str) -> (bool, Option<NameFault
 
 /// Names of two or three RDNs: the leaf, the name above it and the whole name. The last is the example of the crate's
 /// README.
-const BELOW: [(&str, &str, &str, usize); 3] = [
+static BELOW: [(&str, &str, &str, usize); 3] = [
     ("cn=a", "dc=com", "cn=a,dc=com", 2),
     ("cn=Ann", "ou=People,dc=com", "cn=Ann,ou=People,dc=com", 3),
     ("cn=a\\,b", "dc=COM", " cn = a\\,b , DC=com", 2),
@@ -174,7 +174,7 @@ fn parent(rt: &impl Abort, alloc: Global, text: &str) -> Option<DnKey> {
 }
 
 /// Names that are made of an RDN and of those of the name above it, and how they are printed.
-const MADE: [(&str, &str, &str); 2] = [
+static MADE: [(&str, &str, &str); 2] = [
     ("ou=a", "dc=com", "ou=a,dc=com"),
     ("cn=Ann", "ou=People,dc=com", "cn=Ann,ou=People,dc=com"),
 ];

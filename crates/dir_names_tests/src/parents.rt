@@ -8,7 +8,7 @@ use std::process::Abort;
 
 /// Texts of names below parents that come again, by turns, and of some that are no names or have no keys. The
 /// parents with `aa` and `tl` have one slot.
-const BY_TURNS: [&str; 18] = [
+static BY_TURNS: [&str; 18] = [
     "cn=a,ou=x,dc=com",
     "cn=b,ou=x,dc=com",
     "cn=b,ou=y,dc=com",
@@ -77,7 +77,7 @@ fn with_key(
 }
 
 /// Long texts, each a first one, a second one so many times and a last one.
-const LONG: [(&str, &str, usize, &str); 16] = [
+static LONG: [(&str, &str, usize, &str); 16] = [
     // A parent that is remembered has at most 256 bytes, and its key is not much longer.
     ("cn=a,ou=", "x", 253, ""),
     ("cn=a,ou=", "x", 254, ""),
@@ -114,7 +114,7 @@ fn long_texts_are_read_as_alone(rt: HostRuntime) {
 }
 
 /// Names whose parents share a slot: the highest 8 bits of their hashes are the same, or the whole hash is.
-const OF_ONE_SLOT: [(&[u8], &[u8]); 2] = [
+static OF_ONE_SLOT: [(&[u8], &[u8]); 2] = [
     (b"cn=a,ou=aa,dc=com", b"cn=a,ou=tl,dc=com"),
     (
         b"cn=a,ou=greenhouses12,dc=com",

@@ -64,7 +64,7 @@ fn is_key_pair(
 }
 
 /// RDNs, each with one whose key comes after its own.
-const RISING: [(&str, &str); 9] = [
+static RISING: [(&str, &str); 9] = [
     ("cn=a", "CN=B"),
     ("cn=b", "sn=a"),
     ("cn=a", "cn=aa"),

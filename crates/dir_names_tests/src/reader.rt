@@ -6,7 +6,7 @@ use std::alloc::Global;
 use std::process::Abort;
 
 /// Texts of names, some of which have the parent of another, and how the names are printed.
-const IN_TURN: [(&str, &str); 16] = [
+static IN_TURN: [(&str, &str); 16] = [
     ("cn=a,ou=x,dc=com", "cn=a,ou=x,dc=com"),
     ("cn=b,ou=x,dc=com", "cn=b,ou=x,dc=com"),
     ("cn=c+sn=d,ou=x,dc=com", "cn=c+sn=d,ou=x,dc=com"),
@@ -26,7 +26,7 @@ const IN_TURN: [(&str, &str); 16] = [
 ];
 
 /// Texts below a parent that `IN_TURN` has, which are no names or have no keys.
-const REFUSED: [&str; 9] = [
+static REFUSED: [&str; 9] = [
     "cn,ou=x,dc=com",
     "cn=,ou=x,dc=com",
     ",ou=x,dc=com",
@@ -39,7 +39,7 @@ const REFUSED: [&str; 9] = [
 ];
 
 /// Texts of names whose two parents have one length, and the same bytes at first.
-const ALIKE: [&str; 6] = [
+static ALIKE: [&str; 6] = [
     "cn=a,ou=xxxxxxxxxxxxxxxxxxxxxxxx1,dc=com",
     "cn=b,ou=xxxxxxxxxxxxxxxxxxxxxxxx1,dc=com",
     "cn=a,ou=xxxxxxxxxxxxxxxxxxxxxxxx2,dc=com",
@@ -163,7 +163,7 @@ const LONG_PARENTS: [Long; 7] = [
 ];
 
 /// What each reader reads.
-const LONG: [&[Long]; 4] = [&MANY_RDNS, &LONG_LEAVES, &FIRST_FAULTS, &LONG_PARENTS];
+static LONG: [&[Long]; 4] = [&MANY_RDNS, &LONG_LEAVES, &FIRST_FAULTS, &LONG_PARENTS];
 
 #[test]
 fn long_texts_below_a_known_parent_have_their_first_faults(rt: HostRuntime) {

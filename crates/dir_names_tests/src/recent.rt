@@ -28,7 +28,7 @@ const NO_KEY: [(&str, Option<NameFault>); 4] = [
 ];
 
 /// The values that are read one after the other, each under a schema of its own, and their faults.
-const READ: [&[(&str, Option<NameFault>)]; 2] = [&NAMES, &NO_KEY];
+static READ: [&[(&str, Option<NameFault>)]; 2] = [&NAMES, &NO_KEY];
 
 #[test]
 fn a_name_has_its_key_again_and_what_has_none_is_not_remembered(rt: HostRuntime) {

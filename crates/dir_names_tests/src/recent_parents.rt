@@ -7,7 +7,7 @@ use std::process::Abort;
 
 /// Values that are read one after the other: names, and texts that are none or have no keys. Most end in the text of
 /// the parent of one before.
-const IN_TURN: [&str; 34] = [
+static IN_TURN: [&str; 34] = [
     "uid=a,ou=x,dc=com",
     "uid=b,ou=x,dc=com",
     "uid=a,ou=x,dc=com",
@@ -45,7 +45,7 @@ const IN_TURN: [&str; 34] = [
 ];
 
 /// Leaves, spelled as they are printed and otherwise, and texts that are none or have no keys.
-const LEAVES: [&str; 34] = [
+static LEAVES: [&str; 34] = [
     "cn=a",
     "CN=A",
     "commonName=b",
@@ -83,7 +83,7 @@ const LEAVES: [&str; 34] = [
 ];
 
 /// What follows the leaf of a name: parents of many spellings, and texts that are none.
-const PARENTS: [&str; 14] = [
+static PARENTS: [&str; 14] = [
     "",
     ",",
     ",dc=com",
@@ -101,13 +101,13 @@ const PARENTS: [&str; 14] = [
 ];
 
 /// Parents whose hashes have one slot.
-const OF_ONE_SLOT: [&str; 3] = [",ou=x2,dc=com", ",ou=x227,dc=com", ",ou=x525,dc=com"];
+static OF_ONE_SLOT: [&str; 3] = [",ou=x2,dc=com", ",ou=x227,dc=com", ",ou=x525,dc=com"];
 
 /// The number of names that are read before parents are remembered, and a few more.
 const FIRST_NAMES: usize = 70;
 
 /// Two plain children, after which their parent is remembered if it may be.
-const CHILDREN: [&str; 2] = ["cn=one,ou=x,dc=com", "cn=two,ou=x,dc=com"];
+static CHILDREN: [&str; 2] = ["cn=one,ou=x,dc=com", "cn=two,ou=x,dc=com"];
 
 /// Names that remember parents.
 fn used_names(rt: &impl Abort, alloc: Global) -> RecentNames {
@@ -123,7 +123,7 @@ fn used_names(rt: &impl Abort, alloc: Global) -> RecentNames {
 
 /// Where the values are begun, how many are gone on by, and whether the two children are read before each: forwards,
 /// backwards, and below the same parent as before.
-const ORDERS: [(usize, usize, bool); 3] = [(0, 1, false), (33, 33, false), (0, 1, true)];
+static ORDERS: [(usize, usize, bool); 3] = [(0, 1, false), (33, 33, false), (0, 1, true)];
 
 #[test]
 fn names_are_read_in_turn(rt: HostRuntime) {
@@ -231,7 +231,7 @@ const LONG_PARENTS: [Long<'static>; 8] = [
 ];
 
 /// What is read by a reader each.
-const LONG: [&[Long<'static>]; 3] = [&MANY_RDNS, &LONG_LEAVES, &LONG_PARENTS];
+static LONG: [&[Long<'static>]; 3] = [&MANY_RDNS, &LONG_LEAVES, &LONG_PARENTS];
 
 #[test]
 fn long_values_have_the_same_keys_below_a_parent(rt: HostRuntime) {

@@ -6,7 +6,7 @@ use std::alloc::Global;
 use std::process::Abort;
 
 /// Values with the texts of their keys. The first is the example of the crate's README.
-const KEYS: [(&str, &[u8], &[u8]); 16] = [
+static KEYS: [(&str, &[u8], &[u8]); 16] = [
     ("CommonName;lang-en", b"  A  b ", b"a b"),
     ("cn", b"  A  b ", b"a b"),
     ("cn", b"Stra\xc3\x9fe", b"strasse"),
@@ -26,7 +26,7 @@ const KEYS: [(&str, &[u8], &[u8]); 16] = [
 ];
 
 /// Texts that are no values of their types.
-const NO_VALUES: [(&str, &[u8]); 4] = [
+static NO_VALUES: [(&str, &[u8]); 4] = [
     ("cn", b""),
     ("uidNumber", b"007"),
     ("uidNumber", b"-0"),
@@ -34,7 +34,7 @@ const NO_VALUES: [(&str, &[u8]); 4] = [
 ];
 
 /// Vectors of Unicode's CaseFolding and of UAX 15.
-const FOLDED: [(&str, &str); 14] = [
+static FOLDED: [(&str, &str); 14] = [
     ("\u{1e9e}", "ss"),
     ("\u{130}", "i\u{307}"),
     ("\u{fb03}", "ffi"),
@@ -155,7 +155,7 @@ fn key_of(
 }
 
 /// Values that are names, each with the same name.
-const MEMBERS: [(&str, &str); 2] = [("CN=K, DC=Com", "cn=k,dc=com"), ("", "")];
+static MEMBERS: [(&str, &str); 2] = [("CN=K, DC=Com", "cn=k,dc=com"), ("", "")];
 
 #[test]
 fn a_name_as_a_value_has_the_key_of_the_name(rt: HostRuntime) {
@@ -177,7 +177,7 @@ type Piece = (&'static str, PiecePlace, &'static [u8]);
 
 /// Pieces of substring assertions, with their keys: a piece keeps one space where a value has some within. Numbers
 /// and texts in another encoding have none.
-const PIECES: [(Piece, Option<&[u8]>); 8] = [
+static PIECES: [(Piece, Option<&[u8]>); 8] = [
     (("cn", PiecePlace::First, b"  Foo  b "), Some(b"foo b ")),
     (("cn", PiecePlace::Last, b"  Foo  b "), Some(b" foo b")),
     (("cn", PiecePlace::Middle, b"  Foo  b "), Some(b" foo b ")),
