@@ -23,7 +23,7 @@ fn assert_check(
 }
 
 /// Renames of `cn=x,dc=com`: the new RDN, the new superior, and what the check answers.
-const RENAMES: [(&str, &str, Result<(), RecordFault>); 3] = [
+static RENAMES: [(&str, &str, Result<(), RecordFault>); 3] = [
     ("cn=y", "ou=A,dc=com", Ok(())),
     ("member=y", "ou=A,dc=com", NO_NAME),
     ("cn=y", "uidNumber=x", NO_NAME),
@@ -47,7 +47,7 @@ fn rename(rt: &impl Abort, alloc: Global, newrdn: &str, superior: &str) -> Chang
 }
 
 /// Lengths of a value, and what the check of a modify or an add of such a value answers.
-const LENGTHS: [(usize, Result<(), RecordFault>); 2] = [
+static LENGTHS: [(usize, Result<(), RecordFault>); 2] = [
     (1_048_576, Ok(())),
     (1_048_577, Err(RecordFault::ValueTooLong)),
 ];

@@ -32,45 +32,75 @@ fn push_piece<S: Source>(rt: &impl Abort, source: &mut S, out: &mut Vec<u8>) {
     }
 }
 
-const TEXT: &[u8] = b"abcdef";
-
-#[test]
-fn scripts_give_pieces(rt: HostRuntime) {
-    let alloc = rt.alloc();
-    assert_gives(&rt, alloc, Script::new(TEXT), 4, "|abcd|ef||");
-    assert_gives(&rt, alloc, Script::new(TEXT).pieces(3), 4, "|abc|def||");
-    assert_gives(&rt, alloc, Script::new(TEXT).pieces(0), 4, "|a|b|c|d");
-    let first = Script::new(TEXT).first_piece(1);
-    assert_gives(&rt, alloc, first, 4, "|a|bcde|f|");
-    let pieces = Script::new(TEXT).pieces(2).first_piece(3);
-    assert_gives(&rt, alloc, pieces, 4, "|abc|de|f|");
+/// How a script gives its text.
+pub(crate) enum Way {
+    Pieces(usize),
+    FirstPiece(usize),
+    Endless,
+    FailingFrom(u64),
 }
 
-#[test]
-fn scripts_end_or_fail_or_go_on(rt: HostRuntime) {
-    let alloc = rt.alloc();
-    let endless = Script::new(TEXT).endless();
-    assert_gives(&rt, alloc, endless, 4, "|abcd|ef|abcd|ef");
-    assert_gives(&rt, alloc, Script::new(TEXT).failing_from(1), 4, "!!!!");
-    let failing = Script::new(TEXT).failing_from(3);
-    assert_gives(&rt, alloc, failing, 4, "|abcd|ef!!");
-    assert_gives(&rt, alloc, Script::new(b""), 4, "||||");
-    assert_gives(&rt, alloc, Script::new(b"").endless(), 4, "||||");
+/// A script of this text, which gives it in all of these ways.
+pub(crate) fn script<'a>(text: &'a str, ways: &[Way]) -> Script<'a> {
+    let mut script = Script::new(text.as_bytes());
+    for way in ways {
+        script = match way {
+            Way::Pieces(size) => script.pieces(*size),
+            Way::FirstPiece(size) => script.first_piece(*size),
+            Way::Endless => script.endless(),
+            Way::FailingFrom(call) => script.failing_from(*call),
+        };
+    }
+    script
 }
 
+/// Texts, how a script gives them, and what it gives in so many calls.
+static GIVEN: [(&str, &[Way], usize, &str); 15] = [
+    // All at once, or in pieces.
+    ("abcdef", &[], 4, "|abcd|ef||"),
+    ("abcdef", &[Way::Pieces(3)], 4, "|abc|def||"),
+    ("abcdef", &[Way::Pieces(0)], 4, "|a|b|c|d"),
+    ("abcdef", &[Way::FirstPiece(1)], 4, "|a|bcde|f|"),
+    (
+        "abcdef",
+        &[Way::Pieces(2), Way::FirstPiece(3)],
+        4,
+        "|abc|de|f|",
+    ),
+    // To its end, to a fault or on and on.
+    ("abcdef", &[Way::Endless], 4, "|abcd|ef|abcd|ef"),
+    ("abcdef", &[Way::FailingFrom(1)], 4, "!!!!"),
+    ("abcdef", &[Way::FailingFrom(3)], 4, "|abcd|ef!!"),
+    ("", &[], 4, "||||"),
+    ("", &[Way::Endless], 4, "||||"),
+    // Over and over.
+    ("abc", &[Way::Endless], 7, "|abc|abc|abc|abc|abc|abc|abc"),
+    ("abc", &[Way::Endless, Way::Pieces(1)], 7, "|a|b|c|a|b|c|a"),
+    (
+        "abc",
+        &[Way::Pieces(2), Way::Endless],
+        7,
+        "|ab|c|ab|c|ab|c|ab",
+    ),
+    (
+        "abc",
+        &[Way::FirstPiece(1), Way::Endless],
+        7,
+        "|a|bc|abc|abc|abc|abc|abc",
+    ),
+    (
+        "abc",
+        &[Way::Endless, Way::FailingFrom(3)],
+        7,
+        "|abc|abc!!!!!",
+    ),
+];
+
 #[test]
-fn endless_scripts_give_their_text_over_and_over(rt: HostRuntime) {
-    let alloc = rt.alloc();
-    let endless = Script::new(b"abc").endless();
-    assert_gives(&rt, alloc, endless, 7, "|abc|abc|abc|abc|abc|abc|abc");
-    let single = Script::new(b"abc").endless().pieces(1);
-    assert_gives(&rt, alloc, single, 7, "|a|b|c|a|b|c|a");
-    let pieces = Script::new(b"abc").pieces(2).endless();
-    assert_gives(&rt, alloc, pieces, 7, "|ab|c|ab|c|ab|c|ab");
-    let first = Script::new(b"abc").first_piece(1).endless();
-    assert_gives(&rt, alloc, first, 7, "|a|bc|abc|abc|abc|abc|abc");
-    let failing = Script::new(b"abc").endless().failing_from(3);
-    assert_gives(&rt, alloc, failing, 7, "|abc|abc!!!!!");
+fn scripts_give_their_texts(rt: HostRuntime) {
+    for (text, ways, calls, want) in &GIVEN {
+        assert_gives(&rt, rt.alloc(), script(text, ways), *calls, want);
+    }
 }
 
 /// A device that fails in every call.
@@ -135,7 +165,7 @@ impl Write for Counting<'_> {
 }
 
 /// The call of three that fails, and what they give.
-const READ_CALLS: [(usize, &str); 4] = [(1, "!|x|x"), (2, "|x!|x"), (3, "|x|x!"), (4, "|x|x|x")];
+static READ_CALLS: [(usize, &str); 4] = [(1, "!|x|x"), (2, "|x!|x"), (3, "|x|x!"), (4, "|x|x|x")];
 
 #[test]
 fn each_read_is_passed_on_once(rt: HostRuntime) {
@@ -154,7 +184,7 @@ fn each_read_is_passed_on_once(rt: HostRuntime) {
 type FourCalls = [(Result<usize, DeviceFault>, Result<(), DeviceFault>); 2];
 
 /// The call of four that fails, and what they answer.
-const WRITE_CALLS: [(usize, FourCalls); 4] = [
+static WRITE_CALLS: [(usize, FourCalls); 4] = [
     (1, [(Err(DeviceFault), Ok(())), (Ok(1), Ok(()))]),
     (2, [(Ok(1), Err(DeviceFault)), (Ok(1), Ok(()))]),
     (3, [(Ok(1), Ok(())), (Err(DeviceFault), Ok(()))]),
@@ -189,7 +219,13 @@ pub(crate) fn written<W: Sink + Drop>(mut sink: W, text: &[u8]) -> Result<(), De
 
 #[test]
 fn readers_and_writers_of_the_standard_library_are_devices(rt: HostRuntime) {
-    assert_gives(&rt, rt.alloc(), Reader::new(TEXT), 3, "|abcd|ef|");
+    assert_gives(
+        &rt,
+        rt.alloc(),
+        Reader::new(b"abcdef".as_slice()),
+        3,
+        "|abcd|ef|",
+    );
     let mut taken = Vec::new(rt.alloc());
     assert!(rt; written(Writer::new(&mut taken), b"abc") == Ok(()));
     assert!(rt; taken.as_slice() == b"abc".as_slice());

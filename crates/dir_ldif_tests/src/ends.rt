@@ -1,7 +1,8 @@
 //! Sources that fail, end or never end, and how much of them is read.
 
+use crate::devices::{Way, script};
 use crate::make::schema;
-use crate::shown::{assert_source, assert_turns, next};
+use crate::shown::{assert_turns, next};
 use dir_ldif::{
     DeviceFault, MAX_LINE, MAX_TURNS, MAX_VALUE, RecordReader, Script, Source, StreamFault,
 };
@@ -10,25 +11,46 @@ use std::process::Abort;
 
 const TOO_MANY: &str = "L14 TooManyTurns;L13 Ended;";
 
-#[test]
-fn a_source_ends_or_fails(rt: HostRuntime) {
-    let alloc = rt.alloc();
-    let slow = Script::new(b"dn: dc=com\n").pieces(1);
-    assert_turns(&rt, alloc, slow, 3, TOO_MANY);
-    let failing = Script::new(b"").failing_from(1);
-    assert_source(&rt, alloc, failing, "L11 Read;L13 Ended;");
-    let later = Script::new(b"dn: dc=com\n\n").failing_from(2);
-    assert_source(&rt, alloc, later, "1 dn: dc=com||;L11 Read;L13 Ended;");
-}
+/// A text whose second record is cut.
+const CUT: &str = "dn: dc=com\n\ndn: cn=a,";
 
-/// How many read calls are allowed for eleven pieces of a byte, and what is read in them. The end takes one more.
-const CALLS: [(u8, &str); 2] = [(12, "1 dn: dc=com||;"), (11, TOO_MANY)];
+/// Texts, how a script gives them, how many read calls are allowed where they are fewer than usual, and what is read.
+static ENDS: [(&str, &[Way], Option<u8>, &str); 12] = [
+    ("dn: dc=com\n", &[Way::Pieces(1)], Some(3), TOO_MANY),
+    ("", &[Way::FailingFrom(1)], None, "L11 Read;L13 Ended;"),
+    (
+        "dn: dc=com\n\n",
+        &[Way::FailingFrom(2)],
+        None,
+        "1 dn: dc=com||;L11 Read;L13 Ended;",
+    ),
+    (
+        CUT,
+        &[Way::FailingFrom(2)],
+        None,
+        "1 dn: dc=com||;L11 Read;L13 Ended;",
+    ),
+    // Eleven pieces of a byte, and the end, which takes one more.
+    (
+        "dn: dc=com\n",
+        &[Way::Pieces(1)],
+        Some(12),
+        "1 dn: dc=com||;",
+    ),
+    ("dn: dc=com\n", &[Way::Pieces(1)], Some(11), TOO_MANY),
+    // Texts that have no record, however often they come.
+    ("\n", &[Way::Endless], Some(100), TOO_MANY),
+    ("\r\n", &[Way::Endless], Some(100), TOO_MANY),
+    ("#\n", &[Way::Endless], Some(100), TOO_MANY),
+    ("# a comment\n", &[Way::Endless], Some(100), TOO_MANY),
+    (" \n", &[Way::Endless], Some(100), TOO_MANY),
+    (" \r\n", &[Way::Endless], Some(100), TOO_MANY),
+];
 
 #[test]
-fn so_many_read_calls_are_allowed(rt: HostRuntime) {
-    for (turns, want) in &CALLS {
-        let source = Script::new(b"dn: dc=com\n").pieces(1);
-        assert_turns(&rt, rt.alloc(), source, *turns, want);
+fn sources_end_or_fail_or_use_up_the_read_calls(rt: HostRuntime) {
+    for (text, ways, turns, want) in &ENDS {
+        assert_turns(&rt, rt.alloc(), script(text, ways), *turns, want);
     }
 }
 
@@ -37,17 +59,6 @@ fn the_limits_are_as_documented(rt: HostRuntime) {
     assert!(rt; MAX_TURNS == 1_099_511_627_776);
     assert!(rt; MAX_LINE == 2_097_152);
     assert!(rt; MAX_VALUE == 1_048_576);
-}
-
-/// Texts that have no record, however often they come.
-const EMPTY: [&str; 6] = ["\n", "\r\n", "#\n", "# a comment\n", " \n", " \r\n"];
-
-#[test]
-fn endless_texts_without_a_record_use_up_the_read_calls(rt: HostRuntime) {
-    for text in &EMPTY {
-        let endless = Script::new(text.as_bytes()).endless();
-        assert_turns(&rt, rt.alloc(), endless, 100, TOO_MANY);
-    }
 }
 
 /// A script that counts its calls.
@@ -103,12 +114,8 @@ fn next_line(rt: &impl Abort, reader: &mut RecordReader<&mut Counted>) -> Result
 
 #[test]
 fn a_record_comes_before_the_next_read(rt: HostRuntime) {
-    let alloc = rt.alloc();
-    let text = b"dn: dc=com\n\ndn: cn=a,";
-    let failing = Script::new(text).failing_from(2);
-    assert_first(&rt, alloc, failing, Ok(1), 1);
-    let failing = Script::new(text).failing_from(2);
-    assert_source(&rt, alloc, failing, "1 dn: dc=com||;L11 Read;L13 Ended;");
+    let failing = script(CUT, &[Way::FailingFrom(2)]);
+    assert_first(&rt, rt.alloc(), failing, Ok(1), 1);
 }
 
 #[test]

@@ -323,7 +323,7 @@ control: 1.2.840.113556.1.4.805 true
 changetype: delete
 ";
 
-const EXAMPLES: [(&str, &str); 6] = [
+static EXAMPLES: [(&str, &str); 6] = [
     (SIMPLE, SIMPLE_RECORDS),
     (FOLDED_VALUE, FOLDED_VALUE_RECORDS),
     (LANGUAGES, LANGUAGES_RECORDS),

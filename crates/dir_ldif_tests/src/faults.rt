@@ -6,7 +6,7 @@ use std::alloc::{AllocError, Global};
 use std::fmt::Display;
 use std::process::Abort;
 
-const OF_RECORDS: [(RecordFault, &str); 14] = [
+static OF_RECORDS: [(RecordFault, &str); 14] = [
     (RecordFault::BadLine, "L1 BadLine"),
     (RecordFault::BadBase64, "L2 BadBase64"),
     (RecordFault::UrlValue, "L3 UrlValue"),
@@ -29,7 +29,7 @@ const OF_RECORDS: [(RecordFault, &str); 14] = [
     (RecordFault::Name(NameFault::Memory), "L9 N6 Memory"),
 ];
 
-const OF_STREAMS: [(StreamFault, &str); 6] = [
+static OF_STREAMS: [(StreamFault, &str); 6] = [
     (StreamFault::LineTooLong, "L10 LineTooLong"),
     (StreamFault::Read, "L11 Read"),
     (StreamFault::Memory, "L12 Memory"),

@@ -15,7 +15,7 @@ fn a_long_line_ends_the_text(rt: HostRuntime) {
 }
 
 /// Lengths of values, and the fault of a record with such a value.
-const LENGTHS: [(usize, Option<RecordFault>); 2] = [
+static LENGTHS: [(usize, Option<RecordFault>); 2] = [
     (1_048_576, None),
     (1_048_577, Some(RecordFault::ValueTooLong)),
 ];
@@ -75,7 +75,7 @@ fn assert_too_long(rt: &impl Abort, alloc: Global, text: &[u8]) {
 
 /// The longest line of `x:: ` and a base64 text: one sign that is another than `A`, where it is, and the record's
 /// fault.
-const LONG_BASE64: [(usize, u8, RecordFault); 7] = [
+static LONG_BASE64: [(usize, u8, RecordFault); 7] = [
     (0, b'A', RecordFault::ValueTooLong),
     (0, b'*', RecordFault::BadBase64),
     (1023, b'=', RecordFault::BadBase64),

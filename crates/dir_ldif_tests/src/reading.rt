@@ -7,7 +7,8 @@ use dir_ldif::{Record, Script};
 use std::alloc::Global;
 use std::process::Abort;
 
-const TEXTS: [(&str, &str); 7] = [
+/// Texts, and what they read as: records, and faults with the lines of their records.
+static TEXTS: [(&str, &str); 36] = [
     ("", ""),
     ("\n\n# only\n \n", ""),
     (
@@ -27,21 +28,6 @@ const TEXTS: [(&str, &str); 7] = [
         "dn: cn=a\ncontrol: 1.2 true\nchangetype: delete\n",
         "1 L4 Control;",
     ),
-];
-
-#[test]
-fn texts_are_read(rt: HostRuntime) {
-    for (text, want) in &TEXTS {
-        assert_read(&rt, rt.alloc(), text, want);
-    }
-}
-
-/// Asserts what a text reads as.
-fn assert_read(rt: &impl Abort, alloc: Global, text: &str, want: &str) {
-    assert_source(rt, alloc, Script::new(text.as_bytes()), want);
-}
-
-const FAULTS: [(&str, &str); 29] = [
     ("version: 2\n", "L15 BadVersion;L13 Ended;"),
     ("VERSION:1\n\n", ""),
     ("version:: MQ==\n", "L15 BadVersion;L13 Ended;"),
@@ -99,10 +85,15 @@ const FAULTS: [(&str, &str); 29] = [
 ];
 
 #[test]
-fn faults_have_their_line(rt: HostRuntime) {
-    for (text, want) in &FAULTS {
+fn texts_are_read(rt: HostRuntime) {
+    for (text, want) in &TEXTS {
         assert_read(&rt, rt.alloc(), text, want);
     }
+}
+
+/// Asserts what a text reads as.
+fn assert_read(rt: &impl Abort, alloc: Global, text: &str, want: &str) {
+    assert_source(rt, alloc, Script::new(text.as_bytes()), want);
 }
 
 /// CR LF ends, a folded comment, folded values and base64, with a final line without its end.

@@ -8,15 +8,22 @@ use std::process::Abort;
 /// Asserts what a source's text reads as: the line of each record, and its text or its fault; then what ends the
 /// text. Each LF is a `|`.
 pub(crate) fn assert_source(rt: &impl Abort, alloc: Global, source: Script, want: &str) {
-    let schema = schema(rt, alloc);
-    let reader = RecordReader::new(alloc, &schema, source).expect(rt, "a reader");
-    assert_shown(rt, alloc, &shown(rt, alloc, reader), want);
+    assert_turns(rt, alloc, source, None, want);
 }
 
-/// Asserts the same of at most so many read calls.
-pub(crate) fn assert_turns(rt: &impl Abort, alloc: Global, source: Script, turns: u8, want: &str) {
+/// Asserts the same of at most so many read calls, if there is such a number.
+pub(crate) fn assert_turns(
+    rt: &impl Abort,
+    alloc: Global,
+    source: Script,
+    turns: Option<u8>,
+    want: &str,
+) {
     let schema = schema(rt, alloc);
-    let reader = RecordReader::with_turns(alloc, &schema, source, turns.into());
+    let reader = match turns {
+        Some(turns) => RecordReader::with_turns(alloc, &schema, source, turns.into()),
+        None => RecordReader::new(alloc, &schema, source),
+    };
     let reader = reader.expect(rt, "a reader");
     assert_shown(rt, alloc, &shown(rt, alloc, reader), want);
 }

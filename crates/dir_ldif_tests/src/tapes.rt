@@ -9,34 +9,28 @@ enum Step {
     Write(&'static str, Result<usize, DeviceFault>),
     WriteWhole(&'static str, Result<(), DeviceFault>),
     Flush(Result<(), DeviceFault>),
+    /// A text and a flush, by the tape that is lent.
+    Lent(&'static str, Result<(), DeviceFault>),
     Taken(&'static str),
     Flushed(&'static str),
 }
 
-fn assert_steps(rt: &impl Abort, tape: &mut Tape, steps: &[Step]) {
-    for step in steps {
-        assert_step(rt, tape, step);
-    }
+/// A tape, and what it does.
+struct Row {
+    /// At most 8 bytes.
+    room: usize,
+    pieces: Option<usize>,
+    failing_from: Option<u64>,
+    steps: &'static [Step],
 }
 
-fn assert_step(rt: &impl Abort, tape: &mut Tape, step: &Step) {
-    match step {
-        Step::Write(text, want) => assert!(rt; tape.write(text.as_bytes()) == *want),
-        Step::WriteWhole(text, want) => { assert!(rt; write_whole(tape, text.as_bytes()) == *want) }
-        Step::Flush(want) => assert!(rt; tape.flush() == *want),
-        Step::Taken(want) => assert!(rt; tape.as_slice() == want.as_bytes()),
-        Step::Flushed(want) => assert!(rt; tape.flushed() == want.as_bytes()),
-    }
-}
-
-#[test]
-fn tapes_take_pieces(rt: HostRuntime) {
-    let mut room = [0u8; 6];
-    let mut tape = Tape::new(&mut room).pieces(4);
-    assert_steps(
-        &rt,
-        &mut tape,
-        &[
+static ROWS: [Row; 6] = [
+    // A tape takes pieces.
+    Row {
+        room: 6,
+        pieces: Some(4),
+        failing_from: None,
+        steps: &[
             Step::Taken(""),
             Step::Write("abcdef", Ok(4)),
             Step::Flush(Ok(())),
@@ -45,82 +39,101 @@ fn tapes_take_pieces(rt: HostRuntime) {
             Step::Taken("abcdef"),
             Step::Flushed("abcd"),
         ],
-    );
-}
-
-#[test]
-fn tapes_take_and_stall(rt: HostRuntime) {
-    let mut room = [0u8; 8];
-    let mut tape = Tape::new(&mut room).pieces(3);
-    assert_steps(
-        &rt,
-        &mut tape,
-        &[
+    },
+    // It takes some, and stalls.
+    Row {
+        room: 8,
+        pieces: Some(3),
+        failing_from: None,
+        steps: &[
             Step::WriteWhole("abcdef", Ok(())),
             Step::Taken("abcdef"),
             Step::WriteWhole("ghi", Err(DeviceFault)),
             Step::Taken("abcdefgh"),
         ],
-    );
-}
-
-#[test]
-fn a_stalled_tape_takes_nothing(rt: HostRuntime) {
-    let mut room = [0u8; 6];
-    let mut stalled = Tape::new(&mut room).pieces(0);
-    assert_steps(
-        &rt,
-        &mut stalled,
-        &[
+    },
+    // A stalled tape takes nothing.
+    Row {
+        room: 6,
+        pieces: Some(0),
+        failing_from: None,
+        steps: &[
             Step::WriteWhole("", Ok(())),
             Step::WriteWhole("a", Err(DeviceFault)),
             Step::Taken(""),
         ],
-    );
-}
-
-#[test]
-fn writes_and_flushes_are_counted_together(rt: HostRuntime) {
-    let mut room = [0u8; 6];
-    let mut failing = Tape::new(&mut room).pieces(1).failing_from(3);
-    assert_steps(
-        &rt,
-        &mut failing,
-        &[
+    },
+    // Writes and flushes are counted together.
+    Row {
+        room: 6,
+        pieces: Some(1),
+        failing_from: Some(3),
+        steps: &[
             Step::Flush(Ok(())),
             Step::WriteWhole("ab", Err(DeviceFault)),
             Step::Flush(Err(DeviceFault)),
             Step::Taken("a"),
         ],
-    );
-}
-
-#[test]
-fn a_tape_fails_at_a_flush(rt: HostRuntime) {
-    let mut room = [0u8; 8];
-    let mut failing = Tape::new(&mut room).failing_from(2);
-    assert_steps(
-        &rt,
-        &mut failing,
-        &[
+    },
+    // A tape fails at a flush.
+    Row {
+        room: 8,
+        pieces: None,
+        failing_from: Some(2),
+        steps: &[
             Step::WriteWhole("abc", Ok(())),
             Step::Flush(Err(DeviceFault)),
             Step::Taken("abc"),
         ],
-    );
-}
+    },
+    // A lent tape is a sink.
+    Row {
+        room: 6,
+        pieces: Some(2),
+        failing_from: Some(5),
+        steps: &[
+            Step::Lent("abc", Ok(())),
+            Step::Flushed("abc"),
+            Step::Lent("d", Err(DeviceFault)),
+            Step::Taken("abcd"),
+            Step::Flushed("abc"),
+        ],
+    },
+];
 
 #[test]
-fn a_lent_sink_is_one(rt: HostRuntime) {
-    let mut room = [0u8; 6];
-    let mut tape = Tape::new(&mut room).pieces(2).failing_from(5);
-    assert_lent(&rt, &mut tape, "abc", Ok(()));
-    assert_steps(&rt, &mut tape, &[Step::Flushed("abc")]);
-    assert_lent(&rt, &mut tape, "d", Err(DeviceFault));
-    assert_steps(&rt, &mut tape, &[Step::Taken("abcd"), Step::Flushed("abc")]);
+fn tapes_take_what_they_have_room_for(rt: HostRuntime) {
+    for row in &ROWS {
+        assert_row(&rt, row);
+    }
 }
 
-/// Asserts what a lent tape answers to a text and a flush.
-fn assert_lent(rt: &impl Abort, tape: &mut Tape, text: &str, want: Result<(), DeviceFault>) {
-    assert!(rt; written(tape, text.as_bytes()) == want);
+fn assert_row(rt: &impl Abort, row: &Row) {
+    let mut room = [0u8; 8];
+    let mut tape = tape_of(&mut room[..row.room.min(8)], row);
+    for step in row.steps {
+        assert_step(rt, &mut tape, step);
+    }
+}
+
+fn tape_of<'a>(room: &'a mut [u8], row: &Row) -> Tape<'a> {
+    let mut tape = Tape::new(room);
+    if let Some(most) = row.pieces {
+        tape = tape.pieces(most);
+    }
+    if let Some(call) = row.failing_from {
+        tape = tape.failing_from(call);
+    }
+    tape
+}
+
+fn assert_step(rt: &impl Abort, tape: &mut Tape, step: &Step) {
+    match step {
+        Step::Write(text, want) => assert!(rt; tape.write(text.as_bytes()) == *want),
+        Step::WriteWhole(text, want) => { assert!(rt; write_whole(tape, text.as_bytes()) == *want) }
+        Step::Flush(want) => assert!(rt; tape.flush() == *want),
+        Step::Lent(text, want) => assert!(rt; written(tape, text.as_bytes()) == *want),
+        Step::Taken(want) => assert!(rt; tape.as_slice() == want.as_bytes()),
+        Step::Flushed(want) => assert!(rt; tape.flushed() == want.as_bytes()),
+    }
 }

@@ -10,7 +10,7 @@ use std::alloc::Global;
 use std::process::Abort;
 
 /// Texts of one record that is written as it was read. Each LF is a `|`.
-const TEXTS: [&str; 6] = [
+static TEXTS: [&str; 6] = [
     "dn: DC=Example,dc=com|DC: Example|objectClass: domain||",
     "dn: DC=Example,dc=com|changetype: delete||",
     "dn: cn=a,dc=com|changetype: add|cn: a|description:: IGxlYWQ=|note:|userPassword:: AP8=||",
@@ -139,7 +139,7 @@ fn line_of(rt: &impl Abort, alloc: Global, name: &[u8], length: usize) -> Vec<u8
 }
 
 /// Lengths of the value in a line `x: VALUE`, and the lengths of the first three physical lines.
-const FOLDED: [(usize, [usize; 3]); 4] = [
+static FOLDED: [(usize, [usize; 3]); 4] = [
     (73, [76, 0, 0]),
     (74, [76, 2, 0]),
     (148, [76, 76, 0]),
@@ -169,7 +169,7 @@ fn lengths_of_lines(text: &[u8]) -> [usize; 3] {
 }
 
 /// Values, and the lines of `note` that they are written as.
-const VALUES: [(&str, &str); 5] = [
+static VALUES: [(&str, &str); 5] = [
     ("", "note:\n"),
     (" lead", "note:: IGxlYWQ=\n"),
     ("<x", "note:: PHg=\n"),
@@ -192,7 +192,7 @@ fn assert_value_written(rt: &impl Abort, alloc: Global, value: &str, want: &str)
 
 /// What comes before the last byte of a value: with no padding, two signs of it, and one. The value is written in
 /// base64 for its first byte, where there is one before the last.
-const STARTS: [&[u8]; 4] = [b"\x80a", b"\x80ab", b"\x80", b""];
+static STARTS: [&[u8]; 4] = [b"\x80a", b"\x80ab", b"\x80", b""];
 
 #[test]
 fn values_of_each_last_byte_read_back(rt: HostRuntime) {
