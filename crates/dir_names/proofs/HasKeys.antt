@@ -29,7 +29,7 @@ all_some f (x ∷ xs) = by (f x) (option_collect f xs) ∙ ap (λ b. is_some (f 
     by (Some y) None = refl
     by (Some y) (Some ys) = refl
 
-all_reverse : {A : Type 0} (p : A → Bool) (xs : List A) → list_all p (reverse xs) ≡ list_all p xs
+pub all_reverse : {A : Type 0} (p : A → Bool) (xs : List A) → list_all p (reverse xs) ≡ list_all p xs
 all_reverse p [] = refl
 all_reverse p (x ∷ xs) = ap (list_all p) (reverse-append (x ∷ []) xs) ∙ list_all-append p (reverse xs) (x ∷ []) ∙ ap (λ b. b && (p x && true)) (all_reverse p xs) ∙ by (list_all p xs) (p x)
   where

@@ -14,6 +14,7 @@ use Rattle.dir_names.specs.Names.Reading.{name_of, name_within_limits, pieces, r
 use Rattle.dir_names.specs.Outcome.{ok_or_bad_dn}
 use Rattle.dir_names.specs.Results.{option_collect, option_cons}
 use Rattle.dir_names.specs.Table.Builtin.{builtin_rows}
+use Rattle.dir_names.specs.Types.Adding.{KeepsTypes}
 use Rattle.dir_names.proofs.Both.{left}
 use Rattle.dir_names.proofs.Collected.{collect_append, collect_length}
 use Rattle.dir_names.proofs.HasKeys.{has_each}
@@ -67,21 +68,21 @@ module _ (rows : List TypeRow) where
       ∙ ap ok_or_bad_dn (sym (child_key rest key leaf part e f))
 
   -- the same of a name by its first RDN
-  pub has_key_by_leaf : (name : SpelledName) (leaf : SpelledRdn) (key : DnKeys) → rows ≡ builtin_rows → slice_get name 0 ≡ Some leaf → IsKeyAbove name key → is_some (name_key rows name) ≡ is_some (rdn_key rows leaf)
-  has_key_by_leaf [] leaf key same first above = absurd above
-  has_key_by_leaf (x ∷ rest) leaf key same first above =
+  pub has_key_by_leaf : (name : SpelledName) (leaf : SpelledRdn) (key : DnKeys) → KeepsTypes builtin_rows rows → slice_get name 0 ≡ Some leaf → IsKeyAbove name key → is_some (name_key rows name) ≡ is_some (rdn_key rows leaf)
+  has_key_by_leaf [] leaf key keeps first above = absurd above
+  has_key_by_leaf (x ∷ rest) leaf key keeps first above =
       let is : x ≡ leaf = cc in
-      child_has_key x rest key (ap (λ r. name_key r rest) same ∙ above) ∙ ap (λ r. is_some (rdn_key rows r)) is
+      child_has_key x rest key (above rows keeps) ∙ ap (λ r. is_some (rdn_key rows r)) is
 
-  pub keyless_by_leaf : (name : SpelledName) (leaf : SpelledRdn) (key : DnKeys) → rows ≡ builtin_rows → slice_get name 0 ≡ Some leaf → IsKeyAbove name key → rdn_key rows leaf ≡ None → name_key rows name ≡ None
-  keyless_by_leaf [] leaf key same first above lacks = absurd above
-  keyless_by_leaf (x ∷ rest) leaf key same first above lacks =
+  pub keyless_by_leaf : (name : SpelledName) (leaf : SpelledRdn) (key : DnKeys) → KeepsTypes builtin_rows rows → slice_get name 0 ≡ Some leaf → IsKeyAbove name key → rdn_key rows leaf ≡ None → name_key rows name ≡ None
+  keyless_by_leaf [] leaf key keeps first above lacks = absurd above
+  keyless_by_leaf (x ∷ rest) leaf key keeps first above lacks =
       let is : x ≡ leaf = cc in
-      keyless_leaf x rest key (ap (λ r. name_key r rest) same ∙ above) (ap (rdn_key rows) is ∙ lacks)
+      keyless_leaf x rest key (above rows keeps) (ap (rdn_key rows) is ∙ lacks)
 
-  pub key_by_leaf : (name : SpelledName) (leaf : SpelledRdn) (key : DnKeys) (part : RdnKeys) → rows ≡ builtin_rows → slice_get name 0 ≡ Some leaf → IsKeyAbove name key → rdn_key rows leaf ≡ Some part → is_within_limits name ≡ true
+  pub key_by_leaf : (name : SpelledName) (leaf : SpelledRdn) (key : DnKeys) (part : RdnKeys) → KeepsTypes builtin_rows rows → slice_get name 0 ≡ Some leaf → IsKeyAbove name key → rdn_key rows leaf ≡ Some part → is_within_limits name ≡ true
       → cond (nat_lt (length key) 64) (Ok (key ++ part ∷ [])) (Err NameLimit) ≡ ok_or_bad_dn (name_key rows name)
-  key_by_leaf [] leaf key part same first above e within = absurd above
-  key_by_leaf (x ∷ rest) leaf key part same first above e within =
+  key_by_leaf [] leaf key part keeps first above e within = absurd above
+  key_by_leaf (x ∷ rest) leaf key part keeps first above e within =
       let is : x ≡ leaf = cc in
-      child_key_of x rest key part (ap (λ r. name_key r rest) same ∙ above) (ap (rdn_key rows) is ∙ e) within
+      child_key_of x rest key part (above rows keeps) (ap (rdn_key rows) is ∙ e) within

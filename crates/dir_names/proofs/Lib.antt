@@ -26,6 +26,8 @@ pub mod ReadNames
 pub mod ReadValues
 pub mod ReadsSpells
 pub mod Rfc4514
+pub mod ScopedNames
+pub mod Scopes
 pub mod ShortKeys
 pub mod SingleSpaces
 pub mod SortOrder

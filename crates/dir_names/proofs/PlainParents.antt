@@ -1,5 +1,5 @@
 -- A name that is read below a parent whose text is printed.
-use Rattle.std.proofs.Common.{◌≡◌, ℕ, ◌+◌, ◌-◌, ◌<◌, ◌≤◌, List, [], ◌∷◌, ◌++◌, length, take, drop, Some, refl, sym, ap, subst, ◌∙◌, arith, length-append}
+use Rattle.std.proofs.Common.{◌≡◌, ℕ, ◌+◌, ◌-◌, ◌<◌, ◌≤◌, List, [], ◌∷◌, ◌++◌, length, drop, Some, refl, sym, ap, ◌∙◌, arith, length-append}
 use Rattle.std.specs.Option.{option_map}
 use Rattle.std.proofs.Math.Seq.{drop-append_seam}
 use Rattle.std.proofs.lemmas.List.{append-nil}
@@ -9,7 +9,6 @@ use Rattle.dir_names.specs.Inside.SortKeys.{IsPlainRdn}
 use Rattle.dir_names.specs.Inside.SortTexts.{name_sort}
 use Rattle.dir_names.specs.NameKeys.{name_value_key}
 use Rattle.dir_names.specs.Names.{SpelledName}
-use Rattle.dir_names.specs.Names.Printing.{printed_name}
 use Rattle.dir_names.proofs.PlainNames.{IsReadFrom, before_name, last_read}
 
 before_is : (leaf : List ℕ) (done : SpelledName) → before_name leaf done ≡ leaf ++ after_leaf done

@@ -9,6 +9,7 @@ pub mod Parents
 pub mod PlainParents
 pub mod Ranks
 pub mod Rows
+pub mod Scopes
 pub mod ShortKeys
 pub mod SortKeys
 pub mod SortTexts

@@ -16,5 +16,6 @@ pub mod Outcome
 pub mod Results
 pub mod Sorted
 pub mod Table
+pub mod Types
 pub mod ValueKeys
 pub mod Values

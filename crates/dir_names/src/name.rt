@@ -1,8 +1,10 @@
 //! Names and RDNs as they are spelled (RFC 4514): read, printed, and turned into keys.
 
-ghost use Rattle.std.specs.Prelude.{◌≡◌, ◌≤◌, [], ◌∷◌, IfSome, cond, is_some, length, nat_le, nat_lt, Ok, Err, IsTrue, IsFalse, IfOk, IsErrOf};
+ghost use Rattle.std.specs.Prelude.{◌≡◌, ◌≤◌, [], ◌∷◌, IfSome, cond, is_some, length, nat_le, nat_lt, Ok, Err, IsTrue, IsFalse, IfOk, IsErrOf, true};
+ghost use Rattle.std.specs.List.{list_all};
 ghost use Rattle.dir_names.specs.Inside.Few.{few_items};
 ghost use Rattle.dir_names.specs.Inside.KnownKeys.{IsKeyAbove, IsKeyOf};
+ghost use Rattle.dir_names.specs.Inside.Scopes.{IsScopeOfName, names_builtin};
 ghost use Rattle.dir_names.specs.NameKeys.{pair_key, rdn_key, name_key};
 ghost use Rattle.dir_names.specs.Names.{name_eq, rdn_eq, name_eq_laws, rdn_eq_laws, partial_name_eq_laws, partial_rdn_eq_laws, SpelledRdn, SpelledName};
 ghost use Rattle.dir_names.specs.Outcome.{Gives};
@@ -26,6 +28,7 @@ use crate::limits::MAX_RDNS;
 use crate::list::few::Few;
 use crate::name::printing::{print_name, print_rdn};
 use crate::name::reading::{read_name, read_one_rdn};
+use crate::schema::scope::Scope;
 use crate::value::{has_text_key, text_key};
 use crate::{Bytes, DnKey, NameFault, RdnKey, Schema};
 use std::alloc::Global;
@@ -188,12 +191,37 @@ pub(crate) fn type_and_value_key(
     }
 }
 
+/// Where the types of these RDNs mean the same: under each schema, if all are built in.
+pub(crate) fn scope_of_rdns(schema: &Schema, rdns: &[Rdn]) -> Scope
+    ensures { IsScopeOfName result rdns.now }
+{
+    for rdn in rdns {
+        if !has_builtin_types(schema, rdn.pairs()) {
+            return Scope::ThisSchema;
+        }
+    }
+    Scope::EachSchema
+}
+
+/// Whether each of the types is known to be built in.
+fn has_builtin_types(schema: &Schema, pairs: &[(Bytes, Bytes)]) -> bool
+    ensures { result ≡ true → list_all (λ p. names_builtin p.0) pairs.now ≡ true }
+{
+    for pair in pairs {
+        if !schema.scope_of(pair.0.as_slice()).is_each_schema() {
+            return false;
+        }
+    }
+    true
+}
+
 /// A distinguished name as spelled: its RDNs, leaf first. It keeps neither the spaces around separators
 /// nor the choice of escapes.
 #[derive(Drop)]
 pub struct Dn {
     rdns: Vec<Rdn>,
-    /// The key of the parent, if the name was read below one that is remembered. All such names share it.
+    /// The key of the parent, if the name was read below one that is remembered. All such names share it. It is the key
+    /// under each schema: the types of the parent are built in.
     above: Option<Rc<DnKey>>,
 }
 
@@ -261,7 +289,7 @@ impl Dn {
     pub fn key(&self, alloc: Global, schema: &Schema) -> Result<DnKey, NameFault>
         ensures { Gives (λ key. key) result (ok_or_bad_dn (name_key schema.now self.now)) }
     {
-        schema.has_builtin_rows();
+        schema.keeps_builtin_types();
         match (self.rdns.as_slice().first(), self.key_above()) {
             (Some(leaf), Some(above)) => above.child(alloc, &leaf.key(alloc, schema)?),
             _ => self.key_of_rdns(alloc, schema),
@@ -294,7 +322,7 @@ impl Dn {
     pub fn has_key(&self, alloc: Global, schema: &Schema) -> Result<bool, NameFault>
         ensures { Gives (λ has. has) result (Ok (is_some (name_key schema.now self.now))) }
     {
-        schema.has_builtin_rows();
+        schema.keeps_builtin_types();
         match (self.rdns.as_slice().first(), self.key_above()) {
             (Some(leaf), Some(_)) => leaf.has_key(alloc, schema),
             _ => self.rdns_have_keys(alloc, schema),

@@ -1,18 +1,23 @@
-//! Attribute types, their names and their matching rules. `table` has those of the standards.
+//! Attribute types, their names and their matching rules. `table` has those of the standards, and `scope` says under
+//! which schemas a key is the same.
 
-ghost use Rattle.std.specs.Prelude.{◌≡◌, ◌<◌, ◌∷◌, All, IfErr, IfOk, IfSome, Ok, find, map, option_copied};
+ghost use Rattle.std.specs.Prelude.{◌≡◌, ◌<◌, ◌∷◌, All, IfErr, IfOk, IfSome, Ok, find, is_some, map, option_copied};
 ghost use Rattle.dir_names.specs.NameKeys.{attr_of};
 ghost use Rattle.dir_names.specs.Inside.Frequent.{IsFrequentSlot, IsFrequentDescription, IsFrequentType, IsRankedType};
-ghost use Rattle.dir_names.specs.Inside.Rows.{type_row};
+ghost use Rattle.dir_names.specs.Inside.Rows.{is_row_of, type_row};
+ghost use Rattle.dir_names.specs.Inside.Scopes.{IsScopeOf, names_builtin};
 ghost use Rattle.std.specs.List.{list_any};
 ghost use Rattle.std.specs.Str.{str_eq_ignore_ascii_case};
 ghost use Rattle.dir_names.specs.Orders.{bytes_eq};
 ghost use Rattle.dir_names.specs.Outcome.{Gives};
+ghost use Rattle.dir_names.specs.Table.{row_named};
 ghost use Rattle.dir_names.specs.Table.Builtin.{builtin_rows};
 
+pub(crate) mod scope;
 pub(crate) mod table;
 
 use crate::attribute::lowercase_bytes;
+use crate::schema::scope::Scope;
 use crate::schema::table::{FREQUENT, RANKED, ROWS, Row};
 use crate::{AttrKey, Bytes, Description, NameFault, Texts};
 use std::alloc::Global;
@@ -73,10 +78,19 @@ const SLOTS: usize = 256;
 
 /// What is known of a frequent type, so that it isn't looked up in the table.
 #[derive(Debug, Drop)]
-struct FrequentType {
+pub(crate) struct FrequentType {
     text: Bytes,
     description: Description,
-    rule: Rule,
+    pub(crate) rule: Rule,
+    pub(crate) scope: Scope,
+}
+
+impl FrequentType {
+    pub(crate) fn key(&self) -> &AttrKey
+        ensures { result.now ≡ self.now.description.key }
+    {
+        self.description.key()
+    }
 }
 
 impl Model for Schema {
@@ -97,6 +111,7 @@ impl Model for Schema {
 impl Schema {
     ghost use Rattle.dir_names.specs.Table.Builtin.{builtin_rows};
     ghost use Rattle.dir_names.specs.Table.{type_key_of, row_of, rule_of, single_of, is_known};
+    ghost use Rattle.dir_names.specs.Types.Adding.{KeepsTypes};
 
     /// The types of RFC 4519, 4524, 2798 and 2307 that this kit knows, and `objectClass` (RFC 4512,
     /// section 3.3).
@@ -122,10 +137,10 @@ impl Schema {
         })
     }
 
-    /// A law, for proofs: a schema has the built-in types, so that what is known under one holds under each other.
+    /// A law, for proofs: a schema has the built-in types, so that what rests on these alone holds under each.
     #[inline(always)]
-    pub(crate) fn has_builtin_rows(&self)
-        ensures { self.now ≡ builtin_rows }
+    pub(crate) fn keeps_builtin_types(&self)
+        ensures { KeepsTypes builtin_rows self.now }
     {
         let _rows = &self.rows;
     }
@@ -140,15 +155,36 @@ impl Schema {
         }
     }
 
+    /// What is known of the type that this text names, if it is a frequent one.
+    pub(crate) fn frequent_type(&self, text: &[u8]) -> Option<&FrequentType>
+        ensures frequent { IfSome result (λ frequent. IsFrequentType self.now frequent.now) }
+        ensures text { IfSome result (λ frequent. frequent.now.text ≡ text.now) }
+    {
+        let frequent = self.slot(text)?;
+        if frequent.text.as_slice() == text {
+            Some(frequent)
+        } else {
+            None
+        }
+    }
+
     /// The description of this text, if it is a frequent type.
     pub(crate) fn frequent(&self, text: &[u8]) -> Option<&Description>
         ensures { IfSome result (λ d. IsFrequentDescription self.now (text.now, d.now)) }
     {
-        let frequent = self.slot(text)?;
-        if frequent.text.as_slice() == text {
-            Some(&frequent.description)
-        } else {
-            None
+        match self.frequent_type(text) {
+            Some(frequent) => Some(&frequent.description),
+            None => None,
+        }
+    }
+
+    /// Where a type means the same: under each schema, if it is a frequent one and built in. Its case makes no difference.
+    pub(crate) fn scope_of(&self, attr_type: &[u8]) -> Scope
+        ensures { IsScopeOf result attr_type.now }
+    {
+        match self.slot(attr_type) {
+            Some(frequent) if is_same(frequent.text.as_slice(), attr_type) => frequent.scope,
+            _ => Scope::ThisSchema,
         }
     }
 
@@ -316,11 +352,63 @@ fn frequent_type(
         Ok(description) if *description.key() == attr => Ok(Some(FrequentType {
             text: Bytes::copy_of(alloc, text)?,
             rule: schema.rule(description.key()),
+            scope: scope_of_type(text),
             description,
         })),
         Err(NameFault::Memory) => Err(NameFault::Memory),
         _ => Ok(None),
     }
+}
+
+fn scope_of_type(text: &[u8]) -> Scope
+    ensures { IsScopeOf result text.now }
+{
+    if is_builtin(text) {
+        Scope::EachSchema
+    } else {
+        Scope::ThisSchema
+    }
+}
+
+/// Whether a text names a built-in type.
+fn is_builtin(text: &[u8]) -> bool
+    ensures { result ≡ names_builtin text.now }
+{
+    names_row(&ROWS, text)
+}
+
+fn names_row(rows: &[Row], text: &[u8]) -> bool
+    ensures { result ≡ is_some (row_named (map type_row rows.now) text.now) }
+{
+    is_in_rows(rows, text)
+}
+
+fn is_in_rows(rows: &[Row], text: &[u8]) -> bool
+    ensures { result ≡ list_any (is_row_of text.now) rows.now }
+{
+    for row in rows {
+        if is_row_of(row, text) {
+            return true;
+        }
+    }
+    false
+}
+
+fn is_row_of(row: &Row, text: &[u8]) -> bool
+    ensures { result ≡ is_row_of text.now row.now }
+{
+    is_same(row.name.as_bytes(), text) || is_one_of(row.others, text)
+}
+
+fn is_one_of(others: &[&str], text: &[u8]) -> bool
+    ensures { result ≡ list_any (λ other. str_eq_ignore_ascii_case other.now text.now) others.now }
+{
+    for other in others {
+        if is_same(other.as_bytes(), text) {
+            return true;
+        }
+    }
+    false
 }
 
 /// The types that have ranks.

@@ -6,6 +6,7 @@ use Rattle.dir_names.specs.declared.schema.TypeRow.{TypeRow}
 use Rattle.dir_names.specs.Described.{Described}
 use Rattle.dir_names.specs.Descriptions.{description_of}
 use Rattle.dir_names.specs.Inside.Ranks.{ranked_attr}
+use Rattle.dir_names.specs.Inside.Scopes.{IsScopeOf}
 use Rattle.dir_names.specs.NameKeys.{attr_of}
 use Rattle.dir_names.specs.Table.{rule_of, single_of}
 
@@ -13,9 +14,9 @@ use Rattle.dir_names.specs.Table.{rule_of, single_of}
 abbrev pub IsFrequentDescription : List TypeRow → List ℕ × Described → Type 0
 IsFrequentDescription rows p = (description_of rows p.0 ≡ Ok p.1) × (attr_of rows p.0 ≡ p.1.key)
 
--- and the rule of its values
+-- the rule of its values, and whether it is built in
 abbrev pub IsFrequentType : List TypeRow → FrequentType → Type 0
-IsFrequentType rows frequent = IsFrequentDescription rows (frequent.text, frequent.description) × (rule_of rows frequent.description.key ≡ frequent.rule)
+IsFrequentType rows frequent = IsFrequentDescription rows (frequent.text, frequent.description) × (rule_of rows frequent.description.key ≡ frequent.rule) × IsScopeOf frequent.scope frequent.text
 
 abbrev pub IsFrequentSlot : List TypeRow → Option FrequentType → Type 0
 IsFrequentSlot rows slot = IfSome slot (IsFrequentType rows)

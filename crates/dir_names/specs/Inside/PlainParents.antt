@@ -10,6 +10,8 @@ use Rattle.dir_names.specs.Names.{SpelledName}
 use Rattle.dir_names.specs.Names.Limits.{is_rdn_within_limit}
 use Rattle.dir_names.specs.Names.Printing.{printed_name}
 use Rattle.dir_names.specs.Names.Sound.{is_sound_name}
+use Rattle.dir_names.specs.Table.Builtin.{builtin_rows}
+use Rattle.dir_names.specs.Types.Adding.{KeepsTypes}
 
 -- what follows the leaf of a name that has this parent
 abbrev pub after_leaf : SpelledName → List ℕ
@@ -26,3 +28,7 @@ pub record IsPlainParent (rows : List TypeRow) (text sort : List ℕ) : Type 0 w
   pub within : list_all is_rdn_within_limit parent ≡ true
   pub keyed : name_key rows parent ≡ Some keys
   pub sorted : sort ≡ name_sort keys
+
+-- under each table that keeps the built-in types
+abbrev pub IsPlainParentEverywhere : List ℕ → List ℕ → Type 0
+IsPlainParentEverywhere text sort = (rows : List TypeRow) → KeepsTypes builtin_rows rows → IsPlainParent rows text sort

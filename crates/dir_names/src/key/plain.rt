@@ -6,6 +6,7 @@ ghost use Rattle.std.specs.List.{list_all};
 ghost use Rattle.std.specs.Prelude.{◌≡◌, ◌++◌, ◌∷◌, ◌&&◌, nat_lt, IfOk, IfSome, OnOk, Some, option_copied, option_map, true};
 ghost use Rattle.dir_names.specs.Ascii.{equals_sign};
 ghost use Rattle.dir_names.specs.Inside.PlainParents.{IsPlainParent};
+ghost use Rattle.dir_names.specs.Inside.Scopes.{HoldsWithin, IsScopeOf};
 ghost use Rattle.dir_names.specs.Inside.SortKeys.{IsKeyLowercase, IsPairPut, IsPlainRdn, with_piece};
 ghost use Rattle.dir_names.specs.Inside.SortTexts.{name_sort};
 ghost use Rattle.dir_names.specs.NameKeys.{name_value_key};
@@ -15,6 +16,7 @@ use crate::key::sorting::{put_lowercase_pair, put_set};
 use crate::limits::{MAX_RDN_TEXT, MAX_RDNS};
 use crate::name::printing::is_plain_value;
 use crate::name::type_and_value_key;
+use crate::schema::scope::Scope;
 use crate::value::spaces::has_no_extra_space;
 use crate::{NameFault, Rule, Schema};
 use std::alloc::Global;
@@ -29,23 +31,29 @@ pub(crate) fn put_plain_name(
 ) -> Result<(), NameFault>
     ensures { OnOk result (option_map name_sort (name_value_key schema.now value.now) ≡ Some out.new.items) }
 {
+    schema.keeps_builtin_types();
     match put_plain_parent(alloc, schema, value, out) {
-        Ok((leaf, _)) => put_plain_rdn(alloc, schema, leaf, out),
+        Ok((leaf, _above, _scope)) => match put_plain_rdn(alloc, schema, leaf, out) {
+            Ok(_of_leaf) => Ok(()),
+            Err(fault) => Err(fault),
+        },
         Err(fault) => Err(fault),
     }
 }
 
 /// Writes the text of the key of the parent of the name that a value spells, if it is plain, and answers the text of
-/// the leaf and the text after it.
+/// the leaf, the text after it, and the schemas under which it is that key.
 pub(crate) fn put_plain_parent<'a>(
     alloc: Global,
     schema: &Schema,
     value: &'a [u8],
     out: &mut Vec<u8>,
-) -> Result<(&'a [u8], &'a [u8]), NameFault>
-    ensures { IfOk result (λ cut. (value.now ≡ cut.0.now ++ cut.1.now) × IsPlainParent schema.now cut.1.now out.new.items) }
+) -> Result<(&'a [u8], &'a [u8], Scope), NameFault>
+    ensures { IfOk result (λ cut. (value.now ≡ cut.0.now ++ cut.1.now) × HoldsWithin cut.2 schema.now (λ rows. IsPlainParent rows cut.1.now out.new.items)) }
 {
+    schema.keeps_builtin_types();
     out.clear();
+    let mut scope = Scope::EachSchema;
     let mut rest = value;
     let mut room = MAX_RDNS;
     while room > 0 {
@@ -54,26 +62,30 @@ pub(crate) fn put_plain_parent<'a>(
         match before {
             Some(before) => {
                 match put_plain_rdn(alloc, schema, piece, out) {
-                    Ok(()) => (),
+                    Ok(of_rdn) => scope = scope.and(of_rdn),
                     Err(fault) => return Err(fault),
                 }
                 rest = before;
             }
-            None => return Ok(value.split_at(rest.len())),
+            None => {
+                let (leaf, above) = value.split_at(rest.len());
+                return Ok((leaf, above, scope));
+            }
         }
     }
     Err(NameFault::NameLimit)
 }
 
-/// Appends the text of the key of an RDN, if it is plain.
+/// Appends the text of the key of an RDN, if it is plain, and answers under which schemas it is that key.
 pub(crate) fn put_plain_rdn(
     alloc: Global,
     schema: &Schema,
     piece: &[u8],
     out: &mut Vec<u8>,
-) -> Result<(), NameFault>
-    ensures { OnOk result (IsPlainRdn schema.now piece.now out.old.items out.new.items) }
+) -> Result<Scope, NameFault>
+    ensures { IfOk result (λ scope. HoldsWithin scope schema.now (λ rows. IsPlainRdn rows piece.now out.old.items out.new.items)) }
 {
+    schema.keeps_builtin_types();
     let Some((attr_type, value)) = cut_at_equals(piece) else {
         return Err(NameFault::BadDn);
     };
@@ -87,20 +99,30 @@ pub(crate) fn put_plain_rdn(
     put_plain_pair(alloc, schema, attr_type, value, out)
 }
 
-/// Appends the text of the key of an RDN that has this pair alone.
+/// Appends the text of the key of an RDN that has this pair alone, and answers where the type means the same.
 fn put_plain_pair(
     alloc: Global,
     schema: &Schema,
     attr_type: &[u8],
     value: &[u8],
     out: &mut Vec<u8>,
-) -> Result<(), NameFault>
-    ensures { OnOk result (IsPairPut schema.now (attr_type.now, value.now) out.old.items out.new.items) }
+) -> Result<Scope, NameFault>
+    ensures put { OnOk result (IsPairPut schema.now (attr_type.now, value.now) out.old.items out.new.items) }
+    ensures scope { IfOk result (λ scope. IsScopeOf scope attr_type.now) }
 {
-    match schema.frequent(attr_type) {
-        Some(frequent) if is_key_lowercase(schema.rule(frequent.key()), value) =>
-            put_lowercase_pair(frequent.key(), value, out),
-        _ => put_any_pair(alloc, schema, attr_type, value, out),
+    match schema.frequent_type(attr_type) {
+        Some(frequent) if is_key_lowercase(frequent.rule, value) => match put_lowercase_pair(
+            frequent.key(),
+            value,
+            out,
+        ) {
+            Ok(()) => Ok(frequent.scope),
+            Err(fault) => Err(fault),
+        },
+        _ => match put_any_pair(alloc, schema, attr_type, value, out) {
+            Ok(()) => Ok(schema.scope_of(attr_type)),
+            Err(fault) => Err(fault),
+        },
     }
 }
 

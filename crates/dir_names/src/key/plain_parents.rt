@@ -1,13 +1,15 @@
-//! The parents of the names that were read as values. Of a name below one of them only the leaf is read.
+//! The parents of the names that were read as values. Of a name below one of them only the leaf is read. A parent is
+//! remembered only where its types are built in, so that its key is the same under each schema.
 
-ghost use Rattle.std.specs.Prelude.{◌≡◌, ◌++◌, IfSome, OnOk, Some, option_map};
-ghost use Rattle.dir_names.specs.Inside.PlainParents.{IsPlainParent};
+ghost use Rattle.std.specs.Prelude.{◌≡◌, ◌++◌, IfOk, IfSome, Some, option_map};
+ghost use Rattle.dir_names.specs.Inside.PlainParents.{IsPlainParentEverywhere};
+ghost use Rattle.dir_names.specs.Inside.Scopes.{HoldsWithin};
 ghost use Rattle.dir_names.specs.Inside.SortTexts.{name_sort};
 ghost use Rattle.dir_names.specs.NameKeys.{name_value_key};
-ghost use Rattle.dir_names.specs.Table.Builtin.{builtin_rows};
 
 use crate::key::plain::{put_plain_parent, put_plain_rdn};
 use crate::name::reader::hash_of;
+use crate::schema::scope::Scope;
 use crate::{NameFault, Schema};
 use std::alloc::Global;
 
@@ -51,7 +53,7 @@ struct Slot {
 pub(crate) struct PlainParent {
     text: Vec<u8>,
     sort_text: Vec<u8>,
-    ghost is_parent: { ∥ IsPlainParent builtin_rows text.items sort_text.items ∥₁ },
+    ghost is_parent: { ∥ IsPlainParentEverywhere text.items sort_text.items ∥₁ },
 }
 
 impl PlainParents {
@@ -81,21 +83,27 @@ impl PlainParents {
         }
     }
 
-    /// Does what `put_plain_name` does, and remembers the parent, which is not known yet.
+    /// Does what `put_plain_name` does, remembers the parent, which is not known yet, and answers under which schemas the
+    /// text is that of the key.
     pub(crate) fn put_plain_name(
         &mut self,
         alloc: Global,
         schema: &Schema,
         value: &[u8],
         out: &mut Vec<u8>,
-    ) -> Result<(), NameFault>
-        ensures { OnOk result (option_map name_sort (name_value_key schema.now value.now) ≡ Some out.new.items) }
+    ) -> Result<Scope, NameFault>
+        ensures { IfOk result (λ scope. HoldsWithin scope schema.now (λ rows. option_map name_sort (name_value_key rows value.now) ≡ Some out.new.items)) }
     {
-        schema.has_builtin_rows();
+        schema.keeps_builtin_types();
         match put_plain_parent(alloc, schema, value, out) {
-            Ok((leaf, above)) => {
-                self.remember(alloc, above, out.as_slice());
-                put_plain_rdn(alloc, schema, leaf, out)
+            Ok((leaf, above, scope)) => {
+                if scope.is_each_schema() {
+                    self.remember(alloc, above, out.as_slice());
+                }
+                match put_plain_rdn(alloc, schema, leaf, out) {
+                    Ok(of_leaf) => Ok(scope.and(of_leaf)),
+                    Err(fault) => Err(fault),
+                }
             }
             Err(fault) => Err(fault),
         }
@@ -104,7 +112,7 @@ impl PlainParents {
     /// Puts a parent into its slot, if it has RDNs and short texts, was sought there the last time too, and there is memory
     /// for it. The parent that is there stays at first.
     fn remember(&mut self, alloc: Global, text: &[u8], sort_text: &[u8])
-        requires { IsPlainParent builtin_rows text.now sort_text.now }
+        requires { IsPlainParentEverywhere text.now sort_text.now }
     {
         if text.is_empty() || text.len() > MOST_BYTES {
             return;
@@ -149,7 +157,7 @@ impl Slot {
 
 impl PlainParent {
     fn boxed(alloc: Global, text: &[u8], sort_text: &[u8]) -> Result<Box<PlainParent>, NameFault>
-        requires { IsPlainParent builtin_rows text.now sort_text.now }
+        requires { IsPlainParentEverywhere text.now sort_text.now }
     {
         let text = text.to_vec(alloc)?;
         let sort_text = sort_text.to_vec(alloc)?;
@@ -162,17 +170,18 @@ impl PlainParent {
         len.saturating_add(MARKS)
     }
 
-    /// Writes the text of the key of a child whose leaf has this text, if the leaf is plain.
+    /// Writes the text of the key of a child whose leaf has this text, if the leaf is plain, and answers under which schemas
+    /// it is that of the key.
     pub(crate) fn put_child(
         &self,
         alloc: Global,
         schema: &Schema,
         leaf: &[u8],
         out: &mut Vec<u8>,
-    ) -> Result<(), NameFault>
-        ensures { OnOk result (option_map name_sort (name_value_key schema.now (leaf.now ++ self.now.text.items)) ≡ Some out.new.items) }
+    ) -> Result<Scope, NameFault>
+        ensures { IfOk result (λ scope. HoldsWithin scope schema.now (λ rows. option_map name_sort (name_value_key rows (leaf.now ++ self.now.text.items)) ≡ Some out.new.items)) }
     {
-        schema.has_builtin_rows();
+        schema.keeps_builtin_types();
         out.clear();
         match out.extend_from_slice(self.sort_text.as_slice()) {
             Ok(()) => put_plain_rdn(alloc, schema, leaf, out),

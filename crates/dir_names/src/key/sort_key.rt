@@ -2,16 +2,19 @@
 
 ghost use Rattle.std.specs.Cmp.{partial_order_from_agreeing_total};
 ghost use Rattle.std.specs.Ordering.{as_partial_cmp};
-ghost use Rattle.std.specs.Prelude.{◌≡◌, ◌++◌, ◌∷◌, [], Ok, Some, option_map, refl};
+ghost use Rattle.std.specs.Prelude.{◌≡◌, ◌++◌, ◌∷◌, [], IfOk, Ok, Some, option_map, refl};
 ghost use Rattle.dir_names.specs.Orders.{dn_key_cmp, dn_key_eq, dn_key_cmp_total, dn_key_cmp_ties, tied_equiv, tied_per};
 ghost use Rattle.dir_names.specs.Outcome.{Gives, ok_or_bad_dn, ok_or_bad_value};
+ghost use Rattle.dir_names.specs.Inside.Scopes.{IsScopeOfValue};
 ghost use Rattle.dir_names.specs.Inside.SortTexts.{name_sort, rdn_sort};
 ghost use Rattle.dir_names.specs.NameKeys.{name_key, name_value_key, rdn_key};
+ghost use Rattle.dir_names.specs.Names.Reading.{name_within_limits};
 
 use crate::key::plain::{cut_at_first_comma, put_plain_name};
 use crate::key::plain_parents::{PlainParent, PlainParents};
 use crate::key::sorting::{put_part, put_set};
-use crate::name::pair_key;
+use crate::name::{pair_key, scope_of_rdns};
+use crate::schema::scope::Scope;
 use crate::{Bytes, Dn, DnKey, NameFault, Rdn, Schema};
 use std::alloc::Global;
 use std::cmp::Ordering;
@@ -92,14 +95,15 @@ impl DnSortKey {
         }
     }
 
-    /// `read`, by the parents of the names that were read before.
+    /// `read`, by the parents of the names that were read before, and the schemas under which this is the key.
     pub(crate) fn read_after(
         alloc: Global,
         schema: &Schema,
         value: &[u8],
         parents: &mut PlainParents,
-    ) -> Result<DnSortKey, NameFault>
-        ensures { Gives (λ key. key) result (ok_or_bad_value (name_value_key schema.now value.now)) }
+    ) -> Result<(DnSortKey, Scope), NameFault>
+        ensures key { Gives (λ read. read.0) result (ok_or_bad_value (name_value_key schema.now value.now)) }
+        ensures scope { IfOk result (λ read. IsScopeOfValue read.1 schema.now value.now) }
     {
         if let Some((leaf, above)) = cut_at_first_comma(value) {
             if let Some(parent) = parents.known_parent(above) {
@@ -116,26 +120,28 @@ impl DnSortKey {
         value: &[u8],
         leaf: &[u8],
         parent: &PlainParent,
-    ) -> Result<DnSortKey, NameFault>
+    ) -> Result<(DnSortKey, Scope), NameFault>
         requires { value.now ≡ leaf.now ++ parent.now.text.items }
-        ensures { Gives (λ key. key) result (ok_or_bad_value (name_value_key schema.now value.now)) }
+        ensures key { Gives (λ read. read.0) result (ok_or_bad_value (name_value_key schema.now value.now)) }
+        ensures scope { IfOk result (λ read. IsScopeOfValue read.1 schema.now value.now) }
     {
         let mut text = Vec::with_capacity(alloc, value.len().max(parent.child_sort_len(leaf)))?;
         text.extend_from_slice(value)?;
         let spelled = Snapshot::of(&text);
-        match put_child_name(alloc, schema, value, leaf, parent, &mut text) {
-            Ok(()) => (),
+        let scope = match put_child_name(alloc, schema, value, leaf, parent, &mut text) {
+            Ok(scope) => scope,
             Err(fault) => return Err(fault),
-        }
+        };
         text.shrink_to_fit();
-        DnSortKey::of(
+        let key = DnSortKey::of(
             alloc,
             SortText {
                 text,
                 schema: Snapshot::of(schema),
                 value: spelled,
             },
-        )
+        )?;
+        Ok((key, scope))
     }
 
     /// `read`, which remembers the parent of the name.
@@ -145,23 +151,26 @@ impl DnSortKey {
         schema: &Schema,
         value: &[u8],
         parents: &mut PlainParents,
-    ) -> Result<DnSortKey, NameFault>
-        ensures { Gives (λ key. key) result (ok_or_bad_value (name_value_key schema.now value.now)) }
+    ) -> Result<(DnSortKey, Scope), NameFault>
+        ensures key { Gives (λ read. read.0) result (ok_or_bad_value (name_value_key schema.now value.now)) }
+        ensures scope { IfOk result (λ read. IsScopeOfValue read.1 schema.now value.now) }
     {
         let mut text = Vec::with_capacity(alloc, sort_len(value))?;
         text.extend_from_slice(value)?;
         let spelled = Snapshot::of(&text);
-        match put_name_below(alloc, schema, value, parents, &mut text) {
-            Ok(()) => DnSortKey::of(
-                alloc,
-                SortText {
-                    text,
-                    schema: Snapshot::of(schema),
-                    value: spelled,
-                },
-            ),
-            Err(fault) => Err(fault),
-        }
+        let scope = match put_name_below(alloc, schema, value, parents, &mut text) {
+            Ok(scope) => scope,
+            Err(fault) => return Err(fault),
+        };
+        let key = DnSortKey::of(
+            alloc,
+            SortText {
+                text,
+                schema: Snapshot::of(schema),
+                value: spelled,
+            },
+        )?;
+        Ok((key, scope))
     }
 
     fn of(alloc: Global, kept: SortText) -> Result<DnSortKey, NameFault>
@@ -268,28 +277,33 @@ fn put_name(
     match put_plain_name(alloc, schema, value, out) {
         Ok(()) => Ok(()),
         Err(NameFault::Memory) => Err(NameFault::Memory),
-        Err(_) => put_any_name(alloc, schema, value, out),
+        Err(_) => match put_any_name(alloc, schema, value, out) {
+            Ok(_) => Ok(()),
+            Err(fault) => Err(fault),
+        },
     }
 }
 
-/// `put_name`, which remembers the parent of the name.
+/// `put_name`, which remembers the parent of the name, and answers under which schemas this is the key.
 fn put_name_below(
     alloc: Global,
     schema: &Schema,
     value: &[u8],
     parents: &mut PlainParents,
     out: &mut Vec<u8>,
-) -> Result<(), NameFault>
-    ensures { Gives (λ _. out.new.items) result (ok_or_bad_value (option_map name_sort (name_value_key schema.now value.now))) }
+) -> Result<Scope, NameFault>
+    ensures text { Gives (λ _. out.new.items) result (ok_or_bad_value (option_map name_sort (name_value_key schema.now value.now))) }
+    ensures scope { IfOk result (λ scope. IsScopeOfValue scope schema.now value.now) }
 {
+    schema.keeps_builtin_types();
     match parents.put_plain_name(alloc, schema, value, out) {
-        Ok(()) => Ok(()),
+        Ok(scope) => Ok(scope),
         Err(NameFault::Memory) => Err(NameFault::Memory),
-        Err(_) => put_any_name(alloc, schema, value, out),
+        Err(_) => put_unplain_name(alloc, schema, value, out),
     }
 }
 
-/// `put_name` of a leaf below a parent.
+/// `put_name` of a leaf below a parent, which answers under which schemas this is the key.
 fn put_child_name(
     alloc: Global,
     schema: &Schema,
@@ -297,29 +311,49 @@ fn put_child_name(
     leaf: &[u8],
     parent: &PlainParent,
     out: &mut Vec<u8>,
-) -> Result<(), NameFault>
+) -> Result<Scope, NameFault>
     requires { value.now ≡ leaf.now ++ parent.now.text.items }
-    ensures { Gives (λ _. out.new.items) result (ok_or_bad_value (option_map name_sort (name_value_key schema.now value.now))) }
+    ensures text { Gives (λ _. out.new.items) result (ok_or_bad_value (option_map name_sort (name_value_key schema.now value.now))) }
+    ensures scope { IfOk result (λ scope. IsScopeOfValue scope schema.now value.now) }
 {
+    schema.keeps_builtin_types();
     match parent.put_child(alloc, schema, leaf, out) {
-        Ok(()) => Ok(()),
+        Ok(scope) => Ok(scope),
         Err(NameFault::Memory) => Err(NameFault::Memory),
-        Err(_) => put_any_name(alloc, schema, value, out),
+        Err(_) => put_unplain_name(alloc, schema, value, out),
     }
 }
 
-/// `put_name` of a name that may be spelled in any way.
+/// `put_any_name`, which answers under which schemas this is the key.
+fn put_unplain_name(
+    alloc: Global,
+    schema: &Schema,
+    value: &[u8],
+    out: &mut Vec<u8>,
+) -> Result<Scope, NameFault>
+    ensures text { Gives (λ _. out.new.items) result (ok_or_bad_value (option_map name_sort (name_value_key schema.now value.now))) }
+    ensures scope { IfOk result (λ scope. IsScopeOfValue scope schema.now value.now) }
+{
+    schema.keeps_builtin_types();
+    match put_any_name(alloc, schema, value, out) {
+        Ok(name) => Ok(scope_of_rdns(schema, name.rdns())),
+        Err(fault) => Err(fault),
+    }
+}
+
+/// `put_name` of a name that may be spelled in any way. The name is answered.
 fn put_any_name(
     alloc: Global,
     schema: &Schema,
     value: &[u8],
     out: &mut Vec<u8>,
-) -> Result<(), NameFault>
-    ensures { Gives (λ _. out.new.items) result (ok_or_bad_value (option_map name_sort (name_value_key schema.now value.now))) }
+) -> Result<Dn, NameFault>
+    ensures text { Gives (λ _. out.new.items) result (ok_or_bad_value (option_map name_sort (name_value_key schema.now value.now))) }
+    ensures name { IfOk result (λ name. name_within_limits value.now ≡ Ok name) }
 {
     match Dn::read(alloc, value) {
         Ok(name) => match put_rdns(alloc, schema, name.rdns(), out) {
-            Ok(()) => Ok(()),
+            Ok(()) => Ok(name),
             Err(NameFault::Memory) => Err(NameFault::Memory),
             Err(_) => Err(NameFault::BadValue),
         },

@@ -10,6 +10,7 @@ ghost use Rattle.dir_names.specs.Outcome.{Gives};
 ghost use Rattle.dir_names.specs.Results.{option_collect};
 
 use crate::name::reading::{read_rdn_within_limit, split_once_unescaped};
+use crate::name::scope_of_rdns;
 use crate::{Dn, DnKey, NameFault, Schema};
 use std::alloc::Global;
 use std::rc::Rc;
@@ -218,16 +219,20 @@ struct KnownParent {
 }
 
 impl KnownParent {
-    /// Reads a parent by its text, which is not empty, if the parent is small enough to be remembered.
+    /// Reads a parent by its text, which is not empty, if the parent is small enough to be remembered, and its types are
+    /// built in: so its key is the same under each schema.
     fn read(alloc: Global, schema: &Schema, text: &[u8]) -> Result<Option<KnownParent>, NameFault>
         requires { 0 < length text.now }
         ensures { IfOk result (λ parent. IfSome parent (λ parent. parent.text.items ≡ text.now)) }
     {
-        schema.has_builtin_rows();
+        schema.keeps_builtin_types();
         if pairs_at_most(text) > MAX_PARENT_PAIRS {
             return Ok(None);
         }
         let name = Dn::read(alloc, text)?;
+        if !scope_of_rdns(schema, name.rdns()).is_each_schema() {
+            return Ok(None);
+        }
         let key = name.key(alloc, schema)?;
         if key.sort_text().len() > MAX_PARENT_KEY {
             return Ok(None);

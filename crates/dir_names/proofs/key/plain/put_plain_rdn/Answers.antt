@@ -1,12 +1,10 @@
-use Rattle.std.proofs.Common.{◌≡◌, true, nat_le, length, [], ◌∷◌, ◌++◌, sym, ap, ◌∙◌, arith, rules}
+use Rattle.std.proofs.Common.{◌≡◌, true, nat_le, length, ◌∷◌, ◌++◌, sym, ap, ◌∙◌, arith, rules}
 use Rattle.std.proofs.lemmas.Bool.Decides.{nat_tests}
-use Rattle.std.proofs.lemmas.Result.{on_ok_weaker}
-use Rattle.dir_names.specs.Inside.SortKeys.{IsPairPut}
 use Rattle.dir_names.specs.Names.{SpelledPair}
 use Rattle.dir_names.specs.Names.Printing.{printed_pair, printed_value}
 use Rattle.dir_names.specs.Names.Sound.{is_sound_pair}
 use Rattle.dir_names.proofs.PlainNames.{bytes_after, legal_pair}
-use Rattle.dir_names.proofs.SortedNames.{only_some}
+use Rattle.dir_names.proofs.ScopedNames.{rdn_within}
 use Rattle.dir_names.proofs.SoundLemmas.{are_bytes, bytes_from_fits}
 use Rattle.dir_names.proofs.key.plain.put_plain_rdn.Goals as goal
 
@@ -20,6 +18,4 @@ returns c =
     let value : are_bytes pair.1 ≡ true = bytes_after pair.0 pair.1 61 (ap are_bytes (sym cut) ∙ bytes) in
     let sound : is_sound_pair pair ≡ true = legal_pair pair.0 pair.1 (search rules) (search rules) value in
     let small : nat_le (length c.args.piece.now) 4096 ≡ true = grind (arith, nat_tests) in
-    on_ok_weaker c.put_plain_pair.result
-    (λ (put : IsPairPut c.args.schema.now pair c.args.out.now.items c.put_plain_pair.new.out.items). (pair, put.0 ∷ [], piece, sound, small, only_some c.args.schema.now pair put.0 put.1, put.2))
-    c.put_plain_pair.ensures
+    rdn_within c.args.schema.now c.keeps_builtin_types.ensures pair c.args.piece.now c.args.out.now.items c.put_plain_pair.new.out.items piece sound small c.put_plain_pair.result c.put_plain_pair.ensures.put c.put_plain_pair.ensures.scope

@@ -9,5 +9,5 @@ returns-in-Some-Some c =
     let rows = c.args.schema.now in
     let leaf = c.in-Some-Some.leaf.now in
     let first : slice_get c.args.self.now 0 ≡ Some leaf = search rules in
-    let same = has_key_by_leaf rows c.args.self.now leaf c.in-Some-Some.field-0-1.now c.has_builtin_rows.ensures first c.in-Some-Some.ensures' in
+    let same = has_key_by_leaf rows c.args.self.now leaf c.in-Some-Some.field-0-1.now c.keeps_builtin_types.ensures first c.in-Some-Some.ensures' in
     subst (λ (b : Bool). Gives (λ has. has) c.has_key.result (Ok b)) (sym same) c.has_key.ensures

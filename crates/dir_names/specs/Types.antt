@@ -1,0 +1,2 @@
+-- What two tables of attribute types have in common.
+pub mod Adding
