@@ -5,6 +5,7 @@ pub mod ByteFacts
 pub mod Collected
 pub mod Compared
 pub mod CutLemmas
+pub mod DefinitionSteps
 pub mod FindLemmas
 pub mod Given
 pub mod HasKeys

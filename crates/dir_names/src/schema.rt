@@ -10,6 +10,7 @@ ghost use Rattle.dir_names.specs.Orders.{bytes_eq};
 ghost use Rattle.dir_names.specs.Outcome.{Gives};
 ghost use Rattle.dir_names.specs.Table.Builtin.{builtin_rows};
 
+pub(crate) mod definition;
 pub(crate) mod table;
 
 use crate::attribute::lowercase_bytes;
