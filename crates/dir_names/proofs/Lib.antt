@@ -5,6 +5,7 @@ pub mod ByteFacts
 pub mod Collected
 pub mod Compared
 pub mod CutLemmas
+pub mod DefinitionReads
 pub mod DefinitionSteps
 pub mod FindLemmas
 pub mod Given
@@ -25,6 +26,7 @@ pub mod PrintedLengths
 pub mod RankLemmas
 pub mod ReadNames
 pub mod ReadValues
+pub mod ReadsDefinition
 pub mod ReadsSpells
 pub mod Rfc4514
 pub mod ShortKeys

@@ -1,6 +1,6 @@
 //! Definitions of attribute types, as schema files have them (RFC 4512, section 4.1.2).
 
-ghost use Rattle.std.specs.Prelude.{◌≡◌, Ok};
+ghost use Rattle.std.specs.Prelude.{◌≡◌, IfNone, IfOk, IfSome, Ok, Some};
 ghost use Rattle.dir_names.specs.Definitions.{definition_by, definition_in, definition_of};
 ghost use Rattle.dir_names.specs.Outcome.{Gives};
 
@@ -31,14 +31,26 @@ pub struct TypeDefinition {
 }
 
 impl TypeDefinition {
+    ghost use Rattle.dir_names.specs.Definitions.Grammar.{Defines};
+    ghost use Rattle.dir_names.specs.declared.schema.definition.TypeDefinition.{TypeDefinition};
+
     /// The definition that a text is: `None` if it is none. The one fault is `Memory`.
     pub fn read(alloc: Global, text: &[u8]) -> Result<Option<TypeDefinition>, NameFault>
-        ensures { Gives (λ definition. definition) result (Ok (definition_of text.now)) }
+        ensures value { Gives (λ definition. definition) result (Ok (definition_of text.now)) }
+        ensures defined { IfOk result (λ o. IfSome o (λ definition. Defines text.now definition)) }
+        ensures exact { (definition : TypeDefinition) → Defines text.now definition → Gives (λ read. read) result (Ok (Some definition)) }
+        ensures none { IfOk result (λ o. IfNone o ((definition : TypeDefinition) → Defines text.now definition → ⊥)) }
     {
-        match read_tokens(alloc, text)? {
-            Some(tokens) => definition_in(alloc, tokens.as_slice()),
-            None => Ok(None),
-        }
+        read_definition(alloc, text)
+    }
+}
+
+fn read_definition(alloc: Global, text: &[u8]) -> Result<Option<TypeDefinition>, NameFault>
+    ensures { Gives (λ definition. definition) result (Ok (definition_of text.now)) }
+{
+    match read_tokens(alloc, text)? {
+        Some(tokens) => definition_in(alloc, tokens.as_slice()),
+        None => Ok(None),
     }
 }
 
