@@ -28,6 +28,7 @@ pub mod ReadNames
 pub mod ReadValues
 pub mod ReadsDefinition
 pub mod ReadsSpells
+pub mod Rfc4512
 pub mod Rfc4514
 pub mod ShortKeys
 pub mod SingleSpaces
