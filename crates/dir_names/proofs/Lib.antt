@@ -5,6 +5,8 @@ pub mod ByteFacts
 pub mod Collected
 pub mod Compared
 pub mod CutLemmas
+pub mod DefinitionReads
+pub mod DefinitionSteps
 pub mod FindLemmas
 pub mod Given
 pub mod HasKeys
@@ -24,7 +26,9 @@ pub mod PrintedLengths
 pub mod RankLemmas
 pub mod ReadNames
 pub mod ReadValues
+pub mod ReadsDefinition
 pub mod ReadsSpells
+pub mod Rfc4512
 pub mod Rfc4514
 pub mod ScopedNames
 pub mod Scopes

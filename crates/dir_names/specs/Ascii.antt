@@ -4,6 +4,9 @@ use Rattle.std.specs.Prelude.{ℕ}
 abbrev pub nul : ℕ
 nul = 0
 
+abbrev pub tab : ℕ
+tab = 9
+
 abbrev pub line_feed : ℕ
 line_feed = 10
 
@@ -18,6 +21,15 @@ double_quote = 34
 
 abbrev pub sharp : ℕ
 sharp = 35
+
+abbrev pub quote : ℕ
+quote = 39
+
+abbrev pub left_parenthesis : ℕ
+left_parenthesis = 40
+
+abbrev pub right_parenthesis : ℕ
+right_parenthesis = 41
 
 abbrev pub plus : ℕ
 plus = 43

@@ -6,6 +6,7 @@ pub mod Frequent
 pub mod KnownKeys
 pub mod Left
 pub mod Parents
+pub mod PartsSoFar
 pub mod PlainParents
 pub mod Ranks
 pub mod Rows
@@ -15,3 +16,4 @@ pub mod SortKeys
 pub mod SortTexts
 pub mod Steps
 pub mod TidyRuns
+pub mod TokensSoFar

@@ -3,6 +3,7 @@ pub mod Attr
 pub mod Below
 pub mod Covers
 pub mod Cut
+pub mod Definitions
 pub mod Described
 pub mod Descriptions
 pub mod FaultText

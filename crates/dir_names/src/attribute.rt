@@ -369,7 +369,7 @@ fn are_keychars(text: &[u8]) -> bool
 }
 
 /// `numericoid`: two or more numbers, joined by dots.
-fn is_numericoid(text: &[u8]) -> bool
+pub(crate) fn is_numericoid(text: &[u8]) -> bool
     ensures { result ≡ is_numericoid text.now }
 {
     text.contains(&b'.') && are_numbers(Some(text))

@@ -22,6 +22,7 @@ pub use list::lines::Lines;
 pub use list::{Bytes, Texts};
 pub use name::reader::NameReader;
 pub use name::{Dn, Rdn};
+pub use schema::definition::TypeDefinition;
 pub use schema::{Rule, Schema};
 pub use value::ValueKey;
 pub use value::pieces::PiecePlace;

@@ -3,7 +3,7 @@
 
 ghost use Rattle.std.specs.Cmp.{partial_order_from_agreeing_total};
 ghost use Rattle.std.specs.Ordering.{as_partial_cmp};
-ghost use Rattle.std.specs.Prelude.{◌≡◌, Ok, refl};
+ghost use Rattle.std.specs.Prelude.{◌≡◌, ◌++◌, ◌∷◌, [], Ok, refl};
 ghost use Rattle.dir_names.specs.Orders.{bytes_cmp, bytes_eq, bytes_cmp_total, bytes_cmp_ties, texts_cmp, texts_eq, texts_cmp_total, texts_cmp_ties, tied_equiv, tied_per};
 ghost use Rattle.dir_names.specs.Outcome.{Gives};
 
@@ -123,6 +123,15 @@ impl Texts {
         ensures { result.now ≡ self.now }
     {
         self.items.as_slice()
+    }
+
+    /// The list with one text more at its end. The one fault is `Memory`.
+    pub(crate) fn with(self, text: Bytes) -> Result<Texts, NameFault>
+        ensures { Gives (λ t. t) result (Ok (self ++ text ∷ [])) }
+    {
+        let Texts { mut items } = self;
+        items.push(text)?;
+        Ok(Texts { items })
     }
 
     /// A copy whose list and texts have memory of their own. The one fault is `Memory`.

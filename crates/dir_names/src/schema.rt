@@ -13,6 +13,7 @@ ghost use Rattle.dir_names.specs.Outcome.{Gives};
 ghost use Rattle.dir_names.specs.Table.{row_named};
 ghost use Rattle.dir_names.specs.Table.Builtin.{builtin_rows};
 
+pub(crate) mod definition;
 pub(crate) mod scope;
 pub(crate) mod table;
 

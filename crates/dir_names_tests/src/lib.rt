@@ -5,6 +5,8 @@
 #[cfg(test)]
 mod copies;
 #[cfg(test)]
+mod definitions;
+#[cfg(test)]
 mod descriptions;
 #[cfg(test)]
 mod faults;
