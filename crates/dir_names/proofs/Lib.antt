@@ -6,7 +6,6 @@ pub mod Collected
 pub mod Compared
 pub mod CutLemmas
 pub mod FindLemmas
-pub mod Given
 pub mod HasKeys
 pub mod KeyLemmas
 pub mod KnownParents
