@@ -8,7 +8,6 @@ pub mod CutLemmas
 pub mod DefinitionReads
 pub mod DefinitionSteps
 pub mod FindLemmas
-pub mod Given
 pub mod HasKeys
 pub mod KeyLemmas
 pub mod KnownParents

@@ -184,13 +184,22 @@ fn rank_of(attr_type: &[u8], options: &[Bytes]) -> Option<u8>
     }
 }
 
-/// A place at which a text is among these.
+/// A place at which a text is among these, which are in order: by a binary search.
 fn place_of(texts: &[&str], text: &[u8]) -> Option<usize>
     ensures { IfSome result (λ at. IsTextAt (map (λ one. one.now) texts.now) text.now at) }
 {
-    for (at, one) in texts.iter().enumerate() {
-        if one.as_bytes() == text {
-            return Some(at);
+    let mut low = 0;
+    let mut high = texts.len();
+    while low < high {
+        let middle = low + (high - low) / 2;
+        let one = texts[middle].as_bytes();
+        if one == text {
+            return Some(middle);
+        }
+        if one < text {
+            low = middle + 1;
+        } else {
+            high = middle;
         }
     }
     None

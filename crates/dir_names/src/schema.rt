@@ -55,6 +55,19 @@ pub struct TypeRow {
     pub single: bool,
 }
 
+impl TypeRow {
+    fn try_clone(&self, alloc: Global) -> Result<TypeRow, NameFault>
+        ensures { Gives (λ row. row) result (Ok self.now) }
+    {
+        Ok(TypeRow {
+            key: self.key.try_clone(alloc)?,
+            names: self.names.try_clone(alloc)?,
+            rule: self.rule,
+            single: self.single,
+        })
+    }
+}
+
 /// The attribute types that are known. Values of any other type are compared byte by byte, and an
 /// attribute of it takes any number of them.
 #[derive(Debug, Drop)]
@@ -119,8 +132,23 @@ impl Schema {
     pub fn builtin(alloc: Global) -> Result<Schema, NameFault>
         ensures { Gives (λ schema. schema) result (Ok builtin_rows) }
     {
+        Schema::of(alloc, known_types(alloc)?)
+    }
+
+    /// A copy in memory of its own. The one fault is `Memory`.
+    pub fn try_clone(&self, alloc: Global) -> Result<Schema, NameFault>
+        ensures { Gives (λ schema. schema) result (Ok self.now) }
+    {
+        Schema::of(alloc, cloned_rows(alloc, self.rows.as_slice())?)
+    }
+
+    /// The schema of these rows, with its frequent and its ranked types.
+    fn of(alloc: Global, rows: Vec<TypeRow>) -> Result<Schema, NameFault>
+        requires { rows.items ≡ builtin_rows }
+        ensures { Gives (λ schema. schema) result (Ok rows.items) }
+    {
         let bare = Schema {
-            rows: known_types(alloc)?,
+            rows,
             frequent: Vec::new(alloc),
             ranked: Vec::new(alloc),
         };
@@ -437,6 +465,17 @@ fn ranked_type_of(schema: &Schema, attr: &AttrKey) -> Option<RankedType>
         rule: schema.rule(attr),
         single: schema.single(attr),
     })
+}
+
+/// Copies of the rows.
+fn cloned_rows(alloc: Global, rows: &[TypeRow]) -> Result<Vec<TypeRow>, NameFault>
+    ensures { Gives (λ copy. copy.items) result (Ok rows.now) }
+{
+    let mut copy = Vec::with_capacity(alloc, rows.len())?;
+    for row in rows {
+        copy.push(row.try_clone(alloc)?)?;
+    }
+    Ok(copy)
 }
 
 /// The types of the table.

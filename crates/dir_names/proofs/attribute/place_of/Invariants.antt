@@ -1,4 +1,8 @@
+use Rattle.std.proofs.Common.{◌≤◌, ◌-◌, length}
 use Rattle.dir_names.proofs.attribute.place_of.Given as goal
 
-abbrev pub invariant-loop-at : goal.invariant-loop-at
-invariant-loop-at l = Unit {0}
+abbrev pub invariant-loop-low : goal.invariant-loop-low
+invariant-loop-low l = l.high ≤ length l.texts
+
+abbrev pub decreases-loop-low : goal.decreases-loop-low
+decreases-loop-low l = l.high - l.low
