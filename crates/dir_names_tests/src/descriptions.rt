@@ -107,11 +107,11 @@ fn types_have_the_rules_of_their_standards(rt: HostRuntime) {
     }
 }
 
-/// The rule of a type, and whether it is single-valued.
+/// The rule of a type, and whether it is single-valued, by a copy of the built-in types.
 fn rule_of(rt: &impl Abort, alloc: Global, attr_type: &str) -> (Rule, bool) {
-    let schema = schema(rt, alloc);
+    let copy = schema(rt, alloc).try_clone(alloc).expect(rt, "memory");
     let key = attr_key(rt, alloc, attr_type);
-    (schema.rule(&key), schema.single(&key))
+    (copy.rule(&key), copy.single(&key))
 }
 
 /// Descriptions, and whether their type is known.
