@@ -2,6 +2,7 @@ pub mod AfterOperations
 pub mod AttributesBack
 pub mod Conditions
 pub mod Examples
+pub mod DistinctKeys
 pub mod ExchangedAttributes
 pub mod ExchangedInTurn
 pub mod ExchangedParts

@@ -3,6 +3,7 @@
 ghost use Rattle.std.specs.Prelude.{◌≡◌, ◌++◌, IfErr, IfOk, IfSome, IsTrue, OnOk, Some, [], ◌∷◌, map};
 ghost use Rattle.std.specs.Option.{option_map};
 ghost use Rattle.std.specs.FinMap as fin;
+ghost use Rattle.std.specs.List.Sorted.{IsPermutation};
 ghost use Rattle.dir_names.specs.Attr.{Attr};
 ghost use Rattle.dir_names.specs.Orders.{attr_cmp};
 ghost use Rattle.dir_names.specs.Sorted.{rises, set_of, with_member};
@@ -14,6 +15,10 @@ use dir_ldif::{Mod, ModOp};
 use dir_names::{AttrKey, Bytes, Description, Texts, ValueKey};
 use dir_tree::{Attribute, AttributeMap};
 use std::alloc::Global;
+
+/// The keys of more modifications than this are sorted before they are put together: then each comes after those before it, and
+/// moves none of them. Of fewer, it takes longer to sort them than to move some.
+const MANY_MODS: usize = 64;
 
 /// The modifications that lead from some attributes to others, at these keys. The values that an attribute
 /// keeps are not repeated.
@@ -38,9 +43,49 @@ pub(crate) fn named_keys(alloc: Global, mods: &[Mod]) -> Result<Vec<AttrKey>, Re
     ensures ok { IfOk result (λ keys. keys.items ≡ set_of attr_cmp (map (λ m. m.description.key) mods.now)) }
     ensures memory { IfErr result (λ e. e ≡ refusal.Memory) }
 {
+    if mods.len() > MANY_MODS {
+        return distinct_keys(alloc, sorted_keys(alloc, mods)?.as_slice());
+    }
     let mut keys = Vec::new(alloc);
     for m in mods {
         insert_key(alloc, &mut keys, m.description.key())?;
+    }
+    Ok(keys)
+}
+
+/// The keys that modifications name, sorted.
+fn sorted_keys(alloc: Global, mods: &[Mod]) -> Result<Vec<AttrKey>, Refusal>
+    ensures ok { IfOk result (λ keys. IsPermutation (map (λ m. m.description.key) mods.now) keys.items) }
+    ensures memory { IfErr result (λ e. e ≡ refusal.Memory) }
+{
+    let mut keys = keys_of(alloc, mods)?;
+    keys.sort_unstable();
+    Ok(keys)
+}
+
+/// The key of each modification.
+fn keys_of(alloc: Global, mods: &[Mod]) -> Result<Vec<AttrKey>, Refusal>
+    ensures ok { IfOk result (λ keys. keys.items ≡ map (λ m. m.description.key) mods.now) }
+    ensures memory { IfErr result (λ e. e ≡ refusal.Memory) }
+{
+    let mut keys = Vec::with_capacity(alloc, mods.len())?;
+    for m in mods {
+        let Ok(key) = m.description.key().try_clone(alloc) else {
+            return Err(Refusal::Memory);
+        };
+        keys.push(key)?;
+    }
+    Ok(keys)
+}
+
+/// These keys in order, each once.
+fn distinct_keys(alloc: Global, all: &[AttrKey]) -> Result<Vec<AttrKey>, Refusal>
+    ensures ok { IfOk result (λ keys. keys.items ≡ set_of attr_cmp all.now) }
+    ensures memory { IfErr result (λ e. e ≡ refusal.Memory) }
+{
+    let mut keys = Vec::new(alloc);
+    for key in all {
+        insert_key(alloc, &mut keys, key)?;
     }
     Ok(keys)
 }
