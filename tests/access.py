@@ -326,7 +326,7 @@ def read_config(data):
     return config
 
 
-# ---- notes: what a configuration that can be read says, and slapkit passes over or may take otherwise than slapd does
+# ---- notes: what a configuration that can be read and the words of a question say, and slapkit passes over or may take otherwise than slapd does
 
 
 CLASSES = "objectClass: only the classes that an entry lists are looked at"
@@ -389,6 +389,21 @@ def notes_of(data):
             is_passed_over = words[0].lower() in ("config", "monitor")
         told += "".join(f"slapkit: note: config, line {number}: {note}\n" for note in notes)
     return told if has_rule else told + NO_RULE
+
+
+def note_on_word(word):
+    """What is told of a word of a question: a line, if it asks for an attribute of an unknown type. A text that is no word has its fault alone."""
+    try:
+        asked, text, _ = word_asked(1, word)
+    except Fault:
+        return ""
+    notes = [] if isinstance(asked, Asked) else unknown_type(text)
+    return "".join(f'slapkit: note: word "{shown_text(word)}": {note}\n' for note in notes)
+
+
+def notes_on_words(words):
+    """What is told of the words of a question, in their order."""
+    return "".join(note_on_word(word) for word in words)
 
 
 # ---- rules
@@ -670,7 +685,7 @@ def access_answer(data, copy, question):
     notes = ""
     try:
         config = read_config(data)
-        notes = notes_of(data)
+        notes = notes_of(data) + notes_on_words(question.words)
         if question.is_strict and notes:
             raise Fault(HAS_NOTES)
         return 0, report_of(config, copy, question), notes

@@ -163,7 +163,7 @@ RULES = {
             f"include acl|{HEAD}access to attrs=gn,cn,entry,mail;x,foo;x|"
             "  filter=(&(1.2=a)(!(objectClass=a))(2.5.4.0>=1)(objectClass=*))|  by * read|database config|include b|access to *|"
         ),
-        [*OF_ROOT, Question("dc=com", is_strict=True)],
+        [*OF_ROOT, Question("dc=com", is_strict=True), Question("dc=com", None, ("gn/read:x", "cn", "foo;x"))],
     ),
     "a rule before the database": Rules(lines("access to * by * read|"), OF_ROOT[:1]),
     "a form that is not read": Rules(lines(HEAD + "access to * by peername.ip=127.0.0.1 read|"), OF_ROOT[:1]),

@@ -65,7 +65,7 @@ def the_manual_pages_have_the_codes(_):
 
 
 def notes_told(program):
-    """Each kind of note, and the fault where there are some, as the program tells them. What a configuration names stands in capitals."""
+    """Each kind of note, and the fault where there are some, as the program tells them. What a configuration or a word names stands in capitals."""
     told = []
     rules = "include FILE\naccess to attrs=X-DESCRIPTION filter=(objectClass=a) by * read\ndatabase config\naccess to *\n"
     with tempfile.TemporaryDirectory() as name:
@@ -73,17 +73,17 @@ def notes_told(program):
         (folder / "copy").write_text("")
         for more in (rules, ""):
             (folder / "conf").write_text(f"database mdb\nsuffix dc=com\n{more}")
-            words = [program, "slapacl", "--strict", "-b", "dc=com", "-f", folder / "conf", "--data", folder / "copy"]
+            words = [program, "slapacl", "--strict", "-b", "dc=com", "-f", folder / "conf", "--data", folder / "copy", "X-WORD"]
             told += subprocess.run(words, capture_output=True, text=True, timeout=60).stderr.splitlines()
-    return {re.sub(r"^slapkit: (note: )?", "", re.sub(r"line \d+", "line N", line)).replace("X-DESCRIPTION", "DESCRIPTION") for line in told}
+    return {re.sub(r"^slapkit: (note: )?", "", re.sub(r"line \d+", "line N", line)).replace("X-DESCRIPTION", "DESCRIPTION").replace('"X-WORD": unknown attribute "X-WORD"', '"WORD": unknown attribute "DESCRIPTION"') for line in told}
 
 
 def the_documents_have_the_notes(program):
     notes = notes_told(program)
-    expect(len(notes), 6, f"kinds of notes, and the fault: {notes}")
-    explained = set(re.findall(r"^\| `(config(?:, line N)?: [^`]*|not answered[^`]*)` \|", (ROOT / "docs/CODES.md").read_text(), re.M))
+    expect(len(notes), 7, f"kinds of notes, and the fault: {notes}")
+    explained = set(re.findall(r"^\| `(config(?:, line N)?: [^`]*|word \"[^`]*|not answered[^`]*)` \|", (ROOT / "docs/CODES.md").read_text(), re.M))
     expect(explained, notes, "explained by docs/CODES.md")
-    items = re.findall(r"^\.It ((?:config(?:, line N)?: (?!C\d)|not answered).*)", page_of("slapacl").replace("\\(dq", '"'), re.M)
+    items = re.findall(r"^\.It ((?:config(?:, line N)?: (?!C\d)|word \"|not answered).*)", page_of("slapacl").replace("\\(dq", '"'), re.M)
     expect(set(items), notes, "explained by the manual page")
 
 

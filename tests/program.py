@@ -532,6 +532,25 @@ def each_note_is_told(trial):
     expect(question_under(trial, RULED), (0, "dc: =rscxd\n", NO_RULE), "no rule")
 
 
+def a_word_of_an_unknown_type_has_a_note(trial):
+    named = f"{RULED}access to attrs=givenName,entry by * none\n{READ_BY_ALL}"
+    asked = ("gn/read", "ENTRY", "givenName", "entryUUID;x-a/write:gn", "Children", "2.5.4.42", "gn")
+    notes = [f'slapkit: note: word "{word}": unknown attribute "{kind}"\n' for word, kind in ((asked[0], "gn"), (asked[3], "entryUUID;x-a"), (asked[6], "gn"))]
+    report = "gn/read: ALLOWED\nENTRY: =0\ngivenName: =0\nentryUUID;x-a/write: DENIED\nChildren: =rscxd\n2.5.4.42: =0\ngn: =rscxd\ndc: =rscxd\n"
+    expect(question_under(trial, named, *asked), (0, report, "".join(notes)))
+    expect(question_under(trial, named, "--strict", *asked), (1, "", "".join(notes) + NOT_ANSWERED), "strict")
+    # words of known types, and what is no word, have none
+    expect(question_under(trial, named, "--strict", "cn/read", "entry", "children/none"), (0, "cn/read: ALLOWED\nentry: =0\nchildren/none: ALLOWED\ndc: =rscxd\n", ""))
+    expect(question_under(trial, named, "--strict", "gn/peek", "a b", "/read"), (1, "", "slapkit: bad question: word 1\n"))
+    # after the notes on the configuration, before the faults of the question and of the copy
+    told = noted((1, 'include "x" is not read')) + notes[0] + 'slapkit: note: word "foo:\\x1b[2J\u00fc": unknown attribute "foo"\n'
+    expect(question_under(trial, f"include x\n{named}", "gn/read", "foo:\x1b[2J\u00fc", "cn/peek"), (1, "", f"{told}slapkit: bad question: word 3\n"))
+    expect(question_under(trial, f"{RULED}access to x by * read\n", "gn"), (1, "", "slapkit: config, line 3: C2 Unsupported\n"))
+    with open("/dev/full", "wb") as full:
+        expect(question_under(trial, named, "gn", err=full), (1, "", ""))
+        expect(question_under(trial, named, "cn", err=full), (0, "cn: =rscxd\ndc: =rscxd\n", ""))
+
+
 def the_notes_on_classes_are_told(trial):
     # of any test but that of presence, by the name or the number of objectClass
     for test, is_noted in (
@@ -762,6 +781,7 @@ TRIALS = [
     a_question_of_a_missing_entry_needs_its_option,
     faults_of_questions_are_told,
     each_note_is_told,
+    a_word_of_an_unknown_type_has_a_note,
     the_notes_on_classes_are_told,
     a_configuration_without_notes_has_nothing_on_standard_error,
     notes_are_told_in_the_order_of_the_lines,

@@ -1,7 +1,7 @@
 #!/usr/bin/env python3
 """Asks OpenLDAP's slapacl and `slapkit slapacl` the same random questions under the same random rules, and compares the answers.
 
-usage: slapd_access.py PROGRAM [--seed S] [--sets N] [--keep FOLDER] [--any-word]
+usage: slapd_access.py PROGRAM [--seed S] [--sets N] [--keep FOLDER]
 
 It is outside the gate, and wants OpenLDAP's slapacl and slapadd with their schema files (Debian's package slapd). Each set of rules has
 5 questions, each of 20 words, so 200 sets have 20,000 answers. Half of the sets have rules of the forms that the kit reads, over the types
@@ -9,11 +9,11 @@ that it knows. Each of the others may have what wants a note: types that the kit
 among attributes, tests of objectClass, an include with a rule in it, a rule in the part of another database, or no rule at all.
 
 What else README.md names under "What differs from slapd's slapacl" is left out, but for rules that run out: each word asks for a level, and there
-slapacl decides as a running slapd does. So words name no type by a name that the built-in table lacks while it has the type, and no operational
-attribute that only slapd writes: no word has a note, and the answers differ. With --any-word these words are drawn too, and it fails.
+slapacl decides as a running slapd does. A word may ask for a type that the kit doesn't know: another name of a known one, or an operational
+attribute that only slapd writes. Such a word has a note.
 
-An answer may differ from slapd's, or slapd may refuse the rules, only where there was a note. Else it fails, and tells the rules and the question;
-and so it does where the notes are not those of access.py.
+An answer may differ from slapd's only where there was a note on the rules or on its word, and slapd may refuse the rules only where there was
+one on them. Else it fails, and tells the rules and the question; and so it does where the notes are not those of access.py.
 """
 import argparse
 import base64
@@ -26,7 +26,7 @@ import subprocess
 import sys
 import tempfile
 
-from access import notes_of
+from access import note_on_word, notes_of, notes_on_words
 
 SCHEMA = "/etc/ldap/schema"
 SCHEMAS = ("core", "cosine", "nis", "inetorgperson")
@@ -43,9 +43,8 @@ ALIASES = ("gn", "rfc822Mailbox", "stateOrProvinceName", "streetAddress", "fax")
 OTHERS = ("mobile", "employeeType", "name", "distinguishedName", "uniqueMember", "postalCode", "initials", "memberUid", "createTimestamp")
 MISSPELT = ("foo", "userPasswrd")
 CLASSES = ("posixAccount", "inetOrgPerson", "organizationalPerson", "person", "top", "groupOfNames", "domain")
-ASKED = (*TYPES, "objectClass", "mobile", "employeeType")
-# Words that slapd answers otherwise, without a note: names of known types that the kit doesn't know, and what nobody but slapd writes.
-ANSWERED_OTHERWISE = ("gn", "rfc822Mailbox", "streetAddress", "entryUUID", "createTimestamp")
+# What words ask for: of those that the kit doesn't know, types, other names of known ones, and what nobody but slapd writes.
+ASKED = ("entry", "children", "objectClass", *TYPES, "mobile", "employeeType", "gn", "rfc822Mailbox", "streetAddress", "entryUUID", "createTimestamp")
 GIVEN = ("Anna", "Björn", "Chen", "Dag", "Eve", "Farah", "Gül", "Hugo", "Ines", "Jörg", "Kim", "Lars")
 
 
@@ -213,13 +212,13 @@ def rules(rng, folder):
     return "".join(f"{line}\n" for line in lines)
 
 
-def words(rng, is_any):
-    kinds = ["entry", "children", *ASKED, *(ANSWERED_OTHERWISE if is_any else ())]
-    return [f"{rng.choice(kinds)}/{rng.choice(LEVELS)}" for _ in range(WORDS)]
+def words(rng):
+    return [f"{rng.choice(ASKED)}/{rng.choice(LEVELS)}" for _ in range(WORDS)]
 
 
+NOTED = ("without a note", "with a note on the word alone", "with a note on the rules")
 FAILURES = ("different without a note", "not answered by slapkit, or with other notes")
-COUNTED = ("sets of rules", "sets of rules with a note", "questions", "equal", "allowed", "refused by slapd", "different with a note", *FAILURES)
+COUNTED = ("sets of rules", "sets of rules with a note", "questions", "allowed", "refused by slapd", *(f"{kind}{how}" for how in NOTED for kind in ("", "equal ")), *FAILURES)
 
 
 # ---- the two tools
@@ -245,7 +244,7 @@ def answers(text):
     return [line.rsplit(": ", 1)[1] for line in text.splitlines() if line.endswith((": ALLOWED", ": DENIED"))]
 
 
-def compare(program, folder, rng, counts, is_any_word):
+def compare(program, folder, rng, counts):
     """Asks under one set of rules. Tells where the two differ without a note."""
     text = rules(rng, folder)
     theirs, ours = folder / "slapd.conf", folder / "slapkit.conf"
@@ -257,14 +256,15 @@ def compare(program, folder, rng, counts, is_any_word):
     for _ in range(QUESTIONS):
         base = rng.choice([SUFFIX, f"ou=staff,{SUFFIX}", *people(), *groups()])
         requester = rng.choice([None, *people(), f"uid=nobody,{SUFFIX}"])
-        wanted = words(rng, is_any_word)
+        wanted = words(rng)
+        told = notes + notes_on_words(wanted)
         slapd = asked(["slapacl"], theirs, None, base, requester, wanted)
         slapkit = asked([program, "slapacl"], ours, folder / "copy.ldif", base, requester, wanted)
         here, there = answers(slapkit.stdout), answers(slapd.stdout + slapd.stderr)
         counts["questions"] += len(wanted)
-        if slapkit.stderr != notes or slapkit.returncode or len(here) != len(wanted):
+        if slapkit.stderr != told or slapkit.returncode or len(here) != len(wanted):
             counts["not answered by slapkit, or with other notes"] += len(wanted)
-            print(f"{base}, asked by {requester}: {wanted}\n{slapkit.stdout}{slapkit.stderr}under\n{text}with these notes:\n{notes}", flush=True)
+            print(f"{base}, asked by {requester}: {wanted}\n{slapkit.stdout}{slapkit.stderr}under\n{text}with these notes:\n{told}", flush=True)
             continue
         if len(there) != len(wanted):
             there = ["REFUSED"] * len(wanted)
@@ -273,11 +273,10 @@ def compare(program, folder, rng, counts, is_any_word):
                 print(f"slapd: {slapd.stdout}{slapd.stderr}", flush=True)
         counts["allowed"] += there.count("ALLOWED")
         for word, mine, other in zip(wanted, here, there):
-            if mine == other:
-                counts["equal"] += 1
-            elif notes:
-                counts["different with a note"] += 1
-            else:
+            how = NOTED[2] if notes else NOTED[1] if note_on_word(word) else NOTED[0]
+            counts[how] += 1
+            counts[f"equal {how}"] += mine == other
+            if mine != other and how == NOTED[0]:
                 counts["different without a note"] += 1
                 print(f"{base}, asked by {requester}: {word} is {mine} by slapkit and {other} by slapd, under\n{text}", flush=True)
 
@@ -288,7 +287,6 @@ def main():
     parser.add_argument("--seed", type=int, default=1)
     parser.add_argument("--sets", type=int, default=200)
     parser.add_argument("--keep", metavar="FOLDER")
-    parser.add_argument("--any-word", action="store_true")
     args = parser.parse_args()
     if not shutil.which("slapacl", path=TOOLS):
         sys.exit("slapd_access.py: OpenLDAP's slapacl is not here (Debian's package slapd has it)")
@@ -303,7 +301,7 @@ def main():
             sys.exit(f"slapd_access.py: slapadd: {loaded.stderr}")
         counts = collections.Counter()
         for number in range(args.sets):
-            compare(os.path.abspath(args.program), folder, random.Random(f"{args.seed} {number}"), counts, args.any_word)
+            compare(os.path.abspath(args.program), folder, random.Random(f"{args.seed} {number}"), counts)
     for name in COUNTED:
         print(f"{counts[name]:9} {name}")
     sys.exit(1 if any(counts[name] for name in FAILURES) else 0)

@@ -19,4 +19,4 @@ complete -c slapkit -n '__fish_seen_subcommand_from slapacl' -l data -r -d "The 
 complete -c slapkit -n '__fish_seen_subcommand_from slapacl' -s D -x -d "The requester's name"
 complete -c slapkit -n '__fish_seen_subcommand_from slapacl' -s u -d "Do not look the entry up"
 complete -c slapkit -n '__fish_seen_subcommand_from slapacl' -s v -d "Report the requester's name first"
-complete -c slapkit -n '__fish_seen_subcommand_from slapacl' -l strict -d "Answer nothing where there is a note on the configuration"
+complete -c slapkit -n '__fish_seen_subcommand_from slapacl' -l strict -d "Answer nothing where there is a note on the configuration or a word"

@@ -1,5 +1,6 @@
 //! Notes on a configuration: what it says that is passed over here, or that is taken for something of its own, so that an answer
 //! may rest on what isn't known. `lines` goes through the lines, `words` through the words of a rule, and `filters` through a filter.
+//! A note on a word of a question has the same form; whoever reads the question makes it.
 
 ghost use Rattle.std.specs.Prelude.{◌++◌, ◌∷◌, [], Ok};
 ghost use Rattle.dir_acl.specs.Notes.{note_at, unknown_notes};
@@ -13,10 +14,10 @@ use crate::ConfigCause;
 use dir_names::{Bytes, Description, Schema};
 use std::alloc::Global;
 
-/// What a configuration says on a line that answers may rest on, and that isn't known or not looked at here.
+/// What a configuration says on a line, or a word of a question, that answers may rest on, and that isn't known or not looked at here.
 #[derive(Debug, Drop)]
 pub struct Note {
-    /// The number, from 1, of the line on which what is noted begins; 0 for `NoRule`.
+    /// The number, from 1, of the line on which what is noted begins; 0 for `NoRule` and `UnknownInWord`.
     pub line: u64,
     pub cause: NoteCause,
 }
@@ -36,6 +37,9 @@ pub enum NoteCause {
     OtherDatabase,
     /// No access rule was read, so everybody may read everything.
     NoRule,
+    /// This word of a question asks for the attribute of this description, of a type that the schema doesn't know: another name of a
+    /// type, or a type that only the server writes, may have other rules there. No configuration has this note.
+    UnknownInWord(Bytes, Bytes),
 }
 
 /// The notes with one more.

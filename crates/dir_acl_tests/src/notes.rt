@@ -154,6 +154,7 @@ fn is_told(cause: &NoteCause, told: &str, text: &[u8]) -> bool {
         NoteCause::ObjectClass => told == "class",
         NoteCause::OtherDatabase => told == "other database",
         NoteCause::NoRule => told == "no rule",
+        NoteCause::UnknownInWord(..) => false,
     }
 }
 

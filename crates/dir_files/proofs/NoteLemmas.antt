@@ -13,6 +13,7 @@ use Rattle.dir_tools.specs.declared.fault.Input.TheVariants as input
 use Rattle.dir_tools.specs.declared.fault.ToolFault.{ToolFault}
 use Rattle.dir_tools.specs.declared.fault.ToolFault.TheVariants as tool
 use Rattle.dir_tools.specs.AccessAnswers.{ComesAfterConfig, IsConfigFault}
+use Rattle.dir_files.specs.declared.words.AccessWords.{AccessWords}
 use Rattle.dir_files.specs.declared.fault.Fault.{Fault}
 use Rattle.dir_files.specs.declared.fault.Fault.TheVariants as fault
 use Rattle.dir_files.specs.AccessRuns.{IsEndOfNotes}
@@ -58,107 +59,110 @@ is_told text (tool.BadQuestion item) shown h is = absurd (h)
 is_told text (tool.BadChanges why) shown h is = absurd (h)
 is_told text tool.NoEntry shown h is = absurd (h)
 
-unread : (strict : Bool) (text : Option (List ℕ)) (e : ToolFault) → IsConfigFault builtin_rows text e → AreToldBefore strict text e []
-unread strict text (tool.Config why) h = refl
-unread strict text (tool.Read input.Config) h = refl
-unread strict text (tool.Read input.Copy) h = absurd (h)
-unread strict text (tool.Read input.Changes) h = absurd (h)
-unread strict text tool.Memory h = inl refl
-unread strict text (tool.Write to) h = absurd (h)
-unread strict text (tool.BadCopy line why) h = absurd (h)
-unread strict text (tool.BadQuestion item) h = absurd (h)
-unread strict text (tool.BadChanges why) h = absurd (h)
-unread strict text tool.NoEntry h = absurd (h)
+unread : (words : AccessWords) (text : Option (List ℕ)) (e : ToolFault) → IsConfigFault builtin_rows text e → AreToldBefore words text e []
+unread words text (tool.Config why) h = refl
+unread words text (tool.Read input.Config) h = refl
+unread words text (tool.Read input.Copy) h = absurd (h)
+unread words text (tool.Read input.Changes) h = absurd (h)
+unread words text tool.Memory h = inl refl
+unread words text (tool.Write to) h = absurd (h)
+unread words text (tool.BadCopy line why) h = absurd (h)
+unread words text (tool.BadQuestion item) h = absurd (h)
+unread words text (tool.BadChanges why) h = absurd (h)
+unread words text tool.NoEntry h = absurd (h)
 
-as_shown : (A : Type 0) (strict : Bool) (text : Option (List ℕ)) (notes : List Note) (e : ToolFault) (shown : Fault) → AreToldBefore strict text e notes → IsTool e shown → AreToldFor {A = A} strict text (Err shown) notes
-as_shown A strict text notes e (fault.Tool told) h is = subst (λ (f : ToolFault). AreToldBefore strict text f notes) (sym is) h
-as_shown A strict text notes e (fault.NoWords why) h is = absurd (is)
-as_shown A strict text notes e (fault.SamePath path) h is = absurd (is)
-as_shown A strict text notes e (fault.CannotOpen path) h is = absurd (is)
-as_shown A strict text notes e (fault.Exists path) h is = absurd (is)
-as_shown A strict text notes e fault.HasNotes h is = absurd (is)
-as_shown A strict text notes e fault.NotesUntold h is = absurd (is)
+as_shown : (A : Type 0) (words : AccessWords) (text : Option (List ℕ)) (notes : List Note) (e : ToolFault) (shown : Fault) → AreToldBefore words text e notes → IsTool e shown → AreToldFor {A = A} words text (Err shown) notes
+as_shown A words text notes e (fault.Tool told) h is = subst (λ (f : ToolFault). AreToldBefore words text f notes) (sym is) h
+as_shown A words text notes e (fault.NoWords why) h is = absurd (is)
+as_shown A words text notes e (fault.SamePath path) h is = absurd (is)
+as_shown A words text notes e (fault.CannotOpen path) h is = absurd (is)
+as_shown A words text notes e (fault.Exists path) h is = absurd (is)
+as_shown A words text notes e fault.HasNotes h is = absurd (is)
+as_shown A words text notes e fault.NotesUntold h is = absurd (is)
 
 -- no note is told
-pub none_told : (A : Type 0) (strict : Bool) (text : Option (List ℕ)) (e : ToolFault) (shown : Fault) (a : Option (List Note)) → IsConfigFault builtin_rows text e → IsRunFault e shown
-    → TellsFor {A = A} strict text (Err shown) a a
-none_told A strict text e shown a h is = ([], none_given a, as_shown A strict text [] e shown (unread strict text e h) (is_told text e shown h is))
+pub none_told : (A : Type 0) (words : AccessWords) (text : Option (List ℕ)) (e : ToolFault) (shown : Fault) (a : Option (List Note)) → IsConfigFault builtin_rows text e → IsRunFault e shown
+    → TellsFor {A = A} words text (Err shown) a a
+none_told A words text e shown a h is = ([], none_given a, as_shown A words text [] e shown (unread words text e h) (is_told text e shown h is))
 
 -- ---- a configuration that is read
 
-told_before : (strict : Bool) (text : Option (List ℕ)) (notes : List Note) (e : ToolFault) → ComesAfterConfig e → AreNotesOf text notes → MayBeAnswered strict notes → AreToldBefore strict text e notes
-told_before strict text notes (tool.Config why) h are may = absurd (h)
-told_before strict text notes (tool.Read input.Config) h are may = absurd (h)
-told_before strict text notes (tool.Read input.Copy) h are may = (are, may)
-told_before strict text notes (tool.Read input.Changes) h are may = (are, may)
-told_before strict text notes tool.Memory h are may = inr (are, may)
-told_before strict text notes (tool.Write to) h are may = (are, may)
-told_before strict text notes (tool.BadCopy line why) h are may = (are, may)
-told_before strict text notes (tool.BadQuestion item) h are may = (are, may)
-told_before strict text notes (tool.BadChanges why) h are may = (are, may)
-told_before strict text notes tool.NoEntry h are may = (are, may)
+told_before : (words : AccessWords) (text : Option (List ℕ)) (notes : List Note) (e : ToolFault) → ComesAfterConfig e → AreNotesOf words text notes → MayBeAnswered words.strict notes → AreToldBefore words text e notes
+told_before words text notes (tool.Config why) h are may = absurd (h)
+told_before words text notes (tool.Read input.Config) h are may = absurd (h)
+told_before words text notes (tool.Read input.Copy) h are may = (are, may)
+told_before words text notes (tool.Read input.Changes) h are may = (are, may)
+told_before words text notes tool.Memory h are may = inr (are, may)
+told_before words text notes (tool.Write to) h are may = (are, may)
+told_before words text notes (tool.BadCopy line why) h are may = (are, may)
+told_before words text notes (tool.BadQuestion item) h are may = (are, may)
+told_before words text notes (tool.BadChanges why) h are may = (are, may)
+told_before words text notes tool.NoEntry h are may = (are, may)
 
 -- they are told before the tool's answer
-pub all_told : {A : Type 0} (strict : Bool) (text : Option (List ℕ)) (notes : List Note) (result : Result A Fault) → IfErr result IsAfterConfig → AreNotesOf text notes → MayBeAnswered strict notes
-    → AreToldFor strict text result notes
-all_told strict text notes (Ok answer) h are may = (are, may)
-all_told strict text notes (Err (fault.Tool e)) h are may = told_before strict text notes e h are may
-all_told strict text notes (Err (fault.NoWords why)) h are may = absurd (h)
-all_told strict text notes (Err (fault.SamePath path)) h are may = absurd (h)
-all_told strict text notes (Err (fault.CannotOpen path)) h are may = absurd (h)
-all_told strict text notes (Err (fault.Exists path)) h are may = absurd (h)
-all_told strict text notes (Err fault.HasNotes) h are may = absurd (h)
-all_told strict text notes (Err fault.NotesUntold) h are may = absurd (h)
+pub all_told : {A : Type 0} (words : AccessWords) (text : Option (List ℕ)) (notes : List Note) (result : Result A Fault) → IfErr result IsAfterConfig → AreNotesOf words text notes → MayBeAnswered words.strict notes
+    → AreToldFor words text result notes
+all_told words text notes (Ok answer) h are may = (are, may)
+all_told words text notes (Err (fault.Tool e)) h are may = told_before words text notes e h are may
+all_told words text notes (Err (fault.NoWords why)) h are may = absurd (h)
+all_told words text notes (Err (fault.SamePath path)) h are may = absurd (h)
+all_told words text notes (Err (fault.CannotOpen path)) h are may = absurd (h)
+all_told words text notes (Err (fault.Exists path)) h are may = absurd (h)
+all_told words text notes (Err fault.HasNotes) h are may = absurd (h)
+all_told words text notes (Err fault.NotesUntold) h are may = absurd (h)
 
 -- they end the run
-pub ended : (A : Type 0) (strict : Bool) (text : Option (List ℕ)) (notes : List Note) (e : Fault) → IsEndOfNotes strict e → AreNotesOf text notes → notes ≢ [] → AreToldFor {A = A} strict text (Err e) notes
-ended A strict text notes fault.HasNotes h are some = (are, some, h)
-ended A strict text notes fault.NotesUntold h are some = (are, some)
-ended A strict text notes (fault.Tool e) h are some = absurd (h)
-ended A strict text notes (fault.NoWords why) h are some = absurd (h)
-ended A strict text notes (fault.SamePath path) h are some = absurd (h)
-ended A strict text notes (fault.CannotOpen path) h are some = absurd (h)
-ended A strict text notes (fault.Exists path) h are some = absurd (h)
+pub ended : (A : Type 0) (words : AccessWords) (text : Option (List ℕ)) (notes : List Note) (e : Fault) → IsEndOfNotes words.strict e → AreNotesOf words text notes → notes ≢ [] → AreToldFor {A = A} words text (Err e) notes
+ended A words text notes fault.HasNotes h are some = (are, some, h)
+ended A words text notes fault.NotesUntold h are some = (are, some)
+ended A words text notes (fault.Tool e) h are some = absurd (h)
+ended A words text notes (fault.NoWords why) h are some = absurd (h)
+ended A words text notes (fault.SamePath path) h are some = absurd (h)
+ended A words text notes (fault.CannotOpen path) h are some = absurd (h)
+ended A words text notes (fault.Exists path) h are some = absurd (h)
 
 -- ---- the text, where the file system tells its calls until the end
 
-unknown_before : (strict : Bool) (text : Option (List ℕ)) (notes : List Note) (e : ToolFault) → AreToldBefore strict text e notes → AreToldBefore strict None e notes
-unknown_before strict text notes (tool.Config why) h = h
-unknown_before strict text notes (tool.Read input.Config) h = h
-unknown_before strict text notes (tool.Read input.Copy) h = (tt, h.1)
-unknown_before strict text notes (tool.Read input.Changes) h = (tt, h.1)
-unknown_before strict text notes tool.Memory (inl none) = inl none
-unknown_before strict text notes tool.Memory (inr h) = inr (tt, h.1)
-unknown_before strict text notes (tool.Write to) h = (tt, h.1)
-unknown_before strict text notes (tool.BadCopy line why) h = (tt, h.1)
-unknown_before strict text notes (tool.BadQuestion item) h = (tt, h.1)
-unknown_before strict text notes (tool.BadChanges why) h = (tt, h.1)
-unknown_before strict text notes tool.NoEntry h = (tt, h.1)
+unknown_text : (words : AccessWords) (text : Option (List ℕ)) (notes : List Note) → AreNotesOf words text notes → AreNotesOf words None notes
+unknown_text words text notes h = record { found = h.found; read = tt; all = h.all }
 
-unknown : {A : Type 0} (strict : Bool) (text : Option (List ℕ)) (notes : List Note) (result : Result A Fault) → AreToldFor strict text result notes → AreToldFor strict None result notes
-unknown strict text notes (Ok answer) h = (tt, h.1)
-unknown strict text notes (Err fault.HasNotes) h = (tt, h.1, h.2)
-unknown strict text notes (Err fault.NotesUntold) h = (tt, h.1)
-unknown strict text notes (Err (fault.Tool e)) h = unknown_before strict text notes e h
-unknown strict text notes (Err (fault.NoWords why)) h = h
-unknown strict text notes (Err (fault.SamePath path)) h = h
-unknown strict text notes (Err (fault.CannotOpen path)) h = h
-unknown strict text notes (Err (fault.Exists path)) h = h
+unknown_before : (words : AccessWords) (text : Option (List ℕ)) (notes : List Note) (e : ToolFault) → AreToldBefore words text e notes → AreToldBefore words None e notes
+unknown_before words text notes (tool.Config why) h = h
+unknown_before words text notes (tool.Read input.Config) h = h
+unknown_before words text notes (tool.Read input.Copy) h = (unknown_text words text notes h.0, h.1)
+unknown_before words text notes (tool.Read input.Changes) h = (unknown_text words text notes h.0, h.1)
+unknown_before words text notes tool.Memory (inl none) = inl none
+unknown_before words text notes tool.Memory (inr h) = inr (unknown_text words text notes h.0, h.1)
+unknown_before words text notes (tool.Write to) h = (unknown_text words text notes h.0, h.1)
+unknown_before words text notes (tool.BadCopy line why) h = (unknown_text words text notes h.0, h.1)
+unknown_before words text notes (tool.BadQuestion item) h = (unknown_text words text notes h.0, h.1)
+unknown_before words text notes (tool.BadChanges why) h = (unknown_text words text notes h.0, h.1)
+unknown_before words text notes tool.NoEntry h = (unknown_text words text notes h.0, h.1)
+
+unknown : {A : Type 0} (words : AccessWords) (text : Option (List ℕ)) (notes : List Note) (result : Result A Fault) → AreToldFor words text result notes → AreToldFor words None result notes
+unknown words text notes (Ok answer) h = (unknown_text words text notes h.0, h.1)
+unknown words text notes (Err fault.HasNotes) h = (unknown_text words text notes h.0, h.1, h.2)
+unknown words text notes (Err fault.NotesUntold) h = (unknown_text words text notes h.0, h.1)
+unknown words text notes (Err (fault.Tool e)) h = unknown_before words text notes e h
+unknown words text notes (Err (fault.NoWords why)) h = h
+unknown words text notes (Err (fault.SamePath path)) h = h
+unknown words text notes (Err (fault.CannotOpen path)) h = h
+unknown words text notes (Err (fault.Exists path)) h = h
 
 -- before a file was read there is no note
-pub none_yet : (A : Type 0) (strict : Bool) (text : Option (List ℕ)) (e : Fault) (a : Option (List Note)) → AreToldFor {A = A} strict text (Err e) [] → TellsFor {A = A} strict text (Err e) a a
-none_yet A strict text e a h = ([], none_given a, h)
+pub none_yet : (A : Type 0) (words : AccessWords) (text : Option (List ℕ)) (e : Fault) (a : Option (List Note)) → AreToldFor {A = A} words text (Err e) [] → TellsFor {A = A} words text (Err e) a a
+none_yet A words text e a h = ([], none_given a, h)
 
 -- what is said of the text that the reader of the configuration had is said of that at its path
-pub told_at : {A : Type 0} (strict : Bool) (path other : List ℕ) (result : Result A Fault) (P : Disk → List Call → Type 0) (a b c e : Option Disk) (text : Option (List ℕ)) (g g' : Option (List Note))
+pub told_at : {A : Type 0} (words : AccessWords) (path other : List ℕ) (result : Result A Fault) (P : Disk → List Call → Type 0) (a b c e : Option Disk) (text : Option (List ℕ)) (g g' : Option (List Note))
     → Told a b (opens path None) → Told b c (opens other None) → Made c e P → IfSome b (λ d. text ≡ d.text_at path)
-    → TellsFor strict text result g g' → TellsFor strict (told_text a e path) result g g'
-told_at strict path other result P None b c e text g g' first second made is h = (h.0, h.1, unknown strict text h.0 result h.2)
-told_at strict path other result P (Some d) b c None text g g' first second made is h = (h.0, h.1, unknown strict text h.0 result h.2)
-told_at strict path other result P (Some d) b None (Some last) text g g' first second made is h = absurd (made)
-told_at strict path other result P (Some d) None (Some next) (Some last) text g g' first second made is h = absurd (second)
-told_at strict path other result P (Some d) (Some opened) (Some next) (Some last) text g g' first second made is h =
-    subst (λ (t : Option (List ℕ)). TellsFor strict t result g g') (is ∙ ap (λ (x : Disk). x.text_at path) first) h
+    → TellsFor words text result g g' → TellsFor words (told_text a e path) result g g'
+told_at words path other result P None b c e text g g' first second made is h = (h.0, h.1, unknown words text h.0 result h.2)
+told_at words path other result P (Some d) b c None text g g' first second made is h = (h.0, h.1, unknown words text h.0 result h.2)
+told_at words path other result P (Some d) b None (Some last) text g g' first second made is h = absurd (made)
+told_at words path other result P (Some d) None (Some next) (Some last) text g g' first second made is h = absurd (second)
+told_at words path other result P (Some d) (Some opened) (Some next) (Some last) text g g' first second made is h =
+    subst (λ (t : Option (List ℕ)). TellsFor words t result g g') (is ∙ ap (λ (x : Disk). x.text_at path) first) h
 
 -- ---- a teller that didn't fail
 

@@ -1,25 +1,32 @@
--- The texts of the notes on a configuration.
+-- The texts of the notes on a configuration and on a question.
 use Rattle.std.specs.Prelude.{ℕ, List, ◌++◌, codes, cond}
 use Rattle.std.specs.Fmt.{decimal}
 use Rattle.std.specs.Str.{is_utf8}
 use Rattle.dir_acl.specs.declared.note.Note.{Note}
 use Rattle.dir_acl.specs.declared.note.NoteCause.{NoteCause}
-use Rattle.dir_acl.specs.declared.note.NoteCause.TheVariants.{Include, UnknownType, ObjectClass, OtherDatabase, NoRule}
+use Rattle.dir_acl.specs.declared.note.NoteCause.TheVariants.{Include, UnknownType, ObjectClass, OtherDatabase, NoRule, UnknownInWord}
 use Rattle.dir_files.specs.Escape.{escaped}
 
--- a text of the configuration, its control characters escaped
+-- a text of the configuration or of the question, its control characters escaped
 abbrev pub shown_bytes : List ℕ → List ℕ
 shown_bytes bytes = cond (is_utf8 bytes) (escaped bytes) (codes "(not UTF-8)")
 
 abbrev pub place_text : ℕ → List ℕ
 place_text line = codes "note: config, line " ++ decimal line ++ codes ": "
 
+abbrev pub unknown_text : List ℕ → List ℕ
+unknown_text description = codes "unknown attribute \"" ++ shown_bytes description ++ codes "\""
+
+abbrev pub word_text : List ℕ → List ℕ
+word_text word = codes "note: word \"" ++ shown_bytes word ++ codes "\": "
+
 abbrev pub noted_text : ℕ → NoteCause → List ℕ
 noted_text line (Include file) = place_text line ++ (codes "include \"" ++ shown_bytes file ++ codes "\" is not read")
-noted_text line (UnknownType description) = place_text line ++ (codes "unknown attribute \"" ++ shown_bytes description ++ codes "\"")
+noted_text line (UnknownType description) = place_text line ++ unknown_text description
 noted_text line ObjectClass = place_text line ++ codes "objectClass: only the classes that an entry lists are looked at"
 noted_text line OtherDatabase = place_text line ++ codes "access rule of database config or monitor is passed over"
 noted_text line NoRule = codes "note: config: no access rule, so everybody may read"
+noted_text line (UnknownInWord word description) = word_text word ++ unknown_text description
 
 -- a note, as it stands after the program's name
 abbrev pub note_text : Note → List ℕ

@@ -8,8 +8,11 @@ use Rattle.dir_tools.specs.declared.fault.Input.TheVariants as input
 use Rattle.dir_tools.specs.declared.fault.ToolFault.{ToolFault}
 use Rattle.dir_tools.specs.declared.fault.ToolFault.TheVariants as tool
 use Rattle.dir_tools.specs.AccessAnswers.{ComesAfterConfig}
+use Rattle.dir_tools.specs.WordNotes.{notes_on_words}
+use Rattle.dir_files.specs.declared.words.AccessWords.{AccessWords}
 use Rattle.dir_files.specs.declared.fault.Fault.{Fault}
 use Rattle.dir_files.specs.declared.fault.Fault.TheVariants.{HasNotes, NotesUntold, Tool}
+use Rattle.dir_files.specs.AccessRuns.{asked_for}
 use Rattle.dir_files.specs.Files.{Disk}
 
 -- a teller was given these notes, and no others; where it says afterwards what it was given, it has said it before
@@ -18,20 +21,22 @@ WereGiven before None notes = ⊤
 WereGiven None (Some after) notes = ⊥
 WereGiven (Some before) (Some after) notes = after ≡ before ++ notes
 
--- they are those of the configuration with this text, with the built-in types
-abbrev pub AreNotesOf : Option (List ℕ) → List Note → Type 0
-AreNotesOf text notes = IfSome text (λ text. notes ≡ notes_of builtin_rows text)
+-- they are those on the configuration with this text, and then those on the words of the question, with the built-in types
+pub record AreNotesOf (words : AccessWords) (text : Option (List ℕ)) (notes : List Note) : Type 0 where
+  pub found : List Note
+  pub read : IfSome text (λ text. found ≡ notes_of builtin_rows text)
+  pub all : notes ≡ found ++ notes_on_words builtin_rows (asked_for words).words
 
 -- where a strict answer is wanted, there are none
 abbrev pub MayBeAnswered : Bool → List Note → Type 0
 MayBeAnswered strict notes = strict ≡ true → notes ≡ []
 
 -- the notes that are told before the tool has this fault: none before the configuration was read, and then all of it
-abbrev pub AreToldBefore : Bool → Option (List ℕ) → ToolFault → List Note → Type 0
-AreToldBefore strict text (tool.Config fault) notes = notes ≡ []
-AreToldBefore strict text (tool.Read input.Config) notes = notes ≡ []
-AreToldBefore strict text tool.Memory notes = (notes ≡ []) ⊎ (AreNotesOf text notes × MayBeAnswered strict notes)
-AreToldBefore strict text fault notes = AreNotesOf text notes × MayBeAnswered strict notes
+abbrev pub AreToldBefore : AccessWords → Option (List ℕ) → ToolFault → List Note → Type 0
+AreToldBefore words text (tool.Config fault) notes = notes ≡ []
+AreToldBefore words text (tool.Read input.Config) notes = notes ≡ []
+AreToldBefore words text tool.Memory notes = (notes ≡ []) ⊎ (AreNotesOf words text notes × MayBeAnswered words.strict notes)
+AreToldBefore words text fault notes = AreNotesOf words text notes × MayBeAnswered words.strict notes
 
 -- a fault of the tool after the configuration was read
 abbrev pub IsAfterConfig : Fault → Type 0
@@ -39,16 +44,16 @@ IsAfterConfig (Tool fault) = ComesAfterConfig fault
 IsAfterConfig fault = ⊥
 
 -- the notes that are told before this answer. Where a strict one is wanted and there are notes, they are told, and nothing is answered
-abbrev pub AreToldFor : {A : Type 0} → Bool → Option (List ℕ) → Result A Fault → List Note → Type 0
-AreToldFor strict text (Ok answer) notes = AreNotesOf text notes × MayBeAnswered strict notes
-AreToldFor strict text (Err HasNotes) notes = AreNotesOf text notes × (notes ≢ []) × (strict ≡ true)
-AreToldFor strict text (Err NotesUntold) notes = AreNotesOf text notes × (notes ≢ [])
-AreToldFor strict text (Err (Tool fault)) notes = AreToldBefore strict text fault notes
-AreToldFor strict text (Err fault) notes = notes ≡ []
+abbrev pub AreToldFor : {A : Type 0} → AccessWords → Option (List ℕ) → Result A Fault → List Note → Type 0
+AreToldFor words text (Ok answer) notes = AreNotesOf words text notes × MayBeAnswered words.strict notes
+AreToldFor words text (Err HasNotes) notes = AreNotesOf words text notes × (notes ≢ []) × (words.strict ≡ true)
+AreToldFor words text (Err NotesUntold) notes = AreNotesOf words text notes × (notes ≢ [])
+AreToldFor words text (Err (Tool fault)) notes = AreToldBefore words text fault notes
+AreToldFor words text (Err fault) notes = notes ≡ []
 
 -- a teller was given the notes that are to be told for this answer, and no others
-abbrev pub TellsFor : {A : Type 0} → Bool → Option (List ℕ) → Result A Fault → Option (List Note) → Option (List Note) → Type 0
-TellsFor strict text result before after = (notes : List Note) × WereGiven before after notes × AreToldFor strict text result notes
+abbrev pub TellsFor : {A : Type 0} → AccessWords → Option (List ℕ) → Result A Fault → Option (List Note) → Option (List Note) → Type 0
+TellsFor words text result before after = (notes : List Note) × WereGiven before after notes × AreToldFor words text result notes
 
 -- the run ends in `NotesUntold` exactly where the teller failed
 abbrev pub EndsIfUntold : {A : Type 0} → Result A Fault → ℕ → ℕ → Type 0

@@ -20,9 +20,9 @@ pub enum Fault<'a> {
     CannotOpen(&'a str),
     /// A file that is to be written exists already.
     Exists(&'a str),
-    /// There are notes on the configuration, and an answer is wanted only where there are none.
+    /// There are notes on the configuration or on the question, and an answer is wanted only where there are none.
     HasNotes,
-    /// The notes on the configuration can't be written.
+    /// The notes can't be written.
     NotesUntold,
     /// The tool's own fault.
     Tool(ToolFault),

@@ -1,10 +1,10 @@
-//! The notes on a configuration: how they are shown, and whoever tells them.
+//! The notes on a configuration and on a question: how they are shown, and whoever tells them.
 
 ghost use Rattle.std.specs.Prelude.{◌++◌, ℕ, Option, List, Some};
 ghost use Rattle.std.specs.Fmt.{WritesOnOk, WritesStyledOnOk};
 ghost use Rattle.dir_acl.specs.declared.note.Note.{Note};
 ghost use Rattle.dir_ldif.specs.Device.{Counts};
-ghost use Rattle.dir_files.specs.NoteText.{note_text, place_text, shown_bytes};
+ghost use Rattle.dir_files.specs.NoteText.{note_text, place_text, shown_bytes, unknown_text};
 ghost use Rattle.dir_files.specs.Notes.{WereGiven};
 
 use crate::escape::show_escaped;
@@ -13,7 +13,7 @@ use dir_acl::{Note, NoteCause};
 use dir_tools::Number;
 use std::fmt::{self, Display};
 
-/// Whoever tells an administrator what a configuration says that isn't known or not looked at.
+/// Whoever tells an administrator what a configuration or a question says that isn't known or not looked at.
 pub trait NoteTeller {
     // The notes that it was given so far, if it can say.
     ghost given: { Self → Option (List Note) };
@@ -52,7 +52,7 @@ impl Display for ShownNote<'_> {
             }
             NoteCause::UnknownType(description) => {
                 show_place(f, *line)?;
-                show_between(f, "unknown attribute \"", description.as_slice(), "\"")
+                show_unknown(f, description.as_slice())
             }
             NoteCause::ObjectClass => {
                 show_place(f, *line)?;
@@ -61,6 +61,10 @@ impl Display for ShownNote<'_> {
             NoteCause::OtherDatabase => {
                 show_place(f, *line)?;
                 f.write_str("access rule of database config or monitor is passed over")
+            }
+            NoteCause::UnknownInWord(word, description) => {
+                show_between(f, "note: word \"", word.as_slice(), "\": ")?;
+                show_unknown(f, description.as_slice())
             }
         }
     }
@@ -76,7 +80,15 @@ fn show_place<W: fmt::Write>(f: &mut fmt::Formatter<W>, line: u64) -> fmt::Resul
     f.write_str(": ")
 }
 
-/// Shows a text of the configuration between words.
+/// Shows that the type of a description isn't known.
+fn show_unknown<W: fmt::Write>(f: &mut fmt::Formatter<W>, description: &[u8]) -> fmt::Result
+    ensures writes { WritesOnOk W.write_str_gives f.old result (unknown_text description.now) f.new }
+    ensures styled { WritesStyledOnOk W.write_str_gives f.old result (unknown_text description.now) f.new }
+{
+    show_between(f, "unknown attribute \"", description, "\"")
+}
+
+/// Shows a text of the configuration or of the question between words.
 fn show_between<W: fmt::Write>(
     f: &mut fmt::Formatter<W>,
     before: &str,

@@ -1,10 +1,10 @@
 //! `slapkit slapacl`: the files that a command line names, and the question over them.
 
-ghost use Rattle.std.specs.Prelude.{◌≡◌, ◌≢◌, [], ℕ, Err, IfErr, IfOk, List, OnErr, OnOk, Option, map};
+ghost use Rattle.std.specs.Prelude.{◌≡◌, ◌≢◌, ◌++◌, [], ℕ, Err, IfErr, IfOk, List, OnErr, OnOk, Option, map};
 ghost use Rattle.dir_acl.specs.Inside.ReadingConfig.{configuration_of};
-ghost use Rattle.dir_tools.specs.AccessAnswers.{AccessHeldBefore, AnswersQuestion, ComesAfterConfig, IsTextOf, IsWholeReport, access_sources};
+ghost use Rattle.dir_tools.specs.AccessAnswers.{IsTextOf, access_sources};
 ghost use Rattle.dir_tools.specs.AccessReport.{access_terms};
-ghost use Rattle.dir_tools.specs.Writing.{WroteReport};
+ghost use Rattle.dir_tools.specs.WordNotes.{notes_on_words};
 ghost use Rattle.dir_files.specs.AccessRuns.{AllAccessCalls, Asks, AsksOrStops, IsEndOfNotes, NamesItsFile, RefusesSameFile, asked_for, first_repeated_file};
 ghost use Rattle.dir_files.specs.Notes.{EndsIfUntold, IsAfterConfig, MayBeAnswered, TellsFor, WereGiven, told_text};
 ghost use Rattle.dir_files.specs.Runs.{Made};
@@ -15,13 +15,15 @@ use crate::note::NoteTeller;
 use crate::slapmodify::{not_opened, not_reported, run_fault};
 use crate::words::AccessWords;
 use dir_acl::{Config, Note};
-use dir_ldif::{Sink, Source};
+use dir_ldif::Source;
 use dir_names::{Bytes, Memory, Schema, Texts};
-use dir_tools::{Buffer, Question, ToolFault, read_config_with_notes, run_acl_under};
+use dir_tools::{
+    Buffer, Question, ToolFault, read_config_with_notes, run_acl_under, with_notes_on_words,
+};
 use std::alloc::Global;
 
-/// Runs `slapacl` on the files that the words name. The notes on the configuration are told before anything is answered; where a
-/// strict answer is wanted and there are some, nothing is.
+/// Runs `slapacl` on the files that the words name. The notes on the configuration, and then those on the words of the question, are told
+/// before anything is answered; where a strict answer is wanted and there are some, nothing is.
 ///
 /// # Errors
 ///
@@ -36,7 +38,7 @@ pub fn run<'a, F: FileSystem, T: NoteTeller>(
 ) -> Result<(), Fault<'a>>
     ensures faults { RefusesSameFile words.now (first_repeated_file words.now) result }
     ensures calls { Made (F.disk files.old) (F.disk files.new) (λ d. AllAccessCalls (first_repeated_file words.now) words.now d result) }
-    ensures notes { TellsFor words.now.strict (told_text (F.disk files.old) (F.disk files.new) words.now.config.now) result (T.given teller.old) (T.given teller.new) }
+    ensures notes { TellsFor words.now (told_text (F.disk files.old) (F.disk files.new) words.now.config.now) result (T.given teller.old) (T.given teller.new) }
     ensures untold { EndsIfUntold result (T.failures teller.old) (T.failures teller.new) }
 {
     if words.data == words.config {
@@ -53,7 +55,7 @@ pub fn run<'a, F: FileSystem, T: NoteTeller>(
     answer(alloc, files, teller, words, &mut config, &mut copy)
 }
 
-/// Reads the configuration, tells the notes on it, asks, and writes the report.
+/// Reads the configuration, tells the notes on it and on the question, asks, and writes the report.
 fn answer<'a, F: FileSystem, T: NoteTeller, R: Source, R2: Source>(
     alloc: Global,
     files: &mut F,
@@ -64,7 +66,7 @@ fn answer<'a, F: FileSystem, T: NoteTeller, R: Source, R2: Source>(
 ) -> Result<(), Fault<'a>>
     ensures faults { IfErr result (NamesItsFile words.now) }
     ensures calls { Made (F.disk files.old) (F.disk files.new) (λ _. AsksOrStops words.now (access_sources (R.left config.old) (R2.left copy.old)) result) }
-    ensures notes { TellsFor words.now.strict (R.left config.old) result (T.given teller.old) (T.given teller.new) }
+    ensures notes { TellsFor words.now (R.left config.old) result (T.given teller.old) (T.given teller.new) }
     ensures untold { EndsIfUntold result (T.failures teller.old) (T.failures teller.new) }
 {
     let Ok(schema) = Schema::builtin(alloc) else {
@@ -74,8 +76,12 @@ fn answer<'a, F: FileSystem, T: NoteTeller, R: Source, R2: Source>(
         Ok(noted) => noted,
         Err(fault) => return Err(run_fault(fault)),
     };
+    let (question, notes) = match noted_question(alloc, &schema, words, notes) {
+        Ok(asked) => asked,
+        Err(_) => return Err(run_fault(ToolFault::Memory)),
+    };
     tell(teller, notes.as_slice(), words.strict)?;
-    report(alloc, files, &schema, words, &config, copy)
+    report(alloc, files, &schema, &question, &config, copy)
 }
 
 /// Tells the notes, if there are any. Where a strict answer is wanted, that ends the run.
@@ -103,16 +109,16 @@ fn report<'a, F: FileSystem, R: Source>(
     alloc: Global,
     files: &mut F,
     schema: &Schema,
-    words: &AccessWords<'a>,
+    question: &Question,
     config: &Config,
     copy: &mut R,
 ) -> Result<(), Fault<'a>>
     ensures faults { IfErr result IsAfterConfig }
     ensures calls { (known : Option (List ℕ)) → IsTextOf schema.now known (configuration_of config.now)
-        → Made (F.disk files.old) (F.disk files.new) (λ _. Asks (access_terms schema.now (asked_for words.now)) (access_sources known (R.left copy.old)) result) }
+        → Made (F.disk files.old) (F.disk files.new) (λ _. Asks (access_terms schema.now question.now) (access_sources known (R.left copy.old)) result) }
 {
     let mut report = Buffer::new(alloc);
-    match ask(alloc, schema, words, config, copy, &mut report) {
+    match run_acl_under(alloc, schema, question, config, copy, &mut report) {
         Ok(()) => match files.report(report.as_slice()) {
             Ok(()) => Ok(()),
             Err(why) => Err(not_reported(why)),
@@ -121,29 +127,19 @@ fn report<'a, F: FileSystem, R: Source>(
     }
 }
 
-/// Asks what the words ask.
-fn ask<R: Source, W: Sink>(
+/// What the words ask, and the notes with those on the words of the question.
+fn noted_question(
     alloc: Global,
     schema: &Schema,
     words: &AccessWords<'_>,
-    config: &Config,
-    copy: &mut R,
-    report: &mut W,
-) -> Result<(), ToolFault>
-    ensures answer { (text : List ℕ)
-        × WroteReport result (W.taken report.old, W.taken report.new) text
-        × ((known : Option (List ℕ)) → IsTextOf schema.now known (configuration_of config.now)
-        → AnswersQuestion (access_terms schema.now (asked_for words.now)) (access_sources known (R.left copy.old)) result text
-        × IsWholeReport (access_terms schema.now (asked_for words.now)) (access_sources known (R.left copy.old)) result text) }
-    ensures first { IfErr result (λ fault. (known : Option (List ℕ)) → IsTextOf schema.now known (configuration_of config.now)
-        → AccessHeldBefore (access_terms schema.now (asked_for words.now)) known (R.left copy.old, R.left copy.new) fault) }
-    ensures after { IfErr result ComesAfterConfig }
-    ensures flushed { OnOk result (W.is_flushed report.new) }
+    notes: Vec<Note>,
+) -> Result<(Question, Vec<Note>), Memory>
+    ensures question { IfOk result (λ asked. asked.0 ≡ asked_for words.now) }
+    ensures notes { IfOk result (λ asked. asked.1.items ≡ notes.items ++ notes_on_words schema.now (asked_for words.now).words) }
 {
-    let Ok(question) = question(alloc, words) else {
-        return Err(ToolFault::Memory);
-    };
-    run_acl_under(alloc, schema, &question, config, copy, report)
+    let question = question(alloc, words)?;
+    let notes = with_notes_on_words(alloc, schema, notes, question.words.as_slice())?;
+    Ok((question, notes))
 }
 
 /// What the words ask.

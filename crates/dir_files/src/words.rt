@@ -28,7 +28,7 @@ pub struct AccessWords<'a> {
     pub words: Vec<&'a str>,
     pub fake: bool,
     pub verbose: bool,
-    /// Where there are notes on the configuration, nothing is answered.
+    /// Where there are notes on the configuration or on the words, nothing is answered.
     pub strict: bool,
 }
 

@@ -1,4 +1,4 @@
-//! Questions whose configuration has notes, over a folder in memory.
+//! Questions whose configuration or words have notes, over a folder in memory.
 
 use crate::access::assert_fault;
 use crate::folder::{Asked, Folder};
@@ -67,10 +67,11 @@ enum Way {
     Unheard,
 }
 
-/// A question about `entry`, and what must come of it.
+/// A question, and what must come of it.
 struct Question {
     config: &'static str,
     copy: &'static str,
+    words: &'static [&'static str],
     way: Way,
     /// What is told.
     notes: &'static str,
@@ -87,10 +88,28 @@ const INCLUDE: &str = "database mdb\nsuffix dc=com\ninclude acl.conf\naccess to 
 
 const INCLUDED: &str = "note: config, line 3: include \"acl.conf\" is not read\n";
 
-static QUESTIONS: [Question; 15] = [
+/// The words ask, in another order than that of the alphabet, for a type that only the server writes, and another name of a type, twice.
+const WORDS: &[&str] = &[
+    "gn/read",
+    "ENTRY/read",
+    "givenName/read",
+    "entryUUID;x-a/write:gn/read",
+    "children",
+    "gn",
+];
+
+const WORD_NOTES: &str = "note: word \"gn/read\": unknown attribute \"gn\"\n\
+    note: word \"entryUUID;x-a/write:gn/read\": unknown attribute \"entryUUID;x-a\"\n\
+    note: word \"gn\": unknown attribute \"gn\"\n";
+
+const NAMED: &str =
+    "database mdb\nsuffix dc=com\naccess to attrs=givenName,entry,children by * none\naccess to * by * read\n";
+
+static QUESTIONS: [Question; 20] = [
     Question {
         config: PLAIN,
         copy: COPY,
+        words: &[],
         way: Way::Plainly,
         notes: "",
         fault: "",
@@ -99,6 +118,7 @@ static QUESTIONS: [Question; 15] = [
     Question {
         config: INCLUDE,
         copy: COPY,
+        words: &[],
         way: Way::Plainly,
         notes: INCLUDED,
         fault: "",
@@ -109,6 +129,7 @@ static QUESTIONS: [Question; 15] = [
         config: "include \"my\x1b[2Jacl\"\ndatabase mdb\nsuffix dc=com\naccess to attrs=userPasswrd\n by * none\n\
             access to filter=(objectClass=person) by * read\ndatabase monitor\naccess to * by * none\n",
         copy: COPY,
+        words: &[],
         way: Way::Plainly,
         notes: "note: config, line 1: include \"my\\x1b[2Jacl\" is not read\n\
             note: config, line 4: unknown attribute \"userPasswrd\"\n\
@@ -121,6 +142,7 @@ static QUESTIONS: [Question; 15] = [
     Question {
         config: "database mdb\nsuffix dc=com\naccess to attrs=posixAccount by * none\naccess to * by * read\n",
         copy: COPY,
+        words: &[],
         way: Way::Plainly,
         notes: "note: config, line 3: unknown attribute \"posixAccount\"\n",
         fault: "",
@@ -129,6 +151,7 @@ static QUESTIONS: [Question; 15] = [
     Question {
         config: "database mdb\nsuffix dc=com\naccess to attrs=gn by * none\naccess to filter=(rfc822Mailbox=*) by * none\naccess to * by * read\n",
         copy: COPY,
+        words: &[],
         way: Way::Plainly,
         notes: "note: config, line 3: unknown attribute \"gn\"\n\
             note: config, line 4: unknown attribute \"rfc822Mailbox\"\n",
@@ -138,6 +161,7 @@ static QUESTIONS: [Question; 15] = [
     Question {
         config: "database mdb\nsuffix dc=com\naccess to filter=(employeeType=Internal) by * none\naccess to * by * read\n",
         copy: COPY,
+        words: &[],
         way: Way::Plainly,
         notes: "note: config, line 3: unknown attribute \"employeeType\"\n",
         fault: "",
@@ -146,6 +170,7 @@ static QUESTIONS: [Question; 15] = [
     Question {
         config: "database mdb\nsuffix dc=com\naccess to filter=(!(foo=bar)) by * none\n",
         copy: COPY,
+        words: &[],
         way: Way::Plainly,
         notes: "note: config, line 3: unknown attribute \"foo\"\n",
         fault: "",
@@ -154,6 +179,7 @@ static QUESTIONS: [Question; 15] = [
     Question {
         config: "database mdb\nsuffix dc=com\n",
         copy: COPY,
+        words: &[],
         way: Way::Plainly,
         notes: "note: config: no access rule, so everybody may read\n",
         fault: "",
@@ -162,6 +188,7 @@ static QUESTIONS: [Question; 15] = [
     Question {
         config: INCLUDE,
         copy: COPY,
+        words: &[],
         way: Way::Strictly,
         notes: INCLUDED,
         fault: "not answered, because there are notes",
@@ -170,6 +197,7 @@ static QUESTIONS: [Question; 15] = [
     Question {
         config: PLAIN,
         copy: COPY,
+        words: &[],
         way: Way::Strictly,
         notes: "",
         fault: "",
@@ -178,6 +206,7 @@ static QUESTIONS: [Question; 15] = [
     Question {
         config: INCLUDE,
         copy: COPY,
+        words: &[],
         way: Way::Unheard,
         notes: INCLUDED,
         fault: "cannot write notes",
@@ -187,6 +216,7 @@ static QUESTIONS: [Question; 15] = [
     Question {
         config: PLAIN,
         copy: COPY,
+        words: &[],
         way: Way::Unheard,
         notes: "",
         fault: "",
@@ -196,6 +226,7 @@ static QUESTIONS: [Question; 15] = [
     Question {
         config: "include acl.conf\nsuffix dc=com\n",
         copy: COPY,
+        words: &[],
         way: Way::Plainly,
         notes: "",
         fault: "config, line 2: C1 BadDirective",
@@ -204,6 +235,7 @@ static QUESTIONS: [Question; 15] = [
     Question {
         config: INCLUDE,
         copy: "dn: cn\n\n",
+        words: &[],
         way: Way::Plainly,
         notes: INCLUDED,
         fault: "copy, line 1: L9 N4 BadDn",
@@ -213,9 +245,58 @@ static QUESTIONS: [Question; 15] = [
     Question {
         config: INCLUDE,
         copy: "dn: cn\n\n",
+        words: &[],
         way: Way::Strictly,
         notes: INCLUDED,
         fault: "not answered, because there are notes",
+        report: "",
+    },
+    // words that ask for attributes of unknown types
+    Question {
+        config: NAMED,
+        copy: COPY,
+        words: WORDS,
+        way: Way::Plainly,
+        notes: WORD_NOTES,
+        fault: "",
+        report: "gn/read: ALLOWED\nENTRY/read: DENIED\ngivenName/read: DENIED\nentryUUID;x-a/write: DENIED\nchildren: =0\ngn: =rscxd\n",
+    },
+    Question {
+        config: NAMED,
+        copy: COPY,
+        words: WORDS,
+        way: Way::Strictly,
+        notes: WORD_NOTES,
+        fault: "not answered, because there are notes",
+        report: "",
+    },
+    Question {
+        config: NAMED,
+        copy: COPY,
+        words: &["cn/read", "entry", "Children", "2.5.4.42"],
+        way: Way::Strictly,
+        notes: "",
+        fault: "",
+        report: "cn/read: ALLOWED\nentry: =0\nChildren: =0\n2.5.4.42: =0\n",
+    },
+    // the notes on the configuration come first; a word that is none has no note, and is a fault after them
+    Question {
+        config: INCLUDE,
+        copy: COPY,
+        words: &["foo/peek", "foo:\x1b[2J", "bad type"],
+        way: Way::Plainly,
+        notes: "note: config, line 3: include \"acl.conf\" is not read\n\
+            note: word \"foo:\\x1b[2J\": unknown attribute \"foo\"\n",
+        fault: "bad question: word 1",
+        report: "",
+    },
+    Question {
+        config: PLAIN,
+        copy: COPY,
+        words: &["gn"],
+        way: Way::Unheard,
+        notes: "note: word \"gn\": unknown attribute \"gn\"\n",
+        fault: "cannot write notes",
         report: "",
     },
 ];
@@ -241,7 +322,7 @@ fn assert_noted(rt: &impl Abort, alloc: Global, question: &Question) {
         config: "changes",
         data: "copy",
         authc: None,
-        words: Vec::new(alloc),
+        words: question.words.to_vec(alloc).expect(rt, "memory"),
         fake: false,
         verbose: false,
         strict: question.way == Way::Strictly,

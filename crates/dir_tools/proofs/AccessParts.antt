@@ -16,12 +16,14 @@ use Rattle.dir_names.specs.Results.{and_then}
 use Rattle.dir_tree.specs.Content.{Content}
 use Rattle.dir_tree.specs.Dir.{Dir, entry_at}
 use Rattle.dir_acl.specs.declared.access.Asked.{Asked}
+use Rattle.dir_acl.specs.declared.note.Note.{Note}
 use Rattle.dir_acl.specs.declared.privileges.Level.{Level}
 use Rattle.dir_tools.specs.declared.fault.Item.TheVariants as item
 use Rattle.dir_tools.specs.declared.fault.ToolFault.{ToolFault}
 use Rattle.dir_tools.specs.declared.fault.ToolFault.TheVariants as tool
 use Rattle.dir_tools.specs.Inside.Asking.{IsPartFault}
 use Rattle.dir_tools.specs.AccessReport.{AccessTerms, NamedKey, Word, access_of, asked_of, ok_or_no_entry, slash, target_of, without_value, word_at, word_of, words_from, named_key, parts_of, requester_of, words_of}
+use Rattle.dir_tools.specs.WordNotes.{notes_on_word, notes_on_words}
 
 -- ---- words
 
@@ -57,6 +59,15 @@ module _ (rows : List TypeRow) where
       → wanted ≡ after_words (before ++ word ∷ []) (words_from rows (i + 1 + 1) (drop (i + 1) texts))
   words_turn before texts i text word wanted so_far lt here is =
       so_far ∙ ap (λ t. after_words before (words_from rows (i + 1) t)) (at_index texts i text lt here) ∙ next_word before (i + 1) text (drop (i + 1) texts) word is
+
+  -- one more word whose notes are made
+  pub notes_turn : (before after wanted : List Note) (texts : List (List ℕ)) (i : ℕ) (text used : List ℕ)
+      → wanted ≡ before ++ notes_on_words rows (drop i texts) → i < length texts → text ≡ get_or texts i text → used ≡ text → after ≡ before ++ notes_on_word rows used
+      → wanted ≡ after ++ notes_on_words rows (drop (i + 1) texts)
+  notes_turn before after wanted texts i text used so_far lt here same is =
+      let more : List Note = notes_on_words rows (drop (i + 1) texts) in
+      let made : after ≡ before ++ notes_on_word rows text = is ∙ ap (λ (t : List ℕ). before ++ notes_on_word rows t) same in
+      so_far ∙ ap (λ (t : List (List ℕ)). before ++ notes_on_words rows t) (at_index texts i text lt here) ∙ sym (append_assoc before (notes_on_word rows text) more) ∙ ap (λ (t : List Note). t ++ more) (sym made)
 
   pub words_stop : (before : List Word) (texts : List (List ℕ)) (i : ℕ) (text : List ℕ) (wanted : Result (List Word) ToolFault)
       → wanted ≡ after_words before (words_from rows (i + 1) (drop i texts)) → i < length texts → text ≡ get_or texts i text → word_of rows text ≡ None

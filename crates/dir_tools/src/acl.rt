@@ -1,10 +1,11 @@
 //! `run_acl`: what a requester may do, by a configuration and a copy, and the report written (slapacl(8)). Whoever is to hear the
-//! notes on the configuration first calls `read_config_with_notes`, and then `run_acl_under`.
+//! notes on the configuration and on the question first calls `read_config_with_notes`, `with_notes_on_words`, and then `run_acl_under`.
 
 mod configuration;
 mod cut;
 mod parts;
 mod report;
+mod word_notes;
 
 ghost use Rattle.std.specs.Io.KnownBytes.{Consumes};
 ghost use Rattle.std.specs.Prelude.{◌≡◌, ◌⊎◌, ◌≤◌, ℕ, Err, IfErr, IfOk, List, Ok, OnOk, Option, length, option_copied};
@@ -21,6 +22,7 @@ use crate::acl::configuration::read_config;
 pub use crate::acl::configuration::read_config_with_notes;
 use crate::acl::parts::read_parts;
 use crate::acl::report::report_text;
+pub use crate::acl::word_notes::with_notes_on_words;
 use crate::copy::read_copy;
 use crate::write::write_text;
 use crate::{Output, ToolFault};

@@ -190,7 +190,7 @@ fn slapacl<'a>(alloc: Global) -> Result<Command<'a>, AllocError> {
         .arg(
             Arg::new(alloc, "strict")
                 .long("strict")
-                .help("Answer nothing where there is a note on the configuration")
+                .help("Answer nothing where there is a note on the configuration or a word")
                 .action(ArgAction::SetTrue),
         )?
         .arg(

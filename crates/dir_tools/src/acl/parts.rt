@@ -113,7 +113,11 @@ fn read_words<'q>(
 }
 
 /// A word `attr[/access][:value]`, if it is one.
-fn read_word<'q>(alloc: Global, schema: &Schema, text: &'q [u8]) -> Result<Option<Word<'q>>, Memory>
+pub(super) fn read_word<'q>(
+    alloc: Global,
+    schema: &Schema,
+    text: &'q [u8],
+) -> Result<Option<Word<'q>>, Memory>
     ensures { IfOk result (λ word. option_map word_in word ≡ word_of schema.now text.now) }
 {
     let (used, _) = split_once(text, b':');

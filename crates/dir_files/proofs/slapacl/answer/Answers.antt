@@ -1,11 +1,16 @@
-use Rattle.std.proofs.Common.{◌≡◌, IfSome, List, subst, sym}
+use Rattle.std.proofs.Common.{◌≡◌, ◌++◌, IfSome, List, ap, subst, ◌∙◌}
 use Rattle.dir_names.specs.Table.Builtin.{builtin_rows}
 use Rattle.dir_names.specs.declared.schema.TypeRow.{TypeRow}
 use Rattle.dir_acl.specs.Notes.{notes_of}
+use Rattle.dir_tools.specs.declared.acl.Question.{Question}
 use Rattle.dir_tools.specs.declared.fault.ToolFault.TheVariants as tool
-use Rattle.dir_tools.specs.AccessAnswers.{IsConfigFault}
+use Rattle.dir_tools.specs.AccessAnswers.{IsConfigFault, access_sources}
+use Rattle.dir_tools.specs.AccessReport.{AccessTerms, access_terms}
+use Rattle.dir_tools.specs.WordNotes.{notes_on_words}
+use Rattle.dir_files.specs.AccessRuns.{Asks, access_terms_of, asked_for}
 use Rattle.dir_files.specs.Notes.{AreNotesOf}
-use Rattle.dir_files.proofs.AccessCalls.{unread}
+use Rattle.dir_files.specs.Runs.{Made}
+use Rattle.dir_files.proofs.AccessCalls.{answered, unread}
 use Rattle.dir_files.proofs.NoteLemmas.{all_told}
 use Rattle.dir_files.proofs.slapacl.answer.Goals as goal
 
@@ -20,12 +25,33 @@ returns-in-Err-clause-calls g c =
     subst (λ (rows : List TypeRow). IsConfigFault rows (g.R.Source.left c.args.config.now) c.in-Err.fault) rows c.in-Err.ensures.fault in
     unread Unit c.args.words.now (g.R.Source.left c.args.config.now) (g.R2.Source.left c.args.copy.now) c.in-Err.fault c.run_fault-in-Err.result (g.F.FileSystem.disk c.args.files.now) fault c.run_fault-in-Err.ensures
 
+pub returns-in-Err-noted_question-clause-calls : goal.returns-in-Err-noted_question-clause-calls
+returns-in-Err-noted_question-clause-calls g c =
+    unread Unit c.args.words.now (g.R.Source.left c.args.config.now) (g.R2.Source.left c.args.copy.now) tool.Memory c.run_fault-in-Err-noted_question.result (g.F.FileSystem.disk c.args.files.now) tt c.run_fault-in-Err-noted_question.ensures
+
+pub returns-clause-calls : goal.returns-clause-calls
+returns-clause-calls g c =
+    let words = c.args.words.now in
+    let text = g.R.Source.left c.args.config.now in
+    let known = access_sources text (g.R2.Source.left c.args.copy.now) in
+    let a = g.F.FileSystem.disk c.args.files.now in
+    let b = g.F.FileSystem.disk c.report.new.files in
+    let rows : c.in-Ok.schema ≡ builtin_rows = cc c.in-Ok.ensures in
+    let terms : access_terms c.in-Ok.schema c.in-Ok-noted_question.asked.0 ≡ access_terms_of words =
+    ap (λ (question : Question). access_terms c.in-Ok.schema question) c.in-Ok-noted_question.ensures.question ∙ ap (λ (rows : List TypeRow). access_terms rows (asked_for words)) rows in
+    answered words known c.report.result a b
+    (subst (λ (t : AccessTerms). Made a b (λ d. Asks t known c.report.result)) terms (c.report.ensures.calls text c.in-Ok-read_config_with_notes.ensures.config))
+
 pub returns-clause-notes : goal.returns-clause-notes
 returns-clause-notes g c =
-    let rows : c.in-Ok.schema ≡ builtin_rows = cc c.in-Ok.ensures in
+    let words = c.args.words.now in
     let text = g.R.Source.left c.args.config.now in
-    let noted = c.in-Ok-read_config_with_notes.noted.1.items in
-    let read : AreNotesOf text noted = subst (λ (rows : List TypeRow). IfSome text (λ text. noted ≡ notes_of rows text)) rows c.in-Ok-read_config_with_notes.ensures.notes in
+    let rows : c.in-Ok.schema ≡ builtin_rows = cc c.in-Ok.ensures in
+    let found = c.in-Ok-read_config_with_notes.noted.1.items in
     let notes = c.as_slice.result.now in
-    let are : AreNotesOf text notes = subst (AreNotesOf text) (sym c.as_slice.ensures.value) read in
-    (notes, c.in_ok-tell.ensures.given, all_told c.args.words.now.strict text notes c.report.result c.report.ensures.faults are c.in_ok-tell.ensures.ok)
+    let are : AreNotesOf words text notes = record {
+      found = found;
+      read = subst (λ (rows : List TypeRow). IfSome text (λ text. found ≡ notes_of rows text)) rows c.in-Ok-read_config_with_notes.ensures.notes;
+      all = c.as_slice.ensures.value ∙ (c.in-Ok-noted_question.ensures.notes ∙ ap (λ (rows : List TypeRow). found ++ notes_on_words rows (asked_for words).words) rows);
+    } in
+    (notes, c.in_ok-tell.ensures.given, all_told words text notes c.report.result c.report.ensures.faults are c.in_ok-tell.ensures.ok)

@@ -2,14 +2,13 @@ use Rattle.std.proofs.Common.{Err, Ok, Result, refl}
 use Rattle.dir_tools.specs.declared.fault.ToolFault.{ToolFault}
 use Rattle.dir_tools.specs.AccessAnswers.{AccessSources, access_sources}
 use Rattle.dir_tools.specs.AccessReport.{AccessTerms, access_terms}
-use Rattle.dir_files.specs.AccessRuns.{asked_for}
 use Rattle.dir_files.proofs.AccessCalls.{asks_and_ends, asks_over}
 use Rattle.dir_files.proofs.CallLemmas.{no_report_due, report_refused}
 use Rattle.dir_files.proofs.slapacl.report.Goals as goal
 
 pub returns-in-Ok-clause-calls : goal.returns-in-Ok-clause-calls
 returns-in-Ok-clause-calls g c known is =
-    let t : AccessTerms = access_terms c.args.schema.now (asked_for c.args.words.now) in
+    let t : AccessTerms = access_terms c.args.schema.now c.args.question.now in
     let sources : AccessSources = access_sources known (g.R.Source.left c.args.copy.now) in
     let answer : Result Unit ToolFault = Ok c.in-Ok.field-0 in
     let h = c.in-Ok.ensures.answer in
@@ -21,11 +20,11 @@ returns-in-Ok-clause-calls g c known is =
 
 pub returns-clause-calls : goal.returns-clause-calls
 returns-clause-calls g c known is =
-    let t : AccessTerms = access_terms c.args.schema.now (asked_for c.args.words.now) in
+    let t : AccessTerms = access_terms c.args.schema.now c.args.question.now in
     let sources : AccessSources = access_sources known (g.R.Source.left c.args.copy.now) in
     let answer : Result Unit ToolFault = Err c.in-Err.fault in
     let h = c.in-Err.ensures.answer in
     let told = h.2 known is in
-    asks_and_ends t sources answer c.ask.new.report.bytes.items (Err c.run_fault.result) (g.F.FileSystem.disk c.args.files.now) (g.F.FileSystem.disk c.args.files.now)
-    (asks_over t sources answer h.0 _ _ c.ask.new.report.bytes.items h.1 told.0 told.1 c.new-report.ensures refl)
-    (no_report_due Unit c.ask.new.report.bytes.items c.in-Err.fault c.run_fault.result (g.F.FileSystem.disk c.args.files.now) c.run_fault.ensures)
+    asks_and_ends t sources answer c.run_acl_under.new.report.bytes.items (Err c.run_fault.result) (g.F.FileSystem.disk c.args.files.now) (g.F.FileSystem.disk c.args.files.now)
+    (asks_over t sources answer h.0 _ _ c.run_acl_under.new.report.bytes.items h.1 told.0 told.1 c.new-report.ensures refl)
+    (no_report_due Unit c.run_acl_under.new.report.bytes.items c.in-Err.fault c.run_fault.result (g.F.FileSystem.disk c.args.files.now) c.run_fault.ensures)

@@ -1,6 +1,8 @@
 use Rattle.std.proofs.Common.{◌≡◌, None, rules}
-use Rattle.dir_files.specs.AccessRuns.{first_repeated_file}
+use Rattle.dir_tools.specs.AccessAnswers.{access_sources}
+use Rattle.dir_files.specs.AccessRuns.{AsksOrStops, first_repeated_file}
 use Rattle.dir_files.proofs.AccessCalls.{asks, no_copy, none_repeated}
+use Rattle.dir_files.proofs.NoteLemmas.{told_at}
 use Rattle.dir_files.proofs.slapacl.run.Goals as goal
 
 pub returns-in-Err-open-clause-calls : goal.returns-in-Err-open-clause-calls
@@ -15,3 +17,13 @@ returns-clause-calls g c =
     asks c.args.words.now _ none (g.F.FileSystem.disk c.args.files.now) (g.F.FileSystem.disk c.open.new.self) (g.F.FileSystem.disk c.open-2.new.self) (g.F.FileSystem.disk c.answer.new.files)
     (g.F.Input.Source.left c.in-Ok.opened.file) (g.F.Input.Source.left c.in-Ok-open.opened.file) c.in-Ok.ensures.told c.in-Ok-open.ensures.told c.in-Ok.ensures.text c.in-Ok-open.ensures.text
     c.answer.ensures.calls
+
+-- what was told for the text that the reader of the configuration had is told for that at its path
+pub returns-clause-notes : goal.returns-clause-notes
+returns-clause-notes g c =
+    let words = c.args.words.now in
+    told_at words words.config.now words.data.now c.answer.result
+    (λ d. AsksOrStops words (access_sources (g.F.Input.Source.left c.in-Ok.opened.file) (g.F.Input.Source.left c.in-Ok-open.opened.file)) c.answer.result)
+    (g.F.FileSystem.disk c.args.files.now) (g.F.FileSystem.disk c.open.new.self) (g.F.FileSystem.disk c.open-2.new.self) (g.F.FileSystem.disk c.answer.new.files)
+    (g.F.Input.Source.left c.in-Ok.opened.file) (g.T.NoteTeller.given c.args.teller.now) (g.T.NoteTeller.given c.answer.new.teller)
+    c.in-Ok.ensures.told c.in-Ok-open.ensures.told c.answer.ensures.calls c.in-Ok.ensures.text c.answer.ensures.notes

@@ -1,7 +1,7 @@
-use Rattle.std.proofs.Common.{◌++◌, ℕ, List, Ok, Result, ap, codes, refl}
+use Rattle.std.proofs.Common.{◌++◌, ℕ, List, Ok, Result, ap, codes, refl, ◌∙◌}
 use Rattle.std.specs.declared.fmt.Error.{Error}
 use Rattle.dir_tools.proofs.Shown.{two_shown}
-use Rattle.dir_files.specs.NoteText.{note_text, place_text, shown_bytes}
+use Rattle.dir_files.specs.NoteText.{note_text, place_text, shown_bytes, unknown_text, word_text}
 use Rattle.dir_files.proofs.NoteLemmas.{two_written}
 use Rattle.dir_files.proofs.note.ShownNoteDisplay.fmt.Goals as goal
 
@@ -23,15 +23,15 @@ pub returns-in_ok-show_place-in-UnknownType-clause-writes : goal.returns-in_ok-s
 returns-in_ok-show_place-in-UnknownType-clause-writes g c =
     let ok : Result (Unit {0}) Error = Ok tt in
     let line = c.args.self.now.0.now.line in
-    two_written g.W.Write.write_str_gives c.args.f.now c.show_place-in-UnknownType.new.f c.show_between-in-UnknownType.new.f ok c.show_between-in-UnknownType.result
-    (place_text line) (codes "unknown attribute \"" ++ shown_bytes c.as_slice-in-UnknownType.result.now ++ codes "\"") (note_text c.args.self.now.0.now) c.in_ok-show_place-in-UnknownType.ensures.writes refl c.show_between-in-UnknownType.ensures.writes (rw c.in-UnknownType.is (ap (λ (t : List ℕ). place_text line ++ (codes "unknown attribute \"" ++ shown_bytes t ++ codes "\"")) c.as_slice-in-UnknownType.ensures))
+    two_written g.W.Write.write_str_gives c.args.f.now c.show_place-in-UnknownType.new.f c.show_unknown.new.f ok c.show_unknown.result
+    (place_text line) (unknown_text c.as_slice-in-UnknownType.result.now) (note_text c.args.self.now.0.now) c.in_ok-show_place-in-UnknownType.ensures.writes refl c.show_unknown.ensures.writes (rw c.in-UnknownType.is (ap (λ (t : List ℕ). place_text line ++ unknown_text t) c.as_slice-in-UnknownType.ensures))
 
 pub returns-in_ok-show_place-in-UnknownType-clause-styled : goal.returns-in_ok-show_place-in-UnknownType-clause-styled
 returns-in_ok-show_place-in-UnknownType-clause-styled g c =
     let ok : Result (Unit {0}) Error = Ok tt in
     let line = c.args.self.now.0.now.line in
-    two_shown g.W.Write.write_str_gives c.args.f.now c.show_place-in-UnknownType.new.f c.show_between-in-UnknownType.new.f ok c.show_between-in-UnknownType.result
-    (place_text line) (codes "unknown attribute \"" ++ shown_bytes c.as_slice-in-UnknownType.result.now ++ codes "\"") (note_text c.args.self.now.0.now) c.in_ok-show_place-in-UnknownType.ensures.styled refl c.show_between-in-UnknownType.ensures.styled (rw c.in-UnknownType.is (ap (λ (t : List ℕ). place_text line ++ (codes "unknown attribute \"" ++ shown_bytes t ++ codes "\"")) c.as_slice-in-UnknownType.ensures))
+    two_shown g.W.Write.write_str_gives c.args.f.now c.show_place-in-UnknownType.new.f c.show_unknown.new.f ok c.show_unknown.result
+    (place_text line) (unknown_text c.as_slice-in-UnknownType.result.now) (note_text c.args.self.now.0.now) c.in_ok-show_place-in-UnknownType.ensures.styled refl c.show_unknown.ensures.styled (rw c.in-UnknownType.is (ap (λ (t : List ℕ). place_text line ++ unknown_text t) c.as_slice-in-UnknownType.ensures))
 
 pub returns-in_ok-show_place-in-ObjectClass-clause-styled : goal.returns-in_ok-show_place-in-ObjectClass-clause-styled
 returns-in_ok-show_place-in-ObjectClass-clause-styled g c =
@@ -46,3 +46,11 @@ returns-in_ok-show_place-in-OtherDatabase-clause-styled g c =
     let line = c.args.self.now.0.now.line in
     two_shown g.W.Write.write_str_gives c.args.f.now c.show_place-in-OtherDatabase.new.f c.write_str-in-OtherDatabase.new.self ok c.write_str-in-OtherDatabase.result
     (place_text line) (codes "access rule of database config or monitor is passed over") (note_text c.args.self.now.0.now) c.in_ok-show_place-in-OtherDatabase.ensures.styled refl c.write_str-in-OtherDatabase.ensures.styled (rw c.in-OtherDatabase.is refl)
+
+pub returns-in_ok-show_between-in-UnknownInWord-clause-styled : goal.returns-in_ok-show_between-in-UnknownInWord-clause-styled
+returns-in_ok-show_between-in-UnknownInWord-clause-styled g c =
+    let ok : Result (Unit {0}) Error = Ok tt in
+    let description = c.as_slice-in-UnknownInWord-2.result.now in
+    two_shown g.W.Write.write_str_gives c.args.f.now c.show_between-in-UnknownInWord.new.f c.show_unknown-in-UnknownInWord.new.f ok c.show_unknown-in-UnknownInWord.result
+    (word_text c.as_slice-in-UnknownInWord.result.now) (unknown_text description) (note_text c.args.self.now.0.now) c.in_ok-show_between-in-UnknownInWord.ensures.styled refl c.show_unknown-in-UnknownInWord.ensures.styled
+    (rw c.in-UnknownInWord.is (ap (λ (t : List ℕ). word_text t ++ unknown_text description) c.as_slice-in-UnknownInWord.ensures ∙ ap (λ (t : List ℕ). word_text c.in-UnknownInWord.word ++ unknown_text t) c.as_slice-in-UnknownInWord-2.ensures))
