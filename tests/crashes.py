@@ -108,6 +108,51 @@ def past_a_limit_of_size(trial):
     trial.clear()
 
 
+def with_a_report_past_a_limit_of_size(trial):
+    # where the report is a file, the limit counts from the place where it is written, which is the file's end where it is appended to
+    report, limit = trial.report.encode(), 64 * 1024
+    before = limit - len(report)
+
+    def run(before, size, flags=0, at=0, ignored=False):
+        path = trial.folder / "report"
+        path.write_bytes(b"-" * before)
+        with os.fdopen(os.open(path, os.O_WRONLY | flags), "wb") as output:
+            os.lseek(output.fileno(), at, os.SEEK_SET)
+            ending = {"restore_signals": not ignored, "preexec_fn": lambda: resource.setrlimit(resource.RLIMIT_FSIZE, (size, size))}
+            with subprocess.Popen([trial.program, *COMMAND], cwd=trial.folder, stdout=output, stderr=subprocess.PIPE, text=True, **ending) as run:
+                said = run.communicate(timeout=120)[1]
+        written = path.read_bytes()
+        path.unlink()
+        return (run.returncode, said), written
+
+    ends = (0, ""), (1, "slapkit: cannot write report\n")
+    append = os.O_APPEND
+    for size, flags, at, ignored, end, written in (
+        (limit, append, 0, False, 0, b"-" * before + report),
+        (limit - 1, append, 0, False, 1, b"-" * before + report[:-1]),
+        (limit - 1, append, 0, True, 1, b"-" * before + report[:-1]),
+        (before, append, 0, False, 1, b"-" * before),
+        (limit, 0, before, False, 0, b"-" * before + report),
+        (limit - 1, 0, before, False, 1, b"-" * before + report[:-1]),
+        # the file's size doesn't count where its bytes are written over
+        (limit - 1, 0, 9, False, 0, b"-" * 9 + report + b"-" * (before - 9 - len(report))),
+        (limit - 1, 0, before + 9, False, 1, b"-" * before + bytes(9) + report[:-10]),
+    ):
+        case = f"a limit of {size} bytes, flags {flags}, from {at}"
+        found, text = run(before, size, flags, at, ignored)
+        expect(found, ends[end], case)
+        expect(text, written, case)
+        expect(sorted(trial.left()), [] if end else ["new", "undo"], case)
+        trial.clear()
+    # a pipe has no limit, nor has a device
+    with open("/dev/null", "wb") as null:
+        for output in (subprocess.PIPE, null):
+            how = {"preexec_fn": lambda: resource.setrlimit(resource.RLIMIT_FSIZE, (limit, limit))}
+            with subprocess.Popen([trial.program, *COMMAND], cwd=trial.folder, stdout=output, stderr=subprocess.PIPE, text=True, **how) as run:
+                expect((run.communicate(timeout=120)[1], run.returncode), ("", 0), "a limit, and no file")
+            trial.clear()
+
+
 def into_folders_that_take_no_file(trial):
     for out, undo, named in (("new", "/proc/undo", "/proc/undo"), ("/proc/new", "undo", "/proc/new"), ("none/new", "undo", "none/new")):
         words = [*COMMAND[:-3], out, "--undo", undo]
@@ -147,6 +192,7 @@ def main():
             ("ended by signals", lambda: ended_by_signals(many)),
             ("stopped and continued", lambda: stopped_and_continued(many)),
             ("past a limit of size", lambda: past_a_limit_of_size(many)),
+            ("with a report past a limit of size", lambda: with_a_report_past_a_limit_of_size(few)),
             ("into folders that take no file", lambda: into_folders_that_take_no_file(few)),
             ("onto full devices", lambda: onto_full_devices(few)),
         ]

@@ -106,10 +106,13 @@ class Terminal:
         self.screen = Screen(columns)
         self.waiting = b""
 
-    def start(self, words, folder, **streams):
-        """Starts the program, and lets it alone have its end."""
+    def start(self, words, folder, of_its_own=False, **streams):
+        """Starts the program, and lets it alone have its end, where it is to as the terminal that controls its session."""
         streams = {name: self.its if stream == "terminal" else stream for name, stream in streams.items()}
         environment = {"TERM": streams.pop("term", "xterm")}
+        if of_its_own:
+            environment["PATH"] = os.environ["PATH"]
+            streams |= {"start_new_session": True, "preexec_fn": lambda: fcntl.ioctl(self.its, termios.TIOCSCTTY, 0)}
         run = subprocess.Popen(words, cwd=folder, env=environment, **streams)
         os.close(self.its)
         return run
@@ -380,6 +383,50 @@ def a_terminal_that_goes_away_changes_nothing(trial):
     trial.expect_files(copy)
 
 
+def nothing_is_told_from_the_background(trial):
+    # a shell with job control starts the run in the background, and brings it to the foreground when a line is typed; Ctrl-Z stops it
+    # there, the shell lets it go on in the background, and brings it back at the next line; the changes come through a pipe
+    trial.write("copy", ROOT)
+    os.mkfifo(trial.folder / "pipe")
+    script = '"$@" & read line; fg; bg; read line; fg; echo status $?'
+    words = ["sh", "-m", "-c", script, "sh", trial.program, *trial.modify("-l", "pipe", "-u")]
+    terminal = Terminal()
+    shell = terminal.start(words, trial.folder, stdin="terminal", stdout="terminal", stderr="terminal", of_its_own=True)
+
+    def give(text):
+        # (it has more than a pipe and a reader hold, so that most of it is read when all is given)
+        pipe.write(text)
+        pipe.flush()
+
+    def type_and_wait(keys, is_in_front):
+        os.write(terminal.mine, keys)
+        terminal.look_until(lambda _: (os.tcgetpgrp(terminal.mine) != shell.pid) == is_in_front)
+
+    more = comments(2 * STEP + 1_000_000)
+    try:
+        with open(trial.folder / "pipe", "w") as pipe:
+            give(CHANGES + "\n" + more)
+            terminal.look(1)
+            expect("slapkit: reading" in terminal.screen.sent, False, "told in the background")
+            type_and_wait(b"\n", True)
+            give(more)
+            terminal.look_until(lambda screen: f"slapkit: reading pipe, {megabytes(4 * STEP)} MB" in screen.sent)
+            type_and_wait(b"\x1a", False)
+            before = terminal.screen.sent.count("slapkit: reading"), terminal.screen.sent.count("\x1b[K")
+            give(more)
+            terminal.look(1)
+            type_and_wait(b"\n", True)
+            found = terminal.screen.sent.count("slapkit: reading"), terminal.screen.sent.count("\x1b[K")
+            expect(found, before, "told in the background, the second time")
+        terminal.look_to_the_end()
+    except BaseException:
+        shell.kill()
+        raise
+    finally:
+        shell.wait(120)
+    expect(terminal.screen.text().endswith("accepted 1, refused 0\nstatus 0\n"), True, f"at the end of {terminal.screen.text()!r}")
+
+
 TRIALS = [
     a_long_run_tells_how_far_it_is,
     a_question_tells_how_far_it_is,
@@ -394,6 +441,7 @@ TRIALS = [
     changes_are_typed,
     changes_are_asked_for_only_where_they_are_typed,
     a_terminal_that_goes_away_changes_nothing,
+    nothing_is_told_from_the_background,
 ]
 
 

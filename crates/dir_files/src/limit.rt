@@ -5,9 +5,10 @@ ghost use Rattle.std.specs.Prelude.{◌≡◌, ◌+◌, ◌<◌, ◌≤◌, ◌�
 ghost use Rattle.std.specs.Io.KnownBytes.{WriteAppends};
 ghost use Rattle.dir_ldif.specs.Device.{Counts};
 
-use crate::devices::{PatientReader, write_at_most};
-use dir_ldif::{DeviceFault, Sink, Source};
-use std::fs::File;
+use crate::devices::write_at_most;
+use crate::proc::{ROOM, told};
+use dir_ldif::{DeviceFault, Sink};
+use std::fs;
 use std::rt::Files;
 
 /// Where the system tells the limits of this process.
@@ -16,21 +17,61 @@ const LIMITS: &str = "/proc/self/limits";
 /// The name of the limit there. What counts is in the next column, in bytes, or `unlimited`.
 const FILE_SIZE: &str = "Max file size";
 
+/// The file that standard output is.
+const OUTPUT: &str = "/proc/self/fd/1";
+
+/// Where the system tells how that file is open.
+const OPEN_OUTPUT: &str = "/proc/self/fdinfo/1";
+
+/// Among its flags, which are in octal, the one of a file that is appended to (`O_APPEND` of open(2)).
+const APPENDED: u64 = 0o2000;
+
 /// The greatest size of a file, in bytes: the greatest number where no limit is told.
 pub fn largest_file<R: Files>(rt: &R) -> u64 {
     told_limit(rt).unwrap_or(u64::MAX)
 }
 
 fn told_limit<R: Files>(rt: &R) -> Option<u64> {
-    let file = File::open(rt, LIMITS).ok()?;
-    let mut text = [0u8; 4096];
-    let n = PatientReader::new(file).read(&mut text).ok()?;
-    limit_in(std::str::from_utf8(&text[..n]).ok()?)
+    let mut room = [0u8; ROOM];
+    limit_in(told(rt, LIMITS, &mut room)?)
 }
 
 fn limit_in(text: &str) -> Option<u64> {
     let columns = text.lines().find_map(|line| line.strip_prefix(FILE_SIZE))?;
     columns.split_ascii_whitespace().next()?.parse::<u64>().ok()
+}
+
+/// How many bytes standard output takes: the greatest number where it is no regular file, and where the system doesn't
+/// tell at which place of the file the next byte is written.
+pub fn room_of_output<R: Files>(rt: &R) -> u64 {
+    match end_of_output(rt) {
+        Some(end) => largest_file(rt).saturating_sub(end),
+        None => u64::MAX,
+    }
+}
+
+/// The bytes of the regular file that standard output is, before the next one that is written.
+fn end_of_output<R: Files>(rt: &R) -> Option<u64> {
+    let file = fs::metadata(rt, OUTPUT).ok()?;
+    if !file.is_file() {
+        return None;
+    }
+    let mut room = [0u8; ROOM];
+    let (position, flags) = position_and_flags_in(told(rt, OPEN_OUTPUT, &mut room)?)?;
+    if flags & APPENDED == 0 {
+        Some(position)
+    } else {
+        Some(file.len())
+    }
+}
+
+fn position_and_flags_in(text: &str) -> Option<(u64, u64)> {
+    let position = text.lines().find_map(|line| line.strip_prefix("pos:"))?;
+    let flags = text.lines().find_map(|line| line.strip_prefix("flags:"))?;
+    Some((
+        position.trim_ascii().parse::<u64>().ok()?,
+        u64::from_str_radix(flags.trim_ascii(), 8).ok()?,
+    ))
 }
 
 /// A sink that takes no more than a limit.

@@ -1,4 +1,5 @@
-//! Progress: a line on standard error that tells how far a long run is, where that is a terminal.
+//! Progress: a line on standard error that tells how far a long run is, where that is a terminal and the run is in its
+//! foreground.
 
 ghost use Rattle.std.specs.Prelude.{◌≡◌, ◌+◌, ◌/◌, ◌<◌, ◌≤◌, ◌↔◌, IfOk, IsTrue, MatchOption, None, SomeIff, length, min};
 ghost use Rattle.std.specs.Io.KnownBytes.{WriteAppends};
@@ -6,6 +7,7 @@ ghost use Rattle.dir_ldif.specs.Device.{Counts};
 
 use crate::devices::write_at_most;
 use crate::escape::{show_char, show_escaped};
+use crate::foreground::is_in_background;
 use dir_ldif::{DeviceFault, Sink, Source};
 use std::alloc::Global;
 use std::cell::Cell;
@@ -34,6 +36,7 @@ const WRAP: &str = "\x1b[?7h";
 /// The line of progress. A text of it that can't be written is left out: it changes nothing of a run.
 #[derive(Drop)]
 pub struct ProgressLine {
+    rt: HostRuntime,
     err: Stderr,
     is_terminal: bool,
     // Whether a text of it is to be seen.
@@ -44,6 +47,7 @@ impl ProgressLine {
     pub fn new(rt: &HostRuntime) -> ProgressLine {
         let err = rt.stderr();
         ProgressLine {
+            rt: *rt,
             err,
             is_terminal: err.is_terminal() && !is_dumb(rt),
             is_shown: Cell::new(false),
@@ -52,7 +56,7 @@ impl ProgressLine {
 
     /// Erases the line, if there is one. It comes before anything else is printed.
     pub fn clear(&self) {
-        if self.is_shown.replace(false) {
+        if self.is_shown.replace(false) && !is_in_background(&self.rt) {
             let _ = eprint!(self.err; "{ERASE}");
         }
     }
@@ -63,10 +67,11 @@ impl ProgressLine {
         let _ = eprintln!(self.err; "slapkit: reading changes from the terminal; end with Ctrl-D");
     }
 
-    /// Writes the line, over the one that is there.
+    /// Writes the line, over the one that is there, unless the terminal is another run's by now.
     fn show(&self, progress: &Progress<'_>) {
-        if self.is_terminal {
-            self.is_shown.set(true);
+        self.is_shown
+            .set(self.is_terminal && !is_in_background(&self.rt));
+        if self.is_shown.get() {
             let _ = eprint!(self.err; "{ERASE}{CUT}slapkit: {progress}{WRAP}");
         }
     }

@@ -5,7 +5,7 @@ ghost use Rattle.dir_files.specs.Files.{meant_by};
 
 use crate::devices::{PatientReader, PatientWriter};
 use crate::files::{FileSystem, Opened, Refusal};
-use crate::limit::{LimitedWriter, largest_file};
+use crate::limit::{LimitedWriter, largest_file, room_of_output};
 use crate::progress::{Progress, ProgressLine, TellingReader, TellingWriter};
 use dir_ldif::{DeviceFault, Sink, write_whole};
 use std::alloc::{AllocError, Global};
@@ -167,7 +167,8 @@ where
 
     fn report(&mut self, text: &[u8]) -> Result<(), Refusal> {
         self.line.clear();
-        let mut output = PatientWriter::new(io::writer(self.rt));
+        let output = PatientWriter::new(io::writer(self.rt));
+        let mut output = LimitedWriter::new(output, room_of_output(self.rt));
         if write_whole(&mut output, text).is_err() || output.flush().is_err() {
             return Err(Refusal::Other);
         }
