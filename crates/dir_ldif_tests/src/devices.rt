@@ -184,7 +184,7 @@ fn each_read_is_passed_on_once(rt: HostRuntime) {
 type FourCalls = [(Result<usize, DeviceFault>, Result<(), DeviceFault>); 2];
 
 /// The call of four that fails, and what they answer.
-static WRITE_CALLS: [(usize, FourCalls); 4] = [
+const WRITE_CALLS: [(usize, FourCalls); 4] = [
     (1, [(Err(DeviceFault), Ok(())), (Ok(1), Ok(()))]),
     (2, [(Ok(1), Err(DeviceFault)), (Ok(1), Ok(()))]),
     (3, [(Ok(1), Ok(())), (Err(DeviceFault), Ok(()))]),
