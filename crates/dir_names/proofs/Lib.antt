@@ -7,8 +7,8 @@ pub mod Compared
 pub mod CutLemmas
 pub mod DefinitionReads
 pub mod DefinitionSteps
-pub mod FindLemmas
 pub mod HasKeys
+pub mod IndexedNames
 pub mod KeyLemmas
 pub mod KnownParents
 pub mod LowercaseKeys
@@ -37,6 +37,8 @@ pub mod SortOrder
 pub mod SortedNames
 pub mod SoundLemmas
 pub mod SpellsReads
+pub mod TextOrder
 pub mod Tidy
+pub mod TypeTables
 pub mod ValueSteps
 pub mod Words

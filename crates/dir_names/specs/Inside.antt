@@ -17,3 +17,4 @@ pub mod SortTexts
 pub mod Steps
 pub mod TidyRuns
 pub mod TokensSoFar
+pub mod TypeNames

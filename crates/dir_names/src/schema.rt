@@ -1,11 +1,12 @@
-//! Attribute types, their names and their matching rules. `table` has those of the standards, and `scope` says under
-//! which schemas a key is the same.
+//! Attribute types, their names and their matching rules. `table` has those of the standards, `index` finds a type by a
+//! name, and `scope` says under which schemas a key is the same.
 
 ghost use Rattle.std.specs.Prelude.{◌≡◌, ◌<◌, ◌∷◌, All, IfErr, IfOk, IfSome, Ok, find, is_some, map, option_copied};
 ghost use Rattle.dir_names.specs.NameKeys.{attr_of};
 ghost use Rattle.dir_names.specs.Inside.Frequent.{IsFrequentSlot, IsFrequentDescription, IsFrequentType, IsRankedType};
 ghost use Rattle.dir_names.specs.Inside.Rows.{is_row_of, type_row};
 ghost use Rattle.dir_names.specs.Inside.Scopes.{IsScopeOf, names_builtin};
+ghost use Rattle.dir_names.specs.Inside.TypeNames.{IsIndex, IsTable};
 ghost use Rattle.std.specs.List.{list_any};
 ghost use Rattle.std.specs.Str.{str_eq_ignore_ascii_case};
 ghost use Rattle.dir_names.specs.Orders.{bytes_eq};
@@ -14,10 +15,12 @@ ghost use Rattle.dir_names.specs.Table.{row_named};
 ghost use Rattle.dir_names.specs.Table.Builtin.{builtin_rows};
 
 pub(crate) mod definition;
+mod index;
 pub(crate) mod scope;
 pub(crate) mod table;
 
 use crate::attribute::lowercase_bytes;
+use crate::schema::index::{index_of, row_number};
 use crate::schema::scope::Scope;
 use crate::schema::table::{FREQUENT, RANKED, ROWS, Row};
 use crate::{AttrKey, Bytes, Description, NameFault, Texts};
@@ -73,6 +76,8 @@ impl TypeRow {
 #[derive(Debug, Drop)]
 pub struct Schema {
     rows: Vec<TypeRow>,
+    /// The names and numbers of the types in lower case, in order, each with the number of its row.
+    names: Vec<(Bytes, usize)>,
     /// The types that copies of directories use most, each in the slot of its text.
     frequent: Vec<Option<FrequentType>>,
     /// The types that have ranks, each at its rank.
@@ -117,9 +122,11 @@ impl Model for Schema {
 
     ghost use Rattle.std.specs.Prelude.{◌≡◌, All};
     ghost use Rattle.dir_names.specs.Inside.Frequent.{IsFrequentSlot, IsRankedType};
+    ghost use Rattle.dir_names.specs.Inside.TypeNames.{IsIndex, IsTable};
     ghost use Rattle.dir_names.specs.Table.Builtin.{builtin_rows};
+    ghost use Rattle.dir_names.specs.Types.Adding.{KeepsTypes};
 
-    ghost invariant = { λ schema. All (IsFrequentSlot schema.rows.items) schema.frequent.items × All (IsRankedType schema.rows.items) schema.ranked.items × (schema.rows.items ≡ builtin_rows) };
+    ghost invariant = { λ schema. All (IsFrequentSlot schema.rows.items) schema.frequent.items × All (IsRankedType schema.rows.items) schema.ranked.items × IsIndex schema.rows.items schema.names.items × IsTable schema.rows.items × KeepsTypes builtin_rows schema.rows.items };
 }
 
 impl Schema {
@@ -144,11 +151,14 @@ impl Schema {
 
     /// The schema of these rows, with its frequent and its ranked types.
     fn of(alloc: Global, rows: Vec<TypeRow>) -> Result<Schema, NameFault>
-        requires { rows.items ≡ builtin_rows }
+        requires table { IsTable rows.items }
+        requires keeps { KeepsTypes builtin_rows rows.items }
         ensures { Gives (λ schema. schema) result (Ok rows.items) }
     {
+        let names = index_of(alloc, rows.as_slice())?;
         let bare = Schema {
             rows,
+            names,
             frequent: Vec::new(alloc),
             ranked: Vec::new(alloc),
         };
@@ -156,11 +166,13 @@ impl Schema {
         let ranked = ranked_types(alloc, &bare)?;
         let Schema {
             rows,
+            names,
             frequent: _,
             ranked: _,
         } = bare;
         Ok(Schema {
             rows,
+            names,
             frequent,
             ranked,
         })
@@ -251,7 +263,7 @@ impl Schema {
     fn rule_in_table(&self, attr: &AttrKey) -> Rule
         ensures { result ≡ rule_of self.now attr.now }
     {
-        match row_of(self.rows.as_slice(), attr.attr_type()) {
+        match self.row_with_key(attr.attr_type()) {
             Some(row) => row.rule,
             None => Rule::Octet,
         }
@@ -270,7 +282,7 @@ impl Schema {
     fn single_in_table(&self, attr: &AttrKey) -> bool
         ensures { result ≡ single_of self.now attr.now }
     {
-        match row_of(self.rows.as_slice(), attr.attr_type()) {
+        match self.row_with_key(attr.attr_type()) {
             Some(row) => row.single,
             None => false,
         }
@@ -281,7 +293,28 @@ impl Schema {
     pub fn knows(&self, attr: &AttrKey) -> bool
         ensures { result ≡ is_known self.now attr.now }
     {
-        row_of(self.rows.as_slice(), attr.attr_type()).is_some()
+        self.row_with_key(attr.attr_type()).is_some()
+    }
+
+    /// The row of the type with this key. A key is one of the names of its row.
+    fn row_with_key(&self, key: &[u8]) -> Option<&TypeRow>
+        ensures { option_copied result ≡ find (λ row. bytes_eq row.key key.now) self.now }
+    {
+        let row = self.row_named(key)?;
+        if row.key.as_slice() == key {
+            Some(row)
+        } else {
+            None
+        }
+    }
+
+    /// The row of the type that a name or a number names, in any ASCII case.
+    fn row_named(&self, attr_type: &[u8]) -> Option<&TypeRow>
+        ensures row { option_copied result ≡ row_named self.now attr_type.now }
+        ensures table { IsTable self.now }
+    {
+        let number = row_number(self.names.as_slice(), attr_type)?;
+        self.rows.get(number)
     }
 
     /// The attribute of a type without options.
@@ -312,7 +345,7 @@ impl Schema {
     pub(crate) fn type_key(&self, alloc: Global, attr_type: &[u8]) -> Result<Bytes, NameFault>
         ensures { Gives (λ key. key) result (Ok (type_key_of self.now attr_type.now)) }
     {
-        match row_named(self.rows.as_slice(), attr_type) {
+        match self.row_named(attr_type) {
             Some(row) => row.key.try_clone(alloc),
             None => lowercase_bytes(alloc, attr_type),
         }
@@ -515,39 +548,6 @@ fn names_of(alloc: Global, name: &str, others: &[&str]) -> Result<Vec<Bytes>, Na
         names.push(Bytes::copy_of(alloc, other.as_bytes())?)?;
     }
     Ok(names)
-}
-
-fn row_of<'a>(rows: &'a [TypeRow], key: &[u8]) -> Option<&'a TypeRow>
-    ensures { option_copied result ≡ find (λ row. bytes_eq row.key key.now) rows.now }
-{
-    for row in rows {
-        if row.key.as_slice() == key {
-            return Some(row);
-        }
-    }
-    None
-}
-
-fn row_named<'a>(rows: &'a [TypeRow], attr_type: &[u8]) -> Option<&'a TypeRow>
-    ensures { option_copied result ≡ find (λ row. list_any (λ name. str_eq_ignore_ascii_case name attr_type.now) row.names) rows.now }
-{
-    for row in rows {
-        if is_named(row.names.as_slice(), attr_type) {
-            return Some(row);
-        }
-    }
-    None
-}
-
-fn is_named(names: &[Bytes], attr_type: &[u8]) -> bool
-    ensures { result ≡ list_any (λ name. str_eq_ignore_ascii_case name attr_type.now) names.now }
-{
-    for name in names {
-        if is_same(name.as_slice(), attr_type) {
-            return true;
-        }
-    }
-    false
 }
 
 fn is_same(one: &[u8], another: &[u8]) -> bool
