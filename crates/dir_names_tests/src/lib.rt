@@ -27,4 +27,6 @@ mod recent;
 #[cfg(test)]
 mod recent_parents;
 #[cfg(test)]
+mod types;
+#[cfg(test)]
 mod values;
