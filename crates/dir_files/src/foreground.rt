@@ -5,7 +5,7 @@ use std::fs;
 use std::os::unix::fs::MetadataExt;
 use std::rt::Files;
 
-/// Where the system tells of this process .
+/// Where the system tells of this process.
 const PROCESS: &str = "/proc/self/stat";
 
 /// The file that standard error is.

@@ -279,7 +279,7 @@ static QUESTIONS: [Question; 20] = [
         fault: "",
         report: "cn/read: ALLOWED\nentry: =0\nChildren: =0\n2.5.4.42: =0\n",
     },
-    // the notes on the configuration come first; a word that is none has no note, and is a fault after them
+    // the notes on the configuration come first; a text that is no word has no note, and is a fault after them
     Question {
         config: INCLUDE,
         copy: COPY,
