@@ -2,9 +2,9 @@ use Rattle.std.proofs.Common.{◌≡◌, ◌<◌, length, get_or, set, sym, ap, 
 use Rattle.std.specs.Vec.{with_item}
 use Rattle.std.proofs.lemmas.List.{get_or_default, length-set}
 use Rattle.std.proofs.lemmas.List.Elements.{All-set}
-use Rattle.dir_tree.specs.Inside.ValuePieces.{IsInside, IsPlace, joined, piece_values}
+use Rattle.dir_tree.specs.Inside.Pieces.{IsFilled, IsInside, IsPlace, joined, piece_items}
 use Rattle.dir_tree.proofs.Pieced.{get_in, set_in}
-use Rattle.dir_tree.proofs.pieces.Pieces.set_bytes.Goals as goal
+use Rattle.dir_tree.proofs.pieces.Pieces+StoredValue.set_bytes.Goals as goal
 
 pub invariant_of-self : goal.invariant_of-self
 invariant_of-self c =
@@ -16,9 +16,12 @@ invariant_of-self c =
     let values = c.index_mut-values.result.now in
     let value = c.set_bytes.new.self in
     let new = with_item values within value in
-    let written = set_in piece_values pieces piece within c.args.at values new place.there place.is value (inside values) (ap (λ p. set (piece_values p) within value) c.index_mut-values.ensures.value) in
-    let some : 0 < length (piece_values new) = omega (arith, length-set values.items within value, inside values, ap (λ p. length (piece_values p)) c.index_mut-values.ensures.value) in
-    (c.self.invariant.0 ∙ sym (ap length written ∙ length-set (joined pieces) c.args.at value), All-set (λ p. 0 < length (piece_values p)) pieces piece new some c.self.invariant.1)
+    let written = set_in piece_items pieces piece within c.args.at values new place.there place.is value (inside values) (ap (λ p. set (piece_items p) within value) c.index_mut-values.ensures.value) in
+    let size : length (piece_items new) ≡ length (piece_items values) = length-set values.items within value in
+    let old = ap piece_items c.index_mut-values.ensures.value in
+    let whole = (c.self.invariant.1 piece values place.there).1 in
+    let some : IsFilled 1024 new = (omega (arith, size, inside values, ap length old), omega (arith, size, whole, ap length old)) in
+    (c.self.invariant.0 ∙ sym (ap length written ∙ length-set (joined pieces) c.args.at value), All-set (IsFilled 1024) pieces piece new some c.self.invariant.1)
 
 pub returns : goal.returns
 returns c = λ other.
@@ -32,9 +35,9 @@ returns c = λ other.
     let old = c.index_mut.result.now in
     let there : c.args.at < length (joined pieces) = subst (λ values. c.args.at < length values) (sym c.self.view_is) c.requires in
     let read : old ≡ get_or (joined pieces) c.args.at other =
-    c.index_mut.ensures.value ∙ ap (λ p. get_or (piece_values p) within old) c.index_mut-values.ensures.value
-    ∙ sym (get_in piece_values pieces piece within c.args.at values old place.there (inside values) place.is)
+    c.index_mut.ensures.value ∙ ap (λ p. get_or (piece_items p) within old) c.index_mut-values.ensures.value
+    ∙ sym (get_in piece_items pieces piece within c.args.at values old place.there (inside values) place.is)
     ∙ get_or_default (joined pieces) c.args.at old other there in
-    set_in piece_values pieces piece within c.args.at values (with_item values within value) place.there place.is value (inside values) (ap (λ p. set (piece_values p) within value) c.index_mut-values.ensures.value)
+    set_in piece_items pieces piece within c.args.at values (with_item values within value) place.there place.is value (inside values) (ap (λ p. set (piece_items p) within value) c.index_mut-values.ensures.value)
     ∙ ap (λ a. set (joined pieces) c.args.at a) (c.set_bytes.ensures ∙ ap (λ v. (v.0, c.args.bytes)) read)
     ∙ ap (λ row. set row c.args.at ((get_or row c.args.at other).0, c.args.bytes)) c.self.view_is
