@@ -28,7 +28,7 @@ place_of-requires c =
     let piece = c.piece_for-piece.result in
     let belongs = c.piece_for-piece.ensures in
     let there : piece < length pieces = omega (arith, belongs.there, c.if-piece-pieces.false) in
-    ap attributes_rise (c.as_slice.ensures.value ∙ ap piece_items c.index.ensures) ∙ rising_in attr_cmp_total key_of_attribute key 1024 pieces piece belongs c.requires.filled c.requires.rises c.index.result.now there
+    ap attributes_rise (c.as_slice.ensures.value ∙ ap piece_items c.index-pieces-piece.is) ∙ rising_in attr_cmp_total key_of_attribute key 1024 pieces piece belongs c.requires.filled c.requires.rises c.index-pieces-piece.result there
 
 pub returns-in-Ok-clause-place : goal.returns-in-Ok-clause-place
 returns-in-Ok-clause-place c =
@@ -38,9 +38,9 @@ returns-in-Ok-clause-place c =
     let belongs = c.piece_for-piece.ensures in
     let there : piece < length pieces = omega (arith, belongs.there, c.if-piece-pieces.false) in
     let size : c.count-before.result ≡ length (joined (take piece pieces)) = c.count-before.ensures in
-    let at = c.place_of.ensures.place ∙ ap (place_among attr_cmp key_of_attribute key) (c.as_slice.ensures.value ∙ ap piece_items c.index.ensures) in
+    let at = c.place_of.ensures.place ∙ ap (place_among attr_cmp key_of_attribute key) (c.as_slice.ensures.value ∙ ap piece_items c.index-pieces-piece.is) in
     ap (shift c.count-before.result) (sym c.in-Ok.is)
-    ∙ found_in attr_cmp_total key_of_attribute key 1024 pieces piece belongs c.requires.filled c.requires.rises c.index.result.now (record { key = key; stored = record { spelling = []; values = fin.empty } }) there c.count-before.result size c.place_of.result at
+    ∙ found_in attr_cmp_total key_of_attribute key 1024 pieces piece belongs c.requires.filled c.requires.rises c.index-pieces-piece.result (record { key = key; stored = record { spelling = []; values = fin.empty } }) there c.count-before.result size c.place_of.result at
 
 pub returns-in-Ok-clause-range : goal.returns-in-Ok-clause-range
 returns-in-Ok-clause-range c =
@@ -50,8 +50,8 @@ returns-in-Ok-clause-range c =
     let belongs = c.piece_for-piece.ensures in
     let there : piece < length pieces = omega (arith, belongs.there, c.if-piece-pieces.false) in
     let size : c.count-before.result ≡ length (joined (take piece pieces)) = c.count-before.ensures in
-    let values : length c.as_slice.result.now ≡ length (piece_items (get_or pieces piece c.index.result.now)) = ap length (c.as_slice.ensures.value ∙ ap piece_items c.index.ensures) in
-    omega (arith, size, values, length-before piece_items pieces piece c.index.result.now there, c.in-Ok.ensures.range)
+    let values : length c.as_slice.result.now ≡ length (piece_items (get_or pieces piece c.index-pieces-piece.result)) = ap length (c.as_slice.ensures.value ∙ ap piece_items c.index-pieces-piece.is) in
+    omega (arith, size, values, length-before piece_items pieces piece c.index-pieces-piece.result there, c.in-Ok.ensures.range)
 
 pub returns-in-Err-clause-place : goal.returns-in-Err-clause-place
 returns-in-Err-clause-place c =
@@ -61,9 +61,9 @@ returns-in-Err-clause-place c =
     let belongs = c.piece_for-piece.ensures in
     let there : piece < length pieces = omega (arith, belongs.there, c.if-piece-pieces.false) in
     let size : c.count-before.result ≡ length (joined (take piece pieces)) = c.count-before.ensures in
-    let at = c.place_of.ensures.place ∙ ap (place_among attr_cmp key_of_attribute key) (c.as_slice.ensures.value ∙ ap piece_items c.index.ensures) in
+    let at = c.place_of.ensures.place ∙ ap (place_among attr_cmp key_of_attribute key) (c.as_slice.ensures.value ∙ ap piece_items c.index-pieces-piece.is) in
     ap (shift c.count-before.result) (sym c.in-Err.is)
-    ∙ found_in attr_cmp_total key_of_attribute key 1024 pieces piece belongs c.requires.filled c.requires.rises c.index.result.now (record { key = key; stored = record { spelling = []; values = fin.empty } }) there c.count-before.result size c.place_of.result at
+    ∙ found_in attr_cmp_total key_of_attribute key 1024 pieces piece belongs c.requires.filled c.requires.rises c.index-pieces-piece.result (record { key = key; stored = record { spelling = []; values = fin.empty } }) there c.count-before.result size c.place_of.result at
 
 pub returns-in-Err-clause-range : goal.returns-in-Err-clause-range
 returns-in-Err-clause-range c =
@@ -73,8 +73,8 @@ returns-in-Err-clause-range c =
     let belongs = c.piece_for-piece.ensures in
     let there : piece < length pieces = omega (arith, belongs.there, c.if-piece-pieces.false) in
     let size : c.count-before.result ≡ length (joined (take piece pieces)) = c.count-before.ensures in
-    let values : length c.as_slice.result.now ≡ length (piece_items (get_or pieces piece c.index.result.now)) = ap length (c.as_slice.ensures.value ∙ ap piece_items c.index.ensures) in
-    omega (arith, size, values, length-before piece_items pieces piece c.index.result.now there, c.in-Err.ensures.range)
+    let values : length c.as_slice.result.now ≡ length (piece_items (get_or pieces piece c.index-pieces-piece.result)) = ap length (c.as_slice.ensures.value ∙ ap piece_items c.index-pieces-piece.is) in
+    omega (arith, size, values, length-before piece_items pieces piece c.index-pieces-piece.result there, c.in-Err.ensures.range)
 
 pub overflow_add-result : goal.overflow_add-result
 overflow_add-result c =
@@ -84,8 +84,8 @@ overflow_add-result c =
     let belongs = c.piece_for-piece.ensures in
     let there : piece < length pieces = omega (arith, belongs.there, c.if-piece-pieces.false) in
     let size : c.count-before.result ≡ length (joined (take piece pieces)) = c.count-before.ensures in
-    let values : length c.as_slice.result.now ≡ length (piece_items (get_or pieces piece c.index.result.now)) = ap length (c.as_slice.ensures.value ∙ ap piece_items c.index.ensures) in
-    omega (arith, size, values, length-before piece_items pieces piece c.index.result.now there, c.requires.len, c.in-Ok.ensures.range)
+    let values : length c.as_slice.result.now ≡ length (piece_items (get_or pieces piece c.index-pieces-piece.result)) = ap length (c.as_slice.ensures.value ∙ ap piece_items c.index-pieces-piece.is) in
+    omega (arith, size, values, length-before piece_items pieces piece c.index-pieces-piece.result there, c.requires.len, c.in-Ok.ensures.range)
 
 pub overflow_add-result-in-Err : goal.overflow_add-result-in-Err
 overflow_add-result-in-Err c =
@@ -95,8 +95,8 @@ overflow_add-result-in-Err c =
     let belongs = c.piece_for-piece.ensures in
     let there : piece < length pieces = omega (arith, belongs.there, c.if-piece-pieces.false) in
     let size : c.count-before.result ≡ length (joined (take piece pieces)) = c.count-before.ensures in
-    let values : length c.as_slice.result.now ≡ length (piece_items (get_or pieces piece c.index.result.now)) = ap length (c.as_slice.ensures.value ∙ ap piece_items c.index.ensures) in
-    omega (arith, size, values, length-before piece_items pieces piece c.index.result.now there, c.requires.len, c.in-Err.ensures.range)
+    let values : length c.as_slice.result.now ≡ length (piece_items (get_or pieces piece c.index-pieces-piece.result)) = ap length (c.as_slice.ensures.value ∙ ap piece_items c.index-pieces-piece.is) in
+    omega (arith, size, values, length-before piece_items pieces piece c.index-pieces-piece.result there, c.requires.len, c.in-Err.ensures.range)
 
 pub count-before-requires : goal.count-before-requires
 count-before-requires c =
