@@ -27,6 +27,7 @@ pub mod PatternLines
 pub mod PlaceInPieces
 pub mod Relisted
 pub mod Reordered
+pub mod ReplacedValues
 pub mod RestBelow
 pub mod SharedKeys
 pub mod SortedVecs
