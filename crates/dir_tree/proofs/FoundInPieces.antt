@@ -1,15 +1,26 @@
 -- What a search in the piece to which a key belongs says of the whole list.
-use Rattle.std.proofs.Common.{◌≡◌, ℕ, zero, suc, ◌-◌, ◌<◌, ◌≤◌, true, List, [], ◌∷◌, map, length, get_or, take, Result, Err, sym, ap, subst, ◌∙◌, arith, Vec, add-one}
+use Rattle.std.proofs.Common.{◌≡◌, ℕ, zero, suc, ◌-◌, ◌<◌, ◌≤◌, true, List, [], ◌∷◌, map, length, get_or, take, Result, Ok, Err, sym, ap, subst, ◌∙◌, arith, Vec, add-one}
 use Rattle.std.specs.Cmp.{IsTotalOrder}
 use Rattle.std.specs.declared.cmp.Ordering.{Ordering}
 use Rattle.std.specs.declared.cmp.Ordering.TheVariants.{Less}
+use Rattle.std.specs.List.Sorted.{IsSearchInRange}
 use Rattle.std.proofs.lemmas.List.{take_all}
 use Rattle.dir_names.proofs.Placed.{so}
 use Rattle.dir_names.specs.Sorted.{place, rises}
-use Rattle.dir_tree.specs.Inside.Pieces.{AreFilled, EndsBelow, IsPieceFor, joined, piece_items}
-use Rattle.dir_tree.proofs.Pieced.{before}
-use Rattle.dir_tree.proofs.PlaceInPieces.{ends_before, place_after, place_in, rises_in, shift}
+use Rattle.dir_tree.specs.Inside.Pieces.{after_elements, AreFilled, EndsBelow, IsPieceFor, IsSearchInPiece, joined, piece_items}
+use Rattle.dir_tree.proofs.Pieced.{before, length-before}
+use Rattle.dir_tree.proofs.PlaceInPieces.{ends_before, place_after, place_in, rises_in}
 use Rattle.dir_tree.proofs.SortedVecs.{truth}
+
+module _ {Z V : Type 0} (ps : List (Vec V Z)) (p : ℕ) (there : p < length ps) where
+  one_of : (qs : List (Vec V Z)) → p < length qs → Vec V Z
+  one_of [] h = absurd (omega arith)
+  one_of (x ∷ xs) h = x
+
+  -- what a search in a piece may answer is in the range of the whole list
+  pub found_in_range : (found : Result ℕ ℕ) → IsSearchInPiece ps p found → IsSearchInRange (after_elements (length (joined (take p ps))) found) (length (joined ps))
+  found_in_range (Ok i) h = let d = one_of ps there in omega (arith, h d, length-before piece_items ps p d there)
+  found_in_range (Err i) h = let d = one_of ps there in omega (arith, h d, length-before piece_items ps p d there)
 
 -- the place of a key among elements
 abbrev pub place_among : {V K : Type 0} → (R : K → K → Ordering) → (V → K) → K → List V → Result ℕ ℕ
@@ -38,7 +49,7 @@ module _ {Z V K : Type 0} {R : K → K → Ordering} (o : IsTotalOrder R) (key_o
       pub rising_in : (d : Vec V Z) → p < length ps → rises R (map key_of (piece_items (get_or ps p d))) ≡ true
       rising_in d h = truth (rises_in o key_of key piece_items ps p d (so _ rising) h)
 
-      pub found_in : (d : Vec V Z) (e : V) → p < length ps → (n : ℕ) → n ≡ length (joined (take p ps)) → (r : Result ℕ ℕ) → r ≡ place_among R key_of key (piece_items (get_or ps p d)) → shift n r ≡ place_among R key_of key (joined ps)
+      pub found_in : (d : Vec V Z) (e : V) → p < length ps → (n : ℕ) → n ≡ length (joined (take p ps)) → (r : Result ℕ ℕ) → r ≡ place_among R key_of key (piece_items (get_or ps p d)) → after_elements n r ≡ place_among R key_of key (joined ps)
       found_in d e h n size r at =
-          (λ i. shift (size i) (at i))
+          (λ i. after_elements (size i) (at i))
           ∙ sym (place_in o key_of key piece_items ps p d e (so _ rising) h ((filled p d h).0) (ends ps p filled belongs.there belongs.below e) (belongs.not_below h d e))

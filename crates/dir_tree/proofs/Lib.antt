@@ -44,3 +44,4 @@ pub mod TreeNames
 pub mod TreeNodes
 pub mod TreeWrites
 pub mod Walk
+pub mod WrittenInPieces

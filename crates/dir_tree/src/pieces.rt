@@ -11,7 +11,7 @@ ghost use Rattle.dir_tree.specs.Content.{Keyed};
 ghost use Rattle.dir_tree.specs.Inside.AttributeLists.{with_values};
 ghost use Rattle.dir_tree.specs.Inside.Searches.{sought_key};
 ghost use Rattle.dir_tree.specs.Inside.Stored.{are_rising, value_pair};
-ghost use Rattle.dir_tree.specs.Inside.Pieces.{AreFilled, HasRoom, IsInside, IsPieceFor, IsPlace, IsSplitAt, joined};
+ghost use Rattle.dir_tree.specs.Inside.Pieces.{after_elements, AreFilled, HasRoom, IsInside, IsPieceFor, IsPlace, IsSearchInPiece, IsSplitAt, joined};
 
 use crate::attributes::Attribute;
 use crate::search::{Sought, ends_below, place_of};
@@ -166,11 +166,8 @@ impl Pieces<StoredValue> {
         if piece == self.pieces.len() {
             return Err(len);
         }
-        let before = count(&self.pieces.as_slice()[..piece]);
-        match place_of(self.pieces[piece].as_slice(), sought) {
-            Ok(within) => Ok(before + within),
-            Err(within) => Err(before + within),
-        }
+        let found = place_of(self.pieces[piece].as_slice(), sought);
+        index_in_all(self.pieces.as_slice(), piece, found)
     }
 
     /// Whether all values are below the key that is sought, which then would be inserted at the end.
@@ -214,7 +211,7 @@ fn one_more(len: usize) -> Result<usize, Memory>
 }
 
 /// How many elements the pieces have together.
-pub(crate) fn count<T>(pieces: &[Vec<T>]) -> usize
+fn count<T>(pieces: &[Vec<T>]) -> usize
     requires { length (joined pieces.now) < 2 ^ 64 }
     ensures { result ≡ length (joined pieces.now) }
 {
@@ -223,6 +220,25 @@ pub(crate) fn count<T>(pieces: &[Vec<T>]) -> usize
         values += piece.len();
     }
     values
+}
+
+/// What a search in one piece found, as an index of the whole list.
+pub(crate) fn index_in_all<T>(
+    pieces: &[Vec<T>],
+    piece: usize,
+    found: Result<usize, usize>,
+) -> Result<usize, usize>
+    requires piece { piece < length pieces.now }
+    requires found { IsSearchInPiece pieces.now piece found }
+    requires len { length (joined pieces.now) < 2 ^ 64 }
+    ensures range { IsSearchInRange result (length (joined pieces.now)) }
+    ensures is { result ≡ after_elements (length (joined (take piece pieces.now))) found }
+{
+    let before = count(&pieces[..piece]);
+    match found {
+        Ok(within) => Ok(before + within),
+        Err(within) => Err(before + within),
+    }
 }
 
 /// The place of the element at an index.

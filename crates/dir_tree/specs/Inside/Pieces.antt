@@ -1,8 +1,14 @@
 -- A long list, kept in pieces.
-use Rattle.std.specs.Prelude.{◌≡◌, ◌≢◌, ℕ, ◌+◌, ◌-◌, ◌<◌, ◌≤◌, List, length, drop, slice_index_or, slice_set, take, Vec}
+use Rattle.std.specs.Prelude.{◌≡◌, ◌≢◌, ℕ, ◌+◌, ◌-◌, ◌<◌, ◌≤◌, List, length, drop, slice_index_or, slice_set, take, Result, Ok, Err, Vec}
 use Rattle.std.specs.List.{All, flat_map, insert}
+use Rattle.std.specs.List.Sorted.{IsSearchInRange}
 use Rattle.std.specs.declared.cmp.Ordering.{Ordering}
 use Rattle.std.specs.declared.cmp.Ordering.TheVariants.{Less}
+
+-- what a search in a piece answers, where so many elements come before the piece
+abbrev pub after_elements : ℕ → Result ℕ ℕ → Result ℕ ℕ
+after_elements before (Ok within) = Ok (before + within)
+after_elements before (Err within) = Err (before + within)
 
 module _ {Z V : Type 0} where
   -- the elements of one piece
@@ -34,6 +40,10 @@ module _ {Z V : Type 0} where
   -- there is an element at the index `within` of a piece
   abbrev pub IsInside : List (Vec V Z) → ℕ → ℕ → Type 0
   IsInside pieces piece within = (d : Vec V Z) → within < length (piece_items (slice_index_or pieces piece d))
+
+  -- a search in a piece may have answered this
+  abbrev pub IsSearchInPiece : List (Vec V Z) → ℕ → Result ℕ ℕ → Type 0
+  IsSearchInPiece pieces piece found = (d : Vec V Z) → IsSearchInRange found (length (piece_items (slice_index_or pieces piece d)))
 
   -- a piece is two pieces afterwards: its first `at` elements, and the others
   pub record IsSplitAt (old new : List (Vec V Z)) (piece at : ℕ) : Type 0 where

@@ -16,7 +16,7 @@ ghost use Rattle.dir_tree.specs.NewEntry.{IsTwiceFaultOf};
 use crate::EntryFault;
 use crate::attributes::Attribute;
 use crate::list_iter::ListIter;
-use crate::pieces::{MOST, Pieces, count};
+use crate::pieces::{MOST, Pieces, index_in_all};
 use crate::stored::{Element, clones};
 use crate::values::ValueMap;
 use dir_names::{AttrKey, Bytes, Memory, ValueKey};
@@ -323,11 +323,8 @@ fn place_in(pieces: &[Vec<Attribute>], len: usize, key: &AttrKey) -> Result<usiz
     if piece == pieces.len() {
         return Err(len);
     }
-    let before = count(&pieces[..piece]);
-    match place_of(pieces[piece].as_slice(), key) {
-        Ok(within) => Ok(before + within),
-        Err(within) => Err(before + within),
-    }
+    let found = place_of(pieces[piece].as_slice(), key);
+    index_in_all(pieces, piece, found)
 }
 
 /// The piece to which a key belongs, or the number of pieces if all end below it.
