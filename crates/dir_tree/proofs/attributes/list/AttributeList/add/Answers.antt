@@ -20,12 +20,12 @@ returns-clause-ok c =
     let list = c.args.self.now in
     let at = c.args.at in
     ok_then c.insert-added.result (λ put a.
-        let taken : c.replace_values-values.new.self ≡ set list at (with_values (get_or list at a) c.empty.result) = subst (λ l. c.replace_values-values.new.self ≡ set l c.args.at (with_values (get_or l c.args.at a) c.empty.result)) c.self.view_is (c.replace_values-values.ensures.new a) in
-        let old : c.replace_values-values.result ≡ (get_or list at a).stored.values = subst (λ l. c.replace_values-values.result ≡ (get_or l c.args.at a).stored.values) c.self.view_is (c.replace_values-values.ensures.old a) in
-        c.replace_values.ensures.new a
-        ∙ ap (λ l. set l at (with_values (get_or l at a) c.insert-added.new.self)) taken
-        ∙ put_back list at c.requires a c.empty.result c.insert-added.new.self
-        ∙ ap (λ values. set list at (with_values (get_or list at a) values)) (put ∙ ap (λ values. fin.insert values c.args.key c.args.bytes) old))
+    let taken : c.replace_values-values.new.self ≡ set list at (with_values (get_or list at a) c.empty.result) = subst (λ l. c.replace_values-values.new.self ≡ set l c.args.at (with_values (get_or l c.args.at a) c.empty.result)) c.self.view_is (c.replace_values-values.ensures.new a) in
+    let old : c.replace_values-values.result ≡ (get_or list at a).stored.values = subst (λ l. c.replace_values-values.result ≡ (get_or l c.args.at a).stored.values) c.self.view_is (c.replace_values-values.ensures.old a) in
+    c.replace_values.ensures.new a
+    ∙ ap (λ l. set l at (with_values (get_or l at a) c.insert-added.new.self)) taken
+    ∙ put_back list at c.requires a c.empty.result c.insert-added.new.self
+    ∙ ap (λ values. set list at (with_values (get_or list at a) values)) (put ∙ ap (λ values. fin.insert values c.args.key c.args.bytes) old))
     c.insert-added.ensures.ok
 
 pub returns-clause-err : goal.returns-clause-err
@@ -35,9 +35,9 @@ returns-clause-err c =
     let taken : c.replace_values-values.new.self ≡ set list at (with_values (get_or list at any) c.empty.result) = subst (λ l. c.replace_values-values.new.self ≡ set l c.args.at (with_values (get_or l c.args.at any) c.empty.result)) c.self.view_is (c.replace_values-values.ensures.new any) in
     let old : c.replace_values-values.result ≡ (get_or list at any).stored.values = subst (λ l. c.replace_values-values.result ≡ (get_or l c.args.at any).stored.values) c.self.view_is (c.replace_values-values.ensures.old any) in
     err_then c.insert-added.result (λ kept.
-        c.replace_values.ensures.new any
-        ∙ ap (λ l. set l at (with_values (get_or l at any) c.insert-added.new.self)) taken
-        ∙ put_back list at c.requires any c.empty.result c.insert-added.new.self
-        ∙ ap (λ values. set list at (with_values (get_or list at any) values)) (kept ∙ old)
-        ∙ set-get_or list at any)
+    c.replace_values.ensures.new any
+    ∙ ap (λ l. set l at (with_values (get_or l at any) c.insert-added.new.self)) taken
+    ∙ put_back list at c.requires any c.empty.result c.insert-added.new.self
+    ∙ ap (λ values. set list at (with_values (get_or list at any) values)) (kept ∙ old)
+    ∙ set-get_or list at any)
     c.insert-added.ensures.err
