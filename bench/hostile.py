@@ -85,6 +85,21 @@ def one_modify_of_the_descriptions_there(n):
     return {"copy": [b"dn: dc=com\ndc: com\n", *[b"%s: c\n" % name for name in names], b"\n"], "changes": [b"dn: dc=com\nchangetype: modify\n", *mods]}
 
 
+def one_modify_that_replaces_descriptions(n):
+    """Each description of an entry is given another value, by a modification of its own."""
+    names = [b"description;lang-a%d" % i for i in range(n)]
+    mods = shuffled([b"replace: %s\n%s: d\n-\n" % (name, name) for name in names])
+    return {"copy": [b"dn: dc=com\ndc: com\n", *[b"%s: c\n" % name for name in names], b"\n"], "changes": [b"dn: dc=com\nchangetype: modify\n", *mods]}
+
+
+def one_modify_between_descriptions(n):
+    """Of an entry's descriptions every second goes, and others come between those that stay."""
+    names = [b"description;lang-a%08d" % i for i in range(n)]
+    there = [b"%s: c\n" % name for name in names if name[-1] % 2]
+    mods = shuffled([b"delete: %s\n-\n" % name if i % 4 == 1 else b"add: %s\n%s: c\n-\n" % (name, name) for i, name in enumerate(names) if i % 4 < 2])
+    return {"copy": [b"dn: dc=com\ndc: com\n", *there, b"\n"], "changes": [b"dn: dc=com\nchangetype: modify\n", *mods]}
+
+
 def large_values(n):
     """Values of 1,048,575 bytes, folded after 76."""
     value = b"x" * (MOST_OF_A_VALUE - 1 - len("00000000"))
@@ -243,6 +258,8 @@ FAMILIES = [
     Family(one_modify_of_many_values, "values", 100_000),
     Family(one_modify_of_many_descriptions, "descriptions", 20_000),
     Family(one_modify_of_the_descriptions_there, "descriptions", 20_000),
+    Family(one_modify_that_replaces_descriptions, "descriptions", 20_000),
+    Family(one_modify_between_descriptions, "descriptions", 20_000),
     Family(large_values, "values", 4_000, memory=5 * MOST_OF_A_VALUE // 2),
     Family(values_with_a_common_prefix, "values", 20_000),
     Family(entries_in_reverse, "entries", 500_000),

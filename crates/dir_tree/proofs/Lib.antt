@@ -27,6 +27,7 @@ pub mod PatternLines
 pub mod PlaceInPieces
 pub mod Relisted
 pub mod Reordered
+pub mod ReplacedValues
 pub mod RestBelow
 pub mod SharedKeys
 pub mod SortedVecs
@@ -43,3 +44,4 @@ pub mod TreeNames
 pub mod TreeNodes
 pub mod TreeWrites
 pub mod Walk
+pub mod WrittenInPieces

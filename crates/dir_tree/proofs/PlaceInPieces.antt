@@ -9,6 +9,7 @@ use Rattle.std.proofs.lemmas.List.{append-nil, get_or-append_right, length-appen
 use Rattle.std.proofs.lemmas.List.Concat.{flat_map-append}
 use Rattle.dir_names.specs.Sorted.{rises, place, later}
 use Rattle.dir_names.proofs.Placed.{both, first, second}
+use Rattle.dir_tree.specs.Inside.Pieces.{after_elements}
 use Rattle.dir_tree.proofs.Pieced.{before, after, flat_map_at}
 
 less : (o : Ordering) → T (is_lt o) → o ≡ Less
@@ -16,16 +17,11 @@ less Less p = refl
 less Equal p = absurd p
 less Greater p = absurd p
 
--- a place, `n` later
-abbrev pub shift : ℕ → Result ℕ ℕ → Result ℕ ℕ
-shift n (Ok i) = Ok (n + i)
-shift n (Err i) = Err (n + i)
-
-shift_none : (r : Result ℕ ℕ) → r ≡ shift 0 r
+shift_none : (r : Result ℕ ℕ) → r ≡ after_elements 0 r
 shift_none (Ok i) = ap (λ n. Ok n) (sym (zero-add i))
 shift_none (Err i) = ap (λ n. Err n) (sym (zero-add i))
 
-later_shift : (n : ℕ) (r : Result ℕ ℕ) → later (shift n r) ≡ shift (suc n) r
+later_shift : (n : ℕ) (r : Result ℕ ℕ) → later (after_elements n r) ≡ after_elements (suc n) r
 later_shift n (Ok i) = ap (λ n. Ok n) (omega arith)
 later_shift n (Err i) = ap (λ n. Err n) (omega arith)
 
@@ -52,7 +48,7 @@ module _ {I K : Type 0} {R : K → K → Ordering} (o : IsTotalOrder R) (key : I
     greater x e = o.antisymm k x ∙ ap ordering_reverse e
 
     -- a list that ends below the key: the key's place is after it
-    pub skip : (xs ys : List I) (d : I) → T (rises R (map key xs)) → ((i : ℕ) → suc i ≡ length xs → R (key (get_or xs i d)) k ≡ Less) → place R k (map key (xs ++ ys)) ≡ shift (length xs) (place R k (map key ys))
+    pub skip : (xs ys : List I) (d : I) → T (rises R (map key xs)) → ((i : ℕ) → suc i ≡ length xs → R (key (get_or xs i d)) k ≡ Less) → place R k (map key (xs ++ ys)) ≡ after_elements (length xs) (place R k (map key ys))
     skip [] ys d t ends = shift_none _
     skip (x ∷ xs) ys d t ends =
         ap (λ r. match_ordering r (Err 0) (Ok 0) (later (place R k (map key (xs ++ ys))))) (greater (key x) (head xs ends (first _ _ t)))
@@ -92,14 +88,14 @@ module _ {I K : Type 0} {R : K → K → Ordering} (o : IsTotalOrder R) (key : I
 
       pub place_in : (ps : List X) (p : ℕ) (d : X) (e : I) → T (rises R (map key (flat_map f ps))) → p < length ps → 0 < length (f (get_or ps p d)) →
           ((i : ℕ) → suc i ≡ length (before f ps p) → R (key (get_or (before f ps p) i e)) k ≡ Less) → R (key (get_or (f (get_or ps p d)) (length (f (get_or ps p d)) - 1) e)) k ≢ Less →
-          place R k (map key (flat_map f ps)) ≡ shift (length (before f ps p)) (place R k (map key (f (get_or ps p d))))
+          place R k (map key (flat_map f ps)) ≡ after_elements (length (before f ps p)) (place R k (map key (f (get_or ps p d))))
       place_in ps p d e t h some ends not_below =
           let values = f (get_or ps p d) in
           let whole = flat_map_at f ps p d h in
           let t' : T (rises R (map key (before f ps p ++ (values ++ after f ps p)))) = subst (λ xs. T (rises R (map key xs))) whole t in
           ap (λ xs. place R k (map key xs)) whole
           ∙ skip (before f ps p) (values ++ after f ps p) e (rises_left (before f ps p) (values ++ after f ps p) t') ends
-          ∙ ap (shift (length (before f ps p))) (stop values (after f ps p) e (length values - 1) (omega arith) not_below)
+          ∙ ap (after_elements (length (before f ps p))) (stop values (after f ps p) e (length values - 1) (omega arith) not_below)
 
       pub rises_in : (ps : List X) (p : ℕ) (d : X) → T (rises R (map key (flat_map f ps))) → p < length ps → T (rises R (map key (f (get_or ps p d))))
       rises_in ps p d t h =

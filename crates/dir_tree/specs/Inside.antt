@@ -1,11 +1,13 @@
 -- The views of private structs and enums, what the private functions that sort lines meet, and the codes by which proofs tell values of the types apart.
 -- A reader of the public contracts needs none of them.
 pub mod Arranged
+pub mod AttributeLists
 pub mod Codes
 pub mod Kept
 pub mod Lent
 pub mod Packed
 pub mod Patterns
+pub mod Pieces
 pub mod Searches
 pub mod Stored
 pub mod TreeAdds
@@ -16,4 +18,3 @@ pub mod TreeOrder
 pub mod TreePlaces
 pub mod Trees
 pub mod ValueLists
-pub mod ValuePieces

@@ -1,30 +1,31 @@
 //! The attributes of an entry, as an ordered map from the keys of their descriptions.
 
-ghost use Rattle.std.specs.Prelude.{◌≡◌, ◌&&◌, ◌==◌, IfErr, IfOk, IfSome, IsSome, IsTrue, OnErr, OnOk, Some, [], false, length, map, nat_lt, option_copied};
+ghost use Rattle.std.specs.Prelude.{◌≡◌, ◌&&◌, ◌==◌, IfErr, IfOk, IfSome, IsSome, IsTrue, OnErr, OnOk, Some, [], false, nat_lt, option_copied};
 ghost use Rattle.std.specs.List.{list_any};
 ghost use Rattle.dir_names.specs.Names.Sound.{is_sound_pair};
 ghost use Rattle.dir_names.specs.declared.value.ValueKey.TheVariants.{Text};
 ghost use Rattle.dir_names.specs.Table.{single_of};
 ghost use Rattle.std.specs.Option.{option_map};
 ghost use Rattle.std.specs.FinMap as fin;
-ghost use Rattle.std.specs.List.Sorted.{IsSearchInRange};
-ghost use Rattle.dir_names.specs.Orders.{attr_cmp};
-ghost use Rattle.dir_names.specs.Sorted.{place};
 ghost use Rattle.dir_tree.specs.Content.{has_value};
 ghost use Rattle.dir_tree.specs.Inside.Stored.{attribute_pair, attributes_in, attributes_rise};
 ghost use Rattle.dir_tree.specs.Slots.{spelling_or};
 ghost use Rattle.dir_tree.specs.NewEntry.{IsTwiceFaultOf, exceeds_single_value, pair_line, rdn_lines, with_description, with_line, with_missing_of};
 ghost use Rattle.dir_tree.specs.declared.fault.EntryFault.TheVariants as EntryFault;
 
+mod list;
+
 use crate::EntryFault;
+use crate::list_iter::ListIter;
 use crate::packed::PackedAttributes;
 use crate::search::Sought;
 use crate::values::{ValueMap, Values};
 use crate::views::KeyView;
 use dir_names::{AttrKey, Bytes, Description, Memory, Rdn, Schema, ValueKey};
+pub(crate) use list::{AttributeList, FewOrMany};
 use std::alloc::Global;
 use std::marker::Model;
-use std::{mem, slice};
+use std::mem;
 
 /// An attribute of an entry: its description as spelled, and its values.
 #[derive(Debug, Drop)]
@@ -146,6 +147,14 @@ impl Attribute {
         self.values.remove(alloc, key)
     }
 
+    /// Gives the attribute other values, and returns the old ones.
+    pub(crate) fn replace_values(&mut self, values: ValueMap) -> ValueMap
+        ensures old { result ≡ self.old.stored.values }
+        ensures new { self.new ≡ record { key = self.old.key; stored = record { spelling = self.old.stored.spelling; values = values } } }
+    {
+        mem::replace(&mut self.values, values)
+    }
+
     /// Whether there is more than one value.
     pub fn has_many(&self) -> bool
         ensures { result ≡ nat_lt 1 (fin.len self.now.stored.values) }
@@ -157,7 +166,7 @@ impl Attribute {
 /// The attributes of an entry: an ordered map from description keys.
 #[derive(Debug, Drop)]
 pub struct AttributeMap {
-    items: Vec<Attribute>,
+    items: AttributeList,
 }
 
 impl Model for AttributeMap {
@@ -170,9 +179,9 @@ impl Model for AttributeMap {
 
     ghost coded = { attributes_code };
 
-    ghost view = { λ m. attributes_in m.items.items };
+    ghost view = { λ m. attributes_in m.items };
 
-    ghost invariant = { λ m. IsTrue (attributes_rise m.items.items) };
+    ghost invariant = { λ m. IsTrue (attributes_rise m.items) };
 }
 
 impl AttributeMap {
@@ -181,14 +190,14 @@ impl AttributeMap {
         ensures { result ≡ fin.empty }
     {
         AttributeMap {
-            items: Vec::new(alloc),
+            items: AttributeList::empty(alloc),
         }
     }
 
     /// How many values the attributes have in all.
     pub(crate) fn value_count(&self) -> usize {
         let mut count: usize = 0;
-        for attribute in self.items.as_slice() {
+        for attribute in self.items.iter() {
             count = count.saturating_add(attribute.values.len());
         }
         count
@@ -199,16 +208,17 @@ impl AttributeMap {
         requires { IsTrue (attributes_rise packed.now) }
         ensures { IfOk result (λ m. m ≡ attributes_in packed.now) }
     {
-        let mut items = Vec::with_capacity(alloc, packed.len())?;
+        let mut items = AttributeList::with_capacity(alloc, packed.len())?;
         for attribute in packed.iter() {
             items.push(attribute.to_attribute(alloc)?)?;
         }
         Ok(AttributeMap { items })
     }
 
-    pub(crate) fn as_slice(&self) -> &[Attribute]
-        ensures rises { IsTrue (attributes_rise result.now) }
-        ensures map { attributes_in result.now ≡ self.now }
+    /// The attributes, unless they are so many that they are kept in pieces.
+    pub(crate) fn as_slice(&self) -> Option<&[Attribute]>
+        ensures rises { IfSome result (λ attributes. IsTrue (attributes_rise attributes.now)) }
+        ensures map { IfSome result (λ attributes. attributes_in attributes.now ≡ self.now) }
     {
         self.items.as_slice()
     }
@@ -217,8 +227,8 @@ impl AttributeMap {
         ensures value { option_map (λ a. a.now.stored) result ≡ fin.get self.now key.now }
         ensures key { IfSome result (λ a. a.now.key ≡ key.now) }
     {
-        match place_of(self.items.as_slice(), key) {
-            Ok(at) => Some(&self.items[at]),
+        match self.items.find(key) {
+            Ok(at) => Some(self.items.get(at)),
             Err(_) => None,
         }
     }
@@ -235,11 +245,9 @@ impl AttributeMap {
     pub fn try_clone(&self, alloc: Global) -> Result<AttributeMap, Memory>
         ensures { IfOk result (λ m. m ≡ self.now) }
     {
-        let mut items = Vec::with_capacity(alloc, self.items.len())?;
-        for attribute in self.items.as_slice() {
-            items.push(attribute.try_clone(alloc)?)?;
-        }
-        Ok(AttributeMap { items })
+        Ok(AttributeMap {
+            items: self.items.try_clone(alloc)?,
+        })
     }
 
     /// Takes an attribute out of the map. The call doesn't allocate.
@@ -248,7 +256,7 @@ impl AttributeMap {
         ensures key { IfSome result (λ a. a.key ≡ key.now) }
         ensures rest { self.new ≡ fin.remove self.old key.now }
     {
-        match place_of(self.items.as_slice(), key) {
+        match self.items.find(key) {
             Ok(at) => Some(self.items.remove(at)),
             Err(_) => None,
         }
@@ -264,9 +272,9 @@ impl AttributeMap {
         ensures ok { OnOk result (self.new ≡ fin.insert self.old attribute.key attribute.stored) }
         ensures err { OnErr result (self.new ≡ self.old) }
     {
-        match place_of(self.items.as_slice(), attribute.description().key()) {
+        match self.items.find(attribute.description().key()) {
             Ok(at) => {
-                self.items[at] = attribute;
+                let _ = self.items.replace(at, attribute);
                 Ok(())
             }
             Err(at) => {
@@ -284,8 +292,8 @@ impl AttributeMap {
         ensures key { result.key ≡ attribute.key }
         ensures new { self.new ≡ fin.insert self.old attribute.key attribute.stored }
     {
-        match place_of(self.items.as_slice(), attribute.description().key()) {
-            Ok(at) => mem::replace(&mut self.items[at], attribute),
+        match self.items.find(attribute.description().key()) {
+            Ok(at) => self.items.replace(at, attribute),
             Err(_) => unreachable!(),
         }
     }
@@ -297,8 +305,8 @@ impl AttributeMap {
         ensures old { option_map (λ a. a.values) (fin.get self.old key.now) ≡ Some result }
         ensures new { self.new ≡ fin.insert self.old key.now (record { spelling = spelling_or [] (fin.get self.old key.now); values = values }) }
     {
-        match place_of(self.items.as_slice(), key) {
-            Ok(at) => mem::replace(&mut self.items[at].values, values),
+        match self.items.find(key) {
+            Ok(at) => self.items.replace_values(at, values),
             Err(_) => unreachable!(),
         }
     }
@@ -319,8 +327,8 @@ impl AttributeMap {
         ensures free { OnOk result (has_value self.old description.key key ≡ false) }
         ensures fault { IfErr result (λ e. IsTwiceFaultOf e (has_value self.old description.key key)) }
     {
-        match place_of(self.items.as_slice(), description.key()) {
-            Ok(at) => self.items[at].add(alloc, key, bytes),
+        match self.items.find(description.key()) {
+            Ok(at) => self.items.add(at, alloc, key, bytes),
             Err(at) => {
                 let values = ValueMap::one(key, bytes);
                 self.items.insert(
@@ -344,7 +352,7 @@ impl AttributeMap {
         ensures ok { OnOk result (self.new ≡ with_description self.old description.now) }
         ensures memory { IfErr result (λ e. e ≡ EntryFault.Memory) }
     {
-        if let Err(at) = place_of(self.items.as_slice(), description.key()) {
+        if let Err(at) = self.items.find(description.key()) {
             let description = description.try_clone(alloc)?;
             let values = ValueMap::empty(alloc);
             self.items.insert(
@@ -407,15 +415,15 @@ impl AttributeMap {
     pub fn exceeds_single_value(&self, schema: &Schema) -> bool
         ensures { result ≡ exceeds_single_value schema.now self.now }
     {
-        any_exceeds_single_value(self.items.as_slice(), schema)
+        any_exceeds_single_value(&self.items, schema)
     }
 }
 
 /// Whether one of the attributes is of a single type and has more than one value.
-fn any_exceeds_single_value(items: &[Attribute], schema: &Schema) -> bool
-    ensures { result ≡ list_any (λ a. nat_lt 1 (fin.len a.stored.values) && single_of schema.now a.key) items.now }
+fn any_exceeds_single_value(attributes: &AttributeList, schema: &Schema) -> bool
+    ensures { result ≡ list_any (λ a. nat_lt 1 (fin.len a.stored.values) && single_of schema.now a.key) attributes.now }
 {
-    for attribute in items {
+    for attribute in attributes.iter() {
         if attribute.has_many() && schema.single(attribute.description.key()) {
             return true;
         }
@@ -439,24 +447,14 @@ fn keyed_pair(
     Ok((description, key))
 }
 
-/// The index of the attribute with this key, or the index at which it would be inserted.
-fn place_of(items: &[Attribute], key: &AttrKey) -> Result<usize, usize>
-    requires { IsTrue (attributes_rise items.now) }
-    ensures range { IsSearchInRange result (length items.now) }
-    ensures place { result ≡ place attr_cmp key.now (map (λ attribute. (attribute_pair attribute).0) items.now) }
-{
-    items.binary_search_by(|attribute| attribute.description.key().cmp(key))
-}
-
 /// The attributes of an entry, in order of their keys.
 #[derive(Drop)]
 pub struct Attributes<'a> {
-    rest: slice::Iter<'a, Attribute>,
+    rest: ListIter<'a, Attribute>,
 }
 
 impl<'a> Model for Attributes<'a> {
     ghost use Rattle.std.specs.Prelude.{List, map};
-    ghost use Rattle.std.specs.Slice.Iter.{iter_rest};
     ghost use Rattle.dir_names.specs.Attr.{Attr};
     ghost use Rattle.std.specs.Coded.{coded_list, coded×};
     ghost use Rattle.dir_tree.specs.Content.{Stored};
@@ -467,14 +465,16 @@ impl<'a> Model for Attributes<'a> {
 
     ghost coded = { coded_list (coded× attr_code stored_code) };
 
-    ghost view = { λ s. map attribute_pair (iter_rest s.rest) };
+    ghost view = { λ s. map attribute_pair s.rest };
 }
 
 impl<'a> Attributes<'a> {
     pub(crate) fn none() -> Attributes<'a>
         ensures { result ≡ [] }
     {
-        Attributes { rest: [].iter() }
+        Attributes {
+            rest: ListIter::none(),
+        }
     }
 }
 

@@ -312,7 +312,7 @@ fn packed_map(alloc: Global, map: &AttributeMap, most: usize) -> Option<KeptAttr
     if map.value_count() > most {
         return None;
     }
-    LentAttributes::of_map(alloc, map)
+    LentAttributes::of_slice(alloc, map.as_slice()?)
         .ok()?
         .packed_up_to(alloc, most)
 }

@@ -9,7 +9,7 @@ ghost use Rattle.dir_names.specs.Sorted.{place};
 ghost use Rattle.dir_tree.specs.Inside.Stored.{attribute_pair, attributes_in, attributes_rise};
 ghost use Rattle.dir_tree.specs.Slots.{with_slots};
 
-use crate::attributes::AttributeMap;
+use crate::attributes::{Attribute, AttributeMap};
 use crate::kept::KeptAttributes;
 use crate::packed::{PackedAttributes, Rooms};
 use crate::views::AttributeView;
@@ -39,11 +39,14 @@ impl<'a> Model for LentAttributes<'a> {
 }
 
 impl<'a> LentAttributes<'a> {
-    /// The attributes of a map.
-    pub(crate) fn of_map(alloc: Global, map: &'a AttributeMap) -> Result<LentAttributes<'a>, Memory>
-        ensures { IfOk result (λ m. m ≡ map.now) }
+    /// These attributes, which are in order.
+    pub(crate) fn of_slice(
+        alloc: Global,
+        attributes: &'a [Attribute],
+    ) -> Result<LentAttributes<'a>, Memory>
+        requires { IsTrue (attributes_rise attributes.now) }
+        ensures { IfOk result (λ m. m ≡ attributes_in attributes.now) }
     {
-        let attributes = map.as_slice();
         let mut items = Vec::with_capacity(alloc, attributes.len())?;
         for attribute in attributes {
             items.push(AttributeView::of(attribute))?;

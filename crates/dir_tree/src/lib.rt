@@ -11,6 +11,7 @@ mod laws;
 mod lent;
 mod lines;
 mod list;
+mod list_iter;
 mod maker;
 mod packed;
 mod parts;

@@ -9,8 +9,9 @@ ghost use Rattle.dir_names.specs.declared.value.ValueKey.{ValueKey};
 ghost use Rattle.dir_tree.specs.Inside.Packed.{values_of};
 ghost use Rattle.dir_tree.specs.Inside.Searches.{sought_key};
 ghost use Rattle.dir_tree.specs.Inside.Stored.{are_rising, value_pair};
-ghost use Rattle.dir_tree.specs.Inside.ValueLists.{list_values};
+ghost use Rattle.dir_tree.specs.Inside.ValueLists.{IsShort, list_values};
 
+use crate::list_iter::ListIter;
 use crate::packed::PackedSlice;
 use crate::pieces::{MOST, Pieces};
 use crate::search::{Sought, are_below, place_of};
@@ -29,11 +30,13 @@ pub(crate) struct ValueList {
 impl Model for ValueList {
     ghost use Rattle.std.specs.Prelude.{ℕ, List};
     ghost use Rattle.dir_names.specs.declared.value.ValueKey.{ValueKey};
-    ghost use Rattle.dir_tree.specs.Inside.ValueLists.{list_values};
+    ghost use Rattle.dir_tree.specs.Inside.ValueLists.{IsShort, list_values};
 
     ghost Value = { List (ValueKey × List ℕ) };
 
     ghost view = { λ list. list_values list.kept };
+
+    ghost invariant = { λ list. IsShort 1024 list.kept };
 }
 
 impl ValueList {
@@ -137,22 +140,13 @@ impl ValueList {
         }
     }
 
-    pub(crate) fn iter(&self) -> ListIter<'_>
+    pub(crate) fn iter(&self) -> ListIter<'_, StoredValue>
         ensures { result ≡ self.now }
     {
         match &self.kept {
-            OneOrMany::One(value) => ListIter {
-                first: slice::from_ref(value).iter(),
-                rest: [].iter(),
-            },
-            OneOrMany::Many(values) => ListIter {
-                first: values.iter(),
-                rest: [].iter(),
-            },
-            OneOrMany::InPieces(pieces) => ListIter {
-                first: [].iter(),
-                rest: pieces.as_slice().iter(),
-            },
+            OneOrMany::One(value) => ListIter::of_slice(slice::from_ref(value)),
+            OneOrMany::Many(values) => ListIter::of_slice(values.as_slice()),
+            OneOrMany::InPieces(pieces) => ListIter::of_pieces(pieces.as_slice()),
         }
     }
 
@@ -229,9 +223,11 @@ fn with_value(
     at: usize,
     value: StoredValue,
 ) -> (OneOrMany, Result<(), Memory>)
-    requires { at ≤ length (list_values kept) }
+    requires at { at ≤ length (list_values kept) }
+    requires short { IsShort MOST kept }
     ensures ok { OnOk result.1 (list_values result.0 ≡ insert (list_values kept) at value) }
     ensures err { OnErr result.1 (list_values result.0 ≡ list_values kept) }
+    ensures short { IsShort MOST result.0 }
 {
     match kept {
         OneOrMany::One(only) => match into_vec(alloc, only) {
@@ -270,9 +266,11 @@ fn vec_with_value(
     at: usize,
     value: StoredValue,
 ) -> (OneOrMany, Result<(), Memory>)
-    requires { at ≤ length values.items }
+    requires at { at ≤ length values.items }
+    requires room { length values.items < MOST }
     ensures ok { OnOk result.1 (list_values result.0 ≡ insert values.items at value) }
     ensures err { OnErr result.1 (list_values result.0 ≡ values.items) }
+    ensures short { IsShort MOST result.0 }
 {
     match values.insert(at, value) {
         Ok(()) => (OneOrMany::Many(values), Ok(())),
@@ -282,64 +280,15 @@ fn vec_with_value(
 
 fn pieces_with_value(
     alloc: Global,
-    mut pieces: Pieces,
+    mut pieces: Pieces<StoredValue>,
     at: usize,
     value: StoredValue,
 ) -> (OneOrMany, Result<(), Memory>)
     requires { at ≤ length pieces }
     ensures ok { OnOk result.1 (list_values result.0 ≡ insert pieces at value) }
     ensures err { OnErr result.1 (list_values result.0 ≡ pieces) }
+    ensures short { IsShort MOST result.0 }
 {
     let put = pieces.insert(alloc, at, value);
     (OneOrMany::InPieces(pieces), put)
-}
-
-/// The values of a list, in order.
-#[derive(Drop)]
-pub(crate) struct ListIter<'a> {
-    /// The values of the piece that was begun.
-    first: slice::Iter<'a, StoredValue>,
-    /// The pieces after it.
-    rest: slice::Iter<'a, Vec<StoredValue>>,
-}
-
-impl<'a> Model for ListIter<'a> {
-    ghost use Rattle.std.specs.Prelude.{◌++◌, ℕ, List};
-    ghost use Rattle.std.specs.Slice.Iter.{iter_rest};
-    ghost use Rattle.dir_names.specs.declared.value.ValueKey.{ValueKey};
-    ghost use Rattle.dir_tree.specs.Inside.ValuePieces.{joined};
-
-    ghost Value = { List (ValueKey × List ℕ) };
-
-    ghost view = { λ s. iter_rest s.first ++ joined (iter_rest s.rest) };
-}
-
-impl<'a> ListIter<'a> {
-    pub(crate) fn none() -> ListIter<'a>
-        ensures { result ≡ [] }
-    {
-        ListIter {
-            first: [].iter(),
-            rest: [].iter(),
-        }
-    }
-}
-
-impl<'a> Iterator for ListIter<'a> {
-    ghost use Rattle.std.specs.Iterator.{YieldsFirstRef, item_count};
-
-    type Item = &'a StoredValue;
-
-    ghost next_gives = { YieldsFirstRef (λ rest. rest) };
-
-    ghost remaining = { item_count (λ rest. rest) };
-
-    fn next(&mut self) -> Option<&'a StoredValue> {
-        loop {
-            if let Some(value) = self.first.next() {
-                return Some(value);
-            }
-            self.first = self.rest.next()?.iter();
-        }
-    }
 }

@@ -26,7 +26,7 @@ pub(crate) enum OneOrMany {
     /// A number of them in one `Vec`.
     Many(Vec<StoredValue>),
     /// So many that an insertion into one `Vec` would move too many.
-    InPieces(Pieces),
+    InPieces(Pieces<StoredValue>),
 }
 
 impl Model for StoredValue {
@@ -142,13 +142,26 @@ fn are_key_bytes(key: &ValueKey, bytes: &Bytes) -> bool
     }
 }
 
-/// The same values in memory of their own.
-pub(crate) fn clones(alloc: Global, values: &[StoredValue]) -> Result<Vec<StoredValue>, Memory>
-    ensures { IfOk result (λ copy. copy.items ≡ values.now) }
+/// An element of a list.
+pub(crate) trait Element {
+    /// The same element in memory of its own.
+    fn copied(&self, alloc: Global) -> Result<Self, Memory>
+        ensures { IfOk result (λ copy. copy ≡ self.now) };
+}
+
+impl Element for StoredValue {
+    fn copied(&self, alloc: Global) -> Result<StoredValue, Memory> {
+        self.try_clone(alloc)
+    }
+}
+
+/// The same elements in memory of their own.
+pub(crate) fn clones<T: Element + Drop>(alloc: Global, elements: &[T]) -> Result<Vec<T>, Memory>
+    ensures { IfOk result (λ copy. copy.items ≡ elements.now) }
 {
-    let mut copy = Vec::with_capacity(alloc, values.len())?;
-    for value in values {
-        copy.push(value.try_clone(alloc)?)?;
+    let mut copy = Vec::with_capacity(alloc, elements.len())?;
+    for element in elements {
+        copy.push(element.copied(alloc)?)?;
     }
     Ok(copy)
 }

@@ -9,7 +9,8 @@ ghost use Rattle.dir_tree.specs.Lent.{lent_key};
 ghost use Rattle.dir_tree.specs.NewEntry.{IsTwiceFaultOf};
 
 use crate::EntryFault;
-use crate::list::{ListIter, ValueList};
+use crate::list::ValueList;
+use crate::list_iter::ListIter;
 use crate::packed::PackedSlice;
 use crate::search::Sought;
 use crate::stored::StoredValue;
@@ -160,7 +161,7 @@ impl ValueMap {
     }
 
     /// The values as they are stored, in order of keys.
-    pub(crate) fn stored(&self) -> ListIter<'_>
+    pub(crate) fn stored(&self) -> ListIter<'_, StoredValue>
         ensures { result ≡ fin.entries self.now }
     {
         self.items.iter()
@@ -178,7 +179,7 @@ impl ValueMap {
 /// The values of an attribute, in order of their keys.
 #[derive(Drop)]
 pub struct Values<'a> {
-    rest: ListIter<'a>,
+    rest: ListIter<'a, StoredValue>,
 }
 
 impl<'a> Model for Values<'a> {

@@ -21,6 +21,8 @@ mod make;
 #[cfg(test)]
 mod makers;
 #[cfg(test)]
+mod many;
+#[cfg(test)]
 mod maps;
 #[cfg(test)]
 mod moves;

@@ -18,28 +18,28 @@ old_description xs d a there = ap (λ o. cond (is_some o) xs (fin.insert xs d.ke
 
 pub invariant_of-self : goal.invariant_of-self
 invariant_of-self c =
-    let at : c.place_of.result ≡ place attr_cmp c.key.result.now (keys_in attr_cmp_total attribute_pair c.self.inside.items.items) = subst (λ xs. c.place_of.result ≡ place attr_cmp c.key.result.now (keys_in attr_cmp_total attribute_pair xs)) c.as_slice.ensures.value c.place_of.ensures.place in
+    let at : c.find.result ≡ place attr_cmp c.key.result.now (keys_in attr_cmp_total attribute_pair c.self.inside.items) = c.find.ensures.place in
     let cloned = c.in_ok-description.ensures in
     let same : c.args.description.now ≡ c.in_ok-description.description = cc in
     let new : Keyed = record { key = c.in_ok-description.description.key; stored = record { spelling = c.in_ok-description.description.spelling; values = c.empty-values.result } } in
     let key = ap (λ d. d.key) (sym same) ∙ sym c.key.ensures in
-    let kept = still_rises attr_cmp_total attribute_pair c.self.inside.items.items c.self.invariant c.key.result.now c.place_of.result at c.in-Err.at c.in-Err.is new key in
+    let kept = still_rises attr_cmp_total attribute_pair c.self.inside.items c.self.invariant c.key.result.now c.find.result at c.in-Err.at c.in-Err.is new key in
     search rules
 
 pub returns-in_ok-insert-clause-ok : goal.returns-in_ok-insert-clause-ok
 returns-in_ok-insert-clause-ok c =
-    let at : c.place_of.result ≡ place attr_cmp c.args.description.now.key (keys_in attr_cmp_total attribute_pair c.self.inside.items.items) = subst (λ xs. c.place_of.result ≡ place attr_cmp c.key.result.now (keys_in attr_cmp_total attribute_pair xs)) c.as_slice.ensures.value c.place_of.ensures.place ∙ ap (λ k. place attr_cmp k (keys_in attr_cmp_total attribute_pair c.self.inside.items.items)) c.key.ensures in
+    let at : c.find.result ≡ place attr_cmp c.args.description.now.key (keys_in attr_cmp_total attribute_pair c.self.inside.items) = c.find.ensures.place ∙ ap (λ k. place attr_cmp k (keys_in attr_cmp_total attribute_pair c.self.inside.items)) c.key.ensures in
     let cloned = c.in_ok-description.ensures in
     let same : c.args.description.now ≡ c.in_ok-description.description = cc in
     let new : Keyed = record { key = c.in_ok-description.description.key; stored = record { spelling = c.in_ok-description.description.spelling; values = c.empty-values.result } } in
-    let none : fin.get c.args.self.now c.args.description.now.key ≡ None = ap (λ m. fin.get m c.args.description.now.key) (sym c.self.view_is) ∙ missing attr_cmp_total attribute_pair c.self.inside.items.items c.self.invariant c.args.description.now.key c.place_of.result at c.in-Err.at c.in-Err.is new.stored in
-    ap (λ items. attributes_in items) c.in_ok-insert.ensures.items
-    ∙ sym (put attr_cmp_total attribute_pair c.self.inside.items.items c.self.invariant c.args.description.now.key c.place_of.result at c.in-Err.at c.in-Err.is new (ap (λ d. d.key) (sym same)))
+    let none : fin.get c.args.self.now c.args.description.now.key ≡ None = ap (λ m. fin.get m c.args.description.now.key) (sym c.self.view_is) ∙ missing attr_cmp_total attribute_pair c.self.inside.items c.self.invariant c.args.description.now.key c.find.result at c.in-Err.at c.in-Err.is new.stored in
+    ap (λ items. attributes_in items) c.in_ok-insert.ensures.ok
+    ∙ sym (put attr_cmp_total attribute_pair c.self.inside.items c.self.invariant c.args.description.now.key c.find.result at c.in-Err.at c.in-Err.is new (ap (λ d. d.key) (sym same)))
     ∙ ap (λ m. fin.insert m c.args.description.now.key new.stored) c.self.view_is
     ∙ ap (λ s. fin.insert c.args.self.now c.args.description.now.key s) (λ i. record { spelling = (sym same i).spelling; values = c.empty-values.ensures i })
     ∙ new_description c.args.self.now c.args.description.now none
 
 pub returns-in_default-clause-ok : goal.returns-in_default-clause-ok
 returns-in_default-clause-ok c =
-    let at : c.place_of.result ≡ place attr_cmp c.args.description.now.key (keys_in attr_cmp_total attribute_pair c.self.inside.items.items) = subst (λ xs. c.place_of.result ≡ place attr_cmp c.key.result.now (keys_in attr_cmp_total attribute_pair xs)) c.as_slice.ensures.value c.place_of.ensures.place ∙ ap (λ k. place attr_cmp k (keys_in attr_cmp_total attribute_pair c.self.inside.items.items)) c.key.ensures in
-    old_description c.args.self.now c.args.description.now (get_or c.self.inside.items.items c.in_default.field-0 (record { key = c.args.description.now.key; stored = record { spelling = []; values = fin.empty } })).stored (ap (λ m. fin.get m c.args.description.now.key) (sym c.self.view_is) ∙ got attr_cmp_total attribute_pair c.self.inside.items.items c.self.invariant c.args.description.now.key c.place_of.result at c.in_default.field-0 c.in_default.is (record { key = c.args.description.now.key; stored = record { spelling = []; values = fin.empty } }))
+    let at : c.find.result ≡ place attr_cmp c.args.description.now.key (keys_in attr_cmp_total attribute_pair c.self.inside.items) = c.find.ensures.place ∙ ap (λ k. place attr_cmp k (keys_in attr_cmp_total attribute_pair c.self.inside.items)) c.key.ensures in
+    old_description c.args.self.now c.args.description.now (get_or c.self.inside.items c.in_default.field-0 (record { key = c.args.description.now.key; stored = record { spelling = []; values = fin.empty } })).stored (ap (λ m. fin.get m c.args.description.now.key) (sym c.self.view_is) ∙ got attr_cmp_total attribute_pair c.self.inside.items c.self.invariant c.args.description.now.key c.find.result at c.in_default.field-0 c.in_default.is (record { key = c.args.description.now.key; stored = record { spelling = []; values = fin.empty } }))

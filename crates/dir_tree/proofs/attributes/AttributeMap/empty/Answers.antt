@@ -5,4 +5,4 @@ use Rattle.dir_tree.proofs.SortedVecs.{map_in_none}
 use Rattle.dir_tree.proofs.attributes.AttributeMap.empty.Goals as goal
 
 pub returns : goal.returns
-returns c = ap (λ items. attributes_in items) c.new.ensures.items ∙ map_in_none attr_cmp_total attribute_pair attr_cmp_exact
+returns c = ap (λ items. attributes_in items) c.empty.ensures ∙ map_in_none attr_cmp_total attribute_pair attr_cmp_exact

@@ -17,6 +17,5 @@ pub returns : goal.returns
 returns c =
     let test : Attr × Stored → Bool = λ a. nat_lt 1 (fin.len a.1.values) && single_of c.args.schema.now a.0 in
     c.any_exceeds_single_value.ensures
-    ∙ ap (list_any (λ a. test (attribute_pair a))) c.as_slice.ensures.value
-    ∙ any_map test attribute_pair c.self.inside.items.items
-    ∙ ap (list_any test) (sym (entries_in attr_cmp_total attribute_pair c.self.inside.items.items c.self.invariant) ∙ ap (λ m. fin.entries m) c.self.view_is)
+    ∙ any_map test attribute_pair c.self.inside.items
+    ∙ ap (list_any test) (sym (entries_in attr_cmp_total attribute_pair c.self.inside.items c.self.invariant) ∙ ap (λ m. fin.entries m) c.self.view_is)

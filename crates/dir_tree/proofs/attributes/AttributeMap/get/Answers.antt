@@ -8,16 +8,16 @@ use Rattle.dir_tree.proofs.attributes.AttributeMap.get.Goals as goal
 
 pub returns-in-Ok-clause-value : goal.returns-in-Ok-clause-value
 returns-in-Ok-clause-value c =
-    let at : c.place_of.result ≡ place attr_cmp c.args.key.now (keys_in attr_cmp_total attribute_pair c.self.inside.items.items) = subst (λ xs. c.place_of.result ≡ place attr_cmp c.args.key.now (keys_in attr_cmp_total attribute_pair xs)) c.as_slice.ensures.value c.place_of.ensures.place in
-    let there = got attr_cmp_total attribute_pair c.self.inside.items.items c.self.invariant c.args.key.now c.place_of.result at c.in-Ok.at c.in-Ok.is c.index.result.now in
-    sym (ap (λ m. fin.get m c.args.key.now) (sym c.self.view_is) ∙ there ∙ ap (λ attribute. Some attribute.stored) (sym c.index.ensures))
+    let at : c.find.result ≡ place attr_cmp c.args.key.now (keys_in attr_cmp_total attribute_pair c.self.inside.items) = c.find.ensures.place in
+    let there = got attr_cmp_total attribute_pair c.self.inside.items c.self.invariant c.args.key.now c.find.result at c.in-Ok.at c.in-Ok.is c.get.result.now in
+    sym (ap (λ m. fin.get m c.args.key.now) (sym c.self.view_is) ∙ there ∙ ap (λ attribute. Some attribute.stored) (sym c.get.ensures))
 
 pub returns-in-Ok-clause-key : goal.returns-in-Ok-clause-key
 returns-in-Ok-clause-key c =
-    let at : c.place_of.result ≡ place attr_cmp c.args.key.now (keys_in attr_cmp_total attribute_pair c.self.inside.items.items) = subst (λ xs. c.place_of.result ≡ place attr_cmp c.args.key.now (keys_in attr_cmp_total attribute_pair xs)) c.as_slice.ensures.value c.place_of.ensures.place in
-    ap (λ attribute. attribute.key) c.index.ensures ∙ found attr_cmp_total attribute_pair attr_cmp_exact c.args.key.now c.self.inside.items.items c.in-Ok.at c.index.result.now (sym at ∙ c.in-Ok.is)
+    let at : c.find.result ≡ place attr_cmp c.args.key.now (keys_in attr_cmp_total attribute_pair c.self.inside.items) = c.find.ensures.place in
+    ap (λ attribute. attribute.key) c.get.ensures ∙ found attr_cmp_total attribute_pair attr_cmp_exact c.args.key.now c.self.inside.items c.in-Ok.at c.get.result.now (sym at ∙ c.in-Ok.is)
 
 pub returns-in-Err-clause-value : goal.returns-in-Err-clause-value
 returns-in-Err-clause-value c =
-    let at : c.place_of.result ≡ place attr_cmp c.args.key.now (keys_in attr_cmp_total attribute_pair c.self.inside.items.items) = subst (λ xs. c.place_of.result ≡ place attr_cmp c.args.key.now (keys_in attr_cmp_total attribute_pair xs)) c.as_slice.ensures.value c.place_of.ensures.place in
-    sym (ap (λ m. fin.get m c.args.key.now) (sym c.self.view_is) ∙ missing attr_cmp_total attribute_pair c.self.inside.items.items c.self.invariant c.args.key.now c.place_of.result at c.in-Err.field-0 c.in-Err.is (record { spelling = []; values = fin.empty }))
+    let at : c.find.result ≡ place attr_cmp c.args.key.now (keys_in attr_cmp_total attribute_pair c.self.inside.items) = c.find.ensures.place in
+    sym (ap (λ m. fin.get m c.args.key.now) (sym c.self.view_is) ∙ missing attr_cmp_total attribute_pair c.self.inside.items c.self.invariant c.args.key.now c.find.result at c.in-Err.field-0 c.in-Err.is (record { spelling = []; values = fin.empty }))

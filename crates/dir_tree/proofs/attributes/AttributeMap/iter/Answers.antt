@@ -6,4 +6,4 @@ use Rattle.dir_tree.proofs.SortedVecs.{entries_in}
 use Rattle.dir_tree.proofs.attributes.AttributeMap.iter.Goals as goal
 
 pub returns : goal.returns
-returns c = ap (λ items. map attribute_pair items) (c.iter.ensures.rest ∙ c.deref.ensures.value) ∙ sym (entries_in attr_cmp_total attribute_pair c.self.inside.items.items c.self.invariant) ∙ ap (λ m. fin.entries m) c.self.view_is
+returns c = ap (λ items. map attribute_pair items) c.iter.ensures ∙ sym (entries_in attr_cmp_total attribute_pair c.self.inside.items c.self.invariant) ∙ ap (λ m. fin.entries m) c.self.view_is

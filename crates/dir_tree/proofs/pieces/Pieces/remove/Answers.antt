@@ -1,10 +1,10 @@
 use Rattle.std.proofs.Common.{◌<◌, length, sym, ap, subst, arith}
 use Rattle.std.proofs.lemmas.List.Edits.{length-remove}
-use Rattle.dir_tree.specs.Inside.ValuePieces.{IsPlace, joined}
+use Rattle.dir_tree.specs.Inside.Pieces.{IsPlace, joined}
 use Rattle.dir_tree.proofs.pieces.Pieces.remove.Goals as goal
 
 pub invariant_of-self : goal.invariant_of-self
-invariant_of-self c =
+invariant_of-self g c =
     let pieces = c.self.inside.pieces.items in
     let piece = c.place_at-place.result.piece in
     let within = c.place_at-place.result.within in

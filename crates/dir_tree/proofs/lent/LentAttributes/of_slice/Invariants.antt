@@ -1,5 +1,5 @@
 use Rattle.std.proofs.Common.{◌≡◌, take}
-use Rattle.dir_tree.proofs.lent.LentAttributes.of_map.Given as goal
+use Rattle.dir_tree.proofs.lent.LentAttributes.of_slice.Given as goal
 
 abbrev pub invariant-loop-attribute : goal.invariant-loop-attribute
 invariant-loop-attribute l = l.items.items ≡ take l.attribute-index l.attributes
