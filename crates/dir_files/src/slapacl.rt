@@ -18,12 +18,14 @@ use dir_acl::{Config, Note};
 use dir_ldif::Source;
 use dir_names::{Bytes, Memory, Schema, Texts};
 use dir_tools::{
-    Buffer, Question, ToolFault, read_config_with_notes, run_acl_under, with_notes_on_words,
+    Buffer, HeldMemory, Question, ToolFault, read_config_with_notes, run_acl_under,
+    with_notes_on_words,
 };
 use std::alloc::Global;
 
 /// Runs `slapacl` on the files that the words name. The notes on the configuration, and then those on the words of the question, are told
-/// before anything is answered; where a strict answer is wanted and there are some, nothing is.
+/// before anything is answered; where a strict answer is wanted and there are some, nothing is. The memory that the copy's entries
+/// take is left to the system: a program that goes on afterwards doesn't get it back.
 ///
 /// # Errors
 ///
@@ -118,7 +120,15 @@ fn report<'a, F: FileSystem, R: Source>(
         → Made (F.disk files.old) (F.disk files.new) (λ _. Asks (access_terms schema.now question.now) (access_sources known (R.left copy.old)) result) }
 {
     let mut report = Buffer::new(alloc);
-    match run_acl_under(alloc, schema, question, config, copy, &mut report) {
+    match run_acl_under(
+        alloc,
+        HeldMemory::Left,
+        schema,
+        question,
+        config,
+        copy,
+        &mut report,
+    ) {
         Ok(()) => match files.report(report.as_slice()) {
             Ok(()) => Ok(()),
             Err(why) => Err(not_reported(why)),

@@ -15,14 +15,15 @@ use crate::files::{FileSystem, Refusal};
 use crate::words::{ModifyWords, OutputPaths};
 use dir_ldif::{Sink, Source, Writer};
 use dir_names::Schema;
-use dir_tools::{Buffer, Output, Summary, ToolFault, run_modify};
+use dir_tools::{Buffer, HeldMemory, Output, Summary, ToolFault, run_modify_holding};
 use std::alloc::Global;
 use std::io;
 
 /// Runs `slapmodify` on the files that the words name.
 ///
 /// The undo file and the new copy get their names only when both are whole and synced, the undo file first, and
-/// the report is written last. After a fault nothing is left of what the run has made.
+/// the report is written last. After a fault nothing is left of what the run has made. The memory that the run
+/// held is left to the system: a program that goes on afterwards doesn't get it back.
 ///
 /// # Errors
 ///
@@ -260,8 +261,9 @@ fn with_files<R: Source, R2: Source, W: Sink, W2: Sink, W3: Sink>(
     let Ok(schema) = Schema::builtin(alloc) else {
         return Err(ToolFault::Memory);
     };
-    run_modify(
+    run_modify_holding(
         alloc,
+        HeldMemory::Left,
         &schema,
         words.suffix.as_bytes(),
         words.options,

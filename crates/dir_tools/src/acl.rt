@@ -24,6 +24,7 @@ use crate::acl::parts::read_parts;
 use crate::acl::report::report_text;
 pub use crate::acl::word_notes::with_notes_on_words;
 use crate::copy::read_copy;
+use crate::held::HeldMemory;
 use crate::write::write_text;
 use crate::{Output, ToolFault};
 use dir_acl::Config;
@@ -83,16 +84,26 @@ pub fn run_acl<R: Source, R2: Source, W: Sink>(
         Ok(config) => config,
         Err(fault) => return Err(fault),
     };
-    run_acl_under(alloc, schema, question, &config, copy, report)
+    run_acl_under(
+        alloc,
+        HeldMemory::Freed,
+        schema,
+        question,
+        &config,
+        copy,
+        report,
+    )
 }
 
-/// Reports as `run_acl` does, under a configuration that was read.
+/// Reports as `run_acl` does, under a configuration that was read, and says what becomes of the memory
+/// that the directory takes.
 ///
 /// # Errors
 ///
 /// Those of `run_acl` that come after the configuration's.
 pub fn run_acl_under<R: Source, W: Sink>(
     alloc: Global,
+    held: HeldMemory,
     schema: &Schema,
     question: &Question,
     config: &Config,
@@ -113,7 +124,7 @@ pub fn run_acl_under<R: Source, W: Sink>(
     ensures flushed { OnOk result (W.is_flushed report.new) }
     ensures write_report { result ≡ Err (ToolFault.Write Output.Report) → HasFailed (W.failures report.old) (W.failures report.new) ⊎ W.may_stall report.new }
 {
-    let text = match report_under(alloc, schema, question, config, copy) {
+    let text = match report_under(alloc, held, schema, question, config, copy) {
         Ok(text) => text,
         Err(fault) => return Err(fault),
     };
@@ -123,6 +134,7 @@ pub fn run_acl_under<R: Source, W: Sink>(
 /// The report under a configuration that was read.
 fn report_under<R: Source>(
     alloc: Global,
+    held: HeldMemory,
     schema: &Schema,
     question: &Question,
     config: &Config,
@@ -153,7 +165,9 @@ fn report_under<R: Source>(
         Ok(target) => target,
         Err(fault) => return Err(fault),
     };
-    match report_text(alloc, question.verbose, config, &directory, &parts, target) {
+    let text = report_text(alloc, question.verbose, config, &directory, &parts, target);
+    held.let_go(directory);
+    match text {
         Ok(text) => Ok(text),
         Err(_) => Err(ToolFault::Memory),
     }

@@ -6,6 +6,7 @@ mod acl;
 mod canonical;
 mod copy;
 mod fault;
+mod held;
 mod laws;
 mod memory;
 mod modify;
@@ -18,11 +19,12 @@ mod write;
 pub use acl::{Question, read_config_with_notes, run_acl, run_acl_under, with_notes_on_words};
 pub use copy::{read_copy, write_copy};
 pub use fault::{Cause, Input, Item, Number, Output, ToolFault};
+pub use held::HeldMemory;
 pub use laws::{
     access_is_as_before, canonical_texts_read_back, copies_are_sound, groups_are_undos, headline,
     runs_accept_changes, written_runs_are_taken_back,
 };
 pub use memory::Buffer;
-pub use modify::run_modify;
+pub use modify::{run_modify, run_modify_holding};
 pub use round_trip::{RoundTrip, run_there_and_back};
 pub use run::{ModifyOptions, Summary};

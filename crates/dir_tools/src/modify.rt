@@ -14,6 +14,7 @@ ghost use Rattle.dir_tools.specs.declared.fault.Output.TheVariants as Output;
 ghost use Rattle.dir_tools.specs.declared.fault.ToolFault.TheVariants as ToolFault;
 
 use crate::copy::read_copy;
+use crate::held::HeldMemory;
 use crate::laws::{groups_are_undos, written_runs_are_taken_back};
 use crate::run::{ModifyOptions, Run, RunTexts, Summary};
 use crate::write::write_text;
@@ -61,7 +62,53 @@ pub fn run_modify<R: Source, R2: Source, W: Sink, W2: Sink, W3: Sink>(
     ensures write_out { result ≡ Err (ToolFault.Write Output.Out) → HasFailed (W2.failures out.old) (W2.failures out.new) ⊎ W2.may_stall out.new }
     ensures write_report { result ≡ Err (ToolFault.Write Output.Report) → HasFailed (W3.failures report.old) (W3.failures report.new) ⊎ W3.may_stall report.new }
 {
-    let texts = match make_texts(alloc, schema, suffix, options, copy, changes) {
+    run_modify_holding(
+        alloc,
+        HeldMemory::Freed,
+        schema,
+        suffix,
+        options,
+        copy,
+        changes,
+        undo,
+        out,
+        report,
+    )
+}
+
+/// Runs as `run_modify` does, and says what becomes of the memory that the run held.
+///
+/// # Errors
+///
+/// Those of `run_modify`.
+pub fn run_modify_holding<R: Source, R2: Source, W: Sink, W2: Sink, W3: Sink>(
+    alloc: Global,
+    held: HeldMemory,
+    schema: &Schema,
+    suffix: &[u8],
+    options: ModifyOptions,
+    copy: &mut R,
+    changes: &mut R2,
+    undo: &mut W,
+    out: &mut W2,
+    report: &mut W3,
+) -> Result<Summary, ToolFault>
+    ensures unfailed { OnOk result ((W.failures undo.new ≡ W.failures undo.old) × (W2.failures out.new ≡ W2.failures out.old) × (W3.failures report.new ≡ W3.failures report.old)) }
+    ensures headline { (output : RunOutput)
+        × WroteInOrder options.dry result output.texts (W.taken undo.old, W.taken undo.new) (W2.taken out.old, W2.taken out.new) (W3.taken report.old, W3.taken report.new)
+        × AnswersRun (terms schema.now suffix.now options) (sources (R.left copy.old) (R2.left changes.old)) result output
+        × IsWholeRun (terms schema.now suffix.now options) (sources (R.left copy.old) (R2.left changes.old)) result output }
+    ensures first { IfErr result (HeldBefore (terms schema.now suffix.now options) (R.left copy.old, R.left copy.new) (R2.left changes.old, R2.left changes.new)) }
+    ensures unfailed_copy { OnOk result (R.failures copy.new ≡ R.failures copy.old) }
+    ensures unfailed_changes { OnOk result (R2.failures changes.new ≡ R2.failures changes.old) }
+    ensures read_copy { result ≡ Err (ToolFault.Read Input.Copy) → HasFailed (R.failures copy.old) (R.failures copy.new) }
+    ensures read_changes { result ≡ Err (ToolFault.Read Input.Changes) → HasFailed (R2.failures changes.old) (R2.failures changes.new) }
+    ensures flushed { FlushedInOrder options.dry result (W.is_flushed undo.new) (W2.is_flushed out.new) (W3.is_flushed report.new) }
+    ensures write_undo { result ≡ Err (ToolFault.Write Output.Undo) → HasFailed (W.failures undo.old) (W.failures undo.new) ⊎ W.may_stall undo.new }
+    ensures write_out { result ≡ Err (ToolFault.Write Output.Out) → HasFailed (W2.failures out.old) (W2.failures out.new) ⊎ W2.may_stall out.new }
+    ensures write_report { result ≡ Err (ToolFault.Write Output.Report) → HasFailed (W3.failures report.old) (W3.failures report.new) ⊎ W3.may_stall report.new }
+{
+    let texts = match make_texts(alloc, held, schema, suffix, options, copy, changes) {
         Ok(texts) => texts,
         Err(fault) => return Err(fault),
     };
@@ -99,6 +146,7 @@ fn write_texts<W: Sink, W2: Sink, W3: Sink>(
 
 fn make_texts<R: Source, R2: Source>(
     alloc: Global,
+    held: HeldMemory,
     schema: &Schema,
     suffix: &[u8],
     options: ModifyOptions,
@@ -124,11 +172,12 @@ fn make_texts<R: Source, R2: Source>(
     };
     let mut run = Run::new(alloc, directory, options);
     if let Err(fault) = run.take_all(alloc, schema, changes) {
+        held.let_go(run);
         return Err(fault);
     }
     written_runs_are_taken_back();
     groups_are_undos();
-    run.finish(alloc)
+    run.finish(alloc, held)
 }
 
 /// The key of the suffix, which has at least one RDN.

@@ -4,6 +4,7 @@ ghost use Rattle.std.specs.Prelude.{◌≡◌};
 ghost use Rattle.dir_tools.specs.Inside.Running.{changes_fault};
 
 use crate::canonical::canonical_text;
+use crate::held::HeldMemory;
 use crate::report::Report;
 use crate::taking::{End, Taker, take_records};
 use crate::{Cause, Input, ToolFault};
@@ -199,8 +200,8 @@ impl<D: Directory + Drop> Run<D> {
         }
     }
 
-    /// The texts of the run.
-    pub(crate) fn finish(self, alloc: Global) -> Result<RunTexts, ToolFault>
+    /// The texts of the run. The directory and its history go.
+    pub(crate) fn finish(self, alloc: Global, held: HeldMemory) -> Result<RunTexts, ToolFault>
         ensures err { IfErr result (λ e. e ≡ ToolFault.Memory) }
         ensures texts { IfOk result (AreTextsOfRun D.state self) }
     {
@@ -219,9 +220,11 @@ impl<D: Directory + Drop> Run<D> {
                 out: canonical_text(alloc, &directory)?,
             })
         };
+        let report = report.close(summary)?;
+        held.let_go((directory, history));
         Ok(RunTexts {
             files,
-            report: report.close(summary)?,
+            report,
             summary,
         })
     }

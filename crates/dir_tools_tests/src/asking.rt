@@ -3,7 +3,7 @@
 use crate::running::{COM, Devices, assert_text, fault_text, script, taken, tape, zeros};
 use dir_ldif::{Source, Tape};
 use dir_names::{Bytes, Schema, Texts};
-use dir_tools::{Question, ToolFault, read_config_with_notes, run_acl, run_acl_under};
+use dir_tools::{HeldMemory, Question, ToolFault, read_config_with_notes, run_acl, run_acl_under};
 use std::alloc::Global;
 use std::process::Abort;
 
@@ -126,7 +126,15 @@ fn answer_in_two<R: Source, R2: Source>(
         Ok(noted) => noted,
         Err(fault) => return Err(fault),
     };
-    run_acl_under(alloc, &schema, &question, &config, copy, report)
+    run_acl_under(
+        alloc,
+        HeldMemory::Left,
+        &schema,
+        &question,
+        &config,
+        copy,
+        report,
+    )
 }
 
 /// Asserts that the same comes of a question in two calls.

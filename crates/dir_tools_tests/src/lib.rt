@@ -15,6 +15,8 @@ mod faults;
 #[cfg(test)]
 mod flat;
 #[cfg(test)]
+mod holding;
+#[cfg(test)]
 mod large;
 #[cfg(test)]
 mod modifies;

@@ -4,7 +4,7 @@ use Rattle.dir_tools.specs.Headline.{RunTerms, RunOutput, terms}
 use Rattle.dir_tools.specs.RunAnswers.{Sources, sources}
 use Rattle.dir_tools.specs.Writing.{TakenBytes}
 use Rattle.dir_tools.proofs.TextLemmas.{answers_write, dry_of, fault_whole, unwritten, write_whole, written_so}
-use Rattle.dir_tools.proofs.modify.run_modify.Goals as goal
+use Rattle.dir_tools.proofs.modify.run_modify_holding.Goals as goal
 
 pub returns-in-Err-clause-headline : goal.returns-in-Err-clause-headline
 returns-in-Err-clause-headline g c =
