@@ -3,7 +3,7 @@
 
 ghost use Rattle.std.specs.Prelude.{◌≡◌, ◌≤◌, ◌∷◌, List, IfErr, IfOk, Ok, length, reverse, true};
 ghost use Rattle.dir_names.specs.declared.schema.TypeRow.{TypeRow};
-ghost use Rattle.dir_acl.specs.Filters.{begins_with_parenthesis, in_parentheses};
+ghost use Rattle.dir_acl.specs.Filters.{begins_with_parenthesis, in_parentheses, test as test_tree};
 ghost use Rattle.dir_acl.specs.Filters.Packed.{before_last, has_filter, last_tree, tree_of};
 ghost use Rattle.dir_acl.specs.Filters.Reading.{after_list, at_start, filter_from, filter_of, one_deeper, step_after_parenthesis, step_at, step_in_test, with_filter};
 ghost use Rattle.dir_acl.specs.Inside.Stack.{complete_of, stack_of, stack_over, state_at, state_of};
@@ -218,7 +218,7 @@ fn step_in_test(
 {
     if b == b')' {
         let test = read_test(alloc, schema, item.as_slice())?;
-        return with_filter(with_test(progress, test)?);
+        return after_test(progress, test);
     }
     let mut item = item;
     item.push(b)?;
@@ -226,6 +226,13 @@ fn step_in_test(
         progress,
         place: Place::InTest(item),
     })
+}
+
+/// After the `)` of a test.
+fn after_test(progress: Progress, test: Test) -> Result<State, FilterFault>
+    ensures { Reads state_of result (Ok (with_filter (test_tree test) (stack_of progress))) }
+{
+    with_filter(with_test(progress, test)?)
 }
 
 /// After the `)` of a list.
