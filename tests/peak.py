@@ -1,5 +1,6 @@
 #!/usr/bin/env python3
-"""Measures the peak memory of runs on a directory as slapcat writes one: no contract can say that entries are packed and share memory.
+"""Measures the peak memory of runs on a directory as slapcat writes one, and on deep filters: no contract can say that entries are packed and
+share memory, nor that filters are packed.
 
 usage: peak.py PROGRAM
 """
@@ -13,6 +14,7 @@ import checks
 
 sys.path.append(str(pathlib.Path(__file__).resolve().parent.parent / "bench"))
 from directory import SUFFIX, Directory  # noqa: E402
+from hostile import deep_filters  # noqa: E402
 
 ENTRIES = 20_000
 CHANGES = 2_000
@@ -21,10 +23,13 @@ CHANGES = 2_000
 # changes, entries that are not packed again take 3.0.
 MOST = {"none": 2.85, "changes": 2.9}
 
+# Bytes of rules whose filters have 64 levels, and the most that they may take, as a multiple. With a box for each level they take 37.
+FILTERS = 16_000_000
+MOST_OF_FILTERS = 8
 
-def peak_of(program, folder, changes):
-    """The peak memory of a run of these changes, in bytes."""
-    words = [program, "slapmodify", "-b", SUFFIX, "--data", "copy", "-l", changes, "--out", f"{changes}.new", "--undo", f"{changes}.undo"]
+
+def peak_of(folder, words):
+    """The peak memory of a run, in bytes."""
     child = subprocess.Popen(words, cwd=folder, stdout=subprocess.DEVNULL)
     _, status, usage = os.wait4(child.pid, 0)
     child.returncode = os.waitstatus_to_exitcode(status)
@@ -32,11 +37,27 @@ def peak_of(program, folder, changes):
     return usage.ru_maxrss * 1024
 
 
+def peak_of_changes(program, folder, changes):
+    """The peak memory of a run of these changes, in bytes."""
+    words = [program, "slapmodify", "-b", SUFFIX, "--data", "copy", "-l", changes, "--out", f"{changes}.new", "--undo", f"{changes}.undo"]
+    return peak_of(folder, words)
+
+
 def try_peak(program, folder, changes):
-    ratio = peak_of(program, folder, changes) / folder.joinpath("copy").stat().st_size
+    ratio = peak_of_changes(program, folder, changes) / folder.joinpath("copy").stat().st_size
     if ratio > MOST[changes]:
         raise checks.Wrong(f"{ratio:.2f} times the copy, more than {MOST[changes]}")
     return f"{ratio:.2f} times the copy"
+
+
+def try_filters(program, folder):
+    for name, parts in deep_filters(FILTERS).items():
+        folder.joinpath(f"filters.{name}").write_bytes(b"".join(parts))
+    words = [program, "slapacl", "-b", "cn=a,dc=com", "-f", "filters.conf", "--data", "filters.copy", "sn/read"]
+    ratio = peak_of(folder, words) / folder.joinpath("filters.conf").stat().st_size
+    if ratio > MOST_OF_FILTERS:
+        raise checks.Wrong(f"{ratio:.2f} times the rules, more than {MOST_OF_FILTERS}")
+    return f"{ratio:.2f} times the rules"
 
 
 def main():
@@ -51,6 +72,7 @@ def main():
             (f"{ENTRIES} entries, no change", lambda: try_peak(program, folder, "none")),
             (f"{ENTRIES} entries, {CHANGES} changes", lambda: try_peak(program, folder, "changes")),
         ]
+        named.append((f"filters of 64 levels, {FILTERS} bytes", lambda: try_filters(program, folder)))
         sys.exit(checks.run("peak memory", named))
 
 

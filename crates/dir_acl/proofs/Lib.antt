@@ -6,6 +6,7 @@ pub mod Groups
 pub mod KnownRules
 pub mod NoAttributes
 pub mod NoNotes
+pub mod Packing
 pub mod RunningSets
 pub mod Runs
 pub mod SlapdAccess

@@ -1,21 +1,25 @@
 -- The stack of open filters as its definition has it is as long as the `Vec`.
-use Rattle.std.proofs.Common.{◌≡◌, ℕ, ◌+◌, ◌≤◌, ◌<◌, Bool, true, false, cond, List, [], ◌∷◌, length, Result, Ok, Err, refl, ap, ◌∙◌, arith}
+use Rattle.std.proofs.Common.{◌≡◌, ℕ, suc, ◌≤◌, ◌<◌, Bool, true, false, cond, List, [], ◌∷◌, length, reverse, Result, Ok, Err, refl, sym, ap, ◌∙◌, arith}
 use Rattle.std.specs.Prelude.{nat_lt}
-use Rattle.std.specs.List.{fold}
 use Rattle.std.proofs.lemmas.Bool.{ltb-true, lt-ltb}
+use Rattle.std.proofs.lemmas.List.{length-reverse}
 use Rattle.dir_acl.specs.declared.fault.FilterFault.{FilterFault}
 use Rattle.dir_acl.specs.declared.fault.FilterFault.TheVariants.{TooDeep}
 use Rattle.dir_acl.specs.declared.filter.reading.Open.{Open}
+use Rattle.dir_acl.specs.declared.filter.reading.Open.TheVariants as level
+use Rattle.dir_acl.specs.Filters.Packed.{Complete, outer}
 use Rattle.dir_acl.specs.Filters.Reading as read
 use Rattle.dir_acl.specs.Filters.Reading.{State, after_parenthesis, one_deeper}
-use Rattle.dir_acl.specs.Inside.Stack.{open_of, stack_of}
+use Rattle.dir_acl.specs.Inside.Stack.{stack_over}
 
-as_long : (s : List read.Open) (xs : List Open) → length (fold (λ stack o. open_of o ∷ stack) s xs) ≡ length s + length xs
-as_long s [] = omega arith
-as_long s (x ∷ xs) = let rest = as_long (open_of x ∷ s) xs in omega (arith, rest)
+as_long : (c : Complete) (levels : List Open) → length (stack_over c levels) ≡ length levels
+as_long c [] = refl
+as_long c (level.And ∷ levels) = ap suc (as_long (outer c.around) levels)
+as_long c (level.Or ∷ levels) = ap suc (as_long (outer c.around) levels)
+as_long c (level.Not ∷ levels) = ap suc (as_long c levels)
 
-pub stack_length : (xs : List Open) → length (stack_of xs) ≡ length xs
-stack_length xs = let long = as_long [] xs in omega (arith, long)
+pub stack_length : (c : Complete) (levels : List Open) → length (stack_over c (reverse levels)) ≡ length levels
+stack_length c levels = as_long c (reverse levels) ∙ length-reverse levels
 
 abbrev deeper : List read.Open → Bool → Result State FilterFault
 deeper s t = cond t (Ok (record { stack = s; place = after_parenthesis })) (Err TooDeep)
@@ -27,10 +31,10 @@ not_below a b h = by (nat_lt a b) refl
     by true e = let less = ltb-true a b e in absurd (omega arith)
     by false e = refl
 
-pub full : (xs : List Open) → 64 ≤ length xs → one_deeper (stack_of xs) ≡ Err TooDeep
-full xs h = ap (deeper (stack_of xs)) (ap (λ n. nat_lt n 64) (stack_length xs) ∙ not_below (length xs) 64 h)
+pub full : (c : Complete) (levels : List Open) → 64 ≤ length levels → one_deeper (stack_over c (reverse levels)) ≡ Err TooDeep
+full c levels h = ap (deeper (stack_over c (reverse levels))) (ap (λ n. nat_lt n 64) (stack_length c levels) ∙ not_below (length levels) 64 h)
 
-pub room : (xs : List Open) → length xs < 64 → one_deeper (stack_of xs) ≡ Ok (record { stack = stack_of xs; place = after_parenthesis })
-room xs h = ap (deeper (stack_of xs)) (ap (λ n. nat_lt n 64) (stack_length xs) ∙ lt-ltb (length xs) 64 h)
+pub room : (c : Complete) (levels : List Open) → length levels < 64 → one_deeper (stack_over c (reverse levels)) ≡ Ok (record { stack = stack_over c (reverse levels); place = after_parenthesis })
+room c levels h = ap (deeper (stack_over c (reverse levels))) (ap (λ n. nat_lt n 64) (stack_length c levels) ∙ lt-ltb (length levels) 64 h)
 
 pub ruleset stack_steps = (full, room)

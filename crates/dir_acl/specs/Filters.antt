@@ -1,13 +1,10 @@
 -- Which filter a text spells, as the grammar (RFC 4515, section 3, without extensible matches; RFC 4526, section 2). `Filters.Reading` computes the
 -- same, and the law `reading_is_the_grammar` says that the two agree.
+pub mod Packed
 pub mod Reading
 use Rattle.std.specs.Prelude.{◌≡◌, ℕ, zero, suc, Bool, true, false, cond, not, ◌&&◌, ◌||◌, ◌==◌, List, [], ◌∷◌, ◌++◌, map, Some}
 use Rattle.std.specs.List.{list_any}
 use Rattle.dir_names.specs.declared.schema.TypeRow.{TypeRow}
-use Rattle.dir_acl.specs.declared.filter.Filter.{Filter}
-use Rattle.dir_acl.specs.declared.filter.Filter.TheOpen.{Filter-F}
-use Rattle.dir_acl.specs.declared.filter.Filter.TheOpen as layer
-use Rattle.dir_acl.specs.declared.filter.Filter.TheFolds.{fold-Filter}
 use Rattle.dir_acl.specs.declared.filter.Test.{Test}
 use Rattle.dir_acl.specs.Signs.{open_parenthesis, close_parenthesis, ampersand, vertical_bar, exclamation_mark}
 use Rattle.dir_acl.specs.Tests.{test_of}
@@ -28,15 +25,6 @@ mutual
 abbrev pub trees_of : List Tree → Trees
 trees_of [] = none
 trees_of (t ∷ ts) = first t (trees_of ts)
-
-abbrev pub tree_step : Filter-F Tree → Tree
-tree_step (layer.And filters) = conjunction (trees_of filters.items)
-tree_step (layer.Or filters) = disjunction (trees_of filters.items)
-tree_step (layer.Not filter) = negation filter.value
-tree_step (layer.Test t) = test t
-
-abbrev pub tree_of : Filter → Tree
-tree_of = fold-Filter Tree tree_step
 
 -- ---- the grammar
 

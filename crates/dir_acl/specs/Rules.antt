@@ -10,7 +10,8 @@ use Rattle.dir_acl.specs.declared.access.Style.{Style}
 use Rattle.dir_acl.specs.declared.access.What.{What}
 use Rattle.dir_acl.specs.declared.access.What.TheVariants as what
 use Rattle.dir_acl.specs.declared.access.Who.{Who}
-use Rattle.dir_acl.specs.Filters.{Tree, tree_of}
+use Rattle.dir_acl.specs.Filters.{Tree}
+use Rattle.dir_acl.specs.Filters.Packed.{tree_of}
 
 -- a part of a <what>: a name with its style, a filter, or a list of attributes
 pub data Restriction : Type 0 where

@@ -11,7 +11,8 @@ use Rattle.dir_acl.specs.declared.filter.Matching.{Matching}
 use Rattle.dir_acl.specs.declared.filter.Matching.TheVariants.{Present, Equal, AtLeast, AtMost, Substrings}
 use Rattle.dir_acl.specs.declared.filter.truth.Truth.{Truth}
 use Rattle.dir_acl.specs.declared.filter.truth.Truth.TheVariants.{True, False, Undefined}
-use Rattle.dir_acl.specs.Filters.{Tree, Trees, conjunction, disjunction, negation, test, none, first, tree_of}
+use Rattle.dir_acl.specs.Filters.{Tree, Trees, conjunction, disjunction, negation, test, none, first}
+use Rattle.dir_acl.specs.Filters.Packed.{tree_of}
 use Rattle.dir_acl.specs.Integers.{is_at_least, is_at_most}
 use Rattle.dir_acl.specs.Substrings.{has_pieces}
 

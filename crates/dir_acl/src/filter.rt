@@ -9,15 +9,28 @@ pub(crate) mod truth;
 
 use dir_names::{AttrKey, Bytes, Texts, ValueKey};
 
-/// A filter, without extensible matches.
+/// A filter, without extensible matches. It is packed: a step takes a byte, and a filter one or two steps.
 #[derive(Debug, Drop)]
-pub enum Filter {
-    /// All of these hold. Without any it is True (RFC 4526).
-    And(Vec<Filter>),
-    /// One of these holds. Without any it is False (RFC 4526).
-    Or(Vec<Filter>),
-    Not(Box<Filter>),
-    Test(Test),
+pub struct Filter {
+    /// The steps that make it of its tests, the last one first.
+    steps: Vec<Step>,
+    /// The last one first.
+    tests: Vec<Test>,
+}
+
+/// A step in making a filter, from the left of its text to the right.
+#[derive(Clone, Copy, Debug)]
+pub(crate) enum Step {
+    /// Begins a list, without filters.
+    Begin,
+    /// Appends the next test to the list.
+    Test,
+    /// Negates the last filter of the list.
+    Not,
+    /// Ends the list and appends to the one around it that all its filters hold. Without any it is True (RFC 4526).
+    And,
+    /// Ends the list and appends to the one around it that one of its filters holds. Without any it is False (RFC 4526).
+    Or,
 }
 
 /// A test of the attributes that a description covers.

@@ -3,7 +3,7 @@
 ghost use Rattle.std.specs.List.{list_any};
 ghost use Rattle.std.specs.Prelude.{◌≡◌, ◌++◌, [], ◌∷◌, Ok, map};
 ghost use Rattle.dir_acl.specs.Config.Whats.{filter_at, is_of_form, item_at, items_at, with_attrs, with_filter, with_form, with_name, with_what};
-ghost use Rattle.dir_acl.specs.Filters.{tree_of};
+ghost use Rattle.dir_acl.specs.Filters.Packed.{tree_of};
 ghost use Rattle.dir_acl.specs.Outcome.{GivesPart};
 ghost use Rattle.dir_acl.specs.Rules.{restriction_of};
 

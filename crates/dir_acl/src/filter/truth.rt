@@ -2,12 +2,15 @@
 
 ghost use Rattle.std.specs.List.{list_any};
 ghost use Rattle.std.specs.FinMap as fin;
-ghost use Rattle.std.specs.Prelude.{◌≡◌, option_copied};
+ghost use Rattle.std.specs.Prelude.{◌≡◌, ◌<◌, ◌≤◌, ◌∷◌, IsTrue, false, length, option_copied};
 ghost use Rattle.dir_names.specs.Values.{text_of};
 ghost use Rattle.dir_tree.specs.Lent.{lent_key};
+ghost use Rattle.dir_acl.specs.Filters.Packed.{before_last, complete, has_filter, last_tree, outer};
 ghost use Rattle.dir_acl.specs.Inside.Fakes.{attributes_of};
-ghost use Rattle.dir_acl.specs.Truth.{both, either, has_matching, is_any_covered, matching_truth, opposite, text_has, truth_if, truth_of};
+ghost use Rattle.dir_acl.specs.Truth.{both, either, has_matching, is_any_covered, matching_truth, opposite, text_has, tree_truth, truth_if, truth_of};
+ghost use Rattle.dir_acl.specs.declared.filter.Step.TheVariants as Step;
 
+use crate::filter::Step;
 use crate::filter::integers::{is_at_least, is_at_most};
 use crate::filter::substrings::has_pieces;
 use crate::{Filter, Matching, Test};
@@ -32,28 +35,112 @@ impl Filter {
     }
 
     /// The truth of the filter on an entry, or on one without attributes.
-    #[tactic(auto, using(crate::proofs::Truths::truth_steps))]
     pub(crate) fn truth_on(&self, entry: Option<&Entry>) -> Truth
         ensures { result ≡ truth_of (attributes_of (option_copied entry.entry)) self.now }
     {
-        match self {
-            Filter::And(filters) => {
-                let mut all = Truth::True;
-                for filter in filters {
-                    all = both(all, filter.truth_on(entry));
-                }
-                all
+        last_truth(self.steps.as_slice(), self.tests.as_slice(), entry).truth
+    }
+}
+
+/// The truth of a filter, with the steps and tests of those before it.
+#[derive(Clone, Copy)]
+pub(crate) struct LastTruth<'f> {
+    truth: Truth,
+    steps: &'f [Step],
+    tests: &'f [Test],
+}
+
+/// The truth of the last filter that these steps make, the last step first. Without any it is True.
+#[tactic(auto, using(crate::proofs::Truths::truth_steps))]
+fn last_truth<'f>(steps: &'f [Step], tests: &'f [Test], entry: Option<&Entry>) -> LastTruth<'f>
+    ensures truth { result.truth ≡ tree_truth (attributes_of (option_copied entry.entry)) (last_tree (complete steps.now tests.now)) }
+    ensures before { complete result.steps.now result.tests.now ≡ before_last (complete steps.now tests.now) }
+    ensures within { length result.steps.now ≤ length steps.now }
+    ensures shorter { IsTrue (has_filter steps.now) → length result.steps.now < length steps.now }
+{
+    match steps {
+        [] | [Step::Begin, ..] => LastTruth {
+            truth: Truth::True,
+            steps,
+            tests,
+        },
+        [Step::Test, before @ ..] => last_test_truth(before, tests, entry),
+        [Step::Not, before @ ..] => {
+            let last = last_truth(before, tests, entry);
+            LastTruth {
+                truth: opposite(last.truth),
+                ..last
             }
-            Filter::Or(filters) => {
-                let mut any = Truth::False;
-                for filter in filters {
-                    any = either(any, filter.truth_on(entry));
-                }
-                any
-            }
-            Filter::Not(filter) => opposite(filter.truth_on(entry)),
-            Filter::Test(test) => test_truth(test, entry),
         }
+        [Step::And, before @ ..] => {
+            let mut all = LastTruth {
+                truth: Truth::True,
+                steps: before,
+                tests,
+            };
+            'all: while has_filter(all.steps) {
+                let last = last_truth(all.steps, all.tests, entry);
+                all = LastTruth {
+                    truth: both(last.truth, all.truth),
+                    ..last
+                };
+            }
+            before_list(all)
+        }
+        [Step::Or, before @ ..] => {
+            let mut any = LastTruth {
+                truth: Truth::False,
+                steps: before,
+                tests,
+            };
+            'any: while has_filter(any.steps) {
+                let last = last_truth(any.steps, any.tests, entry);
+                any = LastTruth {
+                    truth: either(last.truth, any.truth),
+                    ..last
+                };
+            }
+            before_list(any)
+        }
+    }
+}
+
+fn last_test_truth<'f>(steps: &'f [Step], tests: &'f [Test], entry: Option<&Entry>) -> LastTruth<'f>
+    ensures truth { result.truth ≡ tree_truth (attributes_of (option_copied entry.entry)) (last_tree (complete (Step.Test ∷ steps.now) tests.now)) }
+    ensures before { complete result.steps.now result.tests.now ≡ before_last (complete (Step.Test ∷ steps.now) tests.now) }
+    ensures steps { result.steps.now ≡ steps.now }
+{
+    match tests {
+        [test, before @ ..] => LastTruth {
+            truth: test_truth(test, entry),
+            steps,
+            tests: before,
+        },
+        [] => LastTruth {
+            truth: Truth::True,
+            steps,
+            tests,
+        },
+    }
+}
+
+/// Whether the innermost list has a filter.
+fn has_filter(steps: &[Step]) -> bool
+    ensures { result ≡ has_filter steps.now }
+{
+    !matches!(steps, [] | [Step::Begin, ..])
+}
+
+/// The same truth, of a list, with the steps before the list began.
+fn before_list<'f>(list: LastTruth<'f>) -> LastTruth<'f>
+    requires { has_filter list.steps.now ≡ false }
+    ensures truth { result.truth ≡ list.entry.truth }
+    ensures before { complete result.steps.now result.tests.now ≡ outer (complete list.entry.steps.now list.entry.tests.now).around }
+    ensures within { length result.steps.now ≤ length list.entry.steps.now }
+{
+    match list.steps {
+        [_, steps @ ..] => LastTruth { steps, ..list },
+        [] => list,
     }
 }
 
