@@ -23,13 +23,18 @@ abbrev pub rule_read : List TypeRow → Place → List (Option (List ℕ)) → �
 rule_read rows place [] = 0
 rule_read rows place (argument ∷ arguments) = read_on (after_argument rows place argument) (λ next. rule_read rows next arguments) + 1
 
+-- of a second suffix the second name of the line, or else its last word
+abbrev pub of_second_suffix : List (Option (List ℕ)) → ℕ
+of_second_suffix words = cond (nat_lt 2 (length words)) 2 (length words - 1)
+
 -- of another directive: the keyword, where it is out of its place or has too few or too many arguments; else the name after it
-abbrev pub of_directive : ConfigCause → ℕ
-of_directive cause.BadDirective = 0
-of_directive why = 1
+abbrev pub of_directive : ConfigCause → List (Option (List ℕ)) → ℕ
+of_directive cause.BadDirective words = 0
+of_directive cause.SecondSuffix words = of_second_suffix words
+of_directive why words = 1
 
 abbrev pub of_complete : List TypeRow → ConfigCause → List (Option (List ℕ)) → ℕ
-of_complete rows why words = cond (begins_with words (codes "access")) (rule_read rows before_to (after_keyword words)) (of_directive why)
+of_complete rows why words = cond (begins_with words (codes "access")) (rule_read rows before_to (after_keyword words)) (of_directive why words)
 
 -- an open quote or a final backslash is in the last word
 abbrev pub of_bad_directive : List TypeRow → List (Option (List ℕ)) → ℕ

@@ -5,8 +5,8 @@ ghost use Rattle.dir_names.specs.Cut.{parts_at};
 ghost use Rattle.dir_names.specs.Inside.Left.{parts_left};
 ghost use Rattle.dir_acl.specs.Config.AccessRules.{before_to};
 ghost use Rattle.dir_acl.specs.Config.Arguments.{step_of};
-ghost use Rattle.dir_acl.specs.Config.Lines.{without_return};
-ghost use Rattle.dir_acl.specs.FaultArgument.{deciding_word, fault_argument, folded, joined, line_with, of_bad_directive, of_complete, of_directive, rule_read, word_of_lines};
+ghost use Rattle.dir_acl.specs.Config.Lines.{physical_lines, without_return};
+ghost use Rattle.dir_acl.specs.FaultArgument.{deciding_word, fault_argument, folded, joined, line_with, of_bad_directive, of_complete, of_directive, of_second_suffix, rule_read, word_of_lines};
 ghost use Rattle.dir_acl.specs.Inside.Wanting.{after_byte, after_bytes, next_spot, wanting_of, words_begun};
 ghost use Rattle.dir_acl.specs.Notes.{words_of};
 
@@ -30,7 +30,7 @@ pub struct FaultArgument {
 }
 
 /// The argument that a fault of this configuration is about: of an access rule the one up to which it was read, and the last one where
-/// the line ends too early; of another directive the keyword or the name after it. A fault without a line is about none.
+/// the line ends too early; of another directive the keyword or a name after it. A fault without a line is about none.
 ///
 /// # Errors
 ///
@@ -60,7 +60,7 @@ pub fn fault_argument(
 /// The text from a physical line on, if it has that line.
 fn lines_from(text: &[u8], number: u64) -> Option<&[u8]>
     requires { 1 ≤ number }
-    ensures rest { parts_left 10 (option_copied result) ≡ drop (number - 1) (parts_at 10 text.now) }
+    ensures rest { map without_return (parts_left 10 (option_copied result)) ≡ drop (number - 1) (physical_lines text.now) }
     ensures few { IfSome result (λ rest. length rest.now + number ≤ length text.now + 1) }
 {
     let mut rest = Some(text);
@@ -159,16 +159,27 @@ fn of_complete(
     if begins_with(words, b"access") {
         return rule_read(alloc, schema, after_keyword(words));
     }
-    Ok(of_directive(cause))
+    Ok(of_directive(cause, words))
 }
 
-fn of_directive(cause: ConfigCause) -> usize
-    ensures { result ≡ of_directive cause }
+fn of_directive(cause: ConfigCause, words: &[Option<Bytes>]) -> usize
+    ensures { result ≡ of_directive cause words.now }
 {
     match cause {
         ConfigCause::BadDirective => 0,
+        ConfigCause::SecondSuffix => of_second_suffix(words),
         _ => 1,
     }
+}
+
+/// The second name of the line, or else its last word.
+fn of_second_suffix(words: &[Option<Bytes>]) -> usize
+    ensures { result ≡ of_second_suffix words.now }
+{
+    if words.len() > 2 {
+        return 2;
+    }
+    words.len().saturating_sub(1)
 }
 
 /// How many of a rule's arguments are read.

@@ -7,7 +7,7 @@ use std::process::Abort;
 
 /// Lines after `database mdb` and `suffix dc=com`, which are the first two, with the line and the argument of their fault. An argument with an
 /// open quote has no text.
-static FAULTS: [(&str, u64, &str); 16] = [
+static FAULTS: [(&str, u64, &str); 18] = [
     // each in its place: the word that is refused, or the last one
     (
         "access to *\n  by self\r\n  selfwrite\n  by * read",
@@ -43,6 +43,8 @@ static FAULTS: [(&str, u64, &str); 16] = [
     // other directives
     ("database\n  hdb more", 4, "hdb"),
     ("suffix dc=org", 3, "dc=org"),
+    ("suffix dc=org\n dc=net \"dc=com", 4, "dc=net"),
+    ("suffix", 3, "suffix"),
     ("rootdn\n x", 4, "x"),
 ];
 

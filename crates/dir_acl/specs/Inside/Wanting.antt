@@ -1,5 +1,5 @@
 -- How far a line is read, and how many of its words have yet to begin.
-use Rattle.std.specs.Prelude.{ℕ, ◌-◌, cond, List, [], ◌∷◌}
+use Rattle.std.specs.Prelude.{ℕ, ◌+◌, ◌-◌, cond, ◌==◌, List, [], ◌∷◌}
 use Rattle.dir_acl.specs.declared.config.arguments.Spot.{Spot}
 use Rattle.dir_acl.specs.declared.config.arguments.Spot.TheVariants.{Between, Plain, Quoted, PlainEscape, QuotedEscape}
 use Rattle.dir_acl.specs.declared.config.arguments.Step.{Step}
@@ -30,3 +30,8 @@ after_byte wanting b = (next_spot (step_of wanting.0 b), wanting.1 - words_begun
 abbrev pub after_bytes : Spot × ℕ → List ℕ → Spot × ℕ
 after_bytes wanting [] = wanting
 after_bytes wanting (b ∷ bs) = after_bytes (after_byte wanting b) bs
+
+-- of these physical lines, the first of which is line `n`, the one on which the last of the words begins
+abbrev pub line_of_last : Spot × ℕ → ℕ → List (List ℕ) → ℕ
+line_of_last wanting n [] = n
+line_of_last wanting n (line ∷ lines) = cond ((after_bytes wanting line).1 == 0) n (line_of_last (after_bytes wanting line) (n + 1) lines)
