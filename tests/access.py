@@ -191,8 +191,16 @@ def unescaped(piece):
 # ---- the lines of a configuration
 
 
-def logical_lines(data):
-    """The number and the text of each line, unfolded, without comments and lines of white space alone."""
+class ConfigFault(Fault):
+    """A fault of a configuration, and what is told with -v of the argument that it is about."""
+
+    def __init__(self, text, told=""):
+        super().__init__(text)
+        self.told = told
+
+
+def folded_lines(data):
+    """The number and the physical lines of each line, without comments and lines of white space alone."""
     folded = []
     for number, line in enumerate(data.removesuffix(b"\n").split(b"\n") if data else [], 1):
         line = line.removesuffix(b"\r")
@@ -200,31 +208,70 @@ def logical_lines(data):
             folded[-1][1].append(line)
         else:
             folded.append((number, [line]))
-    joined = [(number, b"".join(parts)) for number, parts in folded]
-    return [(number, line) for number, line in joined if not line.startswith(b"#") and line.strip(b" \t")]
+    return [(number, parts) for number, parts in folded if not parts[0].startswith(b"#") and b"".join(parts).strip(b" \t")]
 
 
-def arguments(line):
-    """Yields the arguments of a line. One that is open at the line's end is a fault, once it is asked for."""
+def logical_lines(data):
+    """The number and the text of each line, unfolded."""
+    return [(number, b"".join(parts)) for number, parts in folded_lines(data)]
+
+
+def placed_arguments(line):
+    """Yields where each argument of a line begins, and the argument, which is None if it is open at the line's end."""
     at = 0
     while True:
         while line[at : at + 1] in (b" ", b"\t"):
             at += 1
         if at == len(line):
             return
-        word, is_quoted = bytearray(), False
+        word, is_quoted, begin = bytearray(), False, at
         while at < len(line) and (is_quoted or line[at] not in b" \t"):
             if line[at] == 0x22:
                 is_quoted = not is_quoted
             else:
                 at += line[at] == 0x5C
                 if at == len(line):
-                    raise Refused(BAD_DIRECTIVE)
+                    yield begin, None
+                    return
                 word.append(line[at])
             at += 1
-        if is_quoted:
+        yield begin, None if is_quoted else as_text(bytes(word))
+
+
+class Arguments:
+    """The arguments of a line, and how many were asked for. One that is open at the line's end is a fault, once it is asked for."""
+
+    def __init__(self, line):
+        self.words, self.read = placed_arguments(line), 0
+
+    def __iter__(self):
+        return self
+
+    def __next__(self):
+        _, word = next(self.words)
+        self.read += 1
+        if word is None:
             raise Refused(BAD_DIRECTIVE)
-        yield as_text(bytes(word))
+        return word
+
+
+def place_of_fault(words, cause, read):
+    """Which of a line's arguments a fault is about, where so many were read."""
+    if cause == BAD_DIRECTIVE and words[-1] is None:
+        return len(words) - 1
+    if words[0].lower() == "access":
+        return 0 if cause == GLOBAL_ACCESS else read - 1
+    return {BAD_DIRECTIVE: 0, SECOND_SUFFIX: min(2, len(words) - 1)}.get(cause, 1)
+
+
+def told_of_argument(number, parts, cause, read):
+    """The line that tells the argument which a fault is about, and on which of these physical lines it begins."""
+    placed = list(placed_arguments(b"".join(parts)))
+    begin, word = placed[place_of_fault([word for _, word in placed], cause, read)]
+    before = itertools.accumulate(map(len, parts))
+    line = number + sum(end <= begin for end in before)
+    argument = "an open quote or a final backslash" if word is None else f'"{shown_text(word)}"'
+    return f"slapkit: note: line {line}: {argument}\n"
 
 
 @dataclasses.dataclass
@@ -249,8 +296,7 @@ class Config:
     is_passed_over: bool = False
     directives: list = dataclasses.field(default_factory=list)
 
-    def read_line(self, line):
-        words = arguments(line)
+    def read_line(self, words):
         keyword = next(words).lower()
         if keyword == "database":
             self.read_database(words)
@@ -314,15 +360,16 @@ def legal_description(text):
 def read_config(data):
     """The configuration of a text, or its first fault, which is told with its line."""
     if len(data) > MOST_BYTES_OF_A_CONFIGURATION:
-        raise Fault(f"config, line 0: {CONFIG_TOO_LONG}")
+        raise ConfigFault(f"config, line 0: {CONFIG_TOO_LONG}")
     config = Config()
-    for number, line in logical_lines(data):
+    for number, parts in folded_lines(data):
+        words = Arguments(b"".join(parts))
         try:
-            config.read_line(line)
+            config.read_line(words)
         except Refused as refused:
-            raise Fault(f"config, line {number}: {refused}") from None
+            raise ConfigFault(f"config, line {number}: {refused}", told_of_argument(number, parts, str(refused), words.read)) from None
     if config.suffix is None:
-        raise Fault(f"config, line 0: {NO_SUFFIX}")
+        raise ConfigFault(f"config, line 0: {NO_SUFFIX}")
     return config
 
 
@@ -378,7 +425,7 @@ def notes_of(data):
     """What is told of a configuration that can be read: a line for each note."""
     told, has_rule, is_passed_over = "", False, False
     for number, line in logical_lines(data):
-        keyword, *words = arguments(line)
+        keyword, *words = Arguments(line)
         keyword = keyword.lower()
         if is_passed_over:
             notes = [OTHER_DATABASE] if keyword == "access" else []
@@ -689,5 +736,7 @@ def access_answer(data, copy, question):
         if question.is_strict and notes:
             raise Fault(HAS_NOTES)
         return 0, report_of(config, copy, question), notes
+    except ConfigFault as fault:
+        return 1, "", f"slapkit: {fault}\n{fault.told if question.is_verbose else ''}"
     except Fault as fault:
         return 1, "", f"{notes}slapkit: {fault}\n"

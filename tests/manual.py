@@ -87,11 +87,30 @@ def the_documents_have_the_notes(program):
     expect(set(items), notes, "explained by the manual page")
 
 
+def the_documents_have_the_argument_of_a_fault(program):
+    """What is told of an argument with -v, in docs/CODES.md and on the manual page of slapacl."""
+    told = set()
+    with tempfile.TemporaryDirectory() as name:
+        folder = pathlib.Path(name)
+        (folder / "copy").write_text("")
+        for more in ("access to ARGUMENT\n", 'access to "ARGUMENT\n'):
+            (folder / "conf").write_text(f"database mdb\nsuffix dc=com\n{more}")
+            words = [program, "slapacl", "-v", "-b", "dc=com", "-f", folder / "conf", "--data", folder / "copy"]
+            told |= set(subprocess.run(words, capture_output=True, text=True, timeout=60).stderr.splitlines()[1:])
+    expect(told, {'slapkit: note: line 3: "ARGUMENT"', "slapkit: note: line 3: an open quote or a final backslash"}, "what is told")
+    page = page_of("slapacl").replace("\\(dq", '"')
+    for line in told:
+        text = line.replace("line 3", "line M") if "ARGUMENT" in line else line.split("line 3: ")[1]
+        for where, document in (("docs/CODES.md", (ROOT / "docs/CODES.md").read_text()), ("the manual page", page)):
+            expect(text in document, True, f"{where} has {text}")
+
+
 CHECKS = [
     the_manual_pages_have_the_options,
     the_completions_have_the_options,
     the_manual_pages_have_the_codes,
     the_documents_have_the_notes,
+    the_documents_have_the_argument_of_a_fault,
 ]
 
 sys.exit(checks.run("manual", [(check.__name__.replace("_", " "), lambda check=check: check(sys.argv[1])) for check in CHECKS]))

@@ -616,6 +616,26 @@ def a_faulty_configuration_has_its_fault_and_no_note(trial):
     expect(trial.run(words), (1, "", "slapkit: cannot open none\n"))
 
 
+def the_argument_of_a_fault_is_told_with_its_option(trial):
+    open_quote = "line 3: an open quote or a final backslash"
+    for conf, fault, told in (
+        (f"{RULED}access to *\n  by self\r\n\tselfwrite\n  by * read\n", "line 3: C2 Unsupported", 'line 5: "selfwrite"'),
+        (f'{RULED}access to *\n by "\x1b[2J\u00fc \\" read\n', "line 3: C1 BadDirective", "line 4: an open quote or a final backslash"),
+        (f'{RULED}access to *\n by "\x1b[2J\u00fc" read\n', "line 3: C2 Unsupported", 'line 4: "\\x1b[2J\u00fc"'),
+        (f'{RULED}access to * by * "read\n', "line 3: C1 BadDirective", open_quote),
+        (f"{RULED}access to * by * read\\", "line 3: C1 BadDirective", open_quote),
+        (f"include x\n{RULED}suffix\n dc=org\n", "line 4: C6 SecondSuffix", 'line 5: "dc=org"'),
+        ("# a comment\n\naccess to * by * read\n", "line 3: C7 GlobalAccess", 'line 3: "access"'),
+        ("database mdb\n", "line 0: C10 NoSuffix", ""),
+    ):
+        fault = f"slapkit: config, {fault}\n"
+        expect(question_under(trial, conf), (1, "", fault), conf)
+        expect(question_under(trial, conf, "-v"), (1, "", fault + (f"slapkit: note: {told}\n" if told else "")), conf)
+    # an answer is about none, nor is a fault of the question
+    expect(question_under(trial, RULED + READ_BY_ALL, "-v"), (0, "authcDN: anonymous\ndc: =rscxd\n", ""))
+    expect(question_under(trial, RULED + READ_BY_ALL, "-v", "dc/peek"), (1, "", "slapkit: bad question: word 1\n"))
+
+
 def a_strict_question_is_answered_only_where_there_is_no_note(trial):
     told = noted((1, 'include "x" is not read'), (4, 'unknown attribute "gn"'))
     with_notes = f"include x\n{RULED}access to attrs=gn by * none\n{READ_BY_ALL}"
@@ -787,6 +807,7 @@ TRIALS = [
     notes_are_told_in_the_order_of_the_lines,
     notes_come_before_the_faults_of_what_is_read_later,
     a_faulty_configuration_has_its_fault_and_no_note,
+    the_argument_of_a_fault_is_told_with_its_option,
     a_strict_question_is_answered_only_where_there_is_no_note,
     control_characters_of_a_note_are_escaped,
     notes_that_cannot_be_told_end_the_run,

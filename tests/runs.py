@@ -73,10 +73,14 @@ class Place:
 
 
 def is_message(message, tool):
-    """Whether it has whole lines, of which at most the last is no note. slapacl alone has notes."""
+    """Whether it has whole lines, of which one at most is no note: the last, but for a note on its argument. slapacl alone has notes."""
     *lines, rest = message.split(b"\n")
-    others = lines if tool != "slapacl" else [line for line in lines if not line.startswith(b"slapkit: note: ")]
-    return not rest and (not others or others == lines[-1:])
+    if tool != "slapacl":
+        return not rest and len(lines) <= 1
+    if lines and lines[-1].startswith(b"slapkit: note: line "):
+        lines.pop()
+    others = [line for line in lines if not line.startswith(b"slapkit: note: ")]
+    return not rest and others in ([], lines[-1:])
 
 
 def too_long(*_):

@@ -14,3 +14,4 @@ pub mod SlapdConf
 pub mod Stacks
 pub mod Tested
 pub mod Truths
+pub mod Wanted

@@ -7,3 +7,4 @@ pub mod ReadingConfig
 pub mod Requests
 pub mod RunningSet
 pub mod Stack
+pub mod Wanting

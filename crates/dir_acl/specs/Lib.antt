@@ -1,5 +1,6 @@
 pub mod Config
 pub mod Decision
+pub mod FaultArgument
 pub mod FaultText
 pub mod Filters
 pub mod Inside

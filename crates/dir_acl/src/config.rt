@@ -13,7 +13,7 @@ ghost use Rattle.dir_acl.specs.Rules.{rules_of};
 ghost use Rattle.dir_acl.specs.declared.fault.ConfigCause.TheVariants as ConfigCause;
 ghost use Rattle.dir_acl.specs.declared.privileges.Privilege.{Privilege};
 
-mod access_rules;
+pub(crate) mod access_rules;
 pub(crate) mod arguments;
 pub(crate) mod directives;
 pub(crate) mod lines;

@@ -5,6 +5,7 @@
 mod access;
 mod config;
 mod cut;
+mod deciding;
 mod fault;
 mod filter;
 mod laws;
@@ -15,6 +16,7 @@ pub use access::decision::privileges_under;
 pub use access::target_rules::TargetRules;
 pub use access::{Asked, Clause, Control, Edit, Request, Rule, Style, What, Who};
 pub use config::{Config, MAX_CONFIG};
+pub use deciding::{FaultArgument, fault_argument};
 pub use fault::{ConfigCause, ConfigFault, FilterFault};
 pub use filter::truth::Truth;
 pub use filter::{Filter, Matching, Pieces, Test};

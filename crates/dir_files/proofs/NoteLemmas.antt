@@ -42,7 +42,7 @@ two_written took f g h r s a b all first ok second whole plain ok' =
 -- ---- a teller
 
 -- a teller that isn't called was given none
-pub none_given : (a : Option (List Note)) → WereGiven a a []
+pub none_given : {A : Type 0} (a : Option (List A)) → WereGiven a a []
 none_given None = tt
 none_given (Some before) = sym (append-nil before)
 
@@ -153,16 +153,21 @@ unknown words text notes (Err (fault.Exists path)) h = h
 pub none_yet : (A : Type 0) (words : AccessWords) (text : Option (List ℕ)) (e : Fault) (a : Option (List Note)) → AreToldFor {A = A} words text (Err e) [] → TellsFor {A = A} words text (Err e) a a
 none_yet A words text e a h = ([], none_given a, h)
 
--- what is said of the text that the reader of the configuration had is said of that at its path
-pub told_at : {A : Type 0} (words : AccessWords) (path other : List ℕ) (result : Result A Fault) (P : Disk → List Call → Type 0) (a b c e : Option Disk) (text : Option (List ℕ)) (g g' : Option (List Note))
-    → Told a b (opens path None) → Told b c (opens other None) → Made c e P → IfSome b (λ d. text ≡ d.text_at path)
+-- what holds of the text that the reader of the configuration had, and of an unknown one, holds of that at its path
+pub at_path : (P : Option (List ℕ) → Type 0) (path other : List ℕ) (R : Disk → List Call → Type 0) (a b c e : Option Disk) (text : Option (List ℕ))
+    → Told a b (opens path None) → Told b c (opens other None) → Made c e R → IfSome b (λ d. text ≡ d.text_at path) → P None → P text → P (told_text a e path)
+at_path P path other R None b c e text first second made is unknown h = unknown
+at_path P path other R (Some d) b c None text first second made is unknown h = unknown
+at_path P path other R (Some d) b None (Some last) text first second made is unknown h = absurd (made)
+at_path P path other R (Some d) None (Some next) (Some last) text first second made is unknown h = absurd (second)
+at_path P path other R (Some d) (Some opened) (Some next) (Some last) text first second made is unknown h =
+    subst P (is ∙ ap (λ (x : Disk). x.text_at path) first) h
+
+pub told_at : {A : Type 0} (words : AccessWords) (path other : List ℕ) (result : Result A Fault) (R : Disk → List Call → Type 0) (a b c e : Option Disk) (text : Option (List ℕ)) (g g' : Option (List Note))
+    → Told a b (opens path None) → Told b c (opens other None) → Made c e R → IfSome b (λ d. text ≡ d.text_at path)
     → TellsFor words text result g g' → TellsFor words (told_text a e path) result g g'
-told_at words path other result P None b c e text g g' first second made is h = (h.0, h.1, unknown words text h.0 result h.2)
-told_at words path other result P (Some d) b c None text g g' first second made is h = (h.0, h.1, unknown words text h.0 result h.2)
-told_at words path other result P (Some d) b None (Some last) text g g' first second made is h = absurd (made)
-told_at words path other result P (Some d) None (Some next) (Some last) text g g' first second made is h = absurd (second)
-told_at words path other result P (Some d) (Some opened) (Some next) (Some last) text g g' first second made is h =
-    subst (λ (t : Option (List ℕ)). TellsFor words t result g g') (is ∙ ap (λ (x : Disk). x.text_at path) first) h
+told_at words path other result R a b c e text g g' first second made is h =
+    at_path (λ (t : Option (List ℕ)). TellsFor words t result g g') path other R a b c e text first second made is (h.0, h.1, unknown words text h.0 result h.2) h
 
 -- ---- a teller that didn't fail
 

@@ -1,5 +1,6 @@
 pub mod AccessRuns
 pub mod Escape
+pub mod FaultArguments
 pub mod FaultText
 pub mod Faults
 pub mod Files

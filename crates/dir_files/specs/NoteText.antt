@@ -1,7 +1,8 @@
--- The texts of the notes on a configuration and on a question.
-use Rattle.std.specs.Prelude.{ℕ, List, ◌++◌, codes, cond}
+-- The texts of the notes on a configuration and on a question, and of the argument that a fault is about.
+use Rattle.std.specs.Prelude.{ℕ, List, ◌++◌, codes, cond, Option, None, Some}
 use Rattle.std.specs.Fmt.{decimal}
 use Rattle.std.specs.Str.{is_utf8}
+use Rattle.dir_acl.specs.declared.deciding.FaultArgument.{FaultArgument}
 use Rattle.dir_acl.specs.declared.note.Note.{Note}
 use Rattle.dir_acl.specs.declared.note.NoteCause.{NoteCause}
 use Rattle.dir_acl.specs.declared.note.NoteCause.TheVariants.{Include, UnknownType, ObjectClass, OtherDatabase, NoRule, UnknownInWord}
@@ -31,3 +32,18 @@ noted_text line (UnknownInWord word description) = word_text word ++ unknown_tex
 -- a note, as it stands after the program's name
 abbrev pub note_text : Note → List ℕ
 note_text note = noted_text note.line note.cause
+
+-- ---- the argument that a fault of the configuration is about
+
+-- the physical line on which it begins
+abbrev pub line_text : ℕ → List ℕ
+line_text line = codes "note: line " ++ decimal line ++ codes ": "
+
+-- one with an open quote, or with a backslash at the line's end, has no text
+abbrev pub quoted_argument : Option (List ℕ) → List ℕ
+quoted_argument (Some argument) = codes "\"" ++ shown_bytes argument ++ codes "\""
+quoted_argument None = codes "an open quote or a final backslash"
+
+-- it stands after the program's name, as a note does
+abbrev pub argument_text : FaultArgument → List ℕ
+argument_text found = line_text found.line ++ quoted_argument found.argument

@@ -15,8 +15,8 @@ use Rattle.dir_files.specs.declared.fault.Fault.TheVariants.{HasNotes, NotesUnto
 use Rattle.dir_files.specs.AccessRuns.{asked_for}
 use Rattle.dir_files.specs.Files.{Disk}
 
--- a teller was given these notes, and no others; where it says afterwards what it was given, it has said it before
-abbrev pub WereGiven : Option (List Note) → Option (List Note) → List Note → Type 0
+-- a teller was given these notes, or handed these arguments, and no others; where it says afterwards what it was given, it has said it before
+abbrev pub WereGiven : {A : Type 0} → Option (List A) → Option (List A) → List A → Type 0
 WereGiven before None notes = ⊤
 WereGiven None (Some after) notes = ⊥
 WereGiven (Some before) (Some after) notes = after ≡ before ++ notes

@@ -1,6 +1,7 @@
 //! The two tools over a file system: the files that `slapmodify` opens, makes and publishes, and those that `slapacl` opens.
 #![tactic(auto)]
 
+mod argument;
 mod devices;
 mod escape;
 mod fault;
@@ -15,6 +16,7 @@ pub mod slapmodify;
 mod system;
 mod words;
 
+pub use argument::ShownArgument;
 pub use fault::Fault;
 pub use files::{FileSystem, Opened, Refusal};
 pub use note::{NoteTeller, ShownNote};

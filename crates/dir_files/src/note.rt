@@ -1,7 +1,8 @@
 //! The notes on a configuration and on a question: how they are shown, and whoever tells them.
 
-ghost use Rattle.std.specs.Prelude.{◌++◌, ℕ, Option, List, Some};
+ghost use Rattle.std.specs.Prelude.{◌≡◌, [], ◌∷◌, ◌++◌, ℕ, Option, List, Some};
 ghost use Rattle.std.specs.Fmt.{WritesOnOk, WritesStyledOnOk};
+ghost use Rattle.dir_acl.specs.declared.deciding.FaultArgument.{FaultArgument};
 ghost use Rattle.dir_acl.specs.declared.note.Note.{Note};
 ghost use Rattle.dir_ldif.specs.Device.{Counts};
 ghost use Rattle.dir_files.specs.NoteText.{note_text, place_text, shown_bytes, unknown_text};
@@ -9,7 +10,7 @@ ghost use Rattle.dir_files.specs.Notes.{WereGiven};
 
 use crate::escape::show_escaped;
 use crate::files::Refusal;
-use dir_acl::{Note, NoteCause};
+use dir_acl::{FaultArgument, Note, NoteCause};
 use dir_tools::Number;
 use std::fmt::{self, Display};
 
@@ -21,6 +22,9 @@ pub trait NoteTeller {
     // How often it could not tell them.
     ghost failures: { Self → ℕ };
 
+    // The arguments that it was handed so far, if it can say.
+    ghost arguments: { Self → Option (List FaultArgument) };
+
     /// Tells these notes.
     ///
     /// # Errors
@@ -28,7 +32,14 @@ pub trait NoteTeller {
     /// They can't be told.
     fn tell(&mut self, notes: &[Note]) -> Result<(), Refusal>
         ensures given { WereGiven (given self.old) (given self.new) notes.now }
-        ensures count { Counts result (failures self.old) (failures self.new) };
+        ensures count { Counts result (failures self.old) (failures self.new) }
+        ensures arguments { arguments self.new ≡ arguments self.old };
+
+    /// Keeps the argument that the fault of a configuration is about, to be told after that.
+    fn keep(&mut self, argument: FaultArgument)
+        ensures kept { WereGiven (arguments self.old) (arguments self.new) (argument ∷ []) }
+        ensures given { given self.new ≡ given self.old }
+        ensures count { failures self.new ≡ failures self.old };
 }
 
 /// A note, as standard error shows it after the program's name.
@@ -89,7 +100,7 @@ fn show_unknown<W: fmt::Write>(f: &mut fmt::Formatter<W>, description: &[u8]) ->
 }
 
 /// Shows a text of the configuration or of the question between words.
-fn show_between<W: fmt::Write>(
+pub(crate) fn show_between<W: fmt::Write>(
     f: &mut fmt::Formatter<W>,
     before: &str,
     text: &[u8],

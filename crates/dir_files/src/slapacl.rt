@@ -6,6 +6,7 @@ ghost use Rattle.dir_tools.specs.AccessAnswers.{IsTextOf, access_sources};
 ghost use Rattle.dir_tools.specs.AccessReport.{access_terms};
 ghost use Rattle.dir_tools.specs.WordNotes.{notes_on_words};
 ghost use Rattle.dir_files.specs.AccessRuns.{AllAccessCalls, Asks, AsksOrStops, IsEndOfNotes, NamesItsFile, RefusesSameFile, asked_for, first_repeated_file};
+ghost use Rattle.dir_files.specs.FaultArguments.{TellsArgument, handed_over};
 ghost use Rattle.dir_files.specs.Notes.{EndsIfUntold, IsAfterConfig, MayBeAnswered, TellsFor, WereGiven, told_text};
 ghost use Rattle.dir_files.specs.Runs.{Made};
 
@@ -14,18 +15,20 @@ use crate::files::FileSystem;
 use crate::note::NoteTeller;
 use crate::slapmodify::{not_opened, not_reported, run_fault};
 use crate::words::AccessWords;
-use dir_acl::{Config, Note};
+use dir_acl::{Config, FaultArgument, Note};
 use dir_ldif::Source;
 use dir_names::{Bytes, Memory, Schema, Texts};
 use dir_tools::{
-    Buffer, HeldMemory, Question, ToolFault, read_config_with_notes, run_acl_under,
+    Buffer, HeldMemory, Question, ToolFault, read_config_with_argument, run_acl_under,
     with_notes_on_words,
 };
 use std::alloc::Global;
 
 /// Runs `slapacl` on the files that the words name. The notes on the configuration, and then those on the words of the question, are told
-/// before anything is answered; where a strict answer is wanted and there are some, nothing is. The memory that the copy's entries
-/// take is left to the system: a program that goes on afterwards doesn't get it back.
+/// before anything is answered; where a strict answer is wanted and there are some, nothing is. Where the words ask for more to be told,
+/// the teller is handed the argument that a fault of the configuration is about; it has none if memory ran out as that was sought.
+///
+/// The memory that the copy's entries take is left to the system: a program that goes on afterwards doesn't get it back.
 ///
 /// # Errors
 ///
@@ -42,6 +45,7 @@ pub fn run<'a, F: FileSystem, T: NoteTeller>(
     ensures calls { Made (F.disk files.old) (F.disk files.new) (λ d. AllAccessCalls (first_repeated_file words.now) words.now d result) }
     ensures notes { TellsFor words.now (told_text (F.disk files.old) (F.disk files.new) words.now.config.now) result (T.given teller.old) (T.given teller.new) }
     ensures untold { EndsIfUntold result (T.failures teller.old) (T.failures teller.new) }
+    ensures argument { TellsArgument words.now (told_text (F.disk files.old) (F.disk files.new) words.now.config.now) result (T.arguments teller.old) (T.arguments teller.new) }
 {
     if words.data == words.config {
         return Err(Fault::SamePath(words.data));
@@ -70,13 +74,17 @@ fn answer<'a, F: FileSystem, T: NoteTeller, R: Source, R2: Source>(
     ensures calls { Made (F.disk files.old) (F.disk files.new) (λ _. AsksOrStops words.now (access_sources (R.left config.old) (R2.left copy.old)) result) }
     ensures notes { TellsFor words.now (R.left config.old) result (T.given teller.old) (T.given teller.new) }
     ensures untold { EndsIfUntold result (T.failures teller.old) (T.failures teller.new) }
+    ensures argument { TellsArgument words.now (R.left config.old) result (T.arguments teller.old) (T.arguments teller.new) }
 {
     let Ok(schema) = Schema::builtin(alloc) else {
         return Err(run_fault(ToolFault::Memory));
     };
-    let (config, notes) = match read_config_with_notes(alloc, &schema, config) {
+    let (config, notes) = match read_config_with_argument(alloc, &schema, config) {
         Ok(noted) => noted,
-        Err(fault) => return Err(run_fault(fault)),
+        Err(why) => {
+            hand_over(teller, words.verbose, why.argument);
+            return Err(run_fault(why.fault));
+        }
     };
     let (question, notes) = match noted_question(alloc, &schema, words, notes) {
         Ok(asked) => asked,
@@ -86,6 +94,24 @@ fn answer<'a, F: FileSystem, T: NoteTeller, R: Source, R2: Source>(
     report(alloc, files, &schema, &question, &config, copy)
 }
 
+/// Hands over the argument that a fault is about, where more is to be told than the fault.
+fn hand_over<T: NoteTeller>(
+    teller: &mut T,
+    verbose: bool,
+    argument: Result<Option<FaultArgument>, Memory>,
+)
+    ensures kept { WereGiven (T.arguments teller.old) (T.arguments teller.new) (handed_over verbose argument) }
+    ensures given { T.given teller.new ≡ T.given teller.old }
+    ensures count { T.failures teller.new ≡ T.failures teller.old }
+{
+    if !verbose {
+        return;
+    }
+    if let Ok(Some(argument)) = argument {
+        teller.keep(argument);
+    }
+}
+
 /// Tells the notes, if there are any. Where a strict answer is wanted, that ends the run.
 fn tell<'a, T: NoteTeller>(teller: &mut T, notes: &[Note], strict: bool) -> Result<(), Fault<'a>>
     ensures given { WereGiven (T.given teller.old) (T.given teller.new) notes.now }
@@ -93,6 +119,7 @@ fn tell<'a, T: NoteTeller>(teller: &mut T, notes: &[Note], strict: bool) -> Resu
     ensures ok { OnOk result (MayBeAnswered strict notes.now) }
     ensures some { OnErr result (notes.now ≢ []) }
     ensures err { IfErr result (IsEndOfNotes strict) }
+    ensures arguments { T.arguments teller.new ≡ T.arguments teller.old }
 {
     if notes.is_empty() {
         return Ok(());

@@ -5,6 +5,8 @@
 #[cfg(test)]
 mod access;
 #[cfg(test)]
+mod fault_arguments;
+#[cfg(test)]
 mod folder;
 #[cfg(test)]
 mod notes;

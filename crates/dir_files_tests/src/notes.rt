@@ -2,17 +2,18 @@
 
 use crate::access::assert_fault;
 use crate::folder::{Asked, Folder};
-use dir_acl::Note;
+use dir_acl::{FaultArgument, Note};
 use dir_files::slapacl::run;
 use dir_files::{AccessWords, NoteTeller, Refusal, ShownNote};
 use std::alloc::{AllocError, Global};
 use std::process::Abort;
 
-/// Keeps what each note shows, a line each.
+/// Keeps what each note shows, a line each, and the argument that it is handed.
 #[derive(Drop)]
 pub(super) struct KeptNotes {
     alloc: Global,
     pub(super) text: String,
+    pub(super) argument: Option<FaultArgument>,
     /// They can't be told.
     is_closed: bool,
     /// Memory ran out.
@@ -25,6 +26,7 @@ impl KeptNotes {
         KeptNotes {
             alloc,
             text: String::new(alloc),
+            argument: None,
             is_closed,
             lacks_memory: false,
             failures: 0,
@@ -39,6 +41,8 @@ impl NoteTeller for KeptNotes {
 
     ghost failures = { λ notes. notes.failures };
 
+    ghost arguments = { λ _. None };
+
     fn tell(&mut self, notes: &[Note]) -> Result<(), Refusal> {
         self.lacks_memory = keep(self.alloc, &mut self.text, notes).is_err();
         if !self.is_closed && !self.lacks_memory {
@@ -46,6 +50,10 @@ impl NoteTeller for KeptNotes {
         }
         self.failures = self.failures.saturating_add(1);
         Err(Refusal::Other)
+    }
+
+    fn keep(&mut self, argument: FaultArgument) {
+        self.argument = Some(argument);
     }
 }
 

@@ -1,11 +1,13 @@
 -- What `run_acl` answers over devices, which may tell their bytes or not.
-use Rattle.std.specs.Prelude.{◌≡◌, ◌≢◌, ℕ, ⊤, List, Option, IfSome, Result, Ok, Err}
+use Rattle.std.specs.Prelude.{◌≡◌, ◌≢◌, ℕ, ⊤, List, Option, None, IfSome, Result, Ok, Err}
 use Rattle.dir_ldif.specs.declared.faults.StreamFault.TheVariants as stream
 use Rattle.dir_names.specs.declared.schema.TypeRow.{TypeRow}
 use Rattle.dir_tree.specs.Content.{Content}
 use Rattle.dir_tree.specs.Dir.{Dir}
+use Rattle.dir_acl.specs.declared.deciding.FaultArgument.{FaultArgument}
 use Rattle.dir_acl.specs.declared.fault.ConfigCause.TheVariants.{Memory}
 use Rattle.dir_acl.specs.Config.{config_of}
+use Rattle.dir_acl.specs.FaultArgument.{fault_argument}
 use Rattle.dir_acl.specs.Rules.{Configuration}
 use Rattle.dir_tools.specs.declared.fault.Cause.TheVariants as cause
 use Rattle.dir_tools.specs.declared.fault.Input.TheVariants as input
@@ -37,6 +39,11 @@ IsConfigFault rows text (tool.Config fault) = (fault.cause ≢ Memory) × IfSome
 IsConfigFault rows text (tool.Read input.Config) = ⊤
 IsConfigFault rows text tool.Memory = ⊤
 IsConfigFault rows text fault = ⊥
+
+-- the argument that this fault of a configuration is about, where the text is known; any other fault is about none
+abbrev pub IsArgumentOf : List TypeRow → Option (List ℕ) → ToolFault → Option FaultArgument → Type 0
+IsArgumentOf rows text (tool.Config fault) argument = IfSome text (λ text. argument ≡ fault_argument rows text fault)
+IsArgumentOf rows text fault argument = argument ≡ None
 
 -- a fault of what is read after the configuration, or of the report's writer, or out of memory
 abbrev pub ComesAfterConfig : ToolFault → Type 0

@@ -1,5 +1,6 @@
 //! `run_acl`: what a requester may do, by a configuration and a copy, and the report written (slapacl(8)). Whoever is to hear the
-//! notes on the configuration and on the question first calls `read_config_with_notes`, `with_notes_on_words`, and then `run_acl_under`.
+//! notes on the configuration and on the question first calls `read_config_with_notes`, `with_notes_on_words`, and then `run_acl_under`;
+//! `read_config_with_argument` is for whoever is also to hear which argument a fault of the configuration is about.
 
 mod configuration;
 mod cut;
@@ -19,7 +20,9 @@ ghost use Rattle.dir_tools.specs.declared.fault.Output.TheVariants as Output;
 ghost use Rattle.dir_tools.specs.declared.fault.ToolFault.TheVariants as ToolFault;
 
 use crate::acl::configuration::read_config;
-pub use crate::acl::configuration::read_config_with_notes;
+pub use crate::acl::configuration::{
+    FaultWithArgument, read_config_with_argument, read_config_with_notes,
+};
 use crate::acl::parts::read_parts;
 use crate::acl::report::report_text;
 pub use crate::acl::word_notes::with_notes_on_words;

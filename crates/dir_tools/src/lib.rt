@@ -16,7 +16,10 @@ mod run;
 mod taking;
 mod write;
 
-pub use acl::{Question, read_config_with_notes, run_acl, run_acl_under, with_notes_on_words};
+pub use acl::{
+    FaultWithArgument, Question, read_config_with_argument, read_config_with_notes, run_acl,
+    run_acl_under, with_notes_on_words,
+};
 pub use copy::{read_copy, write_copy};
 pub use fault::{Cause, Input, Item, Number, Output, ToolFault};
 pub use held::HeldMemory;

@@ -9,6 +9,8 @@ mod access_faults;
 #[cfg(test)]
 mod asking;
 #[cfg(test)]
+mod fault_arguments;
+#[cfg(test)]
 mod fault_texts;
 #[cfg(test)]
 mod faults;

@@ -186,7 +186,12 @@ fn slapacl<'a>(alloc: Global) -> Result<Command<'a>, AllocError> {
             'u',
             "Do not look the entry up: take it to have no attributes",
         ))?
-        .arg(flag(alloc, "verbose", 'v', "Report the requester's name first"))?
+        .arg(flag(
+            alloc,
+            "verbose",
+            'v',
+            "Report the requester's name first, and tell which argument a fault of CONF is about",
+        ))?
         .arg(
             Arg::new(alloc, "strict")
                 .long("strict")

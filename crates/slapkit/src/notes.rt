@@ -1,7 +1,7 @@
-//! Notes on a configuration, printed on standard error.
+//! Notes on a configuration, and the argument that its fault is about, printed on standard error.
 
-use dir_acl::Note;
-use dir_files::{NoteTeller, ProgressLine, Refusal, ShownNote};
+use dir_acl::{FaultArgument, Note};
+use dir_files::{NoteTeller, ProgressLine, Refusal, ShownArgument, ShownNote};
 use std::io;
 
 /// Prints notes on standard error, a line each.
@@ -11,6 +11,8 @@ pub struct PrintedNotes<'a> {
     /// The line that tells how far the run is, which makes room for them.
     line: &'a ProgressLine,
     failures: u64,
+    /// The argument that is printed after the fault.
+    argument: Option<FaultArgument>,
 }
 
 impl<'a> PrintedNotes<'a> {
@@ -19,7 +21,16 @@ impl<'a> PrintedNotes<'a> {
             rt,
             line,
             failures: 0,
+            argument: None,
         }
+    }
+
+    /// Prints the argument that the fault is about, if it was handed over.
+    pub fn print_argument(&self) -> io::Result<()> {
+        if let Some(argument) = &self.argument {
+            eprintln!(self.rt; "slapkit: {}", ShownArgument(argument))?;
+        }
+        Ok(())
     }
 }
 
@@ -30,6 +41,8 @@ impl NoteTeller for PrintedNotes<'_> {
 
     ghost failures = { λ notes. notes.failures };
 
+    ghost arguments = { λ _. None };
+
     fn tell(&mut self, notes: &[Note]) -> Result<(), Refusal> {
         self.line.clear();
         match print_notes(self.rt, notes) {
@@ -39,6 +52,10 @@ impl NoteTeller for PrintedNotes<'_> {
                 Err(Refusal::Other)
             }
         }
+    }
+
+    fn keep(&mut self, argument: FaultArgument) {
+        self.argument = Some(argument);
     }
 }
 

@@ -51,7 +51,7 @@ pub(crate) fn read_rule(
     at_end(place)
 }
 
-fn after_argument(
+pub(crate) fn after_argument(
     alloc: Global,
     schema: &Schema,
     place: Place,

@@ -83,7 +83,7 @@ fn with_last_argument(
     Ok(arguments)
 }
 
-fn step_at(spot: Spot, b: u8) -> Step
+pub(crate) fn step_at(spot: Spot, b: u8) -> Step
     ensures { result ≡ step_of spot b }
 {
     match spot {

@@ -109,7 +109,7 @@ fn if_complete(arguments: &[Option<Bytes>], settings: Settings) -> Result<Settin
     }
 }
 
-fn are_complete(arguments: &[Option<Bytes>]) -> bool
+pub(crate) fn are_complete(arguments: &[Option<Bytes>]) -> bool
     ensures { result ≡ list_all is_some arguments.now }
 {
     for argument in arguments {

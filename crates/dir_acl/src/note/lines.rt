@@ -85,7 +85,7 @@ fn after_line(
 }
 
 /// The words of a line; a comment has none.
-fn read_words(alloc: Global, line: &[u8]) -> Result<Vec<Option<Bytes>>, ConfigCause>
+pub(crate) fn read_words(alloc: Global, line: &[u8]) -> Result<Vec<Option<Bytes>>, ConfigCause>
     ensures { GivesPart (λ words. words.items) result (Ok (words_of line.now)) }
 {
     if is_comment(line) {
@@ -182,7 +182,7 @@ fn is_rule(is_passed_over: bool, words: &[Option<Bytes>]) -> bool
     !is_passed_over && begins_with(words, b"access")
 }
 
-fn begins_with(words: &[Option<Bytes>], keyword: &[u8]) -> bool
+pub(crate) fn begins_with(words: &[Option<Bytes>], keyword: &[u8]) -> bool
     ensures { result ≡ begins_with words.now keyword.now }
 {
     match words.first() {
@@ -191,7 +191,7 @@ fn begins_with(words: &[Option<Bytes>], keyword: &[u8]) -> bool
     }
 }
 
-fn after_keyword(words: &[Option<Bytes>]) -> &[Option<Bytes>]
+pub(crate) fn after_keyword(words: &[Option<Bytes>]) -> &[Option<Bytes>]
     ensures { result.now ≡ after_keyword words.now }
 {
     match words {

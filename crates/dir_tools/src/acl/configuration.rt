@@ -1,19 +1,19 @@
 //! The configuration read from its source, in pieces, and no further than it may be long.
 
 ghost use Rattle.std.specs.Io.KnownBytes.{Consumes, IsAtEnd};
-ghost use Rattle.std.specs.Prelude.{◌≡◌, ◌⊎◌, ◌<◌, ◌≤◌, ℕ, Err, IfErr, IfOk, IfSome, List, Ok, OnOk, length};
+ghost use Rattle.std.specs.Prelude.{◌≡◌, ◌⊎◌, ◌<◌, ◌≤◌, ℕ, Err, IfErr, IfOk, IfSome, List, None, Ok, OnOk, Some, length};
 ghost use Rattle.dir_acl.specs.Inside.ReadingConfig.{configuration_of};
 ghost use Rattle.dir_acl.specs.Notes.{notes_of};
 ghost use Rattle.dir_ldif.specs.Device.{HasFailed};
 ghost use Rattle.dir_tools.specs.Inside.Asking.{IsReadFault, config_fault};
-ghost use Rattle.dir_tools.specs.AccessAnswers.{IsConfigFault, IsTextOf};
+ghost use Rattle.dir_tools.specs.AccessAnswers.{IsArgumentOf, IsConfigFault, IsTextOf};
 ghost use Rattle.dir_tools.specs.declared.fault.Input.TheVariants as Input;
 ghost use Rattle.dir_tools.specs.declared.fault.ToolFault.TheVariants as ToolFault;
 
 use crate::{Input, ToolFault};
-use dir_acl::{Config, ConfigCause, ConfigFault, MAX_CONFIG, Note};
+use dir_acl::{Config, ConfigCause, ConfigFault, FaultArgument, MAX_CONFIG, Note, fault_argument};
 use dir_ldif::Source;
-use dir_names::Schema;
+use dir_names::{Memory, Schema};
 use std::alloc::Global;
 
 /// The greatest number of bytes that one read call is asked for.
@@ -45,6 +45,15 @@ pub(super) fn read_config<R: Source>(
     }
 }
 
+/// A fault that comes as a configuration is read, with the argument of the configuration that it is about.
+#[derive(Debug, Drop)]
+pub struct FaultWithArgument {
+    pub fault: ToolFault,
+    /// The argument, if the fault is about one (`fault_argument`). `Memory` says that memory ran out as it was sought: the fault is
+    /// told all the same.
+    pub argument: Result<Option<FaultArgument>, Memory>,
+}
+
 /// Reads a slapd.conf as `run_acl` does, with the notes on it (`Config::read_with_notes`).
 ///
 /// At most 16,785,408 bytes are read, whatever the reader gives.
@@ -64,13 +73,63 @@ pub fn read_config_with_notes<R: Source>(
     ensures read { result ≡ Err (ToolFault.Read Input.Config) → HasFailed (R.failures source.old) (R.failures source.new) }
     ensures unfailed { OnOk result (R.failures source.new ≡ R.failures source.old) }
 {
+    read_config_with_argument(alloc, schema, source).map_err(|why| why.fault)
+}
+
+/// Reads a slapd.conf as `read_config_with_notes` does. A fault of the configuration comes with the argument that it is about.
+///
+/// # Errors
+///
+/// Those of `read_config_with_notes`.
+pub fn read_config_with_argument<R: Source>(
+    alloc: Global,
+    schema: &Schema,
+    source: &mut R,
+) -> Result<(Config, Vec<Note>), FaultWithArgument>
+    ensures config { IfOk result (λ noted. IsTextOf schema.now (R.left source.old) (configuration_of noted.0)) }
+    ensures notes { IfOk result (λ noted. IfSome (R.left source.old) (λ text. noted.1.items ≡ notes_of schema.now text)) }
+    ensures fault { IfErr result (λ why. IsConfigFault schema.now (R.left source.old) why.fault) }
+    ensures argument { IfErr result (λ why. IfOk why.argument (IsArgumentOf schema.now (R.left source.old) why.fault)) }
+    ensures bounded { (bytes : List ℕ) × Consumes (R.left source.old) (R.left source.new) bytes × (length bytes ≤ 16785408) }
+    ensures read { IfErr result (λ why. why.fault ≡ ToolFault.Read Input.Config → HasFailed (R.failures source.old) (R.failures source.new)) }
+    ensures unfailed { OnOk result (R.failures source.new ≡ R.failures source.old) }
+{
     let text = match read_text(alloc, source) {
         Ok(text) => text,
-        Err(fault) => return Err(fault),
+        Err(fault) => return Err(without_argument(fault)),
     };
     match Config::read_with_notes(alloc, schema, text.as_slice()) {
         Ok(noted) => Ok(noted),
-        Err(fault) => Err(config_fault(fault)),
+        Err(fault) => Err(with_argument(alloc, schema, text.as_slice(), fault)),
+    }
+}
+
+/// A fault that is about no argument.
+fn without_argument(fault: ToolFault) -> FaultWithArgument
+    ensures { result ≡ record { fault = fault; argument = Ok None } }
+{
+    FaultWithArgument {
+        fault,
+        argument: Ok(None),
+    }
+}
+
+/// The fault of a configuration with this text, as a fault of the tool.
+fn with_argument(
+    alloc: Global,
+    schema: &Schema,
+    text: &[u8],
+    fault: ConfigFault,
+) -> FaultWithArgument
+    ensures fault { result.fault ≡ config_fault fault }
+    ensures argument { IfOk result.argument (IsArgumentOf schema.now (Some text.now) (config_fault fault)) }
+{
+    match config_fault(fault) {
+        ToolFault::Config(fault) => FaultWithArgument {
+            fault: ToolFault::Config(fault),
+            argument: fault_argument(alloc, schema, text, fault),
+        },
+        other => without_argument(other),
     }
 }
 

@@ -21,9 +21,9 @@ returns-in_default-clause-calls g c =
 pub returns-in-Err-clause-calls : goal.returns-in-Err-clause-calls
 returns-in-Err-clause-calls g c =
     let rows : c.in-Ok.schema ≡ builtin_rows = cc c.in-Ok.ensures in
-    let fault : IsConfigFault builtin_rows (g.R.Source.left c.args.config.now) c.in-Err.fault =
-    subst (λ (rows : List TypeRow). IsConfigFault rows (g.R.Source.left c.args.config.now) c.in-Err.fault) rows c.in-Err.ensures.fault in
-    unread Unit c.args.words.now (g.R.Source.left c.args.config.now) (g.R2.Source.left c.args.copy.now) c.in-Err.fault c.run_fault-in-Err.result (g.F.FileSystem.disk c.args.files.now) fault c.run_fault-in-Err.ensures
+    let fault : IsConfigFault builtin_rows (g.R.Source.left c.args.config.now) c.in-Err.why.fault =
+    subst (λ (rows : List TypeRow). IsConfigFault rows (g.R.Source.left c.args.config.now) c.in-Err.why.fault) rows c.in-Err.ensures.fault in
+    unread Unit c.args.words.now (g.R.Source.left c.args.config.now) (g.R2.Source.left c.args.copy.now) c.in-Err.why.fault c.run_fault-in-Err.result (g.F.FileSystem.disk c.args.files.now) fault c.run_fault-in-Err.ensures
 
 pub returns-in-Err-noted_question-clause-calls : goal.returns-in-Err-noted_question-clause-calls
 returns-in-Err-noted_question-clause-calls g c =
@@ -40,18 +40,18 @@ returns-clause-calls g c =
     let terms : access_terms c.in-Ok.schema c.in-Ok-noted_question.asked.0 ≡ access_terms_of words =
     ap (λ (question : Question). access_terms c.in-Ok.schema question) c.in-Ok-noted_question.ensures.question ∙ ap (λ (rows : List TypeRow). access_terms rows (asked_for words)) rows in
     answered words known c.report.result a b
-    (subst (λ (t : AccessTerms). Made a b (λ d. Asks t known c.report.result)) terms (c.report.ensures.calls text c.in-Ok-read_config_with_notes.ensures.config))
+    (subst (λ (t : AccessTerms). Made a b (λ d. Asks t known c.report.result)) terms (c.report.ensures.calls text c.in-Ok-read_config_with_argument.ensures.config))
 
 pub returns-clause-notes : goal.returns-clause-notes
 returns-clause-notes g c =
     let words = c.args.words.now in
     let text = g.R.Source.left c.args.config.now in
     let rows : c.in-Ok.schema ≡ builtin_rows = cc c.in-Ok.ensures in
-    let found = c.in-Ok-read_config_with_notes.noted.1.items in
+    let found = c.in-Ok-read_config_with_argument.noted.1.items in
     let notes = c.as_slice.result.now in
     let are : AreNotesOf words text notes = record {
       found = found;
-      read = subst (λ (rows : List TypeRow). IfSome text (λ text. found ≡ notes_of rows text)) rows c.in-Ok-read_config_with_notes.ensures.notes;
+      read = subst (λ (rows : List TypeRow). IfSome text (λ text. found ≡ notes_of rows text)) rows c.in-Ok-read_config_with_argument.ensures.notes;
       all = c.as_slice.ensures.value ∙ (c.in-Ok-noted_question.ensures.notes ∙ ap (λ (rows : List TypeRow). found ++ notes_on_words rows (asked_for words).words) rows);
     } in
     (notes, c.in_ok-tell.ensures.given, all_told words text notes c.report.result c.report.ensures.faults are c.in_ok-tell.ensures.ok)

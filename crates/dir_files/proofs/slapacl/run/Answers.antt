@@ -2,6 +2,7 @@ use Rattle.std.proofs.Common.{◌≡◌, None, rules}
 use Rattle.dir_tools.specs.AccessAnswers.{access_sources}
 use Rattle.dir_files.specs.AccessRuns.{AsksOrStops, first_repeated_file}
 use Rattle.dir_files.proofs.AccessCalls.{asks, no_copy, none_repeated}
+use Rattle.dir_files.proofs.FaultArgumentLemmas.{argument_told_at}
 use Rattle.dir_files.proofs.NoteLemmas.{told_at}
 use Rattle.dir_files.proofs.slapacl.run.Goals as goal
 
@@ -27,3 +28,13 @@ returns-clause-notes g c =
     (g.F.FileSystem.disk c.args.files.now) (g.F.FileSystem.disk c.open.new.self) (g.F.FileSystem.disk c.open-2.new.self) (g.F.FileSystem.disk c.answer.new.files)
     (g.F.Input.Source.left c.in-Ok.opened.file) (g.T.NoteTeller.given c.args.teller.now) (g.T.NoteTeller.given c.answer.new.teller)
     c.in-Ok.ensures.told c.in-Ok-open.ensures.told c.answer.ensures.calls c.in-Ok.ensures.text c.answer.ensures.notes
+
+-- so is the argument
+pub returns-clause-argument : goal.returns-clause-argument
+returns-clause-argument g c =
+    let words = c.args.words.now in
+    argument_told_at words words.config.now words.data.now c.answer.result
+    (λ d. AsksOrStops words (access_sources (g.F.Input.Source.left c.in-Ok.opened.file) (g.F.Input.Source.left c.in-Ok-open.opened.file)) c.answer.result)
+    (g.F.FileSystem.disk c.args.files.now) (g.F.FileSystem.disk c.open.new.self) (g.F.FileSystem.disk c.open-2.new.self) (g.F.FileSystem.disk c.answer.new.files)
+    (g.F.Input.Source.left c.in-Ok.opened.file) (g.T.NoteTeller.arguments c.args.teller.now) (g.T.NoteTeller.arguments c.answer.new.teller)
+    c.in-Ok.ensures.told c.in-Ok-open.ensures.told c.answer.ensures.calls c.in-Ok.ensures.text c.answer.ensures.argument

@@ -1,0 +1,86 @@
+-- Which argument a fault of a slapd.conf is about, and on which physical line that begins (slapd.conf(5), "GENERAL FORMAT"). `fault_argument`, at the end of
+-- this page, is the whole. Arguments are read from left to right, so it is the last one that is read.
+use Rattle.std.specs.Prelude.{ℕ, ◌+◌, ◌-◌, cond, ◌||◌, ◌==◌, nat_lt, List, [], ◌∷◌, ◌++◌, map, drop, length, codes, Option, Some, None, is_some, option_map, Result, Ok, Err}
+use Rattle.std.specs.List.{list_all, slice_get}
+use Rattle.dir_names.specs.declared.schema.TypeRow.{TypeRow}
+use Rattle.dir_acl.specs.declared.fault.ConfigCause.{ConfigCause}
+use Rattle.dir_acl.specs.declared.fault.ConfigCause.TheVariants as cause
+use Rattle.dir_acl.specs.declared.fault.ConfigFault.{ConfigFault}
+use Rattle.dir_acl.specs.declared.deciding.FaultArgument.{FaultArgument}
+use Rattle.dir_acl.specs.Config.AccessRules.{Place, after_argument, before_to}
+use Rattle.dir_acl.specs.Config.Arguments.{arguments_of}
+use Rattle.dir_acl.specs.Config.Lines.{begins_with_white, physical_lines}
+use Rattle.dir_acl.specs.Notes.{after_keyword, begins_with, words_of}
+
+-- ---- the argument: the last word of the line that is read. Words are counted from 0
+
+-- how many of a rule's arguments are read: up to the one that is refused; all of them, where the line's end is
+abbrev pub read_on : Result Place ConfigCause → (Place → ℕ) → ℕ
+read_on (Ok next) rest = rest next
+read_on (Err why) rest = 0
+
+abbrev pub rule_read : List TypeRow → Place → List (Option (List ℕ)) → ℕ
+rule_read rows place [] = 0
+rule_read rows place (argument ∷ arguments) = read_on (after_argument rows place argument) (λ next. rule_read rows next arguments) + 1
+
+-- of a second suffix the second name of the line, or else its last word
+abbrev pub of_second_suffix : List (Option (List ℕ)) → ℕ
+of_second_suffix words = cond (nat_lt 2 (length words)) 2 (length words - 1)
+
+-- of another directive: the keyword, where it is out of its place or has too few or too many arguments; else the name after it
+abbrev pub of_directive : ConfigCause → List (Option (List ℕ)) → ℕ
+of_directive cause.BadDirective words = 0
+of_directive cause.SecondSuffix words = of_second_suffix words
+of_directive why words = 1
+
+abbrev pub of_complete : List TypeRow → ConfigCause → List (Option (List ℕ)) → ℕ
+of_complete rows why words = cond (begins_with words (codes "access")) (rule_read rows before_to (after_keyword words)) (of_directive why words)
+
+-- an open quote or a final backslash is in the last word
+abbrev pub of_bad_directive : List TypeRow → List (Option (List ℕ)) → ℕ
+of_bad_directive rows words = cond (list_all is_some words) (of_complete rows cause.BadDirective words) (length words - 1)
+
+-- a rule before the database is out of its place
+abbrev pub deciding_word : List TypeRow → ConfigCause → List (Option (List ℕ)) → ℕ
+deciding_word rows cause.GlobalAccess words = 0
+deciding_word rows cause.BadDirective words = of_bad_directive rows words
+deciding_word rows why words = of_complete rows why words
+
+-- ---- its physical line
+
+-- the physical lines that go on with the line before them
+abbrev pub continued : List (List ℕ) → List (List ℕ)
+continued [] = []
+continued (line ∷ lines) = cond (begins_with_white line) (line ∷ continued lines) []
+
+-- those of the line that the first of these begins
+abbrev pub folded : List (List ℕ) → List (List ℕ)
+folded [] = []
+folded (line ∷ lines) = line ∷ continued lines
+
+-- the physical lines of the line that begins with physical line `n`
+abbrev pub folded_at : ℕ → List ℕ → List (List ℕ)
+folded_at n text = folded (drop (n - 1) (physical_lines text))
+
+abbrev pub joined : List (List ℕ) → List ℕ
+joined [] = []
+joined (line ∷ lines) = line ++ joined lines
+
+-- of these physical lines, the first of which is line `n` and comes after `text`, the first one up to which there are `k` words
+abbrev pub line_with : ℕ → ℕ → List ℕ → List (List ℕ) → ℕ
+line_with k n text [] = n
+line_with k n text (line ∷ lines) = cond (nat_lt (length (arguments_of (text ++ line))) k) (line_with k (n + 1) (text ++ line) lines) n
+
+-- ---- the whole
+
+abbrev pub word_of_lines : ℕ → ℕ → List (List ℕ) → List (Option (List ℕ)) → Option FaultArgument
+word_of_lines at n lines words = option_map (λ word. record { line = line_with (at + 1) n [] lines; argument = word }) (slice_get words at)
+
+abbrev pub in_line : List TypeRow → ConfigCause → ℕ → List (List ℕ) → List (Option (List ℕ)) → Option FaultArgument
+in_line rows why n lines words = word_of_lines (deciding_word rows why words) n lines words
+
+-- a fault without a line is about no argument, nor is one of a text that is too long
+abbrev pub fault_argument : List TypeRow → List ℕ → ConfigFault → Option FaultArgument
+fault_argument rows text fault =
+    cond (fault.line == 0 || nat_lt 16777216 (length text)) None
+    (in_line rows fault.cause fault.line (folded_at fault.line text) (words_of (joined (folded_at fault.line text))))

@@ -1,0 +1,46 @@
+-- The argument that is told after a fault of the configuration.
+use Rattle.std.specs.Prelude.{◌≡◌, ◌⊎◌, ℕ, Bool, true, cond, List, [], ◌∷◌, Option, None, Some, IfSome, Result, Ok, Err}
+use Rattle.dir_names.specs.Table.Builtin.{builtin_rows}
+use Rattle.dir_names.specs.declared.fault.memory.Memory.{Memory}
+use Rattle.dir_acl.specs.declared.deciding.FaultArgument.{FaultArgument}
+use Rattle.dir_acl.specs.declared.fault.ConfigFault.{ConfigFault}
+use Rattle.dir_acl.specs.FaultArgument.{fault_argument}
+use Rattle.dir_tools.specs.declared.fault.ToolFault.{ToolFault}
+use Rattle.dir_tools.specs.declared.fault.ToolFault.TheVariants as tool
+use Rattle.dir_files.specs.declared.words.AccessWords.{AccessWords}
+use Rattle.dir_files.specs.declared.fault.Fault.{Fault}
+use Rattle.dir_files.specs.declared.fault.Fault.TheVariants.{Tool}
+use Rattle.dir_files.specs.Notes.{WereGiven}
+
+-- the words ask for more to be told, and this is the argument that the fault is about, with the built-in types
+pub record IsTold (words : AccessWords) (text : Option (List ℕ)) (fault : ConfigFault) (arguments : List FaultArgument) : Type 0 where
+  pub verbose : words.verbose ≡ true
+  pub argument : FaultArgument
+  pub alone : arguments ≡ argument ∷ []
+  pub found : IfSome text (λ text. Some argument ≡ fault_argument builtin_rows text fault)
+
+-- the arguments that are told of the tool's fault: that of the configuration's fault, or none. There is none, too, where memory ran out as it was sought
+abbrev pub AreArgumentsOf : AccessWords → Option (List ℕ) → ToolFault → List FaultArgument → Type 0
+AreArgumentsOf words text (tool.Config fault) arguments = (arguments ≡ []) ⊎ IsTold words text fault arguments
+AreArgumentsOf words text fault arguments = arguments ≡ []
+
+-- those that are told of this answer
+abbrev pub AreArgumentsFor : {A : Type 0} → AccessWords → Option (List ℕ) → Result A Fault → List FaultArgument → Type 0
+AreArgumentsFor words text (Ok answer) arguments = arguments ≡ []
+AreArgumentsFor words text (Err (Tool fault)) arguments = AreArgumentsOf words text fault arguments
+AreArgumentsFor words text (Err fault) arguments = arguments ≡ []
+
+-- a teller was handed the arguments that are to be told of this answer, and no others
+abbrev pub TellsArgument : {A : Type 0} → AccessWords → Option (List ℕ) → Result A Fault → Option (List FaultArgument) → Option (List FaultArgument) → Type 0
+TellsArgument words text result before after = (arguments : List FaultArgument) × WereGiven before after arguments × AreArgumentsFor words text result arguments
+
+-- ---- how it is handed over
+
+abbrev pub found_argument : Result (Option FaultArgument) Memory → List FaultArgument
+found_argument (Ok (Some argument)) = argument ∷ []
+found_argument (Ok None) = []
+found_argument (Err memory) = []
+
+-- the arguments that a teller is handed where this was found
+abbrev pub handed_over : Bool → Result (Option FaultArgument) Memory → List FaultArgument
+handed_over verbose found = cond verbose (found_argument found) []
