@@ -168,10 +168,11 @@ fn report_under<R: Source>(
         Ok(target) => target,
         Err(fault) => return Err(fault),
     };
-    let text = report_text(alloc, question.verbose, config, &directory, &parts, target);
-    held.let_go(directory);
-    match text {
-        Ok(text) => Ok(text),
+    match report_text(alloc, question.verbose, config, &directory, &parts, target) {
+        Ok(text) => {
+            held.let_go(directory);
+            Ok(text)
+        }
         Err(_) => Err(ToolFault::Memory),
     }
 }
