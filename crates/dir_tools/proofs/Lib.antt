@@ -3,6 +3,7 @@ pub mod AccessBack
 pub mod AccessLemmas
 pub mod AccessParts
 pub mod CompleteRecords
+pub mod ConfigTexts
 pub mod CopyBack
 pub mod CopyFaults
 pub mod CopyLemmas

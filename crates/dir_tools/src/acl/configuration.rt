@@ -96,40 +96,34 @@ pub fn read_config_with_argument<R: Source>(
 {
     let text = match read_text(alloc, source) {
         Ok(text) => text,
-        Err(fault) => return Err(without_argument(fault)),
+        Err(fault) => {
+            return Err(FaultWithArgument {
+                fault,
+                argument: Ok(None),
+            });
+        }
     };
     match Config::read_with_notes(alloc, schema, text.as_slice()) {
         Ok(noted) => Ok(noted),
-        Err(fault) => Err(with_argument(alloc, schema, text.as_slice(), fault)),
+        Err(fault) => Err(FaultWithArgument {
+            fault: config_fault(fault),
+            argument: argument_of(alloc, schema, text.as_slice(), fault),
+        }),
     }
 }
 
-/// A fault that is about no argument.
-fn without_argument(fault: ToolFault) -> FaultWithArgument
-    ensures { result ≡ record { fault = fault; argument = Ok None } }
-{
-    FaultWithArgument {
-        fault,
-        argument: Ok(None),
-    }
-}
-
-/// The fault of a configuration with this text, as a fault of the tool.
-fn with_argument(
+/// The argument that the fault of a configuration with this text is about.
+fn argument_of(
     alloc: Global,
     schema: &Schema,
     text: &[u8],
     fault: ConfigFault,
-) -> FaultWithArgument
-    ensures fault { result.fault ≡ config_fault fault }
-    ensures argument { IfOk result.argument (IsArgumentOf schema.now (Some text.now) (config_fault fault)) }
+) -> Result<Option<FaultArgument>, Memory>
+    ensures { IfOk result (IsArgumentOf schema.now (Some text.now) (config_fault fault)) }
 {
-    match config_fault(fault) {
-        ToolFault::Config(fault) => FaultWithArgument {
-            fault: ToolFault::Config(fault),
-            argument: fault_argument(alloc, schema, text, fault),
-        },
-        other => without_argument(other),
+    match fault.cause {
+        ConfigCause::Memory => Ok(None),
+        _ => fault_argument(alloc, schema, text, fault),
     }
 }
 
