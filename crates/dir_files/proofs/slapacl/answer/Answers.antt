@@ -1,16 +1,17 @@
-use Rattle.std.proofs.Common.{◌≡◌, ◌++◌, IfSome, List, ap, subst, ◌∙◌}
+use Rattle.std.proofs.Common.{◌≡◌, ◌++◌, IfOk, IfSome, List, ap, subst, ◌∙◌}
 use Rattle.dir_names.specs.Table.Builtin.{builtin_rows}
 use Rattle.dir_names.specs.declared.schema.TypeRow.{TypeRow}
 use Rattle.dir_acl.specs.Notes.{notes_of}
 use Rattle.dir_tools.specs.declared.acl.Question.{Question}
 use Rattle.dir_tools.specs.declared.fault.ToolFault.TheVariants as tool
-use Rattle.dir_tools.specs.AccessAnswers.{IsConfigFault, access_sources}
+use Rattle.dir_tools.specs.AccessAnswers.{IsArgumentOf, IsConfigFault, access_sources}
 use Rattle.dir_tools.specs.AccessReport.{AccessTerms, access_terms}
 use Rattle.dir_tools.specs.WordNotes.{notes_on_words}
 use Rattle.dir_files.specs.AccessRuns.{Asks, access_terms_of, asked_for}
 use Rattle.dir_files.specs.Notes.{AreNotesOf}
 use Rattle.dir_files.specs.Runs.{Made}
 use Rattle.dir_files.proofs.AccessCalls.{answered, unread}
+use Rattle.dir_files.proofs.FaultArgumentLemmas.{found_told, none_told}
 use Rattle.dir_files.proofs.NoteLemmas.{all_told}
 use Rattle.dir_files.proofs.slapacl.answer.Goals as goal
 
@@ -55,3 +56,20 @@ returns-clause-notes g c =
       all = c.as_slice.ensures.value ∙ (c.in-Ok-noted_question.ensures.notes ∙ ap (λ (rows : List TypeRow). found ++ notes_on_words rows (asked_for words).words) rows);
     } in
     (notes, c.in_ok-tell.ensures.given, all_told words text notes c.report.result c.report.ensures.faults are c.in_ok-tell.ensures.ok)
+
+pub returns-in-Err-clause-argument : goal.returns-in-Err-clause-argument
+returns-in-Err-clause-argument g c =
+    let text = g.R.Source.left c.args.config.now in
+    let why = c.in-Err.why in
+    let rows : c.in-Ok.schema ≡ builtin_rows = cc c.in-Ok.ensures in
+    let fault : IsConfigFault builtin_rows text why.fault = subst (λ (rows : List TypeRow). IsConfigFault rows text why.fault) rows c.in-Err.ensures.fault in
+    let about : IfOk why.argument (IsArgumentOf builtin_rows text why.fault) = subst (λ (rows : List TypeRow). IfOk why.argument (IsArgumentOf rows text why.fault)) rows c.in-Err.ensures.argument in
+    found_told Unit c.args.words.now text why.fault c.run_fault-in-Err.result why.argument (g.T.NoteTeller.arguments c.args.teller.now) (g.T.NoteTeller.arguments c.hand_over.new.teller) fault about c.run_fault-in-Err.ensures c.hand_over.ensures.kept
+
+pub returns-in_err-tell-clause-argument : goal.returns-in_err-tell-clause-argument
+returns-in_err-tell-clause-argument g c =
+    none_told c.args.words.now (g.R.Source.left c.args.config.now) _ (g.T.NoteTeller.arguments c.args.teller.now) (g.T.NoteTeller.arguments c.tell.new.teller) c.in_err-tell.ensures.arguments
+
+pub returns-clause-argument : goal.returns-clause-argument
+returns-clause-argument g c =
+    none_told c.args.words.now (g.R.Source.left c.args.config.now) c.report.result (g.T.NoteTeller.arguments c.args.teller.now) (g.T.NoteTeller.arguments c.tell.new.teller) c.in_ok-tell.ensures.arguments
