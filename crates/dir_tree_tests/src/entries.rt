@@ -5,7 +5,7 @@
 
 use crate::alike::opened;
 use crate::exchanged_parts::{with_attribute, with_part};
-use crate::make::{check, description, made, make, name, refused_for, schema, value};
+use crate::make::{check, description, made, make, name, refused_for, schema, value, view_count};
 use crate::script::{Step, begun, counts, names_own, says, split, step_of, tell};
 use crate::views::{has_lines, view_answers};
 use dir_names::{Bytes, Description, Lines};
@@ -139,7 +139,7 @@ fn answers(rt: &impl Abort, alloc: Global, entry: &Entry, step: &Step<'_>) -> bo
     match step.verb {
         "own" => names_own(rt, alloc, step.want, entry.own()),
         "key" => counts(rt, alloc, step.want, entry.key().pairs().len()),
-        "count" => counts(rt, alloc, step.want, entry.attributes().count()),
+        "count" => counts(rt, alloc, step.want, view_count(entry.attributes())),
         "spellings" => are_spelled(rt, alloc, entry, step.want),
         "small" => says(step.want, entry.is_small()),
         "lines" => says(step.want, has_lines(rt, alloc, entry, step.given)),

@@ -1,7 +1,7 @@
 //! Attributes of an entry exchanged for those of a part.
 
 use crate::entries::changed;
-use crate::make::{bytes, check, description, name, schema, value};
+use crate::make::{bytes, check, description, map_count, name, schema, value, view_count};
 use crate::script::split;
 use dir_names::{AttrKey, Bytes, Description, Lines};
 use dir_tree::{Attribute, AttributeMap, AttributeView, Entry, KeptAttributes};
@@ -80,7 +80,7 @@ fn has_attributes(entry: &Entry, attributes: &AttributeMap) -> bool {
             None => return false,
         }
     }
-    entry.attributes().count() == attributes.iter().count()
+    view_count(entry.attributes()) == map_count(attributes)
 }
 
 /// Whether an attribute is spelled as another, with the same values. None has more than two.

@@ -3,7 +3,7 @@
 //! The script begins with an entry: its name, and the lines of an add. Of values the answer is the key and the bytes of each, in
 //! order.
 
-use crate::make::{check, description, made, schema};
+use crate::make::{check, description, made, schema, view_count};
 use crate::script::{Step, begun, counts, says, split, step_of};
 use crate::views::view_answers;
 use dir_tree::{Entry, KeptAttributes};
@@ -61,7 +61,7 @@ fn kept_of(rt: &impl Abort, alloc: Global, entry: Entry, is_open: bool) -> KeptA
 /// Whether a question is answered so.
 fn answers(rt: &impl Abort, alloc: Global, kept: &KeptAttributes, step: &Step<'_>) -> bool {
     match step.verb {
-        "count" => counts(rt, alloc, step.want, kept.iter().count()),
+        "count" => counts(rt, alloc, step.want, view_count(kept.iter())),
         "exceeds-single" => says(step.want, kept.exceeds_single_value(&schema(rt, alloc))),
         _ => attribute_answers(rt, alloc, kept, step),
     }

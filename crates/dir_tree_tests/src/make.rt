@@ -2,7 +2,7 @@
 
 use crate::script::split;
 use dir_names::{Bytes, Description, Dn, DnKey, Lines, Schema, ValueKey};
-use dir_tree::{Directory, Entry, EntryFault, may_stand, own_rdns};
+use dir_tree::{AttributeMap, AttributeViews, Directory, Entry, EntryFault, may_stand, own_rdns};
 use std::alloc::Global;
 use std::process::Abort;
 
@@ -98,6 +98,24 @@ pub(crate) fn fill<D: Directory>(rt: &impl Abort, alloc: Global, directory: &mut
 }
 
 /// Ends the test with this text unless this holds. Each `assert!` makes the proof of its function longer; a call is cheaper.
+/// How many attributes a map has.
+pub(crate) fn map_count(attributes: &AttributeMap) -> usize {
+    let mut count: usize = 0;
+    for _ in attributes.iter() {
+        count = count.saturating_add(1);
+    }
+    count
+}
+
+/// How many attributes are seen.
+pub(crate) fn view_count(attributes: AttributeViews<'_>) -> usize {
+    let mut count: usize = 0;
+    for _ in attributes {
+        count = count.saturating_add(1);
+    }
+    count
+}
+
 pub(crate) fn check(rt: &impl Abort, holds: bool, what: &str) {
     assert!(rt; holds, "{what}");
 }

@@ -1,7 +1,7 @@
 //! The map of very many attributes, which are kept in pieces: they are put in, found, exchanged and taken out in orders of their
 //! own. Each is a description with a number in an option; they have no values at first.
 
-use crate::make::{bytes, check, schema};
+use crate::make::{bytes, check, map_count, schema};
 use dir_names::{AttrKey, Description, Schema, ValueKey};
 use dir_tree::{Attribute, AttributeMap, ValueMap};
 use std::alloc::Global;
@@ -71,7 +71,7 @@ fn many_attributes_are_taken_out(rt: HostRuntime) {
     }
     check(
         &rt,
-        attributes.iter().count() == COUNT - COUNT / 2,
+        map_count(&attributes) == COUNT - COUNT / 2,
         "the others stay",
     );
     for i in 0..COUNT / 2 {
@@ -82,7 +82,7 @@ fn many_attributes_are_taken_out(rt: HostRuntime) {
         let key = described(&rt, rt.alloc(), &schema, "cn", nth(i, 1237));
         check(&rt, attributes.take(key.key()).is_some(), "it was there");
     }
-    check(&rt, attributes.iter().count() == 0, "none is left");
+    check(&rt, map_count(&attributes) == 0, "none is left");
 }
 
 fn nth(i: usize, times: usize) -> usize {
@@ -132,7 +132,7 @@ fn are_all(attributes: &AttributeMap) -> bool {
         }
         last = Some(key);
     }
-    attributes.iter().count() == COUNT
+    map_count(attributes) == COUNT
 }
 
 fn is_spelled(attribute: &Attribute, attr_type: &str) -> bool {

@@ -2,7 +2,7 @@
 //!
 //! A script begins with an entry or with the line of one attribute. What is replaced is the answer.
 
-use crate::make::{check, description, made, schema, value};
+use crate::make::{check, description, made, map_count, schema, value};
 use crate::script::{Step, begun, counts, says, split, step_of};
 use crate::values::are_all;
 use crate::views::one_value;
@@ -92,7 +92,7 @@ fn attributes_answer(
 ) -> bool {
     match step.verb {
         "there" => says(step.want, is_there(rt, alloc, attributes, step.given)),
-        "count" => counts(rt, alloc, step.want, attributes.iter().count()),
+        "count" => counts(rt, alloc, step.want, map_count(attributes)),
         "exceeds-single" => says(
             step.want,
             attributes.exceeds_single_value(&schema(rt, alloc)),

@@ -2,7 +2,7 @@
 //!
 //! A script begins with the entry whose fields are changed. The fields of an entry that is closed are taken again.
 
-use crate::make::{bytes, check, description, made, schema, value};
+use crate::make::{bytes, check, description, made, schema, value, view_count};
 use crate::script::{begun, counts, split, step_of};
 use dir_names::Rdn;
 use dir_tree::{Attribute, AttributeMap, EntryFault, KeptAttributes, Parts};
@@ -58,7 +58,7 @@ fn after(rt: &impl Abort, alloc: Global, parts: Parts, line: &str) -> Parts {
         _ => {
             let count = match step.verb {
                 "own" => parts.own.len(),
-                _ => parts.attributes.iter().count(),
+                _ => view_count(parts.attributes.iter()),
             };
             check(rt, counts(rt, alloc, step.want, count), line);
             parts
