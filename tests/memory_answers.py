@@ -70,7 +70,7 @@ def functions_of(text, code):
 
 def may_only_lack_memory(signature):
     """Whether out of memory is a function's only fault, by its type or by its contract."""
-    gives = re.search(r"\bGives \((?:[^()]|\([^()]*\))*\) result \(Ok ", signature)
+    gives = re.search(r"\bGives(?:Part)? \((?:[^()]|\([^()]*\))*\) result \(Ok ", signature)
     only = re.search(r"IfErr result \(λ (\w+)\. \1 ≡ [\w.]*Memory\)", signature)
     return bool(re.search(r"-> Result<.*, (?:Memory|AllocError)>", signature, re.S) or gives or only)
 
