@@ -9,7 +9,7 @@ answer must come from a refused allocation. These forms hand one on, and pass:
     call(..)?                        the fault of a call, turned by `From`
     Err(..::Memory) => ..::Memory    an arm of a match whose pattern names the fault, in a `From` too
     Err(_) => ..::Memory             where out of memory is the only fault of the call that is matched, by the type or the
-                                     contract of every function of its name; so `map_err(|_| ..::Memory)` and `let .. else`
+                                     contract of every function of its name, in the crate itself if it has one; so `map_err(|_| ..::Memory)` and `let .. else`
 
 There must be no other place but those in BUFFERED and COUNTS. Tests are left out.
 """
@@ -162,20 +162,28 @@ def all_sources():
             yield name.as_posix(), path.read_text()
 
 
+def crate_of(name):
+    return name.split("/")[0]
+
+
 def main():
     sources = dict(all_sources())
     signatures = {}
-    for text in sources.values():
+    for name, text in sources.items():
         for function, signature, _, _ in functions_of(text, code_of(text)):
-            signatures.setdefault(function, []).append(signature)
-    only_memory = {name for name, given in signatures.items() if all(map(may_only_lack_memory, given))}
+            signatures.setdefault(function, {}).setdefault(crate_of(name), []).append(signature)
 
-    def check(text):
-        places = list(places_of(text, only_memory))
+    def only_memory_in(crate):
+        """The functions of which out of memory is the only fault, as a crate calls them: its own, where it has one of that name."""
+        seen = {name: given.get(crate) or sum(given.values(), []) for name, given in signatures.items()}
+        return {name for name, given in seen.items() if all(map(may_only_lack_memory, given))}
+
+    def check(name, text):
+        places = list(places_of(text, only_memory_in(crate_of(name))))
         if places:
             raise Wrong(f"out of memory is answered where no allocation was refused: {'; '.join(places)}")
 
-    trials = [(name, lambda text=text: check(text)) for name, text in sources.items()]
+    trials = [(name, lambda name=name, text=text: check(name, text)) for name, text in sources.items()]
     sys.exit(checks.run("memory answers", trials))
 
 
