@@ -160,10 +160,9 @@ fn given_a_value(
     let mut values = ValueMap::empty(alloc);
     let text = ValueKey::Text(bytes(rt, alloc, "a"));
     let inserted = values.insert(alloc, text, bytes(rt, alloc, "a"));
-    check(
-        rt,
-        inserted.is_ok() && attributes.get(key).is_some(),
-        "it is there",
-    );
+    check(rt, inserted.is_ok(), "memory");
+    if attributes.get(key).is_none() {
+        panic!(rt; "not there");
+    }
     attributes.replace_values(key, values)
 }
