@@ -1,3 +1,4 @@
+pub mod AddedTypes
 pub mod AllLemmas
 pub mod AsciiFolding
 pub mod Both
