@@ -1,9 +1,9 @@
 -- A definition of an attribute type adds what it says to a table, and changes no type that was known.
-use Rattle.std.proofs.Common.{◌≡◌, ℕ, zero, suc, ◌<◌, Bool, true, false, not, ◌&&◌, ◌||◌, T, List, [], ◌∷◌, ◌++◌, map, length, Option, Some, None, is_some, cond, refl, sym, ap, subst, ◌∙◌, true≢false, arith}
+use Rattle.std.proofs.Common.{◌≡◌, ℕ, zero, suc, ◌<◌, Bool, true, false, not, ◌&&◌, ◌||◌, T, List, [], ◌∷◌, ◌++◌, map, length, Option, Some, None, is_some, cond, get_or, nat_le, refl, sym, ap, subst, ◌∙◌, true≢false, arith}
 use Rattle.std.specs.List.{All, filter, find, list_all, list_any}
 use Rattle.std.specs.Option.{option_map, option_or}
 use Rattle.std.specs.Str.{str_eq_ignore_ascii_case, str_to_ascii_lowercase}
-use Rattle.std.proofs.lemmas.List.Folds.{find-append, list_any-append}
+use Rattle.std.proofs.lemmas.List.Folds.{find-append, list_all-append, list_any-append, list_any_at}
 use Rattle.std.proofs.lemmas.Map.Views.{any-filter_same}
 use Rattle.std.proofs.lemmas.Slice.Eq.{bytes_eq-Decides}
 use Rattle.std.proofs.lemmas.Str.Ascii.{lowercase-lowercase}
@@ -12,11 +12,10 @@ use Rattle.dir_names.specs.declared.schema.Rule.{Rule}
 use Rattle.dir_names.specs.declared.schema.TypeRow.{TypeRow}
 use Rattle.dir_names.specs.Attr.{Attr}
 use Rattle.dir_names.specs.Descriptions.{is_descr, is_reserved}
-use Rattle.dir_names.specs.Inside.TypeNames.{IsTable}
 use Rattle.dir_names.specs.NameKeys.{attr_of}
 use Rattle.dir_names.specs.Orders.{bytes_eq, bytes_eq_decides}
 use Rattle.dir_names.specs.Table.{key_in, row_named, row_of, rule_in, rule_of, single_in, single_of, type_key_of}
-use Rattle.dir_names.specs.Types.Adding.{IsAddition, KeepsTypes, gaining, is_free, key_given, may_be_given, names_given, names_it, new_names, new_row, primary_name, rule_by, table_with, with_names}
+use Rattle.dir_names.specs.Types.Adding.{IsAddition, KeepsTypes, gaining, is_free, is_table, key_given, may_be_added, may_be_given, names_given, names_it, new_names, new_row, primary_name, rule_by, table_with, with_names}
 use Rattle.dir_names.proofs.Both.{left, right}
 use Rattle.dir_names.proofs.Scopes.{named_alike}
 
@@ -136,6 +135,59 @@ alike_lower t = (bytes_eq-Decides (str_to_ascii_lowercase t) (str_to_ascii_lower
 abbrev named : List ℕ → TypeRow → Bool
 named t row = list_any (λ name. str_eq_ignore_ascii_case name t) row.names
 
+-- ---- tables
+
+abbrev names_none : List TypeRow → List ℕ → Bool
+names_none rows name = not (is_some (row_named rows name))
+
+none_is : (o : Option TypeRow) → not (is_some o) ≡ true → o ≡ None
+none_is None e = refl
+none_is (Some x) e = absurd (true≢false (sym e))
+
+-- a row whose names name none of the others is not named as one of these is
+apart : (row : TypeRow) (rows : List TypeRow) → list_all (names_none rows) row.names ≡ true → (t : List ℕ) → named t row ≡ true → row_named rows t ≡ None
+apart row rows e t s =
+    let found = picked (λ name. names_none rows name ≡ true) (λ name. str_eq_ignore_ascii_case name t) row.names (all_pass (names_none rows) row.names e) s in
+    sym (named_alike rows found.0 t found.1) ∙ none_is (row_named rows found.0) found.2
+
+own_names : (names : List (List ℕ)) → All (λ name. list_any (λ one. str_eq_ignore_ascii_case one name) names ≡ true) names
+own_names names k d h = list_any_at (λ one. str_eq_ignore_ascii_case one (get_or names k d)) names k d h (alike_itself (get_or names k d))
+
+all_passed : {X : Type 0} (p : X → Bool) (xs : List X) → All (λ x. p x ≡ true) xs → list_all p xs ≡ true
+all_passed p [] a = refl
+all_passed p (x ∷ xs) a = λ i. all_head (λ y. p y ≡ true) x xs a i && all_passed p xs (all_tail (λ y. p y ≡ true) x xs a) i
+
+all_two : {X : Type 0} (P Q : X → Type 0) (xs : List X) → All P xs → All Q xs → All (λ x. P x × Q x) xs
+all_two P Q xs a b k d h = (a k d h, b k d h)
+
+-- each row is the one that its key names
+keyed : (rows : List TypeRow) → is_table rows ≡ true → All (λ row. row_named rows row.key ≡ Some row) rows
+keyed [] e = all_none (λ row. row_named [] row.key ≡ Some row)
+keyed (row ∷ rows) e =
+    all_cons (λ one. row_named (row ∷ rows) one.key ≡ Some one) row rows
+    (ap (λ b. cond b (Some row) (row_named rows row.key)) (left own others here))
+    (all_so (λ one. row_named rows one.key ≡ Some one) (λ one. row_named (row ∷ rows) one.key ≡ Some one) rows later (keyed rows (right (own && others) (is_table rows) e)))
+  where
+    own : Bool
+    own = named row.key row
+
+    others : Bool
+    others = list_all (names_none rows) row.names
+
+    here : (own && others) ≡ true
+    here = left (own && others) (is_table rows) e
+
+    later : (one : TypeRow) → row_named rows one.key ≡ Some one → row_named (row ∷ rows) one.key ≡ Some one
+    later one s = by (named one.key row) refl
+      where
+        by : (b : Bool) → named one.key row ≡ b → cond b (Some row) (row_named rows one.key) ≡ Some one
+        by true n = not_both one (row_named rows one.key) (apart row rows (right own others here) one.key n) s
+        by false n = s
+
+some_behind : (b : Bool) (row : TypeRow) (o : Option TypeRow) → is_some o ≡ true → is_some (cond b (Some row) o) ≡ true
+some_behind true row o e = refl
+some_behind false row o e = e
+
 -- ---- what the definition calls the type
 
 or_true : (b : Bool) → (b || true) ≡ true
@@ -233,16 +285,38 @@ module _ (rows : List TypeRow) (d : TypeDefinition) (of_values : Rule) (given : 
   own_key : row_named now row.key ≡ Some row
   own_key = named_new row.key (names_primary d d.names)
 
-  table_before : IsTable rows → IsTable now
-  table_before is =
-      let found : TypeRow → Type 0 = λ (one : TypeRow). row_named now one.key ≡ Some one in
-      all_append found rows (row ∷ [])
-      (all_so (λ (one : TypeRow). row_named rows one.key ≡ Some one) found rows (λ one s. named_before one.key (ap is_some s) ∙ s) is)
-      (all_cons found row [] own_key (all_none found))
+  table_from : (some : List TypeRow) → is_table some ≡ true → ((t : List ℕ) → is_some (row_named some t) ≡ true → names_it d t ≡ false) → is_table (some ++ row ∷ []) ≡ true
+  table_from [] e differ = λ i. (names_primary d d.names i && all_passed (λ name. true) row.names (λ k d h. refl) i) && true
+  table_from (one ∷ some) e differ = λ i. (left own others here i && all_passed (names_none (some ++ row ∷ [])) one.names (all_so (λ name. (names_none some name ≡ true) × (named name one ≡ true)) (λ name. names_none (some ++ row ∷ []) name ≡ true) one.names stays (all_two (λ name. names_none some name ≡ true) (λ name. named name one ≡ true) one.names (all_pass (names_none some) one.names (right own others here)) (own_names one.names))) i) && table_from some (right (own && others) (is_table some) e) (λ t s. differ t (some_behind (named t one) one (row_named some t) s)) i
+    where
+      own : Bool
+      own = named one.key one
+
+      others : Bool
+      others = list_all (names_none some) one.names
+
+      here : (own && others) ≡ true
+      here = left (own && others) (is_table some) e
+
+      stays : (name : List ℕ) → (names_none some name ≡ true) × (named name one ≡ true) → names_none (some ++ row ∷ []) name ≡ true
+      stays name p =
+          let none : row_named some name ≡ None = none_is (row_named some name) p.0 in
+          let other : names_it d name ≡ false = differ name (ap (λ b. is_some (cond b (Some one) (row_named some name))) p.1) in
+          ap (λ o. not (is_some o)) (find-append (named name) some (row ∷ []) ∙ (λ i. option_or (none i) (cond (other i) (Some row) None)))
+
+  table_now : is_table rows ≡ true → is_table now ≡ true
+  table_now e = table_from rows e differ
+    where
+      differ : (t : List ℕ) → is_some (row_named rows t) ≡ true → names_it d t ≡ false
+      differ t s = by (names_it d t) refl
+        where
+          by : (b : Bool) → names_it d t ≡ b → b ≡ false
+          by true n = absurd (true≢false (sym s ∙ ap is_some (unnamed t n)))
+          by false n = refl
 
   -- no other type has its key
-  new_key : IsTable rows → find (λ (one : TypeRow). bytes_eq one.key row.key) rows ≡ None
-  new_key is = none_found (λ (one : TypeRow). bytes_eq one.key row.key) rows (all_so (λ (one : TypeRow). row_named rows one.key ≡ Some one) (λ (one : TypeRow). bytes_eq one.key row.key ≡ false) rows differs is)
+  new_key : is_table rows ≡ true → find (λ (one : TypeRow). bytes_eq one.key row.key) rows ≡ None
+  new_key is = none_found (λ (one : TypeRow). bytes_eq one.key row.key) rows (all_so (λ (one : TypeRow). row_named rows one.key ≡ Some one) (λ (one : TypeRow). bytes_eq one.key row.key ≡ false) rows differs (keyed rows is))
     where
       differs : (one : TypeRow) → row_named rows one.key ≡ Some one → bytes_eq one.key row.key ≡ false
       differs one s = by (bytes_eq one.key row.key) refl
@@ -254,14 +328,14 @@ module _ (rows : List TypeRow) (d : TypeDefinition) (of_values : Rule) (given : 
   number_new : row_named now d.number ≡ Some row
   number_new = named_new d.number (names_number d)
 
-  row_new : IsTable rows → row_of now (attr_of now d.number) ≡ Some row
+  row_new : is_table rows ≡ true → row_of now (attr_of now d.number) ≡ Some row
   row_new is =
       ap (λ o. find (λ (one : TypeRow). bytes_eq one.key (key_in o d.number)) now) number_new
       ∙ find-append (λ (one : TypeRow). bytes_eq one.key row.key) rows (row ∷ [])
       ∙ (λ i. option_or (new_key is i) (cond (same row.key i) (Some row) None))
 
-  pub adds_new : IsTable rows → rule_by rows d.equality d.sup ≡ Some of_values → IsTable now × IsAddition rows d now
-  adds_new is by_rule = (table_before is, record {
+  pub adds_new : is_table rows ≡ true → rule_by rows d.equality d.sup ≡ Some of_values → (is_table now ≡ true) × IsAddition rows d now
+  adds_new is by_rule = (table_now is, record {
     keeps = keeps_before;
     named = λ t e. ap (λ o. key_in o t) (named_new t e) ∙ sym (ap (λ o. key_given o d) fresh);
     others = λ t e none. named_now t ∙ (λ i. option_or (none i) (cond (e i) (Some row) None));
@@ -315,10 +389,6 @@ module _ (rows : List TypeRow) (d : TypeDefinition) (numbered : TypeRow) (given 
       by true = list_any-append (λ name. str_eq_ignore_ascii_case name t) one.names gained
       by false = sym (or_false (named t one))
 
-  none_is : (o : Option TypeRow) → not (is_some o) ≡ true → o ≡ None
-  none_is None e = refl
-  none_is (Some x) e = absurd (true≢false (sym e))
-
   gained_new : (t : List ℕ) → is_gained t ≡ true → row_named rows t ≡ None
   gained_new t e =
       let found = picked (λ name. not (is_some (row_named rows name)) ≡ true) (λ name. str_eq_ignore_ascii_case name t) gained (all_kept (λ name. not (is_some (row_named rows name))) d.names) e in
@@ -328,14 +398,17 @@ module _ (rows : List TypeRow) (d : TypeDefinition) (numbered : TypeRow) (given 
   gained_if : (t : List ℕ) → row_named rows t ≡ None → is_gained t ≡ list_any (λ name. str_eq_ignore_ascii_case name t) d.names
   gained_if t none = any-filter_same (λ name. str_eq_ignore_ascii_case name t) (λ name. not (is_some (row_named rows name))) true (λ name e. ap (λ o. not (is_some o)) (named_alike rows name t e ∙ none)) d.names
 
-  named_old : (t : List ℕ) → is_gained t ≡ false → row_named now_known t ≡ option_map grown (row_named rows t)
-  named_old t e =
-      find_map grown (named t) rows
-      ∙ (λ i. option_map grown (find (λ one. (names_grown t one ∙ ap (λ b. named t one || (named d.number one && b)) e ∙ and_none (named t one) (named d.number one)) i) rows))
+  old_in : (some : List TypeRow) (t : List ℕ) → is_gained t ≡ false → row_named (map grown some) t ≡ option_map grown (row_named some t)
+  old_in some t e =
+      find_map grown (named t) some
+      ∙ (λ i. option_map grown (find (λ one. (names_grown t one ∙ ap (λ b. named t one || (named d.number one && b)) e ∙ and_none (named t one) (named d.number one)) i) some))
     where
       and_none : (a b : Bool) → (a || (b && false)) ≡ a
       and_none a true = or_false a
       and_none a false = or_false a
+
+  named_old : (t : List ℕ) → is_gained t ≡ false → row_named now_known t ≡ option_map grown (row_named rows t)
+  named_old t e = old_in rows t e
 
   named_gained : (t : List ℕ) → is_gained t ≡ true → row_named now_known t ≡ Some (grown numbered)
   named_gained t e =
@@ -390,11 +463,58 @@ module _ (rows : List TypeRow) (d : TypeDefinition) (numbered : TypeRow) (given 
     single = λ t e. ap single_in (row_kept t e) ∙ single_grown (row_of rows (attr_of rows t));
   }
 
-  table_known : IsTable rows → IsTable now_known
-  table_known is = all_map (λ (one : TypeRow). row_named now_known one.key ≡ Some one) grown rows (all_so (λ (one : TypeRow). row_named rows one.key ≡ Some one) (λ (one : TypeRow). row_named now_known (grown one).key ≡ Some (grown one)) rows own is)
+  grown_from : (some : List TypeRow) → is_table some ≡ true → ((t : List ℕ) → is_some (row_named some t) ≡ true → is_gained t ≡ false) → is_table (map grown some) ≡ true
+  grown_from [] e old = refl
+  grown_from (one ∷ some) e old = λ i. (own_grown i && names_apart (named d.number one) refl i) && grown_from some (right (own && others) (is_table some) e) (λ t s. old t (some_behind (named t one) one (row_named some t) s)) i
     where
-      own : (one : TypeRow) → row_named rows one.key ≡ Some one → row_named now_known (grown one).key ≡ Some (grown one)
-      own one s = ap (row_named now_known) (key_stays one) ∙ named_kept one.key (ap is_some s) ∙ ap (option_map grown) s
+      own : Bool
+      own = named one.key one
+
+      others : Bool
+      others = list_all (names_none some) one.names
+
+      here : (own && others) ≡ true
+      here = left (own && others) (is_table some) e
+
+      own_grown : named (grown one).key (grown one) ≡ true
+      own_grown = ap (λ key. named key (grown one)) (key_stays one) ∙ names_grown one.key one ∙ ap (λ b. b || (named d.number one && is_gained one.key)) (left own others here)
+
+      stays : (name : List ℕ) → (names_none some name ≡ true) × (named name one ≡ true) → names_none (map grown some) name ≡ true
+      stays name p =
+          let none : row_named some name ≡ None = none_is (row_named some name) p.0 in
+          let is_old : is_gained name ≡ false = old name (ap (λ b. is_some (cond b (Some one) (row_named some name))) p.1) in
+          ap (λ o. not (is_some o)) (old_in some name is_old ∙ ap (option_map grown) none)
+
+      old_apart : list_all (names_none (map grown some)) one.names ≡ true
+      old_apart = all_passed (names_none (map grown some)) one.names (all_so (λ name. (names_none some name ≡ true) × (named name one ≡ true)) (λ name. names_none (map grown some) name ≡ true) one.names stays (all_two (λ name. names_none some name ≡ true) (λ name. named name one ≡ true) one.names (all_pass (names_none some) one.names (right own others here)) (own_names one.names)))
+
+      -- what the row gains names no later row, since the number doesn't
+      new_stays : named d.number one ≡ true → (name : List ℕ) → is_gained name ≡ true → names_none (map grown some) name ≡ true
+      new_stays n name g = ap (λ o. not (is_some o)) (find_map grown (named name) some ∙ ap (option_map grown) (none_found (λ other. named name (grown other)) some (all_so (λ other. (named name other ≡ false) × (named d.number other ≡ false)) (λ other. named name (grown other) ≡ false) some fails (all_two (λ other. named name other ≡ false) (λ other. named d.number other ≡ false) some (none_passes (named name) some unknown) (none_passes (named d.number) some (apart one some (right own others here) d.number n))))))
+        where
+          fails : (other : TypeRow) → (named name other ≡ false) × (named d.number other ≡ false) → named name (grown other) ≡ false
+          fails other p = names_grown name other ∙ (λ i. p.0 i || (p.1 i && is_gained name))
+
+          unknown : row_named some name ≡ None
+          unknown = by (row_named some name) refl
+            where
+              by : (o : Option TypeRow) → row_named some name ≡ o → o ≡ None
+              by None s = refl
+              by (Some other) s = absurd (true≢false (sym g ∙ old name (some_behind (named name one) one (row_named some name) (ap is_some s))))
+
+      names_apart : (b : Bool) → named d.number one ≡ b → list_all (names_none (map grown some)) (cond b (wider one) one).names ≡ true
+      names_apart false n = old_apart
+      names_apart true n = list_all-append (names_none (map grown some)) one.names gained ∙ (λ i. old_apart i && all_passed (names_none (map grown some)) gained (all_so (λ name. is_gained name ≡ true) (λ name. names_none (map grown some) name ≡ true) gained (new_stays n) (own_names gained)) i)
+
+  table_now_known : is_table rows ≡ true → is_table now_known ≡ true
+  table_now_known e = grown_from rows e old
+    where
+      old : (t : List ℕ) → is_some (row_named rows t) ≡ true → is_gained t ≡ false
+      old t s = by (is_gained t) refl
+        where
+          by : (b : Bool) → is_gained t ≡ b → b ≡ false
+          by true g = absurd (true≢false (sym s ∙ ap is_some (gained_new t g)))
+          by false g = refl
 
   -- each of its names names it
   named_it : (t : List ℕ) → names_it d t ≡ true → type_key_of now_known t ≡ numbered.key
@@ -424,8 +544,8 @@ module _ (rows : List TypeRow) (d : TypeDefinition) (numbered : TypeRow) (given 
   first_false false b h = refl
   first_false true b h = absurd (true≢false h)
 
-  pub adds_names : IsTable rows → IsTable now_known × IsAddition rows d now_known
-  adds_names is = (table_known is, record {
+  pub adds_names : is_table rows ≡ true → (is_table now_known ≡ true) × IsAddition rows d now_known
+  adds_names is = (table_now_known is, record {
     keeps = keeps_known;
     named = λ t e. named_it t e ∙ sym (ap (λ o. key_given o d) known);
     others = λ t e none. named_old t (gained_if t none ∙ first_false _ _ (sym (names_split d t) ∙ e)) ∙ ap (option_map grown) none;
@@ -435,17 +555,17 @@ module _ (rows : List TypeRow) (d : TypeDefinition) (numbered : TypeRow) (given 
 
 -- ---- the whole
 
-pub is_addition : (rows : List TypeRow) (d : TypeDefinition) (now : List TypeRow) → IsTable rows → table_with rows d ≡ Some now → IsTable now × IsAddition rows d now
-is_addition rows d now is e = by (list_all (may_be_given rows d) d.names) refl e
+pub is_addition : (rows : List TypeRow) (d : TypeDefinition) (now : List TypeRow) → is_table rows ≡ true → table_with rows d ≡ Some now → (is_table now ≡ true) × IsAddition rows d now
+is_addition rows d now is e = by (may_be_added rows d) refl e
   where
-    with : (given : list_all (may_be_given rows d) d.names ≡ true) (o : Option TypeRow) → row_named rows d.number ≡ o → with_names rows d o ≡ Some now → IsTable now × IsAddition rows d now
-    with given (Some numbered) known e = subst (λ r. IsTable r × IsAddition rows d r) (some_is _ now e) (adds_names rows d numbered given known is)
+    with : (given : list_all (may_be_given rows d) d.names ≡ true) (o : Option TypeRow) → row_named rows d.number ≡ o → with_names rows d o ≡ Some now → (is_table now ≡ true) × IsAddition rows d now
+    with given (Some numbered) known e = subst (λ r. (is_table r ≡ true) × IsAddition rows d r) (some_is _ now e) (adds_names rows d numbered given known is)
     with given None fresh e = ruled (rule_by rows d.equality d.sup) refl e
       where
-        ruled : (o : Option Rule) → rule_by rows d.equality d.sup ≡ o → option_map (λ of_values. rows ++ new_row d of_values ∷ []) o ≡ Some now → IsTable now × IsAddition rows d now
-        ruled (Some of_values) s e = subst (λ r. IsTable r × IsAddition rows d r) (some_is _ now e) (adds_new rows d of_values given fresh is s)
+        ruled : (o : Option Rule) → rule_by rows d.equality d.sup ≡ o → option_map (λ of_values. rows ++ new_row d of_values ∷ []) o ≡ Some now → (is_table now ≡ true) × IsAddition rows d now
+        ruled (Some of_values) s e = subst (λ r. (is_table r ≡ true) × IsAddition rows d r) (some_is _ now e) (adds_new rows d of_values given fresh is s)
         ruled None s e = not_both now None refl e
 
-    by : (b : Bool) → list_all (may_be_given rows d) d.names ≡ b → cond b (with_names rows d (row_named rows d.number)) None ≡ Some now → IsTable now × IsAddition rows d now
-    by true given e = with given (row_named rows d.number) refl e
-    by false given e = not_both now None refl e
+    by : (b : Bool) → may_be_added rows d ≡ b → cond b (with_names rows d (row_named rows d.number)) None ≡ Some now → (is_table now ≡ true) × IsAddition rows d now
+    by true added e = with (right (nat_le (length d.number) 512) (list_all (may_be_given rows d) d.names) added) (row_named rows d.number) refl e
+    by false added e = not_both now None refl e

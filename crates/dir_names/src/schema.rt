@@ -2,12 +2,11 @@
 //! name, and `scope` says under which schemas a key is the same.
 
 ghost use Rattle.std.specs.Prelude.{◌≡◌, ◌<◌, ◌∷◌, All, IfErr, IfOk, IfSome, Ok, find, is_some, map, option_copied};
-ghost use Rattle.std.specs.Prelude.{List, Some};
+ghost use Rattle.std.specs.Prelude.{List, IsTrue, Some};
 ghost use Rattle.dir_names.specs.NameKeys.{attr_of};
 ghost use Rattle.dir_names.specs.declared.schema.TypeRow.{TypeRow};
 ghost use Rattle.dir_names.specs.declared.schema.definition.TypeDefinition.{TypeDefinition};
-ghost use Rattle.dir_names.specs.Inside.TypeNames.{IsTable};
-ghost use Rattle.dir_names.specs.Types.Adding.{IsAddition, table_with};
+ghost use Rattle.dir_names.specs.Types.Adding.{IsAddition, is_table, table_with};
 ghost use Rattle.dir_names.specs.Inside.Frequent.{IsFrequentSlot, IsFrequentDescription, IsFrequentType, IsRankedType};
 ghost use Rattle.dir_names.specs.Inside.Rows.{is_row_of, type_row};
 ghost use Rattle.dir_names.specs.Inside.Scopes.{IsScopeOf, names_builtin};
@@ -359,7 +358,7 @@ impl Schema {
 
 /// A law: what a definition adds to a table is what it says, and no type that was known changes its meaning.
 pub fn types_are_added()
-    ensures { (rows : List TypeRow) (d : TypeDefinition) (now : List TypeRow) → IsTable rows → table_with rows d ≡ Some now → IsTable now × IsAddition rows d now }
+    ensures { (rows : List TypeRow) (d : TypeDefinition) (now : List TypeRow) → IsTrue (is_table rows) → table_with rows d ≡ Some now → IsTrue (is_table now) × IsAddition rows d now }
 {}
 
 /// The slot of a frequent type, in any ASCII case. No two of `FREQUENT` share a slot.

@@ -12,6 +12,11 @@ use Rattle.dir_names.specs.NameKeys.{attr_of}
 use Rattle.dir_names.specs.Orders.{bytes_eq}
 use Rattle.dir_names.specs.Table.{row_named, rule_of, single_of, type_key_of}
 
+-- no text names two types, and a type's key is one of its names
+abbrev pub is_table : List TypeRow → Bool
+is_table [] = true
+is_table (row ∷ rows) = (list_any (λ name. str_eq_ignore_ascii_case name row.key) row.names && list_all (λ name. not (is_some (row_named rows name))) row.names) && is_table rows
+
 -- ---- names
 
 -- what the definition calls the type: its names, and its number
@@ -90,9 +95,12 @@ abbrev pub with_names : List TypeRow → TypeDefinition → Option TypeRow → O
 with_names rows d (Some numbered) = Some (map (gaining d (new_names rows d)) rows)
 with_names rows d None = option_map (λ of_values. rows ++ new_row d of_values ∷ []) (rule_by rows d.equality d.sup)
 
--- the table with what a definition says, if each of its names may be given and a new type has a rule
+abbrev pub may_be_added : List TypeRow → TypeDefinition → Bool
+may_be_added rows d = nat_le (length d.number) 512 && list_all (may_be_given rows d) d.names
+
+-- the table with what a definition says, if its number is not too long, each of its names may be given, and a new type has a rule
 abbrev pub table_with : List TypeRow → TypeDefinition → Option (List TypeRow)
-table_with rows d = cond (list_all (may_be_given rows d) d.names) (with_names rows d (row_named rows d.number)) None
+table_with rows d = cond (may_be_added rows d) (with_names rows d (row_named rows d.number)) None
 
 abbrev pub table_with_text : List TypeRow → List ℕ → Option (List TypeRow)
 table_with_text rows text = option_and_then (table_with rows) (definition_of text)
