@@ -250,9 +250,9 @@ module _ (rows : List TypeRow) (d : TypeDefinition) (of_values : Rule) (given : 
   unnamed : (t : List ℕ) → names_it d t ≡ true → row_named rows t ≡ None
   unnamed t e =
       let new : All (λ name. row_named rows name ≡ None) (names_given d) =
-        all_append (λ name. row_named rows name ≡ None) d.names (d.number ∷ [])
-        (all_so (λ name. is_free (row_named rows d.number) (row_named rows name) ≡ true) (λ name. row_named rows name ≡ None) d.names (λ name f. free_none (row_named rows name) (subst (λ o. is_free o (row_named rows name) ≡ true) fresh f)) (free_names rows d given))
-        (all_cons (λ name. row_named rows name ≡ None) d.number [] fresh (all_none (λ name. row_named rows name ≡ None))) in
+      all_append (λ name. row_named rows name ≡ None) d.names (d.number ∷ [])
+      (all_so (λ name. is_free (row_named rows d.number) (row_named rows name) ≡ true) (λ name. row_named rows name ≡ None) d.names (λ name f. free_none (row_named rows name) (subst (λ o. is_free o (row_named rows name) ≡ true) fresh f)) (free_names rows d given))
+      (all_cons (λ name. row_named rows name ≡ None) d.number [] fresh (all_none (λ name. row_named rows name ≡ None))) in
       let found = picked (λ name. row_named rows name ≡ None) (λ name. str_eq_ignore_ascii_case name t) (names_given d) new e in
       sym (named_alike rows found.0 t found.1) ∙ found.2
 
@@ -335,13 +335,16 @@ module _ (rows : List TypeRow) (d : TypeDefinition) (of_values : Rule) (given : 
       ∙ (λ i. option_or (new_key is i) (cond (same row.key i) (Some row) None))
 
   pub adds_new : is_table rows ≡ true → rule_by rows d.equality d.sup ≡ Some of_values → (is_table now ≡ true) × IsAddition rows d now
-  adds_new is by_rule = (table_now is, record {
-    keeps = keeps_before;
-    named = λ t e. ap (λ o. key_in o t) (named_new t e) ∙ sym (ap (λ o. key_given o d) fresh);
-    others = λ t e none. named_now t ∙ (λ i. option_or (none i) (cond (e i) (Some row) None));
-    rule = λ _. by_rule ∙ sym (ap (λ o. Some (rule_in o)) (row_new is));
-    single = λ _. ap single_in (row_new is);
-  })
+  adds_new is by_rule = (
+    table_now is,
+    record {
+      keeps = keeps_before;
+      named = λ t e. ap (λ o. key_in o t) (named_new t e) ∙ sym (ap (λ o. key_given o d) fresh);
+      others = λ t e none. named_now t ∙ (λ i. option_or (none i) (cond (e i) (Some row) None));
+      rule = λ _. by_rule ∙ sym (ap (λ o. Some (rule_in o)) (row_new is));
+      single = λ _. ap single_in (row_new is);
+    },
+  )
 
 -- ---- more names of a known type
 
@@ -545,13 +548,16 @@ module _ (rows : List TypeRow) (d : TypeDefinition) (numbered : TypeRow) (given 
   first_false true b h = absurd (true≢false h)
 
   pub adds_names : is_table rows ≡ true → (is_table now_known ≡ true) × IsAddition rows d now_known
-  adds_names is = (table_now_known is, record {
-    keeps = keeps_known;
-    named = λ t e. named_it t e ∙ sym (ap (λ o. key_given o d) known);
-    others = λ t e none. named_old t (gained_if t none ∙ first_false _ _ (sym (names_split d t) ∙ e)) ∙ ap (option_map grown) none;
-    rule = λ none. not_both numbered (row_named rows d.number) none known;
-    single = λ none. not_both numbered (row_named rows d.number) none known;
-  })
+  adds_names is = (
+    table_now_known is,
+    record {
+      keeps = keeps_known;
+      named = λ t e. named_it t e ∙ sym (ap (λ o. key_given o d) known);
+      others = λ t e none. named_old t (gained_if t none ∙ first_false _ _ (sym (names_split d t) ∙ e)) ∙ ap (option_map grown) none;
+      rule = λ none. not_both numbered (row_named rows d.number) none known;
+      single = λ none. not_both numbered (row_named rows d.number) none known;
+    },
+  )
 
 -- ---- the whole
 

@@ -20,8 +20,10 @@ ghost use Rattle.dir_names.specs.Table.Builtin.{builtin_rows};
 
 pub(crate) mod definition;
 mod index;
+mod rules;
 pub(crate) mod scope;
 pub(crate) mod table;
+mod types;
 
 use crate::attribute::lowercase_bytes;
 use crate::schema::index::{index_of, row_number};
