@@ -227,7 +227,7 @@ impl TypeTable {
 
 /// Whether a name that names this is still to be given to the type that its number names.
 fn is_free(numbered: Option<&TypeRow>, named: Option<&TypeRow>) -> bool
-    ensures { result ≡ is_free (option_copied numbered) (option_copied named) }
+    ensures { result ≡ is_free (option_copied numbered.entry) (option_copied named.entry) }
 {
     match (numbered, named) {
         (_, None) => true,
