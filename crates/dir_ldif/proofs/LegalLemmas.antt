@@ -5,7 +5,7 @@ use Rattle.std.specs.List.{list_all}
 use Rattle.std.specs.Result.{is_ok}
 use Rattle.std.proofs.lemmas.List.{at_drop_more}
 use Rattle.dir_names.specs.declared.fault.NameFault.{NameFault}
-use Rattle.dir_names.specs.declared.fault.NameFault.TheVariants.{BadDescription, ReservedName, BadValue, BadDn, NameLimit, Memory}
+use Rattle.dir_names.specs.declared.fault.NameFault.TheVariants.{BadDescription, ReservedName, BadValue, BadDn, NameLimit, Memory, BadType}
 use Rattle.dir_names.specs.declared.schema.TypeRow.{TypeRow}
 use Rattle.dir_names.specs.Attr.{Attr}
 use Rattle.dir_names.specs.Described.{Described}
@@ -33,6 +33,7 @@ module _ {A B : Type 0} (r : Result A RecordFault) (next : A → Result B Record
   IsNameCauseOf-first BadDn h = rw h refl
   IsNameCauseOf-first NameLimit h = rw h refl
   IsNameCauseOf-first Memory h = tt
+  IsNameCauseOf-first BadType h = rw h refl
 
   pub IsRecordFaultOf-first : (e : RecordFault) → IsRecordFaultOf e r → IsRecordFaultOf e (and_then r next)
   IsRecordFaultOf-first fault.BadLine h = rw h refl

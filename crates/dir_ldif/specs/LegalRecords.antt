@@ -4,7 +4,7 @@ use Rattle.std.specs.Prelude.{◌≡◌, ℕ, Bool, true, false, ◌&&◌, nat_l
 use Rattle.std.specs.List.{list_all}
 use Rattle.std.specs.Result.{is_ok}
 use Rattle.dir_names.specs.declared.fault.NameFault.{NameFault}
-use Rattle.dir_names.specs.declared.fault.NameFault.TheVariants.{BadDescription, ReservedName, BadValue, BadDn, NameLimit, Memory}
+use Rattle.dir_names.specs.declared.fault.NameFault.TheVariants.{BadDescription, ReservedName, BadValue, BadDn, NameLimit, Memory, BadType}
 use Rattle.dir_names.specs.declared.schema.TypeRow.{TypeRow}
 use Rattle.dir_names.specs.Attr.{Attr}
 use Rattle.dir_names.specs.Described.{Described}
@@ -134,6 +134,7 @@ module _ {A : Type 0} where
   IsNameCauseOf BadDn wanted = wanted ≡ Err (fault.Name BadDn)
   IsNameCauseOf NameLimit wanted = wanted ≡ Err (fault.Name NameLimit)
   IsNameCauseOf Memory wanted = ⊤
+  IsNameCauseOf BadType wanted = wanted ≡ Err (fault.Name BadType)
 
   -- the fault is the definition's, or memory ran out
   abbrev pub IsRecordFaultOf : RecordFault → Result A RecordFault → Type 0

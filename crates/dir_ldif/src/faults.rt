@@ -64,6 +64,7 @@ impl RecordFault {
             RecordFault::Name(NameFault::BadDn) => "L9 N4 BadDn",
             RecordFault::Name(NameFault::NameLimit) => "L9 N5 NameLimit",
             RecordFault::Name(NameFault::Memory) => "L9 N6 Memory",
+            RecordFault::Name(NameFault::BadType) => "L9 N7 BadType",
         }
     }
 }

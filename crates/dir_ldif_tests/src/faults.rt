@@ -6,7 +6,7 @@ use std::alloc::{AllocError, Global};
 use std::fmt::Display;
 use std::process::Abort;
 
-static OF_RECORDS: [(RecordFault, &str); 14] = [
+static OF_RECORDS: [(RecordFault, &str); 15] = [
     (RecordFault::BadLine, "L1 BadLine"),
     (RecordFault::BadBase64, "L2 BadBase64"),
     (RecordFault::UrlValue, "L3 UrlValue"),
@@ -27,6 +27,7 @@ static OF_RECORDS: [(RecordFault, &str); 14] = [
     (RecordFault::Name(NameFault::BadDn), "L9 N4 BadDn"),
     (RecordFault::Name(NameFault::NameLimit), "L9 N5 NameLimit"),
     (RecordFault::Name(NameFault::Memory), "L9 N6 Memory"),
+    (RecordFault::Name(NameFault::BadType), "L9 N7 BadType"),
 ];
 
 static OF_STREAMS: [(StreamFault, &str); 6] = [

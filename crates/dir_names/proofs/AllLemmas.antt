@@ -2,7 +2,7 @@
 use Rattle.std.proofs.Common.{◌≡◌, List, [], ◌∷◌, ◌++◌, Option, Some, None, Ok, refl, sym, ap, ◌∙◌, append_assoc}
 use Rattle.std.proofs.lemmas.List.{append-nil}
 use Rattle.dir_names.specs.declared.fault.NameFault.{NameFault}
-use Rattle.dir_names.specs.declared.fault.NameFault.TheVariants.{BadDescription, ReservedName, BadValue, BadDn, NameLimit, Memory}
+use Rattle.dir_names.specs.declared.fault.NameFault.TheVariants.{BadDescription, ReservedName, BadValue, BadDn, NameLimit, Memory, BadType}
 use Rattle.dir_names.specs.Outcome.{IsNameFaultOf}
 use Rattle.dir_names.specs.Outcome.{ok_or_bad_dn}
 use Rattle.dir_names.specs.Results.{option_collect, option_cons}
@@ -29,6 +29,8 @@ fails_through BadDn (Some x) y through f = absurd (cc)
 fails_through NameLimit None y through f = absurd (cc)
 fails_through NameLimit (Some x) y through f = absurd (cc)
 fails_through Memory x y through f = tt
+fails_through BadType None y through f = absurd (cc)
+fails_through BadType (Some x) y through f = absurd (cc)
 
 module _ {A B : Type 0} (f : A → Option B) where
   pub all_none : (xs : List A) → option_collect f xs ≡ prefixed [] (option_collect f xs)

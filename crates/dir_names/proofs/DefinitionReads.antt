@@ -1,8 +1,7 @@
 -- What the grammar of definitions relates is read so.
 use Rattle.std.proofs.Common.{◌≡◌, ℕ, Bool, true, false, cond, not, List, [], ◌∷◌, ◌++◌, Option, Some, None, map, refl, ap, sym, ◌∙◌, append_assoc}
-use Rattle.std.specs.Prelude.{◌==◌, ◌&&◌, ◌||◌, option_and_then}
+use Rattle.std.specs.Prelude.{◌==◌, ◌||◌, option_and_then}
 use Rattle.std.specs.List.{list_all}
-use Rattle.std.specs.Option.{option_map}
 use Rattle.std.proofs.lemmas.List.{append-nil}
 use Rattle.std.proofs.lemmas.Bool.{and_parts, not-true}
 use Rattle.dir_names.specs.declared.schema.definition.TypeDefinition.{TypeDefinition}
@@ -17,9 +16,8 @@ use Rattle.dir_names.specs.declared.schema.definition.tokens.Token.TheVariants a
 use Rattle.dir_names.specs.Definitions.{definition_by, definition_from, definition_in, definition_of}
 use Rattle.dir_names.specs.Definitions.Grammar.{Defines, EndsWord, SpellsPart, SpellsParts, SpellsTokens}
 use Rattle.dir_names.specs.Definitions.Grammar.{byte, close_parenthesis, end, flag, none, nothing, open_parenthesis, part, quoted, white, with_list, with_text, with_word, word}
-use Rattle.dir_names.specs.Definitions.Parts.{after_step, begun_by, is_each_once, is_flag, keyword_of, parts_from, parts_of, takes_list, takes_word, with_part}
+use Rattle.dir_names.specs.Definitions.Parts.{after_step, begun_by, is_flag, keyword_of, parts_from, parts_of, takes_list, takes_word, with_part}
 use Rattle.dir_names.specs.Definitions.Tokens.{ends_word, is_white, tokens_at, tokens_from, tokens_of, with_token}
-use Rattle.dir_names.specs.Descriptions.{is_numericoid}
 
 -- ---- tokens
 

@@ -7,7 +7,7 @@ use Rattle.std.proofs.lemmas.List.{drop_more}
 use Rattle.std.specs.FinMap.{find, put}
 use Rattle.std.specs.FinMap.Entries.{find-put, by_order}
 use Rattle.dir_names.specs.declared.fault.NameFault.{NameFault}
-use Rattle.dir_names.specs.declared.fault.NameFault.TheVariants.{BadDescription, ReservedName, BadValue, BadDn, NameLimit, Memory}
+use Rattle.dir_names.specs.declared.fault.NameFault.TheVariants.{BadDescription, ReservedName, BadValue, BadDn, NameLimit, Memory, BadType}
 use Rattle.dir_names.specs.declared.schema.TypeRow.{TypeRow}
 use Rattle.dir_names.specs.Attr.{Attr}
 use Rattle.dir_names.specs.Keys.{RdnKeys, with_pair}
@@ -157,6 +157,7 @@ twice_through BadValue attr value set whole through f = absurd (no_other _ _ Bad
 twice_through BadDn attr value set whole through f = ap ok_or_bad_dn (through f)
 twice_through NameLimit attr value set whole through f = absurd (no_other _ _ NameLimit (λ k. cc) f)
 twice_through Memory attr value set whole through f = tt
+twice_through BadType attr value set whole through f = absurd (no_other _ _ BadType (λ k. cc) f)
 
 -- a pair's key is that of its value
 pub pair_is : (rows : List TypeRow) (p : SpelledPair) (value : List ℕ) → text_key_of (rule_of rows (attr_of rows p.0)) p.1 ≡ Ok value → ok_or_bad_dn (pair_key rows p) ≡ Ok (attr_of rows p.0, value)
@@ -169,6 +170,7 @@ pair_fails rows p BadValue f = ap (λ r. ok_or_bad_dn (option_map (λ v. (attr_o
 pair_fails rows p BadDn f = ap (λ r. ok_or_bad_dn (option_map (λ v. (attr_of rows p.0, v)) (result_ok r))) f
 pair_fails rows p NameLimit f = ap (λ r. ok_or_bad_dn (option_map (λ v. (attr_of rows p.0, v)) (result_ok r))) f
 pair_fails rows p Memory f = tt
+pair_fails rows p BadType f = ap (λ r. ok_or_bad_dn (option_map (λ v. (attr_of rows p.0, v)) (result_ok r))) f
 
 -- the next pair of the RDN
 pub key_at : (rows : List TypeRow) (whole : Option RdnKeys) (set : RdnKeys) (pairs : SpelledRdn) (i : ℕ) (p : SpelledPair) → i < length pairs → p ≡ get_or pairs i p → whole ≡ key_from rows set (drop i pairs) → whole ≡ key_from rows set (p ∷ drop (i + 1) pairs)

@@ -1,3 +1,4 @@
+pub mod AddedTypes
 pub mod AllLemmas
 pub mod AsciiFolding
 pub mod Both
@@ -7,10 +8,13 @@ pub mod Compared
 pub mod CutLemmas
 pub mod DefinitionReads
 pub mod DefinitionSteps
+pub mod GainedNames
+pub mod GrownTables
 pub mod HasKeys
 pub mod IndexedNames
 pub mod KeyLemmas
 pub mod KnownParents
+pub mod ListedRules
 pub mod LowercaseKeys
 pub mod Maps
 pub mod OptionLemmas

@@ -1,11 +1,11 @@
 -- What is read as a definition is one by the grammar.
 use Rattle.std.proofs.Common.{◌≡◌, ℕ, Bool, true, false, cond, not, List, [], ◌∷◌, ◌++◌, Option, Some, None, map, refl, ap, sym, ◌∙◌, subst, append_assoc}
-use Rattle.std.specs.Prelude.{◌==◌, ◌&&◌, ◌||◌, option_and_then, Result, Ok, Err, IfNone, IfOk, IfSome}
+use Rattle.std.specs.Prelude.{◌==◌, option_and_then, Result, Ok, Err, IfNone, IfOk, IfSome}
 use Rattle.std.specs.List.{list_all}
 use Rattle.std.specs.Option.{option_map}
-use Rattle.std.proofs.lemmas.List.{append-nil, map-append}
+use Rattle.std.proofs.lemmas.List.{map-append}
 use Rattle.std.proofs.lemmas.List.Folds.{list_all-append}
-use Rattle.std.proofs.lemmas.Bool.{and_from, eqb-true, not_from_false}
+use Rattle.std.proofs.lemmas.Bool.{and_from, eqb-true}
 use Rattle.dir_names.specs.declared.fault.NameFault.{NameFault}
 use Rattle.dir_names.specs.declared.schema.definition.TypeDefinition.{TypeDefinition}
 use Rattle.dir_names.specs.declared.schema.definition.parts.Keyword.{Keyword}
@@ -17,9 +17,9 @@ use Rattle.dir_names.specs.declared.schema.definition.tokens.Spot.TheVariants.{B
 use Rattle.dir_names.specs.declared.schema.definition.tokens.Token.{Token}
 use Rattle.dir_names.specs.declared.schema.definition.tokens.Token.TheVariants as token
 use Rattle.dir_names.specs.Definitions.{definition_by, definition_from, definition_in, definition_of}
-use Rattle.dir_names.specs.Definitions.Grammar.{Defines, EndsWord, SpellsPart, SpellsParts, SpellsTokens}
+use Rattle.dir_names.specs.Definitions.Grammar.{Defines, SpellsPart, SpellsParts, SpellsTokens}
 use Rattle.dir_names.specs.Definitions.Grammar.{byte, close_parenthesis, end, flag, none, nothing, open_parenthesis, part, quoted, white, with_list, with_text, with_word, word}
-use Rattle.dir_names.specs.Definitions.Parts.{after_step, begun_by, is_each_once, is_flag, keyword_of, parts_from, parts_of, step_at, takes_list, takes_word, with_part}
+use Rattle.dir_names.specs.Definitions.Parts.{after_step, begun_by, is_each_once, is_flag, keyword_of, parts_from, parts_of, takes_list, takes_word, with_part}
 use Rattle.dir_names.specs.Definitions.Tokens.{ends_word, is_white, tokens_at, tokens_from, tokens_of, with_token}
 use Rattle.dir_names.specs.Descriptions.{is_numericoid}
 use Rattle.dir_names.specs.Outcome.{Gives}

@@ -7,7 +7,7 @@ use Rattle.std.proofs.lemmas.List.Sums.{split_at_first, passes_at_first}
 use Rattle.std.proofs.lemmas.Bool.{ltb-true, eqb-true, eqb-false, and_parts}
 use Rattle.std.specs.Prelude.{IfOk, Result}
 use Rattle.dir_names.specs.declared.fault.NameFault.{NameFault}
-use Rattle.dir_names.specs.declared.fault.NameFault.TheVariants.{BadDescription, ReservedName, BadValue, BadDn, NameLimit, Memory}
+use Rattle.dir_names.specs.declared.fault.NameFault.TheVariants.{BadDescription, ReservedName, BadValue, BadDn, NameLimit, Memory, BadType}
 use Rattle.dir_names.specs.Outcome.{Gives}
 use Rattle.dir_names.specs.declared.name.reading.Place.TheVariants.{Outside, AfterBackslash, AfterDigit}
 use Rattle.dir_names.specs.declared.name.reading.Step.TheVariants.{Space, Byte, Inside, Refused}
@@ -290,6 +290,7 @@ module _ (text : List ℕ) where
   answer_no_name (Err BadValue) g e = absurd (cc)
   answer_no_name (Err NameLimit) g e = absurd (cc)
   answer_no_name (Err Memory) g e = absurd (cc)
+  answer_no_name (Err BadType) g e = absurd (cc)
 
   pub answer_past : (r : Result SpelledName NameFault) → Gives (λ name. name) r (name_within_limits text) → r ≡ Err NameLimit → (name : SpelledName) × Spells text name × (is_within_limits name ≡ false)
   answer_past (Ok name) g e = absurd (cc)
@@ -299,6 +300,7 @@ module _ (text : List ℕ) where
   answer_past (Err BadValue) g e = absurd (cc)
   answer_past (Err BadDn) g e = absurd (cc)
   answer_past (Err Memory) g e = absurd (cc)
+  answer_past (Err BadType) g e = absurd (cc)
 
 -- ---- one RDN
 
@@ -329,6 +331,7 @@ module _ (text : List ℕ) where
   rdn_no_name (Err BadValue) g e = absurd (cc)
   rdn_no_name (Err NameLimit) g e = absurd (cc)
   rdn_no_name (Err Memory) g e = absurd (cc)
+  rdn_no_name (Err BadType) g e = absurd (cc)
 
   rdn_large : rdn_within_limit text ≡ Err NameLimit → (rdn : SpelledRdn) × SpellsRdn text rdn × (is_rdn_within_limit rdn ≡ false)
   rdn_large e = let w = limited_past is_rdn_within_limit (only_rdn_of text) e in (w.0, reads_only_rdn text w.0 w.1, w.2)
@@ -341,6 +344,7 @@ module _ (text : List ℕ) where
   rdn_past (Err BadValue) g e = absurd (cc)
   rdn_past (Err BadDn) g e = absurd (cc)
   rdn_past (Err Memory) g e = absurd (cc)
+  rdn_past (Err BadType) g e = absurd (cc)
 
 -- ---- and what the grammar relates, within the limits, is answered
 

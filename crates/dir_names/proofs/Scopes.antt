@@ -26,7 +26,7 @@ use Rattle.dir_names.proofs.HasKeys.{all_reverse}
 -- ---- tables that keep themselves
 
 pub keeps_itself : (rows : List TypeRow) → KeepsTypes rows rows
-keeps_itself rows = record { key = λ t e. refl; rule = λ t e. refl; single = λ t e. refl }
+keeps_itself rows = record { known = λ t e. e; key = λ t e. refl; rule = λ t e. refl; single = λ t e. refl }
 
 pub keeps_equal : (old new : List TypeRow) → new ≡ old → KeepsTypes old new
 keeps_equal old new e = subst (λ rows. KeepsTypes old rows) (sym e) (keeps_itself old)

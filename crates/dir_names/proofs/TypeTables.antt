@@ -5,13 +5,14 @@ use Rattle.std.specs.Option.{option_and_then, option_copied}
 use Rattle.std.specs.Prelude.{slice_get}
 use Rattle.std.specs.Slice.{IsItemAt}
 use Rattle.std.proofs.lemmas.Option.{slice_get-get_or}
-use Rattle.std.proofs.lemmas.List.Elements.{All-from_recursion, All-head, All-tail}
+use Rattle.std.proofs.lemmas.List.Elements.{All-head, All-tail}
 use Rattle.std.proofs.lemmas.List.Folds.{find_at}
 use Rattle.dir_names.specs.declared.schema.TypeRow.{TypeRow}
-use Rattle.dir_names.specs.Inside.TypeNames.{IsIndex, IsTable, is_named, row_number}
+use Rattle.dir_names.specs.Inside.TypeNames.{IsIndex, is_named, row_number}
 use Rattle.dir_names.specs.Orders.{bytes_eq, bytes_eq_decides}
 use Rattle.dir_names.specs.Table.{row_named}
 use Rattle.dir_names.specs.Table.Builtin.{builtin_rows}
+use Rattle.dir_names.specs.Types.Adding.{is_table}
 
 -- ---- the first element that passes a test
 
@@ -60,7 +61,7 @@ abbrev pub with_key : List ℕ → Option TypeRow → Option TypeRow
 with_key key None = None
 with_key key (Some row) = cond (bytes_eq row.key key) (Some row) None
 
-pub row_by_key : (rows : List TypeRow) → IsTable rows → (key : List ℕ) → with_key key (row_named rows key) ≡ find (λ row. bytes_eq row.key key) rows
+pub row_by_key : (rows : List TypeRow) → All (λ row. row_named rows row.key ≡ Some row) rows → (key : List ℕ) → with_key key (row_named rows key) ≡ find (λ row. bytes_eq row.key key) rows
 row_by_key rows table key = by (find (λ row. bytes_eq row.key key) rows) refl
   where
     none : (o : Option TypeRow) → row_named rows key ≡ o → find (λ row. bytes_eq row.key key) rows ≡ None → with_key key o ≡ None
@@ -76,6 +77,6 @@ row_by_key rows table key = by (find (λ row. bytes_eq row.key key) rows) refl
 
 -- ---- the table of the standards
 
-pub builtin_table : IsTable builtin_rows
+pub builtin_table : is_table builtin_rows ≡ true
 unfolding builtin_rows
-builtin_table = All-from_recursion (λ row. row_named builtin_rows row.key ≡ Some row) builtin_rows (refl, (refl, (refl, (refl, (refl, (refl, (refl, (refl, (refl, (refl, (refl, (refl, (refl, (refl, (refl, (refl, (refl, (refl, (refl, (refl, (refl, (refl, (refl, (refl, (refl, (refl, (refl, tt)))))))))))))))))))))))))))
+builtin_table = refl

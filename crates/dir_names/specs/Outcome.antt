@@ -1,7 +1,7 @@
 -- What a call that may answer a `NameFault` meets.
 use Rattle.std.specs.Prelude.{◌≡◌, Option, ok_or, Result, Err}
 use Rattle.dir_names.specs.declared.fault.NameFault.{NameFault}
-use Rattle.dir_names.specs.declared.fault.NameFault.TheVariants.{BadDescription, ReservedName, BadValue, BadDn, NameLimit, Memory}
+use Rattle.dir_names.specs.declared.fault.NameFault.TheVariants.{BadDescription, ReservedName, BadValue, BadDn, NameLimit, Memory, BadType}
 use Rattle.dir_names.specs.Results.{Meets}
 
 module _ {A : Type 0} where
@@ -13,6 +13,7 @@ module _ {A : Type 0} where
   IsNameFaultOf BadDn wanted = wanted ≡ Err BadDn
   IsNameFaultOf NameLimit wanted = wanted ≡ Err NameLimit
   IsNameFaultOf Memory wanted = Unit {0}
+  IsNameFaultOf BadType wanted = wanted ≡ Err BadType
 
   -- the answer of a call, seen by `view`, is the definition's, value or fault, unless memory ran out
   abbrev pub Gives : {T : Type 0} → (T → A) → Result T NameFault → Result A NameFault → Type 0
@@ -32,3 +33,4 @@ as_bad_dn BadValue = BadDn
 as_bad_dn BadDn = BadDn
 as_bad_dn NameLimit = BadDn
 as_bad_dn Memory = Memory
+as_bad_dn BadType = BadDn

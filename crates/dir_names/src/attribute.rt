@@ -362,7 +362,7 @@ pub(crate) fn is_type(text: &[u8]) -> bool
 }
 
 /// `descr`: a letter followed by letters, digits and hyphens (RFC 4512, section 1.4).
-fn is_descr(text: &[u8]) -> bool
+pub(crate) fn is_descr(text: &[u8]) -> bool
     ensures { result ≡ is_descr text.now }
 {
     let Some((first, rest)) = text.split_first() else {

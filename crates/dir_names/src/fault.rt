@@ -27,6 +27,9 @@ pub enum NameFault {
     NameLimit,
     /// Memory ran out.
     Memory,
+    /// The text is no definition of an attribute type (RFC 4512, section 4.1.2), or gives a type a name that it can't have, or
+    /// no rule.
+    BadType,
 }
 
 impl fmt::Display for NameFault {
@@ -42,6 +45,7 @@ impl fmt::Display for NameFault {
             NameFault::BadDn => "N4 BadDn",
             NameFault::NameLimit => "N5 NameLimit",
             NameFault::Memory => "N6 Memory",
+            NameFault::BadType => "N7 BadType",
         })
     }
 }

@@ -23,7 +23,7 @@ pub use list::{Bytes, Texts};
 pub use name::reader::NameReader;
 pub use name::{Dn, Rdn};
 pub use schema::definition::TypeDefinition;
-pub use schema::{Rule, Schema};
+pub use schema::{Rule, Schema, types_are_added};
 pub use value::ValueKey;
 pub use value::pieces::PiecePlace;
 pub use value::pushed::PushedKey;

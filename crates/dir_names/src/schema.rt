@@ -1,28 +1,34 @@
-//! Attribute types, their names and their matching rules. `table` has those of the standards, `index` finds a type by a
-//! name, and `scope` says under which schemas a key is the same.
+//! Attribute types, their names and their matching rules. `table` has those of the standards, `types` all that
+//! are known, `definition` reads what is added to them, and `scope` says under which schemas a key is the same.
 
-ghost use Rattle.std.specs.Prelude.{◌≡◌, ◌<◌, ◌∷◌, All, IfErr, IfOk, IfSome, Ok, find, is_some, map, option_copied};
+ghost use Rattle.std.specs.Prelude.{◌≡◌, ◌<◌, ◌∷◌, All, IfErr, IfOk, IfSome, Ok, OnErr, is_some, map, ok_or};
+ghost use Rattle.std.specs.Prelude.{List, IsTrue, Some};
 ghost use Rattle.dir_names.specs.NameKeys.{attr_of};
+ghost use Rattle.dir_names.specs.declared.schema.TypeRow.{TypeRow};
+ghost use Rattle.dir_names.specs.declared.schema.definition.TypeDefinition.{TypeDefinition};
+ghost use Rattle.dir_names.specs.Types.Adding.{IsAddition, is_table, table_with, table_with_text};
+ghost use Rattle.dir_names.specs.declared.fault.NameFault.TheVariants.{BadType};
 ghost use Rattle.dir_names.specs.Inside.Frequent.{IsFrequentSlot, IsFrequentDescription, IsFrequentType, IsRankedType};
 ghost use Rattle.dir_names.specs.Inside.Rows.{is_row_of, type_row};
 ghost use Rattle.dir_names.specs.Inside.Scopes.{IsScopeOf, names_builtin};
-ghost use Rattle.dir_names.specs.Inside.TypeNames.{IsIndex, IsTable};
 ghost use Rattle.std.specs.List.{list_any};
 ghost use Rattle.std.specs.Str.{str_eq_ignore_ascii_case};
-ghost use Rattle.dir_names.specs.Orders.{bytes_eq};
 ghost use Rattle.dir_names.specs.Outcome.{Gives};
 ghost use Rattle.dir_names.specs.Table.{row_named};
 ghost use Rattle.dir_names.specs.Table.Builtin.{builtin_rows};
 
 pub(crate) mod definition;
 mod index;
+mod rules;
 pub(crate) mod scope;
 pub(crate) mod table;
+mod types;
 
 use crate::attribute::lowercase_bytes;
-use crate::schema::index::{index_of, row_number};
+use crate::schema::definition::TypeDefinition;
 use crate::schema::scope::Scope;
 use crate::schema::table::{FREQUENT, RANKED, ROWS, Row};
+use crate::schema::types::TypeTable;
 use crate::{AttrKey, Bytes, Description, NameFault, Texts};
 use std::alloc::Global;
 use std::marker::Model;
@@ -75,9 +81,7 @@ impl TypeRow {
 /// attribute of it takes any number of them.
 #[derive(Debug, Drop)]
 pub struct Schema {
-    rows: Vec<TypeRow>,
-    /// The names and numbers of the types in lower case, in order, each with the number of its row.
-    names: Vec<(Bytes, usize)>,
+    types: TypeTable,
     /// The types that copies of directories use most, each in the slot of its text.
     frequent: Vec<Option<FrequentType>>,
     /// The types that have ranks, each at its rank.
@@ -118,15 +122,12 @@ impl Model for Schema {
 
     ghost Value = { List TypeRow };
 
-    ghost view = { λ schema. schema.rows.items };
+    ghost view = { λ schema. schema.types };
 
-    ghost use Rattle.std.specs.Prelude.{◌≡◌, All};
+    ghost use Rattle.std.specs.Prelude.{All};
     ghost use Rattle.dir_names.specs.Inside.Frequent.{IsFrequentSlot, IsRankedType};
-    ghost use Rattle.dir_names.specs.Inside.TypeNames.{IsIndex, IsTable};
-    ghost use Rattle.dir_names.specs.Table.Builtin.{builtin_rows};
-    ghost use Rattle.dir_names.specs.Types.Adding.{KeepsTypes};
 
-    ghost invariant = { λ schema. All (IsFrequentSlot schema.rows.items) schema.frequent.items × All (IsRankedType schema.rows.items) schema.ranked.items × IsIndex schema.rows.items schema.names.items × IsTable schema.rows.items × KeepsTypes builtin_rows schema.rows.items };
+    ghost invariant = { λ schema. All (IsFrequentSlot schema.types) schema.frequent.items × All (IsRankedType schema.types) schema.ranked.items };
 }
 
 impl Schema {
@@ -139,43 +140,65 @@ impl Schema {
     pub fn builtin(alloc: Global) -> Result<Schema, NameFault>
         ensures { Gives (λ schema. schema) result (Ok builtin_rows) }
     {
-        Schema::of(alloc, known_types(alloc)?)
+        Schema::of(alloc, TypeTable::of(alloc, known_types(alloc)?)?)
     }
 
     /// A copy in memory of its own. The one fault is `Memory`.
     pub fn try_clone(&self, alloc: Global) -> Result<Schema, NameFault>
         ensures { Gives (λ schema. schema) result (Ok self.now) }
     {
-        Schema::of(alloc, cloned_rows(alloc, self.rows.as_slice())?)
+        Schema::of(alloc, self.types.try_clone(alloc)?)
     }
 
-    /// The schema of these rows, with its frequent and its ranked types.
-    fn of(alloc: Global, rows: Vec<TypeRow>) -> Result<Schema, NameFault>
-        requires table { IsTable rows.items }
-        requires keeps { KeepsTypes builtin_rows rows.items }
-        ensures { Gives (λ schema. schema) result (Ok rows.items) }
+    /// Adds what the definition of an attribute type says (RFC 4512, section 4.1.2): a new type, or more names of the known
+    /// one that has its number, whose key, rule and number of values stay. Values of a new type are compared by the rule
+    /// that `EQUALITY` names, byte by byte by one that `Rule` doesn't have; without `EQUALITY` by that of the type that `SUP`
+    /// names. Whether an attribute takes one value is not passed on by `SUP`.
+    ///
+    /// # Errors
+    ///
+    /// `BadType` if the text is no definition, if its number has more than `MAX_DESCRIPTION` bytes, if one of its names is no
+    /// `descr`, is longer, or is reserved for a word, if one names another type, or if `SUP` names no known type; `Memory`.
+    /// The schema stays as it was.
+    pub fn add_type(&mut self, definition: &[u8]) -> Result<(), NameFault>
+        ensures types { Gives (λ _. self.new) result (ok_or (table_with_text self.old definition.now) BadType) }
+        ensures err { OnErr result (self.new ≡ self.old) }
     {
-        let names = index_of(alloc, rows.as_slice())?;
-        let bare = Schema {
-            rows,
-            names,
+        let alloc = self.types.allocator();
+        let Some(definition) = TypeDefinition::read(alloc, definition)? else {
+            return Err(NameFault::BadType);
+        };
+        self.types.add(alloc, definition)?;
+        self.frequent.clear();
+        self.ranked.clear();
+        // Without memory for them they are looked up in the table each time.
+        let _ = self.keep_frequent(alloc);
+        Ok(())
+    }
+
+    /// The schema of these types, with the frequent and the ranked ones.
+    fn of(alloc: Global, types: TypeTable) -> Result<Schema, NameFault>
+        ensures { Gives (λ schema. schema) result (Ok types) }
+    {
+        let mut schema = Schema {
+            types,
             frequent: Vec::new(alloc),
             ranked: Vec::new(alloc),
         };
-        let frequent = frequent_types(alloc, &bare)?;
-        let ranked = ranked_types(alloc, &bare)?;
-        let Schema {
-            rows,
-            names,
-            frequent: _,
-            ranked: _,
-        } = bare;
-        Ok(Schema {
-            rows,
-            names,
-            frequent,
-            ranked,
-        })
+        schema.keep_frequent(alloc)?;
+        Ok(schema)
+    }
+
+    /// Keeps what the table says of the frequent and the ranked types.
+    fn keep_frequent(&mut self, alloc: Global) -> Result<(), NameFault>
+        ensures same { self.new ≡ self.old }
+        ensures memory { IfErr result (λ e. e ≡ NameFault.Memory) }
+    {
+        let frequent = frequent_types(alloc, self)?;
+        let ranked = ranked_types(alloc, self)?;
+        self.frequent = frequent;
+        self.ranked = ranked;
+        Ok(())
     }
 
     /// A law, for proofs: a schema has the built-in types, so that what rests on these alone holds under each.
@@ -183,7 +206,7 @@ impl Schema {
     pub(crate) fn keeps_builtin_types(&self)
         ensures { KeepsTypes builtin_rows self.now }
     {
-        let _rows = &self.rows;
+        self.types.keep_builtin_types();
     }
 
     /// The frequent type in the slot of this text.
@@ -263,7 +286,7 @@ impl Schema {
     fn rule_in_table(&self, attr: &AttrKey) -> Rule
         ensures { result ≡ rule_of self.now attr.now }
     {
-        match self.row_with_key(attr.attr_type()) {
+        match self.types.with_key(attr.attr_type()) {
             Some(row) => row.rule,
             None => Rule::Octet,
         }
@@ -282,39 +305,18 @@ impl Schema {
     fn single_in_table(&self, attr: &AttrKey) -> bool
         ensures { result ≡ single_of self.now attr.now }
     {
-        match self.row_with_key(attr.attr_type()) {
+        match self.types.with_key(attr.attr_type()) {
             Some(row) => row.single,
             None => false,
         }
     }
 
-    /// Whether the type is known: one of those that `builtin` has. What it is called, by which rule its values are compared,
-    /// and how many an attribute of it takes, is known of no other. Options make no difference.
+    /// Whether the type is known: one of those that `builtin` has, or that `add_type` added. What it is called, by which rule
+    /// its values are compared, and how many an attribute of it takes, is known of no other. Options make no difference.
     pub fn knows(&self, attr: &AttrKey) -> bool
         ensures { result ≡ is_known self.now attr.now }
     {
-        self.row_with_key(attr.attr_type()).is_some()
-    }
-
-    /// The row of the type with this key. A key is one of the names of its row.
-    fn row_with_key(&self, key: &[u8]) -> Option<&TypeRow>
-        ensures { option_copied result ≡ find (λ row. bytes_eq row.key key.now) self.now }
-    {
-        let row = self.row_named(key)?;
-        if row.key.as_slice() == key {
-            Some(row)
-        } else {
-            None
-        }
-    }
-
-    /// The row of the type that a name or a number names, in any ASCII case.
-    fn row_named(&self, attr_type: &[u8]) -> Option<&TypeRow>
-        ensures row { option_copied result ≡ row_named self.now attr_type.now }
-        ensures table { IsTable self.now }
-    {
-        let number = row_number(self.names.as_slice(), attr_type)?;
-        self.rows.get(number)
+        self.types.with_key(attr.attr_type()).is_some()
     }
 
     /// The attribute of a type without options.
@@ -345,12 +347,17 @@ impl Schema {
     pub(crate) fn type_key(&self, alloc: Global, attr_type: &[u8]) -> Result<Bytes, NameFault>
         ensures { Gives (λ key. key) result (Ok (type_key_of self.now attr_type.now)) }
     {
-        match self.row_named(attr_type) {
+        match self.types.named(attr_type) {
             Some(row) => row.key.try_clone(alloc),
             None => lowercase_bytes(alloc, attr_type),
         }
     }
 }
+
+/// A law: what a definition adds to a table is what it says, and no type that was known changes its meaning.
+pub fn types_are_added()
+    ensures { (rows : List TypeRow) (d : TypeDefinition) (now : List TypeRow) → IsTrue (is_table rows) → table_with rows d ≡ Some now → IsTrue (is_table now) × IsAddition rows d now }
+{}
 
 /// The slot of a frequent type, in any ASCII case. No two of `FREQUENT` share a slot.
 fn slot_of(text: &[u8]) -> usize {
@@ -377,27 +384,25 @@ fn frequent_types(alloc: Global, schema: &Schema) -> Result<Vec<Option<FrequentT
     ensures frequent { IfOk result (λ slots. All (IsFrequentSlot schema.now) slots.items) }
     ensures memory { IfErr result (λ e. e ≡ NameFault.Memory) }
 {
-    let mut slots = Vec::with_capacity(alloc, SLOTS)?;
-    for slot in 0..SLOTS {
-        slots.push(frequent_type_at(alloc, schema, slot)?)?;
+    let mut slots = empty_slots(alloc)?;
+    for name in &FREQUENT {
+        if let Some(slot) = slots.get_mut(slot_of(name.as_bytes())) {
+            *slot = frequent_type(alloc, schema, name.as_bytes())?;
+        }
     }
     Ok(slots)
 }
 
-fn frequent_type_at(
-    alloc: Global,
-    schema: &Schema,
-    slot: usize,
-) -> Result<Option<FrequentType>, NameFault>
-    ensures frequent { IfOk result (IsFrequentSlot schema.now) }
+/// Slots without types.
+fn empty_slots(alloc: Global) -> Result<Vec<Option<FrequentType>>, NameFault>
+    ensures empty { IfOk result (λ slots. (rows : List TypeRow) → All (IsFrequentSlot rows) slots.items) }
     ensures memory { IfErr result (λ e. e ≡ NameFault.Memory) }
 {
-    for name in &FREQUENT {
-        if slot_of(name.as_bytes()) == slot {
-            return frequent_type(alloc, schema, name.as_bytes());
-        }
+    let mut slots = Vec::with_capacity(alloc, SLOTS)?;
+    for _ in 0..SLOTS {
+        slots.push(None)?;
     }
-    Ok(None)
+    Ok(slots)
 }
 
 /// The frequent type of this text, or `None` if the text is not a type without options.
@@ -498,17 +503,6 @@ fn ranked_type_of(schema: &Schema, attr: &AttrKey) -> Option<RankedType>
         rule: schema.rule(attr),
         single: schema.single(attr),
     })
-}
-
-/// Copies of the rows.
-fn cloned_rows(alloc: Global, rows: &[TypeRow]) -> Result<Vec<TypeRow>, NameFault>
-    ensures { Gives (λ copy. copy.items) result (Ok rows.now) }
-{
-    let mut copy = Vec::with_capacity(alloc, rows.len())?;
-    for row in rows {
-        copy.push(row.try_clone(alloc)?)?;
-    }
-    Ok(copy)
 }
 
 /// The types of the table.

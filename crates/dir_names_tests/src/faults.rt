@@ -6,13 +6,14 @@ use std::alloc::Global;
 use std::fmt::Display;
 use std::process::Abort;
 
-static TEXTS: [(NameFault, &str); 6] = [
+static TEXTS: [(NameFault, &str); 7] = [
     (NameFault::BadDescription, "N1 BadDescription"),
     (NameFault::ReservedName, "N2 ReservedName"),
     (NameFault::BadValue, "N3 BadValue"),
     (NameFault::BadDn, "N4 BadDn"),
     (NameFault::NameLimit, "N5 NameLimit"),
     (NameFault::Memory, "N6 Memory"),
+    (NameFault::BadType, "N7 BadType"),
 ];
 
 #[test]

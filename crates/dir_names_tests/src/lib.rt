@@ -3,6 +3,8 @@
 #![tactic(auto)]
 
 #[cfg(test)]
+mod added_types;
+#[cfg(test)]
 mod copies;
 #[cfg(test)]
 mod definitions;

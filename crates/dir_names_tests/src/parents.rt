@@ -46,7 +46,7 @@ fn names_below_parents_that_come_again_are_read_as_alone(rt: HostRuntime) {
 }
 
 /// Asserts that a reader answers as `Dn::read` does, with the same key, so many times.
-fn assert_as_alone(
+pub(crate) fn assert_as_alone(
     rt: &impl Abort,
     alloc: Global,
     schema: &Schema,

@@ -110,7 +110,7 @@ const FIRST_NAMES: usize = 70;
 static CHILDREN: [&str; 2] = ["cn=one,ou=x,dc=com", "cn=two,ou=x,dc=com"];
 
 /// Names that remember parents.
-fn used_names(rt: &impl Abort, alloc: Global) -> RecentNames {
+pub(crate) fn used_names(rt: &impl Abort, alloc: Global) -> RecentNames {
     let schema = schema(rt, alloc);
     let mut names = RecentNames::new();
     for count in 0..FIRST_NAMES {
@@ -152,7 +152,7 @@ fn assert_anew(rt: &impl Abort, alloc: Global, names: &mut RecentNames, value: &
 
 /// Asserts that a value has the key that it has where nothing was read before, which is that of the name that it
 /// spells, or none.
-fn assert_same(
+pub(crate) fn assert_same(
     rt: &impl Abort,
     alloc: Global,
     schema: &Schema,

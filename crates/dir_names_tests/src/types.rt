@@ -131,7 +131,13 @@ fn is_type(rt: &impl Abort, alloc: Global, text: &str, name: &str, is_known: boo
 }
 
 /// Whether the text as it is, in capitals and in lower case has this key.
-fn means(rt: &impl Abort, alloc: Global, schema: &Schema, text: &str, key: &AttrKey) -> bool {
+pub(crate) fn means(
+    rt: &impl Abort,
+    alloc: Global,
+    schema: &Schema,
+    text: &str,
+    key: &AttrKey,
+) -> bool {
     let capitals = text
         .as_bytes()
         .to_ascii_uppercase(alloc)

@@ -14,3 +14,4 @@ only_memory name.BadValue wanted x is fails = absurd (cc)
 only_memory name.BadDn wanted x is fails = absurd (cc)
 only_memory name.NameLimit wanted x is fails = absurd (cc)
 only_memory name.Memory wanted x is fails = refl
+only_memory name.BadType wanted x is fails = absurd (cc)

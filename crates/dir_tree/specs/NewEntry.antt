@@ -139,3 +139,4 @@ entry_fault_of name.BadValue = BadValue
 entry_fault_of name.BadDn = BadValue
 entry_fault_of name.NameLimit = BadValue
 entry_fault_of name.Memory = Memory
+entry_fault_of name.BadType = BadValue

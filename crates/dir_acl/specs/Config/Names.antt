@@ -80,6 +80,7 @@ is_written_as_type (Err fault.BadValue) = false
 is_written_as_type (Err fault.BadDn) = false
 is_written_as_type (Err fault.NameLimit) = false
 is_written_as_type (Err fault.Memory) = false
+is_written_as_type (Err fault.BadType) = false
 
 abbrev pub is_class : List TypeRow → List ℕ → Bool
 is_class rows text = cond (list_any (λ b. b == semicolon) text) false (is_written_as_type (description_of rows text))

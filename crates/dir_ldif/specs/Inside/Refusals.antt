@@ -1,7 +1,7 @@
 -- What a call that reads a block refuses it for: a fault of the record, or that memory ran out.
 use Rattle.std.specs.Prelude.{◌≡◌, Result, Err}
 use Rattle.dir_names.specs.declared.fault.NameFault.{NameFault}
-use Rattle.dir_names.specs.declared.fault.NameFault.TheVariants.{BadDescription, ReservedName, BadValue, BadDn, NameLimit}
+use Rattle.dir_names.specs.declared.fault.NameFault.TheVariants.{BadDescription, ReservedName, BadValue, BadDn, NameLimit, BadType}
 use Rattle.dir_names.specs.declared.fault.NameFault.TheVariants.{Memory as NoMemory}
 use Rattle.dir_ldif.specs.declared.faults.RecordFault.{RecordFault}
 use Rattle.dir_ldif.specs.declared.faults.RecordFault.TheVariants.{Name}
@@ -21,3 +21,4 @@ refusal_of BadValue = Fault (Name BadValue)
 refusal_of BadDn = Fault (Name BadDn)
 refusal_of NameLimit = Fault (Name NameLimit)
 refusal_of NoMemory = Memory
+refusal_of BadType = Fault (Name BadType)

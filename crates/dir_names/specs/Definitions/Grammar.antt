@@ -1,6 +1,6 @@
 -- Which definition a text is, as the grammar (RFC 4512, section 4.1.2). Beyond it the parts come in any order, white space is left out where no two words meet, what
 -- comes after `SUP` and the like is one word or a text between quotes, and a text between quotes may have anything in it but a quote.
-use Rattle.std.specs.Prelude.{◌≡◌, ℕ, true, false, List, [], ◌∷◌, ◌++◌, map, not, ◌==◌, Option, Some}
+use Rattle.std.specs.Prelude.{◌≡◌, ℕ, true, false, List, [], ◌∷◌, ◌++◌, map, not, ◌==◌, Some}
 use Rattle.std.specs.List.{list_all}
 use Rattle.dir_names.specs.declared.schema.definition.TypeDefinition.{TypeDefinition}
 use Rattle.dir_names.specs.declared.schema.definition.parts.Keyword.{Keyword}

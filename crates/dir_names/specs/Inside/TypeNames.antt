@@ -1,13 +1,12 @@
 -- An index of the names of a table's types: each in lower case, with the number of a row.
 use Rattle.std.specs.Prelude.{◌≡◌, ℕ, Bool, true, cond, List, map, Option, Some, None}
 use Rattle.std.specs.FinMap.{find}
-use Rattle.std.specs.List.{All, list_any, position}
+use Rattle.std.specs.List.{list_any, position}
 use Rattle.std.specs.Option.{option_or}
 use Rattle.std.specs.Str.{str_eq_ignore_ascii_case, str_to_ascii_lowercase}
 use Rattle.dir_names.specs.declared.schema.TypeRow.{TypeRow}
 use Rattle.dir_names.specs.Orders.{bytes_cmp}
 use Rattle.dir_names.specs.Sorted.{rises}
-use Rattle.dir_names.specs.Table.{row_named}
 
 abbrev pub are_rising : List (List ℕ × ℕ) → Bool
 are_rising names = rises bytes_cmp (map (λ n. n.0) names)
@@ -26,7 +25,3 @@ IsIndex rows names = (are_rising names ≡ true) × ((t : List ℕ) → row_numb
 -- the texts that pass a test are found under this number, unless they were found before
 abbrev pub Gains : (List ℕ → Bool) → ℕ → List (List ℕ × ℕ) → List (List ℕ × ℕ) → Type 0
 Gains test row old new = (t : List ℕ) → row_number new t ≡ option_or (row_number old t) (cond (test t) (Some row) None)
-
--- each row is the one that its key names, so that no two types have one key
-abbrev pub IsTable : List TypeRow → Type 0
-IsTable rows = All (λ row. row_named rows row.key ≡ Some row) rows

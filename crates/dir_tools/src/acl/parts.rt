@@ -1,6 +1,7 @@
 //! The parts of a question: the base, the requester, and the words.
 
 ghost use Rattle.std.specs.Prelude.{◌≡◌, IfOk, map, option_copied, option_map};
+ghost use Rattle.dir_names.specs.NameKeys.{name_key};
 ghost use Rattle.dir_tools.specs.AccessReport.{access_of, access_terms, asked_of, named_key, parts_of, requester_of, word_of, words_of};
 ghost use Rattle.dir_tools.specs.Inside.Asking.{GivesPart, access_in, parts_in, word_in};
 
@@ -80,8 +81,18 @@ fn read_name(alloc: Global, schema: &Schema, text: &[u8]) -> Result<Option<(Dn, 
         Err(NameFault::Memory) => return Err(Memory),
         Err(_) => return Ok(None),
     };
+    match key_of(alloc, schema, &name)? {
+        Some(key) => Ok(Some((name, key))),
+        None => Ok(None),
+    }
+}
+
+/// The key of a name, if it has one.
+fn key_of(alloc: Global, schema: &Schema, name: &Dn) -> Result<Option<DnKey>, Memory>
+    ensures { IfOk result (λ key. key ≡ name_key schema.now name.now) }
+{
     match name.key(alloc, schema) {
-        Ok(key) => Ok(Some((name, key))),
+        Ok(key) => Ok(Some(key)),
         Err(NameFault::Memory) => Err(Memory),
         Err(_) => Ok(None),
     }

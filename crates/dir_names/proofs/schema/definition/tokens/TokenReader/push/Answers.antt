@@ -1,4 +1,4 @@
-use Rattle.std.proofs.Common.{◌≡◌, true, List, [], ◌∷◌, ◌++◌, sym, ap, ◌∙◌, rules}
+use Rattle.std.proofs.Common.{◌≡◌, true, [], ◌∷◌, ◌++◌, ap, ◌∙◌, rules}
 use Rattle.dir_names.specs.declared.schema.definition.tokens.Spot.TheVariants.{Between}
 use Rattle.dir_names.specs.declared.schema.definition.tokens.Token.TheVariants as token
 use Rattle.dir_names.specs.Definitions.Tokens.{ends_word, tokens_from}

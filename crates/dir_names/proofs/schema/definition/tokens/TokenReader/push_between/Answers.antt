@@ -1,4 +1,4 @@
-use Rattle.std.proofs.Common.{◌≡◌, []}
+use Rattle.std.proofs.Common.{[]}
 use Rattle.dir_names.specs.declared.schema.definition.tokens.Spot.TheVariants.{Between}
 use Rattle.dir_names.specs.declared.schema.definition.tokens.Token.TheVariants as token
 use Rattle.dir_names.specs.Definitions.Tokens.{tokens_from}

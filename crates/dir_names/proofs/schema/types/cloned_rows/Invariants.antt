@@ -1,5 +1,5 @@
 use Rattle.std.proofs.Common.{◌≡◌, take}
-use Rattle.dir_names.proofs.schema.cloned_rows.Given as goal
+use Rattle.dir_names.proofs.schema.types.cloned_rows.Given as goal
 
 abbrev pub invariant-loop-row : goal.invariant-loop-row
 invariant-loop-row l = l.copy.items ≡ take l.row-index l.rows
