@@ -9,6 +9,7 @@ import re
 import unicodedata
 
 import answers
+import definitions
 import names
 from answers import Fault
 from names import NameFault, NoKey, Rule, as_bytes, as_text, description_key
@@ -211,9 +212,14 @@ def folded_lines(data):
     return [(number, parts) for number, parts in folded if not parts[0].startswith(b"#") and b"".join(parts).strip(b" \t")]
 
 
+def directives(data):
+    """The number and the physical lines of each line that defines no attribute type."""
+    return [(number, parts) for number, parts in folded_lines(data) if definitions.definition_in(as_text(b"".join(parts))) is None]
+
+
 def logical_lines(data):
-    """The number and the text of each line, unfolded."""
-    return [(number, b"".join(parts)) for number, parts in folded_lines(data)]
+    """The number and the text of each of these lines, unfolded."""
+    return [(number, b"".join(parts)) for number, parts in directives(data)]
 
 
 def placed_arguments(line):
@@ -362,7 +368,7 @@ def read_config(data):
     if len(data) > MOST_BYTES_OF_A_CONFIGURATION:
         raise ConfigFault(f"config, line 0: {CONFIG_TOO_LONG}")
     config = Config()
-    for number, parts in folded_lines(data):
+    for number, parts in directives(data):
         words = Arguments(b"".join(parts))
         try:
             config.read_line(words)
@@ -391,7 +397,7 @@ def shown_text(text):
 
 def unknown_type(spelling):
     """The note on a description, unless its type, which its options follow, is known."""
-    return [] if spelling.split(";")[0].lower() in names.KEY_OF_TYPE else [f'unknown attribute "{spelling}"']
+    return [] if names.is_known(spelling.split(";")[0]) else [f'unknown attribute "{spelling}"']
 
 
 def notes_on_test(spelling, is_for_more):
@@ -728,7 +734,16 @@ def report_of(config, copy, question):
 
 
 def access_answer(data, copy, question):
-    """The exit status, and what goes to standard output and to standard error."""
+    """The exit status, and what goes to standard output and to standard error: under the types that the configuration defines."""
+    try:
+        table = definitions.table_of(data)
+    except definitions.ConfigFault as fault:
+        return 1, "", f"slapkit: {fault}\n"
+    with names.types_of(table):
+        return answer_under_types(data, copy, question)
+
+
+def answer_under_types(data, copy, question):
     notes = ""
     try:
         config = read_config(data)

@@ -1,6 +1,7 @@
 """What a run of `slapkit slapmodify` must answer: of any copy and any changes, by the reader of ldif.py and the operations of model.py."""
 import dataclasses
 
+import definitions
 import ldif
 import names
 from model import CODES, Directory, Refused
@@ -96,8 +97,17 @@ class Run:
         return NOTHING + "".join(change.text(names.printed_name) for group in reversed(self.groups) for change in group)
 
 
-def answer(suffix, copy, changes, goes_on=False, is_verbose=False):
-    """What a run on these texts must answer."""
+def answer(suffix, copy, changes, goes_on=False, is_verbose=False, config=b""):
+    """What a run on these texts must answer, with the types that a configuration defines."""
+    try:
+        table = definitions.table_of(config)
+    except definitions.ConfigFault as fault:
+        return Answer(1, "", f"slapkit: {fault}\n", None, None)
+    with names.types_of(table):
+        return answer_under_types(suffix, copy, changes, goes_on, is_verbose)
+
+
+def answer_under_types(suffix, copy, changes, goes_on, is_verbose):
     try:
         run = Run(directory_of(suffix_key(suffix), copy))
         for number, record in ldif.records(changes):

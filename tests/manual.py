@@ -57,10 +57,12 @@ def text_of(completion):
 
 
 def the_manual_pages_have_the_codes(_):
-    """The codes of docs/CODES.md: those of a slapd.conf are on slapacl's page, all others on slapmodify's."""
+    """The codes of docs/CODES.md: those of a slapd.conf are on slapacl's page, all others on slapmodify's, with those that its -f may tell."""
     codes = set(re.findall(r"\b((?:\d+ [a-z]+[A-Z]\w*)|(?:[LNC]\d+ [A-Z]\w+))", (ROOT / "docs/CODES.md").read_text()))
     of_configurations = {code for code in codes if code.startswith("C")}
-    for tool, those in [("slapmodify", codes - of_configurations), ("slapacl", of_configurations)]:
+    of_types = {"C11 ConfigTooLong", "C12 BadType"}
+    expect(of_types - codes, set(), "codes of -f that docs/CODES.md lacks")
+    for tool, those in [("slapmodify", codes - of_configurations | of_types), ("slapacl", of_configurations)]:
         expect(sorted(code for code in those if code not in page_of(tool)), [], f"codes that the page of {tool} lacks")
 
 

@@ -5,6 +5,8 @@ The key of a description is its type's key and its options in order, each once, 
 first; an RDN is a list of pairs of a type, as spelled, and a value. The key of an RDN is the sorted pairs of a type and a value's key,
 that of a name the keys of its RDNs, root first.
 """
+import contextlib
+import dataclasses
 import enum
 import re
 import unicodedata
@@ -69,16 +71,48 @@ TYPES_BY_RULE = {
 SINGLE = frozenset("c displayname employeenumber dc uidnumber gidnumber homedirectory loginshell".split())
 
 ROWS = [(rule, row.split()) for rule, rows in TYPES_BY_RULE.items() for row in re.split(r"[|\n]", rows) if row.strip()]
-KEY_OF_TYPE = {spelling.lower(): names[0].lower() for _, names in ROWS for spelling in names}
-RULE_OF_KEY = {names[0].lower(): rule for rule, names in ROWS}
 
-TYPE = r"(?:[A-Za-z][A-Za-z0-9-]*|(?:0|[1-9][0-9]*)(?:\.(?:0|[1-9][0-9]*))+)"
+
+@dataclasses.dataclass
+class Table:
+    """Attribute types: the key of each name and number, in lower case; the rule of each key; the keys of single-valued types."""
+
+    key_of: dict
+    rule_of: dict
+    single: set
+
+
+BUILT_IN = Table(
+    {spelling.lower(): names[0].lower() for _, names in ROWS for spelling in names},
+    {names[0].lower(): rule for rule, names in ROWS},
+    set(SINGLE),
+)
+_tables = [BUILT_IN]
+
+
+@contextlib.contextmanager
+def types_of(table):
+    """Goes by the types of this table, and then by those of before again."""
+    _tables.append(table)
+    try:
+        yield
+    finally:
+        _tables.pop()
+
+
+NUMBER = r"(?:0|[1-9][0-9]*)(?:\.(?:0|[1-9][0-9]*))+"
+TYPE = rf"(?:[A-Za-z][A-Za-z0-9-]*|{NUMBER})"
 IS_TYPE = re.compile(TYPE)
 IS_DESCRIPTION = re.compile(rf"({TYPE})((?:;[A-Za-z0-9-]+)*)")
 
 
 def type_key(spelling):
-    return KEY_OF_TYPE.get(spelling.lower(), spelling.lower())
+    return _tables[-1].key_of.get(spelling.lower(), spelling.lower())
+
+
+def is_known(spelling):
+    """Whether a text names a type of the table."""
+    return spelling.lower() in _tables[-1].key_of
 
 
 def is_type(text):
@@ -97,11 +131,11 @@ def description_key(text):
 
 
 def rule_of(kind):
-    return RULE_OF_KEY.get(kind.split(";")[0], Rule.OCTET)
+    return _tables[-1].rule_of.get(kind.split(";")[0], Rule.OCTET)
 
 
 def is_single(kind):
-    return kind.split(";")[0] in SINGLE
+    return kind.split(";")[0] in _tables[-1].single
 
 
 # ---- values

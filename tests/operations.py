@@ -1,6 +1,8 @@
 #!/usr/bin/env python3
 """Runs slapkit on random adds, deletes, modifies and renames, and compares each run with a model of them (model.py).
 
+Half of the runs are under the attribute types of a random configuration, as definitions.py reads it.
+
 usage: operations.py PROGRAM [SEED]
 
 The model gives the report, the new copy and the undo file, which must come out byte for byte. The undo file, run on the
@@ -13,11 +15,12 @@ import sys
 import tempfile
 
 import checks
+import definitions
 import model
 import names
 from checks import expect
 from model import CODES, Add, Delete, Directory, Entry, Modify, Refused, Rename
-from names import MOST_RDNS
+from names import MOST_RDNS, Rule
 from texts import NOTHING, same
 
 RUNS = 12
@@ -37,6 +40,18 @@ TYPES = {
     "sn": ["sn", "surname"],
     "uidnumber": ["uidNumber", "UIDNUMBER"],
 }
+# types that a configuration may define, with the number of each: the definitions that are drawn from, and the names by which they are spelled. Of the first
+# ones the key is `room`, `note`, `level` and a number; the others are names more of built-in types.
+DEFINED = {
+    "room": ("( 1.3.6.1.4.1.32473.1 NAME ( 'room' 'roomName' ) EQUALITY caseIgnoreMatch SINGLE-VALUE )", ["room", "ROOMNAME", "1.3.6.1.4.1.32473.1"]),
+    "note": ("( 1.3.6.1.4.1.32473.3 SUP name NAME 'note' )", ["note", "Note", "1.3.6.1.4.1.32473.3"]),
+    "level": ("( 1.3.6.1.4.1.32473.2 NAME 'level' DESC 'a ) level' SUP uidNumber )", ["level", "LEVEL"]),
+    "1.3.6.1.4.1.32473.4": ("( 1.3.6.1.4.1.32473.4 EQUALITY octetStringMatch SINGLE-VALUE X-ORIGIN ( 'a' 'b' ) )", ["1.3.6.1.4.1.32473.4"]),
+    "exact": ("( 1.3.6.1.4.1.32473.5 NAME 'exact' EQUALITY caseExactMatch ORDERING integerOrderingMatch )", ["exact", "Exact"]),
+    "cn": ("( 2.5.4.3 NAME ( 'cn' 'fullName' ) SINGLE-VALUE )", ["fullName", "FULLNAME"]),
+    "sn": ("( 2.5.4.4 NAME 'lastName' EQUALITY integerMatch )", ["LastName"]),
+}
+BUILT_IN_SPELLINGS = dict(TYPES)
 # values with signs that a name escapes, spaces at their ends, letters of other scripts, and the same ones spelled otherwise
 TEXTS = ["a", "A", "b", "B", "c", "d", "D", " e", "F  f", "f F ", "g,h", "G,H", "i+j", "#k", 'l"l', "m\\m", "<n;n>", "o=o", "\u00fc", "\u00dc", "stra\u00dfe"]
 NUMBERS = ["1", "2", "3"]
@@ -46,12 +61,34 @@ MULTIPLE = ["cn", "cn;lang-en", "description", "note", "sn"]
 NAMING = ["cn", "cn", "cn", "description", "note", "sn", "uidnumber"]
 
 
+# ---- a random configuration
+
+
+def random_config(rng):
+    """A slapd.conf that defines some types, and the spellings of all types under it."""
+    spellings, config = {kind: list(known) for kind, known in BUILT_IN_SPELLINGS.items()}, "database mdb\nsuffix dc=com\n"
+    chosen = rng.sample(sorted(DEFINED), rng.randrange(1, len(DEFINED) + 1))
+    for kind in chosen:
+        definition, more = DEFINED[kind]
+        keyword = rng.choice(["attributetype", "AttributeType"])
+        config += rng.choice(["", "# a comment\n", 'open "quote\n', "include other.conf\n", "database monitor\n", "\n"])
+        config += f"{keyword} {definition}\n".replace(" ", rng.choice([" ", "\t", "\n ", "  "]))
+        spellings[kind] = [*spellings.get(kind, []), *more]
+    return config, spellings
+
+
+def other_types(spellings):
+    """Goes on with these types, as they are spelled."""
+    TYPES.clear()
+    TYPES.update(spellings)
+
+
 # ---- random spellings
 
 
 def other_value(rng, kind, value):
     """A value with the same key."""
-    if kind in ("note", "uidnumber"):
+    if names.rule_of(kind) in (Rule.OCTET, Rule.INTEGER):
         return value
     return rng.choice([value, value, value.upper(), value.lower(), f" {value}", value.replace(" ", "  ")])
 
@@ -97,11 +134,12 @@ def freely_printed(rng):
 
 
 def random_value(rng, kind):
-    return rng.choice(NUMBERS if kind == "uidnumber" else TEXTS)
+    return rng.choice(NUMBERS if names.rule_of(kind) is Rule.INTEGER else TEXTS)
 
 
 def random_rdn(rng):
-    kinds = rng.sample(sorted(set(NAMING)), 2) if rng.random() < 0.3 else [rng.choice(NAMING)]
+    naming = [*NAMING, *(kind for kind in TYPES if kind not in BUILT_IN_SPELLINGS)]
+    kinds = rng.sample(sorted(set(naming)), 2) if rng.random() < 0.3 else [rng.choice(naming)]
     return [(rng.choice(TYPES[kind]), random_value(rng, kind)) for kind in kinds]
 
 
@@ -120,7 +158,7 @@ def random_lines(rng, rdn):
     lines = []
     for kind in sorted(TYPES):
         if kind != "dc" and rng.random() < 0.4:
-            count = 1 if kind == "uidnumber" else rng.choice([1, 1, 2, 3])
+            count = 1 if names.is_single(kind) else rng.choice([1, 1, 2, 3])
             lines += [(rng.choice(TYPES[kind]), random_value(rng, kind)) for _ in range(count)]
     if rng.random() < 0.05:
         lines.append(("uidNumber", "007"))
@@ -136,7 +174,7 @@ def random_mods(rng, entry):
         kind = rng.choice([*TYPES, *(entry.attributes if entry else []), *large * 4])
         there = list(entry.attributes[kind][1].values()) if entry and kind in entry.attributes else []
         values = [other_value(rng, kind, value) for value in there] * 2 + [random_value(rng, kind) for _ in range(3)]
-        if kind == "uidnumber":
+        if names.rule_of(kind) is Rule.INTEGER:
             values.append("007")
         given = [rng.choice(values) for _ in range(rng.choice([0, 1, 1, 1, 2, 3]))]
         mods.append((rng.choice(["add", "add", "delete", "delete", "replace"]), rng.choice(TYPES[kind]), given))
@@ -219,7 +257,10 @@ def random_directory(rng, depth, entries=ENTRIES):
 
 
 def run(program, folder, copy, changes, new, undo):
+    """A run under the configuration of the folder, if it has one."""
     words = [program, "slapmodify", "-b", "dc=com", "--data", copy, "-l", changes, "--out", new, "--undo", undo, "-c"]
+    if pathlib.Path(folder, "conf").exists():
+        words += ["-f", "conf"]
     ended = subprocess.run(words, cwd=folder, stdin=subprocess.DEVNULL, capture_output=True, timeout=60)
     expect(ended.stderr.decode(), "", "standard error")
     return ended.returncode, ended.stdout.decode()
@@ -267,7 +308,20 @@ def back_and_forth(program, place, directory, planned, copy):
 
 
 def a_run(program, seed):
+    """A run, in half of the cases under a random configuration."""
     rng = random.Random(seed)
+    if seed % 2:
+        return run_beside_model(program, rng, seed, None)
+    config, spellings = random_config(random.Random(f"{seed} types"))
+    other_types(spellings)
+    try:
+        with names.types_of(definitions.table_of(config.encode())):
+            return run_beside_model(program, rng, seed, config)
+    finally:
+        other_types(BUILT_IN_SPELLINGS)
+
+
+def run_beside_model(program, rng, seed, config):
     # in each third run names are so long that a rename can make them too long
     directory = random_directory(rng, 55 if seed % 3 == 0 else 0)
     copy = directory.text()
@@ -278,12 +332,14 @@ def a_run(program, seed):
     with tempfile.TemporaryDirectory() as folder:
         place = pathlib.Path(folder)
         place.joinpath("copy").write_text(copy)
+        if config:
+            place.joinpath("conf").write_text(config)
         place.joinpath("changes").write_text(planned.text)
         expect(run(program, folder, "copy", "changes", "new", "undo"), planned.answer(), "the run")
         same(place.joinpath("new").read_text(), directory.text(), "the new copy")
         same(place.joinpath("undo").read_text(), undo_text(planned.groups), "the undo file")
         back_and_forth(program, place, directory, planned, copy)
-    return f"{len(planned.groups)} accepted, refused with {' '.join(map(str, sorted(set(planned.refused))))}"
+    return f"{len(planned.groups)} accepted, refused with {' '.join(map(str, sorted(set(planned.refused))))}{', with a configuration' if config else ''}"
 
 
 def main():

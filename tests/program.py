@@ -198,7 +198,7 @@ def a_verbose_run_reports_each_record(trial):
 
 
 def one_option_alone_is_refused(trial):
-    options = (["-b", "dc=com"], ["--data", "copy"], ["--out", "new"], ["--undo", "undo"], ["-l", "changes"])
+    options = (["-b", "dc=com"], ["--data", "copy"], ["--out", "new"], ["--undo", "undo"], ["-l", "changes"], ["-f", "changes"])
     for words in (*options, ["-c"], ["-u"], ["-v"]):
         status, told, said = trial.run(["slapmodify", *words], typed=ADD)
         expect((status, told, said != ""), (1, "", True), words)
@@ -335,6 +335,100 @@ def paths_must_differ(trial):
             trial.expect_no_files()
     for words, named in ((["--out", "copy"], "copy"), (["--undo", "x", "-l", "x"], "x")):
         expect(trial.modify("-u", *words), (1, "", f"slapkit: same path twice: {named}\n"), words)
+
+
+def the_configuration_has_a_path_of_its_own(trial):
+    # its path is the first of all
+    for dry in ([], ["-u"]):
+        for words, named in (
+            (["-f", "copy", *ONTO, "-l", "copy"], "copy"),
+            (["-f", "new", *ONTO], "new"),
+            (["-f", "undo", *ONTO], "undo"),
+            (["-f", "changes", "-l", "changes", *ONTO], "changes"),
+            (["-f", "x", "--out", "y", "--undo", "y", "-l", "x"], "y"),
+        ):
+            expect(trial.modify(*dry, *words, typed=ADD), (1, "", f"slapkit: same path twice: {named}\n"), words)
+            trial.expect_no_files()
+
+
+ROOM = "attributetype ( 1.3.6.1.4.1.32473.1 NAME ( 'room' 'roomName' )\n  EQUALITY caseIgnoreMatch SINGLE-VALUE )\n"
+LEVEL = "attributetype ( 1.3.6.1.4.1.32473.2 NAME 'level' SUP uidNumber )\n"
+IN_A_ROOM = COPY + "dn: cn=e,dc=com\ncn: e\nroom: A 1\n\n"
+
+
+def adds(kind, *values):
+    """A modify that adds these values."""
+    return "dn: cn=e,dc=com\nchangetype: modify\n" + f"add: {kind}\n" + "".join(f"{kind}: {value}\n" for value in values) + "-\n\n"
+
+
+def values_are_compared_by_the_types_of_the_configuration(trial):
+    trial.write("copy", IN_A_ROOM)
+    rooms = adds("roomName", "a  1") + adds("room", "b")
+    refused = "line 1: refused, 20 attributeOrValueExists\nline 7: refused, 19 constraintViolation\naccepted 0, refused 2\n"
+    for conf, changes, answer in (
+        (ROOM, rooms, (1, refused)),
+        # wherever it stands, whatever else is there, in any case, and with what continues the line
+        (f'database config\nopen "quote\nATTRIBUTETYPE\t\n {ROOM[14:]}access to * by * read\\\n', rooms, (1, refused)),
+        ("", rooms, (0, "accepted 2, refused 0\n")),
+        # what is a comment, or of another directive, defines nothing
+        (f"# a comment\n {ROOM}#{ROOM}include {ROOM}", rooms, (0, "accepted 2, refused 0\n")),
+        (LEVEL, adds("level", "007"), (1, "line 1: refused, 21 invalidAttributeSyntax\naccepted 0, refused 1\n")),
+        (LEVEL, adds("level", "7", "8"), (0, "accepted 1, refused 0\n")),
+        ("attributetype ( 2.5.4.3 NAME 'fullName' )\n", adds("fullName", "E"), (1, "line 1: refused, 20 attributeOrValueExists\naccepted 0, refused 1\n")),
+    ):
+        trial.write("conf", conf)
+        expect(trial.modify("-u", "-c", "-f", "conf", typed=changes), (*answer, ""), conf)
+    expect(trial.modify("-u", "-c", typed=rooms), (0, "accepted 2, refused 0\n", ""), "without -f")
+    expect(trial.names(), ["conf"], "files")
+
+
+def a_run_under_the_types_of_a_configuration_is_taken_back(trial):
+    trial.write("conf", ROOM)
+    trial.write("copy", IN_A_ROOM)
+    replaced = "dn: cn=e,dc=com\nchangetype: modify\nreplace: roomName\nroomName: b\n-\n"
+    expect(trial.modify("-f", "conf", *ONTO, typed=replaced), (0, "accepted 1, refused 0\n", ""))
+    trial.expect_files(IN_A_ROOM.replace("room: A 1", "roomName: b"), NOTHING + replaced.replace("roomName: b", "room: A 1").replace("replace: roomName", "replace: room") + "\n")
+    words = ["slapmodify", "-b", "dc=com", "--data", "new", "-l", "undo", "--out", "back", "--undo", "redo", "-f", "conf"]
+    expect(trial.run(words), (0, "accepted 1, refused 0\n", ""))
+    expect(trial.text("back"), IN_A_ROOM, "the copy again")
+
+
+def the_types_are_read_before_the_copy_is_opened(trial):
+    bad = LEVEL.replace("uidNumber", "nothing")
+    too_long = LEVEL + "#" * (16_777_216 - len(LEVEL))
+    for conf, told in (
+        (bad, "config, line 1: C12 BadType"),
+        (f"{ROOM}\n# a comment\n\n{bad}{bad}", "config, line 6: C12 BadType"),
+        (f"{LEVEL}{LEVEL}", "cannot open none"),
+        (ROOM.replace("roomName", "sn"), "config, line 1: C12 BadType"),
+        ("attributetype\n", "config, line 1: C12 BadType"),
+        ("attributetype ( OLcfgAt:1 NAME 'a' )\n", "config, line 1: C12 BadType"),
+        (too_long, "cannot open none"),
+        (f"{too_long}#", "config, line 0: C11 ConfigTooLong"),
+    ):
+        trial.write("conf", conf)
+        for words in (ONTO, ["-u"]):
+            found = trial.run(["slapmodify", "-b", "dc=com", "--data", "none", "-f", "conf", *words], typed=ADD)
+            expect(found, (1, "", f"slapkit: {told}\n"), conf[:200])
+            expect(trial.names(), ["conf"], "files")
+    for words in (ONTO, ["-u"]):
+        found = trial.run(["slapmodify", "-b", "cn", "--data", "none", "-l", "nothing", "-f", "no", *words])
+        expect(found, (1, "", "slapkit: cannot open no\n"))
+        expect(trial.modify("-f", ".", *words), (1, "", "slapkit: cannot read config\n"))
+
+
+def the_types_of_a_question_are_those_of_its_configuration(trial):
+    trial.write("copy", IN_A_ROOM)
+    rules = f'{RULED}access to filter="(roomName=a  1)" by * none\n{READ_BY_ALL}'
+    words = ["slapacl", "-b", "cn=e,dc=com", "-f", "conf", "--data", "copy", "room"]
+    unknown = noted((3, 'unknown attribute "roomName"')) + 'slapkit: note: word "room": unknown attribute "room"\n'
+    for conf, answer in (
+        (f"{rules}{ROOM}", (0, "room: =0\n", "")),
+        (rules, (0, "room: =rscxd\n", unknown)),
+        (f"{rules}{ROOM}suffix\n{LEVEL.replace('uidNumber', 'x')}", (1, "", "slapkit: config, line 8: C12 BadType\n")),
+    ):
+        trial.write("conf", conf)
+        expect(trial.run(words), answer, conf)
 
 
 def the_copy_is_not_written_over(trial):
@@ -783,6 +877,11 @@ TRIALS = [
     an_undo_file_that_is_there_comes_first,
     a_link_is_not_followed_to_a_file_that_is_made,
     paths_must_differ,
+    the_configuration_has_a_path_of_its_own,
+    values_are_compared_by_the_types_of_the_configuration,
+    a_run_under_the_types_of_a_configuration_is_taken_back,
+    the_types_are_read_before_the_copy_is_opened,
+    the_types_of_a_question_are_those_of_its_configuration,
     the_copy_is_not_written_over,
     the_copy_is_opened_before_the_changes,
     a_folder_cannot_be_read,

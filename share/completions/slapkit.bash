@@ -18,6 +18,6 @@ _slapkit() {
         COMPREPLY=($(compgen -W "-b -f --data -D -u -v --strict --help" -- "$cur"))
         return
     fi
-    COMPREPLY=($(compgen -W "-b --data --out --undo -l -c -u -v --help" -- "$cur"))
+    COMPREPLY=($(compgen -W "-b --data --out --undo -l -f -c -u -v --help" -- "$cur"))
 }
 complete -F _slapkit slapkit

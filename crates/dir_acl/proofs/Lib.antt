@@ -1,6 +1,7 @@
 pub mod Cuts
 pub mod Digits
 pub mod EscapeSteps
+pub mod FirstPlaces
 pub mod Grammar
 pub mod Groups
 pub mod KnownRules

@@ -1,24 +1,28 @@
 -- What a slapd.conf says (slapd.conf(5)): the suffix and the rootdn of its one database, and its access rules; or its first fault, with the line of its
--- directive. `config_of` at the end of this page is the whole. The first faulty line decides, and in a line the first faulty argument.
+-- directive. `config_of` at the end of this page is the whole. The first faulty line decides, and in a line the first faulty argument. The attribute types that it
+-- defines are `config_types`.
 pub mod AccessRules
 pub mod Arguments
 pub mod Lines
 pub mod Names
 pub mod Permissions
+pub mod Types
 pub mod Whats
 pub mod Whos
-use Rattle.std.specs.Prelude.{ℕ, ◌+◌, Bool, true, false, cond, not, ◌||◌, ◌==◌, nat_lt, List, [], ◌∷◌, ◌++◌, length, codes, Option, Some, None, is_some, Result, Ok, Err}
+use Rattle.std.specs.Prelude.{ℕ, ◌+◌, Bool, true, false, cond, not, ◌||◌, ◌==◌, nat_lt, List, [], ◌∷◌, ◌++◌, length, codes, Option, Some, None, is_some, ok_or, Result, Ok, Err}
 use Rattle.std.specs.List.{list_all}
 use Rattle.dir_names.specs.Keys.{DnKeys}
 use Rattle.dir_names.specs.Results.{and_then}
+use Rattle.dir_names.specs.Types.Adding.{table_with_text}
 use Rattle.dir_names.specs.declared.schema.TypeRow.{TypeRow}
 use Rattle.dir_acl.specs.declared.fault.ConfigCause.{ConfigCause}
-use Rattle.dir_acl.specs.declared.fault.ConfigCause.TheVariants.{BadDirective, Name, SecondDatabase, SecondSuffix, GlobalAccess, NoSuffix, ConfigTooLong}
+use Rattle.dir_acl.specs.declared.fault.ConfigCause.TheVariants.{BadDirective, Name, SecondDatabase, SecondSuffix, GlobalAccess, NoSuffix, ConfigTooLong, BadType}
 use Rattle.dir_acl.specs.declared.fault.ConfigFault.{ConfigFault}
 use Rattle.dir_acl.specs.Config.AccessRules.{access_rule_of}
-use Rattle.dir_acl.specs.Config.Arguments.{arguments_of}
-use Rattle.dir_acl.specs.Config.Lines.{is_comment, logical_lines}
+use Rattle.dir_acl.specs.Config.Arguments.{words_of}
+use Rattle.dir_acl.specs.Config.Lines.{logical_lines}
 use Rattle.dir_acl.specs.Config.Names.{is_word, name_at}
+use Rattle.dir_acl.specs.Config.Types.{definition_in}
 use Rattle.dir_acl.specs.Rules.{AccessRule, Configuration}
 
 -- what the lines so far say
@@ -107,15 +111,14 @@ directive rows settings keyword arguments =
 
 -- ---- lines
 
--- a line of white space alone has no arguments, and says nothing
+-- a line without words says nothing
 abbrev pub after_arguments : List TypeRow → Settings → List (Option (List ℕ)) → Result Settings ConfigCause
 after_arguments rows settings [] = Ok settings
 after_arguments rows settings (None ∷ more) = Err BadDirective
 after_arguments rows settings (Some keyword ∷ more) = directive rows settings keyword more
 
--- comments say nothing
 abbrev pub after_line : List TypeRow → Settings → List ℕ → Result Settings ConfigCause
-after_line rows settings line = cond (is_comment line) (Ok settings) (after_arguments rows settings (arguments_of line))
+after_line rows settings line = after_arguments rows settings (words_of line)
 
 -- the fault of a line has its number
 abbrev pub at_line : {A : Type 0} → ℕ → Result A ConfigCause → Result A ConfigFault
@@ -137,3 +140,18 @@ abbrev pub config_of : List TypeRow → List ℕ → Result Configuration Config
 config_of rows text =
     cond (nat_lt 16777216 (length text)) (Err (record { line = 0; cause = ConfigTooLong }))
     (and_then (after_lines rows no_settings (logical_lines text)) (λ settings. of_suffix settings settings.suffix))
+
+-- ---- the attribute types
+
+-- the table with what a line defines, wherever the line stands; any other line says nothing here
+abbrev pub types_with : List TypeRow → Option (List ℕ) → Result (List TypeRow) ConfigCause
+types_with rows None = Ok rows
+types_with rows (Some definition) = ok_or (table_with_text rows definition) BadType
+
+abbrev pub types_after : List TypeRow → List (ℕ × List ℕ) → Result (List TypeRow) ConfigFault
+types_after rows [] = Ok rows
+types_after rows (line ∷ lines) = and_then (at_line line.0 (types_with rows (definition_in line.1))) (λ now. types_after now lines)
+
+-- the table with all that a text defines, or the first definition that adds nothing to it
+abbrev pub config_types : List TypeRow → List ℕ → Result (List TypeRow) ConfigFault
+config_types rows text = cond (nat_lt 16777216 (length text)) (Err (record { line = 0; cause = ConfigTooLong })) (types_after rows (logical_lines text))

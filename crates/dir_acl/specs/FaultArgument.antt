@@ -1,6 +1,6 @@
 -- Which argument a fault of a slapd.conf is about, and on which physical line that begins (slapd.conf(5), "GENERAL FORMAT"). `fault_argument`, at the end of
 -- this page, is the whole. Arguments are read from left to right, so it is the last one that is read.
-use Rattle.std.specs.Prelude.{ℕ, ◌+◌, ◌-◌, cond, ◌||◌, ◌==◌, nat_lt, List, [], ◌∷◌, ◌++◌, map, drop, length, codes, Option, Some, None, is_some, option_map, Result, Ok, Err}
+use Rattle.std.specs.Prelude.{ℕ, ◌+◌, ◌-◌, cond, ◌||◌, ◌==◌, nat_lt, List, [], ◌∷◌, ◌++◌, drop, length, codes, Option, None, is_some, option_map, Result, Ok, Err}
 use Rattle.std.specs.List.{list_all, slice_get}
 use Rattle.dir_names.specs.declared.schema.TypeRow.{TypeRow}
 use Rattle.dir_acl.specs.declared.fault.ConfigCause.{ConfigCause}
@@ -8,9 +8,9 @@ use Rattle.dir_acl.specs.declared.fault.ConfigCause.TheVariants as cause
 use Rattle.dir_acl.specs.declared.fault.ConfigFault.{ConfigFault}
 use Rattle.dir_acl.specs.declared.deciding.FaultArgument.{FaultArgument}
 use Rattle.dir_acl.specs.Config.AccessRules.{Place, after_argument, before_to}
-use Rattle.dir_acl.specs.Config.Arguments.{arguments_of}
+use Rattle.dir_acl.specs.Config.Arguments.{arguments_of, words_of}
 use Rattle.dir_acl.specs.Config.Lines.{begins_with_white, physical_lines}
-use Rattle.dir_acl.specs.Notes.{after_keyword, begins_with, words_of}
+use Rattle.dir_acl.specs.Notes.{after_keyword, begins_with}
 
 -- ---- the argument: the last word of the line that is read. Words are counted from 0
 
@@ -79,7 +79,7 @@ word_of_lines at n lines words = option_map (λ word. record { line = line_with 
 abbrev pub in_line : List TypeRow → ConfigCause → ℕ → List (List ℕ) → List (Option (List ℕ)) → Option FaultArgument
 in_line rows why n lines words = word_of_lines (deciding_word rows why words) n lines words
 
--- a fault without a line is about no argument, nor is one of a text that is too long
+-- a fault without a line is about no argument, nor is one of a text that is too long, or of the definition of a type, which is not cut
 abbrev pub fault_argument : List TypeRow → List ℕ → ConfigFault → Option FaultArgument
 fault_argument rows text fault =
     cond (fault.line == 0 || nat_lt 16777216 (length text)) None

@@ -2,6 +2,7 @@ pub mod Digits
 pub mod Escapes
 pub mod Fakes
 pub mod FirstPiece
+pub mod LinesToCome
 pub mod Noting
 pub mod ReadingConfig
 pub mod Requests

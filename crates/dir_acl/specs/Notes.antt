@@ -14,8 +14,8 @@ use Rattle.dir_names.specs.declared.schema.TypeRow.{TypeRow}
 use Rattle.dir_acl.specs.declared.note.Note.{Note}
 use Rattle.dir_acl.specs.declared.note.NoteCause.{NoteCause}
 use Rattle.dir_acl.specs.declared.note.NoteCause.TheVariants.{Include, UnknownType, ObjectClass, OtherDatabase, NoRule}
-use Rattle.dir_acl.specs.Config.Arguments.{arguments_of}
-use Rattle.dir_acl.specs.Config.Lines.{is_comment, logical_lines}
+use Rattle.dir_acl.specs.Config.Arguments.{words_of}
+use Rattle.dir_acl.specs.Config.Lines.{logical_lines}
 use Rattle.dir_acl.specs.Config.Names.{form_of, is_word}
 use Rattle.dir_acl.specs.Filters.{begins_test, in_parentheses}
 use Rattle.dir_acl.specs.Signs.{open_parenthesis}
@@ -101,10 +101,6 @@ rule_notes rows n [] = []
 rule_notes rows n (word ∷ words) = word_notes rows n word ++ rule_notes rows n words
 
 -- ---- lines
-
--- the words of a line; a comment has none
-abbrev pub words_of : List ℕ → List (Option (List ℕ))
-words_of line = cond (is_comment line) [] (arguments_of line)
 
 abbrev pub begins_with : List (Option (List ℕ)) → List ℕ → Bool
 begins_with [] keyword = false

@@ -31,6 +31,7 @@ module _ {A : Type 0} where
   IsConfigCauseOf cause.Memory wanted = Unit {0}
   IsConfigCauseOf cause.NoSuffix wanted = wanted ≡ Err cause.NoSuffix
   IsConfigCauseOf cause.ConfigTooLong wanted = wanted ≡ Err cause.ConfigTooLong
+  IsConfigCauseOf cause.BadType wanted = wanted ≡ Err cause.BadType
 
   abbrev pub GivesPart : {T : Type 0} → (T → A) → Result T ConfigCause → Result A ConfigCause → Type 0
   GivesPart view result wanted = Meets IsConfigCauseOf view result wanted
@@ -48,6 +49,7 @@ module _ {A : Type 0} where
   IsCauseAt cause.Memory line wanted = line ≡ 0
   IsCauseAt cause.NoSuffix line wanted = wanted ≡ Err (record { line = line; cause = cause.NoSuffix })
   IsCauseAt cause.ConfigTooLong line wanted = wanted ≡ Err (record { line = line; cause = cause.ConfigTooLong })
+  IsCauseAt cause.BadType line wanted = wanted ≡ Err (record { line = line; cause = cause.BadType })
 
   abbrev pub IsConfigFaultOf : ConfigFault → Result A ConfigFault → Type 0
   IsConfigFaultOf fault wanted = IsCauseAt fault.cause fault.line wanted

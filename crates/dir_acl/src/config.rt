@@ -1,5 +1,6 @@
 //! The configuration of a slapd.conf (slapd.conf(5)): the suffix and the rootdn of its database, and its access rules.
-//! `lines` cuts the text, `arguments` its lines, `directives` reads these, and `access_rules` the rules among them.
+//! `lines` cuts the text, `arguments` its lines, `directives` reads these, and `access_rules` the rules among them; `types` reads
+//! the attribute types that it defines.
 
 ghost use Rattle.std.specs.Prelude.{◌≡◌, IfOk, option_copied};
 ghost use Rattle.dir_acl.specs.Config.{config_of, of_suffix};
@@ -19,6 +20,7 @@ pub(crate) mod directives;
 pub(crate) mod lines;
 mod names;
 mod permissions;
+pub(crate) mod types;
 mod whats;
 mod whos;
 
@@ -112,7 +114,7 @@ impl Config {
     }
 }
 
-fn too_long() -> ConfigFault
+pub(crate) fn too_long() -> ConfigFault
     ensures { result ≡ record { line = 0; cause = ConfigCause.ConfigTooLong } }
 {
     ConfigFault {

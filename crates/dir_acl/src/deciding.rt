@@ -4,18 +4,17 @@ ghost use Rattle.std.specs.Prelude.{◌≡◌, ◌≤◌, ◌+◌, ◌-◌, [], 
 ghost use Rattle.dir_names.specs.Cut.{parts_at};
 ghost use Rattle.dir_names.specs.Inside.Left.{parts_left};
 ghost use Rattle.dir_acl.specs.Config.AccessRules.{before_to};
-ghost use Rattle.dir_acl.specs.Config.Arguments.{step_of};
+ghost use Rattle.dir_acl.specs.Config.Arguments.{step_of, words_of};
 ghost use Rattle.dir_acl.specs.Config.Lines.{physical_lines, without_return};
 ghost use Rattle.dir_acl.specs.FaultArgument.{deciding_word, fault_argument, folded, joined, line_with, of_bad_directive, of_complete, of_directive, of_second_suffix, rule_read, word_of_lines};
 ghost use Rattle.dir_acl.specs.Inside.Wanting.{after_byte, after_bytes, next_spot, wanting_of, words_begun};
-ghost use Rattle.dir_acl.specs.Notes.{words_of};
 
 use crate::config::access_rules::{Place, after_argument};
-use crate::config::arguments::{Spot, Step, step_at};
+use crate::config::arguments::{Spot, Step, read_words, step_at};
 use crate::config::directives::are_complete;
 use crate::config::lines::{begins_with_white, is_white, without_return};
 use crate::cut::split_once;
-use crate::note::lines::{after_keyword, begins_with, read_words};
+use crate::note::lines::{after_keyword, begins_with};
 use crate::{ConfigCause, ConfigFault, MAX_CONFIG};
 use dir_names::{Bytes, Memory, Schema};
 use std::alloc::Global;
@@ -30,7 +29,8 @@ pub struct FaultArgument {
 }
 
 /// The argument that a fault of this configuration is about: of an access rule the one up to which it was read, and the last one where
-/// the line ends too early; of another directive the keyword or a name after it. A fault without a line is about none.
+/// the line ends too early; of another directive the keyword or a name after it. A fault without a line is about none, nor is one of the
+/// definition of a type, which is not cut into arguments.
 ///
 /// # Errors
 ///

@@ -85,6 +85,8 @@ pub enum ConfigCause {
     NoSuffix,
     /// The text has more than 16,777,216 bytes.
     ConfigTooLong,
+    /// What `attributetype` says is no definition of an attribute type, or one that can't be added (`NameFault::BadType`).
+    BadType,
 }
 
 impl fmt::Display for ConfigCause {
@@ -105,6 +107,7 @@ impl fmt::Display for ConfigCause {
             ConfigCause::Memory => "C9 Memory",
             ConfigCause::NoSuffix => "C10 NoSuffix",
             ConfigCause::ConfigTooLong => "C11 ConfigTooLong",
+            ConfigCause::BadType => "C12 BadType",
         })
     }
 }

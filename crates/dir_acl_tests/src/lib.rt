@@ -5,6 +5,8 @@
 #[cfg(test)]
 mod config_faults;
 #[cfg(test)]
+mod config_types;
+#[cfg(test)]
 mod fault_arguments;
 #[cfg(test)]
 mod filters;

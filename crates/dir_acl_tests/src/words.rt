@@ -49,7 +49,7 @@ static FILTER_FAULTS: [(FilterFault, &str); 3] = [
     (FilterFault::Memory, "Q3 Memory"),
 ];
 
-static CONFIG_CAUSES: [(ConfigCause, &str); 11] = [
+static CONFIG_CAUSES: [(ConfigCause, &str); 12] = [
     (ConfigCause::BadDirective, "C1 BadDirective"),
     (ConfigCause::Unsupported, "C2 Unsupported"),
     (ConfigCause::BadFilter, "C3 BadFilter"),
@@ -61,6 +61,7 @@ static CONFIG_CAUSES: [(ConfigCause, &str); 11] = [
     (ConfigCause::Memory, "C9 Memory"),
     (ConfigCause::NoSuffix, "C10 NoSuffix"),
     (ConfigCause::ConfigTooLong, "C11 ConfigTooLong"),
+    (ConfigCause::BadType, "C12 BadType"),
 ];
 
 #[test]

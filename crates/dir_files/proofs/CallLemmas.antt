@@ -1,7 +1,11 @@
 -- Calls of a file system, one after the other.
 use Rattle.std.proofs.Common.{◌≡◌, ℕ, List, [], ◌∷◌, ◌++◌, Option, None, Some, IfSome, Result, Ok, Err, inl, inr, refl, sym, ap, subst, ◌∙◌, append-nil, append_assoc}
 use Rattle.std.specs.Option.{option_copied}
+use Rattle.dir_names.specs.Table.Builtin.{builtin_rows}
+use Rattle.dir_names.specs.declared.schema.TypeRow.{TypeRow}
+use Rattle.dir_tools.specs.AccessAnswers.{IsTypesFault}
 use Rattle.dir_tools.specs.declared.fault.ToolFault.{ToolFault}
+use Rattle.dir_tools.specs.declared.fault.ToolFault.TheVariants.{Memory}
 use Rattle.dir_tools.specs.declared.run.Summary.{Summary}
 use Rattle.dir_tools.specs.Headline.{RunTerms, RunOutput}
 use Rattle.dir_tools.specs.RunAnswers.{AnswersRun, IsWholeRun, Sources, sources}
@@ -13,7 +17,7 @@ use Rattle.dir_files.specs.declared.files.Refusal.{Refusal}
 use Rattle.dir_files.specs.Faults.{FailsSo, IsNotCreated, IsNotOpened, IsNotReported, IsRunFault}
 use Rattle.dir_files.specs.Files.{Call, Disk, Told, creates, discards, opens, reports, standard_input, with_call}
 use Rattle.dir_files.specs.Paths.{outputs_of}
-use Rattle.dir_files.specs.Runs.{AllCalls, Ends, EndsWithOutputs, EndsWithoutOutputs, Made, OpensChanges, RunCalls, RunsOver, RunsOverDrafts, Tries, WritesAll, WritesOutputs, WritesReport, both_discarded, changes_text, terms_of, sources_of}
+use Rattle.dir_files.specs.Runs.{AllCalls, AreTypesOf, CallsUnder, Ends, EndsWithOutputs, EndsWithoutOutputs, FindsTypes, Made, OpensChanges, ReadsTypes, RunsOver, RunsOverDrafts, Tries, WritesAll, WritesOutputs, WritesReport, both_discarded, changes_text, terms_of, sources_of}
 
 -- ---- calls in a row
 
@@ -164,80 +168,124 @@ pub no_report_due : (A : Type 0) (report : List ℕ) (told : ToolFault) (e : Fau
 no_report_due A report told e a fails = made_none a (λ d. EndsWithoutOutputs {A = A} report (Err told) (Err e)) (λ d is. (refl, fails))
 
 -- the files to be written, with what the two sources have left and the mode
-module _ (words : ModifyWords) (result : Result Summary Fault) (mode : ℕ) (copy changes : Option (List ℕ)) where
+module _ (rows : List TypeRow) (words : ModifyWords) (result : Result Summary Fault) (mode : ℕ) (copy changes : Option (List ℕ)) where
   abbrev All : Disk → List Call → Type 0
-  All d calls = WritesAll (outputs_of words) (d.mode_at words.data.now) (terms_of words) (sources_of words d) result calls
+  All d calls = WritesAll (outputs_of words) (d.mode_at words.data.now) (terms_of rows words) (sources_of words d) result calls
 
   same_sources : (d : Disk) → copy ≡ d.text_at words.data.now → changes ≡ changes_text d (option_copied words.changes) → sources copy changes ≡ sources_of words d
   same_sources d e f = λ i. sources (e i) (f i)
 
   pub writes_some : (a b : Option Disk) (paths : OutputPaths) → outputs_of words ≡ Some paths → IfSome a (λ d. copy ≡ d.text_at words.data.now)
       → IfSome a (λ d. changes ≡ changes_text d (option_copied words.changes)) → IfSome a (λ d. mode ≡ d.mode_at words.data.now)
-      → Made a b (λ d. WritesOutputs paths mode (terms_of words) (sources copy changes) result) → Made a b All
+      → Made a b (λ d. WritesOutputs paths mode (terms_of rows words) (sources copy changes) result) → Made a b All
   writes_some a None paths is e f m made = tt
   writes_some None (Some last) paths is e f m made = absurd (made)
   writes_some (Some d) (Some last) paths is e f m made = (
     made.0,
     made.1,
-    subst (λ (o : Option OutputPaths). WritesAll o (d.mode_at words.data.now) (terms_of words) (sources_of words d) result made.0) (sym is)
-        (subst (λ (n : ℕ). WritesOutputs paths n (terms_of words) (sources_of words d) result made.0) m
-        (subst (λ (k : Sources). WritesOutputs paths mode (terms_of words) k result made.0) (same_sources d e f) made.2)),
+    subst (λ (o : Option OutputPaths). WritesAll o (d.mode_at words.data.now) (terms_of rows words) (sources_of words d) result made.0) (sym is)
+        (subst (λ (n : ℕ). WritesOutputs paths n (terms_of rows words) (sources_of words d) result made.0) m
+        (subst (λ (k : Sources). WritesOutputs paths mode (terms_of rows words) k result made.0) (same_sources d e f) made.2)),
   )
 
   pub writes_none : (a b : Option Disk) → outputs_of words ≡ None → IfSome a (λ d. copy ≡ d.text_at words.data.now)
       → IfSome a (λ d. changes ≡ changes_text d (option_copied words.changes))
-      → Made a b (λ d. WritesReport (terms_of words) (sources copy changes) result) → Made a b All
+      → Made a b (λ d. WritesReport (terms_of rows words) (sources copy changes) result) → Made a b All
   writes_none a None is e f made = tt
   writes_none None (Some last) is e f made = absurd (made)
   writes_none (Some d) (Some last) is e f made = (
     made.0,
     made.1,
-    subst (λ (o : Option OutputPaths). WritesAll o (d.mode_at words.data.now) (terms_of words) (sources_of words d) result made.0) (sym is)
-        (subst (λ (k : Sources). WritesReport (terms_of words) k result made.0) (same_sources d e f) made.2),
+    subst (λ (o : Option OutputPaths). WritesAll o (d.mode_at words.data.now) (terms_of rows words) (sources_of words d) result made.0) (sym is)
+        (subst (λ (k : Sources). WritesReport (terms_of rows words) k result made.0) (same_sources d e f) made.2),
   )
 
 -- ---- the run from its beginning, where no path is given twice
 
-module _ (words : ModifyWords) (repeated : Option (List ℕ)) (result : Result Summary Fault) (none : repeated ≡ None) where
+-- ---- the calls under some types
+
+module _ (rows : List TypeRow) (words : ModifyWords) (result : Result Summary Fault) where
   abbrev Outputs : Disk → List Call → Type 0
-  Outputs d calls = WritesAll (outputs_of words) (d.mode_at words.data.now) (terms_of words) (sources_of words d) result calls
+  Outputs d calls = WritesAll (outputs_of words) (d.mode_at words.data.now) (terms_of rows words) (sources_of words d) result calls
 
   abbrev Changes : Disk → List Call → Type 0
   Changes d calls = OpensChanges (option_copied words.changes) result (Outputs d) calls
 
-  abbrev Whole : Disk → List Call → Type 0
-  Whole d calls = AllCalls repeated words d result calls
+  abbrev Under : Disk → List Call → Type 0
+  Under d calls = CallsUnder rows words d result calls
 
-  whole : (d : Disk) (calls : List Call) → RunCalls words d result calls → Whole d calls
-  whole d calls h = subst (λ (r : Option (List ℕ)). AllCalls r words d result calls) (sym none) h
+  pub no_copy : (a b : Option Disk) (why : Refusal) → Told a b (opens words.data.now (Some why)) → FailsSo (IsNotOpened words.data.now why) result → Made a b Under
+  no_copy a b why told fails = tries_refused (opens words.data.now) (IsNotOpened words.data.now) [] result Changes a b b why told (just_none b) fails
 
-  pub no_copy : (a b : Option Disk) (why : Refusal) → Told a b (opens words.data.now (Some why)) → FailsSo (IsNotOpened words.data.now why) result → Made a b Whole
-  no_copy a b why told fails =
-      made_as a b (λ d. RunCalls words d result) Whole
-      (tries_refused (opens words.data.now) (IsNotOpened words.data.now) [] result Changes a b b why told (just_none b) fails)
-      (λ d calls is h. whole d calls h)
+  opened : (a b e : Option Disk) → Told a b (opens words.data.now None) → Made b e Changes → Made a e Under
+  opened a b e first made = made_then a b e (opens words.data.now None) Under Changes first made (λ d after is h. inl (after, refl, h))
 
-  opened : (a b e : Option Disk) → Told a b (opens words.data.now None) → Made b e Changes → Made a e Whole
-  opened a b e first made =
-      made_then a b e (opens words.data.now None) Whole Changes first made (λ d after is h. whole d (opens words.data.now None ∷ after) (inl (after, refl, h)))
-
-  pub with_input : (a b c e : Option Disk) → option_copied words.changes ≡ None → Told a b (opens words.data.now None) → Told b c standard_input → Made c e Outputs → Made a e Whole
+  pub with_input : (a b c e : Option Disk) → option_copied words.changes ≡ None → Told a b (opens words.data.now None) → Told b c standard_input → Made c e Outputs → Made a e Under
   with_input a b c e is first second made =
       opened a b e first
       (made_then b c e standard_input Changes Outputs second made
       (λ d after at h. subst (λ (o : Option (List ℕ)). OpensChanges o result (Outputs d) (standard_input ∷ after)) (sym is) (after, refl, h)))
 
   pub with_file : (a b c e : Option Disk) (path : List ℕ) → option_copied words.changes ≡ Some path → Told a b (opens words.data.now None) → Told b c (opens path None)
-      → Made c e Outputs → Made a e Whole
+      → Made c e Outputs → Made a e Under
   with_file a b c e path is first second made =
       opened a b e first
       (made_then b c e (opens path None) Changes Outputs second made
       (λ d after at h. subst (λ (o : Option (List ℕ)). OpensChanges o result (Outputs d) (opens path None ∷ after)) (sym is) (inl (after, refl, h))))
 
   pub no_file : (a b c : Option Disk) (path : List ℕ) (why : Refusal) → option_copied words.changes ≡ Some path → Told a b (opens words.data.now None)
-      → Told b c (opens path (Some why)) → FailsSo (IsNotOpened path why) result → Made a c Whole
+      → Told b c (opens path (Some why)) → FailsSo (IsNotOpened path why) result → Made a c Under
   no_file a b c path why is first second fails =
       opened a b c first
       (made_as b c (λ d. Tries (opens path) (IsNotOpened path) [] result (Outputs d)) Changes
       (tries_refused (opens path) (IsNotOpened path) [] result Outputs b c c why second (just_none c) fails)
       (λ d calls at h. subst (λ (o : Option (List ℕ)). OpensChanges o result (Outputs d) calls) (sym is) h))
+
+-- ---- the whole run, where no path is given twice
+
+module _ (words : ModifyWords) (repeated : Option (List ℕ)) (result : Result Summary Fault) (none : repeated ≡ None) where
+  abbrev GoesOn : Disk → List TypeRow → List Call → Type 0
+  GoesOn d rows calls = CallsUnder rows words d result calls
+
+  abbrev Whole : Disk → List Call → Type 0
+  Whole d calls = AllCalls repeated words d result calls
+
+  whole : (config : Option (List ℕ)) → option_copied words.config ≡ config → (d : Disk) (calls : List Call) → ReadsTypes config d result (GoesOn d) calls → Whole d calls
+  whole config is d calls h =
+      subst (λ (r : Option (List ℕ)). AllCalls r words d result calls) (sym none) (subst (λ (o : Option (List ℕ)). ReadsTypes o d result (GoesOn d) calls) (sym is) h)
+
+  -- without a configuration
+  pub without_config : (a e : Option Disk) (rows : List TypeRow) → option_copied words.config ≡ None → rows ≡ builtin_rows → Made a e (λ d. CallsUnder rows words d result) → Made a e Whole
+  without_config a e rows is same made =
+      made_as a e (λ d. CallsUnder rows words d result) Whole made (λ d calls at h. whole None is d calls (inl (rows, same, h)))
+
+  pub no_builtin : (a : Option Disk) → option_copied words.config ≡ None → FailsSo (IsRunFault Memory) result → Made a a Whole
+  no_builtin a is fails = made_none a Whole (λ d at. whole None is d [] (inr (Memory, refl, refl, fails)))
+
+  module _ (path : List ℕ) (is : option_copied words.config ≡ Some path) where
+    -- the configuration is not opened
+    pub no_config : (a b : Option Disk) (why : Refusal) → Told a b (opens path (Some why)) → FailsSo (IsNotOpened path why) result → Made a b Whole
+    no_config a b why told fails =
+        made_as a b (λ d. ReadsTypes (Some path) d result (GoesOn d)) Whole
+        (tries_refused (opens path) (IsNotOpened path) [] result (λ d. FindsTypes (AreTypesOf (d.text_at path)) (IsTypesFault builtin_rows (d.text_at path)) result (GoesOn d)) a b b why told (just_none b) fails)
+        (λ d calls at h. whole (Some path) is d calls h)
+
+    -- it is opened; and what its reader has left is its text
+    module _ (a b e : Option Disk) (text : Option (List ℕ)) (told : Told a b (opens path None)) (left : IfSome b (λ d. text ≡ d.text_at path)) where
+      left_at : (d : Disk) → b ≡ Some d → text ≡ d.text_at path
+      left_at d at = subst (λ (s : Option Disk). IfSome s (λ x. text ≡ x.text_at path)) at left
+
+      pub with_config : (rows : List TypeRow) → AreTypesOf text rows → Made b e (λ d. CallsUnder rows words d result) → Made a e Whole
+      with_config rows types made =
+          made_then a b e (opens path None) Whole (λ d calls. (text ≡ d.text_at path) × CallsUnder rows words d result calls) told
+          (made_as b e (λ d. CallsUnder rows words d result) (λ d calls. (text ≡ d.text_at path) × CallsUnder rows words d result calls) made (λ d calls at h. (left_at d at, h)))
+          (λ d after at h. whole (Some path) is d (opens path None ∷ after)
+          (inl (after, refl, inl (rows, subst (λ (t : Option (List ℕ)). AreTypesOf t rows) h.0 types, h.1))))
+
+    pub bad_config : (a b : Option Disk) (text : Option (List ℕ)) (why : ToolFault) → Told a b (opens path None) → IfSome b (λ d. text ≡ d.text_at path) → IsTypesFault builtin_rows text why
+        → FailsSo (IsRunFault why) result → Made a b Whole
+    bad_config a b text why told left fault fails =
+        made_then a b b (opens path None) Whole (λ d calls. (text ≡ d.text_at path) × (calls ≡ [])) told
+        (made_as b b (Just []) (λ d calls. (text ≡ d.text_at path) × (calls ≡ [])) (just_none b) (λ d calls at same. (left_at a b b text told left d at, same)))
+        (λ d after at h. whole (Some path) is d (opens path None ∷ after)
+        (inl (after, refl, inr (why, subst (λ (t : Option (List ℕ)). IsTypesFault builtin_rows t why) h.0 fault, h.1, fails))))

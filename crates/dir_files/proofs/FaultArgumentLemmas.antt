@@ -1,5 +1,5 @@
 -- The argument that is told after a fault of the configuration.
-use Rattle.std.proofs.Common.{◌≡◌, ◌⊎◌, ℕ, Bool, true, false, List, [], ◌∷◌, Option, None, Some, IfOk, IfSome, Result, Ok, Err, inl, inr, refl, sym, subst}
+use Rattle.std.proofs.Common.{◌≡◌, ℕ, Bool, true, false, List, [], Option, None, Some, IfOk, IfSome, Result, Ok, Err, inl, inr, refl, sym, subst}
 use Rattle.dir_names.specs.Table.Builtin.{builtin_rows}
 use Rattle.dir_names.specs.declared.fault.memory.Memory.{Memory}
 use Rattle.dir_acl.specs.declared.deciding.FaultArgument.{FaultArgument}
@@ -10,7 +10,7 @@ use Rattle.dir_tools.specs.AccessAnswers.{IsArgumentOf, IsConfigFault}
 use Rattle.dir_files.specs.declared.words.AccessWords.{AccessWords}
 use Rattle.dir_files.specs.declared.fault.Fault.{Fault}
 use Rattle.dir_files.specs.declared.fault.Fault.TheVariants as fault
-use Rattle.dir_files.specs.FaultArguments.{AreArgumentsFor, AreArgumentsOf, IsTold, TellsArgument, handed_over}
+use Rattle.dir_files.specs.FaultArguments.{AreArgumentsFor, AreArgumentsOf, TellsArgument, handed_over}
 use Rattle.dir_files.specs.Faults.{IsRunFault, IsTool}
 use Rattle.dir_files.specs.Files.{Call, Disk, Told, opens}
 use Rattle.dir_files.specs.Notes.{WereGiven, told_text}

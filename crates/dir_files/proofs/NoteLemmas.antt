@@ -7,16 +7,26 @@ use Rattle.std.specs.Str.{IsUtf8}
 use Rattle.std.proofs.lemmas.Str.{is_utf8-from_IsUtf8}
 use Rattle.std.proofs.Output.{has_written_append, has_written_of_eq}
 use Rattle.dir_names.proofs.AsciiFolding.{not_utf8}
+use Rattle.dir_names.specs.Results.{and_then}
+use Rattle.dir_names.specs.declared.schema.TypeRow.{TypeRow}
 use Rattle.dir_names.specs.Table.Builtin.{builtin_rows}
+use Rattle.dir_acl.specs.declared.fault.ConfigFault.{ConfigFault}
+use Rattle.dir_acl.specs.Config.{config_of, config_types}
+use Rattle.dir_acl.specs.Notes.{notes_of}
+use Rattle.dir_acl.specs.Rules.{Configuration}
 use Rattle.dir_acl.specs.declared.note.Note.{Note}
 use Rattle.dir_tools.specs.declared.fault.Input.TheVariants as input
 use Rattle.dir_tools.specs.declared.fault.ToolFault.{ToolFault}
 use Rattle.dir_tools.specs.declared.fault.ToolFault.TheVariants as tool
-use Rattle.dir_tools.specs.AccessAnswers.{ComesAfterConfig, IsConfigFault}
+use Rattle.dir_tools.specs.AccessAnswers.{ComesAfterConfig, IsConfigFault, IsTextOf}
+use Rattle.dir_tools.specs.declared.acl.configuration.NotedConfig.{NotedConfig}
+use Rattle.dir_tools.specs.AccessReport.{Configured, configured}
+use Rattle.dir_tools.specs.Inside.Asking.{configured_of}
+use Rattle.dir_tools.specs.WordNotes.{notes_on_words}
 use Rattle.dir_files.specs.declared.words.AccessWords.{AccessWords}
 use Rattle.dir_files.specs.declared.fault.Fault.{Fault}
 use Rattle.dir_files.specs.declared.fault.Fault.TheVariants as fault
-use Rattle.dir_files.specs.AccessRuns.{IsEndOfNotes}
+use Rattle.dir_files.specs.AccessRuns.{IsEndOfNotes, asked_for}
 use Rattle.dir_files.specs.Escape.{escaped}
 use Rattle.dir_files.specs.Faults.{IsRunFault, IsTool}
 use Rattle.dir_files.specs.Files.{Call, Disk, Told, opens}
@@ -45,6 +55,34 @@ two_written took f g h r s a b all first ok second whole plain ok' =
 pub none_given : {A : Type 0} (a : Option (List A)) → WereGiven a a []
 none_given None = tt
 none_given (Some before) = sym (append-nil before)
+
+-- ---- the types that a configuration defines
+
+types_in : (rows : List TypeRow) (text : List ℕ) (found : Configured) → configured rows text ≡ Ok found → config_types rows text ≡ Ok found.rows
+types_in rows text found e = by (config_types rows text) refl e
+  where
+    under : (now : List TypeRow) (r : Result Configuration ConfigFault) → and_then r (λ c. Ok (record { rows = now; configuration = c })) ≡ Ok found → now ≡ found.rows
+    under now (Ok c) e = cc
+    under now (Err fault) e = absurd (cc)
+
+    by : (r : Result (List TypeRow) ConfigFault) → config_types rows text ≡ r → and_then r (λ now. and_then (config_of now text) (λ c. Ok (record { rows = now; configuration = c }))) ≡ Ok found → config_types rows text ≡ Ok found.rows
+    by (Ok now) is e = is ∙ ap Ok (under now (config_of now text) e)
+    by (Err fault) is e = absurd (cc)
+
+typed : (rows : List TypeRow) (text : Option (List ℕ)) (found : Configured) → IsTextOf rows text found → IfSome text (λ text. config_types rows text ≡ Ok found.rows)
+typed rows None found h = tt
+typed rows (Some text) found h = types_in rows text found h
+
+-- the notes on a configuration that was read from the built-in types, and on the words of the question
+pub are_notes : (words : AccessWords) (text : Option (List ℕ)) (rows : List TypeRow) (found : NotedConfig) (notes : List Note) → rows ≡ builtin_rows → IsTextOf rows text (configured_of found)
+    → IfSome text (λ text. found.notes.items ≡ notes_of found.types text) → notes ≡ found.notes.items ++ notes_on_words found.types (asked_for words).words → AreNotesOf words text notes
+are_notes words text rows found notes same config read all = record {
+  rows = found.types;
+  typed = typed builtin_rows text (configured_of found) (subst (λ (r : List TypeRow). IsTextOf r text (configured_of found)) same config);
+  found = found.notes.items;
+  read = read;
+  all = all;
+}
 
 -- ---- a configuration that isn't read
 
@@ -124,7 +162,7 @@ ended A words text notes (fault.Exists path) h are some = absurd (h)
 -- ---- the text, where the file system tells its calls until the end
 
 unknown_text : (words : AccessWords) (text : Option (List ℕ)) (notes : List Note) → AreNotesOf words text notes → AreNotesOf words None notes
-unknown_text words text notes h = record { found = h.found; read = tt; all = h.all }
+unknown_text words text notes h = record { rows = h.rows; typed = tt; found = h.found; read = tt; all = h.all }
 
 unknown_before : (words : AccessWords) (text : Option (List ℕ)) (notes : List Note) (e : ToolFault) → AreToldBefore words text e notes → AreToldBefore words None e notes
 unknown_before words text notes (tool.Config why) h = h

@@ -26,7 +26,7 @@ asked_for words = record {
   verbose = words.verbose;
 }
 
--- with the built-in types
+-- with the built-in types, to which those that the configuration defines are added
 abbrev pub access_terms_of : AccessWords → AccessTerms
 access_terms_of words = access_terms builtin_rows (asked_for words)
 

@@ -4,7 +4,8 @@ use Rattle.dir_names.specs.Table.Builtin.{builtin_rows}
 use Rattle.dir_names.specs.declared.fault.memory.Memory.{Memory}
 use Rattle.dir_acl.specs.declared.deciding.FaultArgument.{FaultArgument}
 use Rattle.dir_acl.specs.declared.fault.ConfigFault.{ConfigFault}
-use Rattle.dir_acl.specs.FaultArgument.{fault_argument}
+use Rattle.dir_acl.specs.Config.{config_types}
+use Rattle.dir_tools.specs.AccessAnswers.{argument_under}
 use Rattle.dir_tools.specs.declared.fault.ToolFault.{ToolFault}
 use Rattle.dir_tools.specs.declared.fault.ToolFault.TheVariants as tool
 use Rattle.dir_files.specs.declared.words.AccessWords.{AccessWords}
@@ -12,12 +13,12 @@ use Rattle.dir_files.specs.declared.fault.Fault.{Fault}
 use Rattle.dir_files.specs.declared.fault.Fault.TheVariants.{Tool}
 use Rattle.dir_files.specs.Notes.{WereGiven}
 
--- the words ask for more to be told, and this is the argument that the fault is about, with the built-in types
+-- the words ask for more to be told, and this is the argument that the fault is about, with the built-in types and those that the configuration defines
 pub record IsTold (words : AccessWords) (text : Option (List ℕ)) (fault : ConfigFault) (arguments : List FaultArgument) : Type 0 where
   pub verbose : words.verbose ≡ true
   pub argument : FaultArgument
   pub alone : arguments ≡ argument ∷ []
-  pub found : IfSome text (λ text. Some argument ≡ fault_argument builtin_rows text fault)
+  pub found : IfSome text (λ text. Some argument ≡ argument_under (config_types builtin_rows text) text fault)
 
 -- the arguments that are told of the tool's fault: that of the configuration's fault, or none. There is none, too, where memory ran out as it was sought
 abbrev pub AreArgumentsOf : AccessWords → Option (List ℕ) → ToolFault → List FaultArgument → Type 0

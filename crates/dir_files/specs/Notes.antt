@@ -1,7 +1,9 @@
 -- The notes that are told before slapacl answers.
 use Rattle.std.specs.Prelude.{◌≡◌, ◌≢◌, ◌⊎◌, ℕ, ⊤, Bool, true, List, [], ◌++◌, Option, None, Some, IfSome, Result, Ok, Err}
+use Rattle.dir_names.specs.declared.schema.TypeRow.{TypeRow}
 use Rattle.dir_names.specs.Table.Builtin.{builtin_rows}
 use Rattle.dir_acl.specs.declared.note.Note.{Note}
+use Rattle.dir_acl.specs.Config.{config_types}
 use Rattle.dir_acl.specs.Notes.{notes_of}
 use Rattle.dir_ldif.specs.Device.{HasFailed}
 use Rattle.dir_tools.specs.declared.fault.Input.TheVariants as input
@@ -21,11 +23,13 @@ WereGiven before None notes = ⊤
 WereGiven None (Some after) notes = ⊥
 WereGiven (Some before) (Some after) notes = after ≡ before ++ notes
 
--- they are those on the configuration with this text, and then those on the words of the question, with the built-in types
+-- they are those on the configuration with this text, and then those on the words of the question, with the built-in types and those that the configuration defines
 pub record AreNotesOf (words : AccessWords) (text : Option (List ℕ)) (notes : List Note) : Type 0 where
+  pub rows : List TypeRow
+  pub typed : IfSome text (λ text. config_types builtin_rows text ≡ Ok rows)
   pub found : List Note
-  pub read : IfSome text (λ text. found ≡ notes_of builtin_rows text)
-  pub all : notes ≡ found ++ notes_on_words builtin_rows (asked_for words).words
+  pub read : IfSome text (λ text. found ≡ notes_of rows text)
+  pub all : notes ≡ found ++ notes_on_words rows (asked_for words).words
 
 -- where a strict answer is wanted, there are none
 abbrev pub MayBeAnswered : Bool → List Note → Type 0

@@ -13,9 +13,10 @@ abbrev pub given : Option (List ℕ) → List (List ℕ)
 given None = []
 given (Some path) = path ∷ []
 
--- the paths that are given: the copy, the new copy, the undo file, the changes. In a dry run too they must differ
+-- the paths that are given: the configuration, the copy, the new copy, the undo file, the changes. In a dry run too they must differ
 abbrev pub paths_of : ModifyWords → List (List ℕ)
-paths_of words = words.data.now ∷ given (option_copied words.out) ++ given (option_copied words.undo) ++ given (option_copied words.changes)
+paths_of words = given (option_copied words.config) ++ words.data.now ∷ given (option_copied words.out) ++ given (option_copied words.undo)
+    ++ given (option_copied words.changes)
 
 abbrev pub first_seen_before : List (List ℕ) → List (List ℕ) → Option (List ℕ)
 first_seen_before before [] = None

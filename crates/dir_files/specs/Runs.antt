@@ -1,9 +1,13 @@
 -- The calls of a run on its file system, and what goes through the files.
-use Rattle.std.specs.Prelude.{◌≡◌, ◌⊎◌, ℕ, List, [], ◌∷◌, ◌++◌, Option, None, Some, Result, Ok, Err, ⊤}
+use Rattle.std.specs.Prelude.{◌≡◌, ◌⊎◌, ℕ, List, [], ◌∷◌, ◌++◌, Option, None, Some, IfSome, Result, Ok, Err, ⊤}
 use Rattle.std.specs.Option.{option_copied}
 use Rattle.dir_names.specs.Table.Builtin.{builtin_rows}
+use Rattle.dir_names.specs.declared.schema.TypeRow.{TypeRow}
+use Rattle.dir_acl.specs.Config.{config_types}
+use Rattle.dir_tools.specs.AccessAnswers.{IsTypesFault}
 use Rattle.dir_tools.specs.declared.fault.Output.TheVariants as to
 use Rattle.dir_tools.specs.declared.fault.ToolFault.{ToolFault}
+use Rattle.dir_tools.specs.declared.fault.ToolFault.TheVariants.{Memory}
 use Rattle.dir_tools.specs.declared.run.Summary.{Summary}
 use Rattle.dir_tools.specs.Headline.{RunTerms, RunOutput, terms}
 use Rattle.dir_tools.specs.RunAnswers.{AnswersRun, IsWholeRun, Sources, sources}
@@ -43,11 +47,27 @@ abbrev pub OpensChanges : {A : Type 0} → Option (List ℕ) → Result A Fault 
 OpensChanges (Some path) result rest calls = Opens path result rest calls
 OpensChanges None result rest calls = Then standard_input rest calls
 
+-- ---- the attribute types
+
+-- the built-in types with all that the text of a configuration defines, where it is known
+abbrev pub AreTypesOf : Option (List ℕ) → List TypeRow → Type 0
+AreTypesOf text rows = IfSome text (λ text. config_types builtin_rows text ≡ Ok rows)
+
+-- such types are found, and the run goes on under them; or the tool has such a fault, and no call is left
+abbrev pub FindsTypes : {A : Type 0} → (List TypeRow → Type 0) → (ToolFault → Type 0) → Result A Fault → (List TypeRow → Calls) → Calls
+FindsTypes types fault result rest calls = ((rows : List TypeRow) × types rows × rest rows calls)
+    ⊎ ((why : ToolFault) × fault why × (calls ≡ []) × FailsSo (IsRunFault why) result)
+
+-- the configuration is opened, and its types are read; where none is named, they are the built-in ones, for which memory may run out
+abbrev pub ReadsTypes : {A : Type 0} → Option (List ℕ) → Disk → Result A Fault → (List TypeRow → Calls) → Calls
+ReadsTypes (Some path) d result rest = Opens path result (FindsTypes (AreTypesOf (d.text_at path)) (IsTypesFault builtin_rows (d.text_at path)) result rest)
+ReadsTypes None d result rest = FindsTypes (λ rows. rows ≡ builtin_rows) (λ why. why ≡ Memory) result rest
+
 -- ---- the tool's run over the files
 
--- the terms of the run that a command line asks for: with the built-in types, and the words' own suffix and options
-abbrev pub terms_of : ModifyWords → RunTerms
-terms_of words = terms builtin_rows words.suffix.now words.options
+-- the terms of the run that a command line asks for: with these types, and the words' own suffix and options
+abbrev pub terms_of : List TypeRow → ModifyWords → RunTerms
+terms_of rows words = terms rows words.suffix.now words.options
 
 -- what the tool answers over these texts, and what it writes into the undo file, the new copy and the report
 pub record RunsOver (q : RunTerms) (known : Sources) (answer : Result Summary ToolFault) (undo out report : TakenBytes) : Type 0 where
@@ -120,10 +140,14 @@ abbrev pub WritesAll : Option OutputPaths → ℕ → RunTerms → Sources → R
 WritesAll (Some paths) mode q known result calls = WritesOutputs paths mode q known result calls
 WritesAll None mode q known result calls = WritesReport q known result calls
 
--- the copy is opened first, then the changes, then the files to be written are made
+-- under these types: the copy is opened, then the changes, then the files to be written are made
+abbrev pub CallsUnder : List TypeRow → ModifyWords → Disk → Result Summary Fault → Calls
+CallsUnder rows words d result = Opens words.data.now result (OpensChanges (option_copied words.changes) result
+    (WritesAll (outputs_of words) (d.mode_at words.data.now) (terms_of rows words) (sources_of words d) result))
+
+-- the types are read first, and then the run goes on under them
 abbrev pub RunCalls : ModifyWords → Disk → Result Summary Fault → Calls
-RunCalls words d result = Opens words.data.now result (OpensChanges (option_copied words.changes) result
-    (WritesAll (outputs_of words) (d.mode_at words.data.now) (terms_of words) (sources_of words d) result))
+RunCalls words d result = ReadsTypes (option_copied words.config) d result (λ rows. CallsUnder rows words d result)
 
 -- where a path is given twice there is no call
 abbrev pub AllCalls : Option (List ℕ) → ModifyWords → Disk → Result Summary Fault → Calls

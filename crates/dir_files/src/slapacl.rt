@@ -1,7 +1,8 @@
 //! `slapkit slapacl`: the files that a command line names, and the question over them.
 
 ghost use Rattle.std.specs.Prelude.{◌≡◌, ◌≢◌, ◌++◌, [], ℕ, Err, IfErr, IfOk, List, OnErr, OnOk, Option, map};
-ghost use Rattle.dir_acl.specs.Inside.ReadingConfig.{configuration_of};
+ghost use Rattle.dir_names.specs.declared.schema.TypeRow.{TypeRow};
+ghost use Rattle.dir_tools.specs.Inside.Asking.{configured_under};
 ghost use Rattle.dir_tools.specs.AccessAnswers.{IsTextOf, access_sources};
 ghost use Rattle.dir_tools.specs.AccessReport.{access_terms};
 ghost use Rattle.dir_tools.specs.WordNotes.{notes_on_words};
@@ -19,7 +20,7 @@ use dir_acl::{Config, FaultArgument, Note};
 use dir_ldif::Source;
 use dir_names::{Bytes, Memory, Schema, Texts};
 use dir_tools::{
-    Buffer, HeldMemory, Question, ToolFault, read_config_with_argument, run_acl_under,
+    Buffer, HeldMemory, NotedConfig, Question, ToolFault, read_config_with_argument, run_acl_under,
     with_notes_on_words,
 };
 use std::alloc::Global;
@@ -79,19 +80,23 @@ fn answer<'a, F: FileSystem, T: NoteTeller, R: Source, R2: Source>(
     let Ok(schema) = Schema::builtin(alloc) else {
         return Err(run_fault(ToolFault::Memory));
     };
-    let (config, notes) = match read_config_with_argument(alloc, &schema, config) {
+    let NotedConfig {
+        types,
+        config,
+        notes,
+    } = match read_config_with_argument(alloc, &schema, config) {
         Ok(noted) => noted,
         Err(why) => {
             hand_over(teller, words.verbose, why.argument);
             return Err(run_fault(why.fault));
         }
     };
-    let (question, notes) = match noted_question(alloc, &schema, words, notes) {
+    let (question, notes) = match noted_question(alloc, &types, words, notes) {
         Ok(asked) => asked,
         Err(_) => return Err(run_fault(ToolFault::Memory)),
     };
     tell(teller, notes.as_slice(), words.strict)?;
-    report(alloc, files, &schema, &question, &config, copy)
+    report(alloc, files, &types, &question, &config, copy)
 }
 
 /// Hands over the argument that a fault is about, where more is to be told than the fault.
@@ -143,8 +148,8 @@ fn report<'a, F: FileSystem, R: Source>(
     copy: &mut R,
 ) -> Result<(), Fault<'a>>
     ensures faults { IfErr result IsAfterConfig }
-    ensures calls { (known : Option (List ℕ)) → IsTextOf schema.now known (configuration_of config.now)
-        → Made (F.disk files.old) (F.disk files.new) (λ _. Asks (access_terms schema.now question.now) (access_sources known (R.left copy.old)) result) }
+    ensures calls { (start : List TypeRow) (known : Option (List ℕ)) → IsTextOf start known (configured_under schema.now config.now)
+        → Made (F.disk files.old) (F.disk files.new) (λ _. Asks (access_terms start question.now) (access_sources known (R.left copy.old)) result) }
 {
     let mut report = Buffer::new(alloc);
     match run_acl_under(

@@ -1,25 +1,28 @@
 //! `slapkit slapmodify`: the files that a command line names, and the run over them.
 
-ghost use Rattle.std.specs.Prelude.{◌≡◌, IfErr, IfSome, None, Some};
+ghost use Rattle.std.specs.Prelude.{◌≡◌, IfErr, IfOk, IfSome, None, Some};
 ghost use Rattle.std.specs.Option.{option_copied};
+ghost use Rattle.dir_names.specs.Table.Builtin.{builtin_rows};
+ghost use Rattle.dir_tools.specs.AccessAnswers.{IsTypesFault};
 ghost use Rattle.dir_tools.specs.Headline.{RunOutput};
 ghost use Rattle.dir_tools.specs.RunAnswers.{AnswersRun, IsWholeRun, sources};
 ghost use Rattle.dir_tools.specs.StoppedReading.{HeldBefore};
 ghost use Rattle.dir_tools.specs.Writing.{FlushedInOrder, WroteInOrder};
 ghost use Rattle.dir_files.specs.Faults.{IsNotCreated, IsNotOpened, IsNotReported, IsNotWritten, IsRunFault};
 ghost use Rattle.dir_files.specs.Paths.{IsWriteFaultOf, NamesItsPath, RefusesSamePath, first_repeated, outputs_of};
-ghost use Rattle.dir_files.specs.Runs.{AllCalls, Made, Publishes, RunsOver, Syncs, WritesAll, WritesOutputs, WritesReport, changes_text, terms_of, sources_of};
+ghost use Rattle.dir_files.specs.Runs.{AllCalls, AreTypesOf, CallsUnder, Made, Publishes, RunsOver, Syncs, WritesAll, WritesOutputs, WritesReport, changes_text, terms_of, sources_of};
 
 use crate::fault::Fault;
 use crate::files::{FileSystem, Refusal};
 use crate::words::{ModifyWords, OutputPaths};
 use dir_ldif::{Sink, Source, Writer};
 use dir_names::Schema;
-use dir_tools::{Buffer, HeldMemory, Output, Summary, ToolFault, run_modify_holding};
+use dir_tools::{Buffer, HeldMemory, Output, Summary, ToolFault, run_modify_holding, run_schema};
 use std::alloc::Global;
 use std::io;
 
-/// Runs `slapmodify` on the files that the words name.
+/// Runs `slapmodify` on the files that the words name. The attribute types that a configuration defines are read first, in a dry run too,
+/// and its file is let go before another is opened.
 ///
 /// The undo file and the new copy get their names only when both are whole and synced, the undo file first, and
 /// the report is written last. After a fault nothing is left of what the run has made. The memory that the run
@@ -27,9 +30,9 @@ use std::io;
 ///
 /// # Errors
 ///
-/// In this order: two paths that are the same; a file that can't be opened, the copy before the
-/// changes; one that can't be created, the undo file before the new copy; the tool's own fault; a file that
-/// can't be synced or published, or the report that can't be written.
+/// In this order: two paths that are the same; the configuration can't be opened, or its types can't be read; another file that can't
+/// be opened, the copy before the changes; one that can't be created, the undo file before the new copy; the tool's own fault; a file
+/// that can't be synced or published, or the report that can't be written.
 pub fn run<'a, F: FileSystem>(
     alloc: Global,
     files: &mut F,
@@ -41,6 +44,46 @@ pub fn run<'a, F: FileSystem>(
     if let Some(path) = first_repeated(words) {
         return Err(Fault::SamePath(path));
     }
+    match words.config {
+        Some(path) => {
+            let config = match files.open(path) {
+                Ok(config) => config.file,
+                Err(why) => return Err(not_opened(path, why)),
+            };
+            match types_in(alloc, config) {
+                Ok(schema) => run_under(alloc, files, &schema, words),
+                Err(fault) => Err(run_fault(fault)),
+            }
+        }
+        None => match Schema::builtin(alloc) {
+            Ok(schema) => run_under(alloc, files, &schema, words),
+            Err(_) => Err(run_fault(ToolFault::Memory)),
+        },
+    }
+}
+
+/// The built-in types, with those that a configuration defines.
+fn types_in<R: Source + Drop>(alloc: Global, config: R) -> Result<Schema, ToolFault>
+    ensures ok { IfOk result (AreTypesOf (R.left config)) }
+    ensures fault { IfErr result (IsTypesFault builtin_rows (R.left config)) }
+{
+    let Ok(schema) = Schema::builtin(alloc) else {
+        return Err(ToolFault::Memory);
+    };
+    let mut config = config;
+    run_schema(alloc, &schema, &mut config)
+}
+
+/// Opens the copy and the changes, and runs over them.
+fn run_under<'a, F: FileSystem>(
+    alloc: Global,
+    files: &mut F,
+    schema: &Schema,
+    words: &ModifyWords<'a>,
+) -> Result<Summary, Fault<'a>>
+    ensures faults { IfErr result (NamesItsPath words.now) }
+    ensures calls { Made (F.disk files.old) (F.disk files.new) (λ d. CallsUnder schema.now words.now d result) }
+{
     let copy = match files.open(words.data) {
         Ok(copy) => copy,
         Err(why) => return Err(not_opened(words.data, why)),
@@ -52,11 +95,27 @@ pub fn run<'a, F: FileSystem>(
                 Ok(changes) => changes.file,
                 Err(why) => return Err(not_opened(path, why)),
             };
-            with_changes(alloc, files, words, copy.mode, &mut text, &mut changes)
+            with_changes(
+                alloc,
+                files,
+                schema,
+                words,
+                copy.mode,
+                &mut text,
+                &mut changes,
+            )
         }
         None => {
             let mut changes = files.standard_input();
-            with_changes(alloc, files, words, copy.mode, &mut text, &mut changes)
+            with_changes(
+                alloc,
+                files,
+                schema,
+                words,
+                copy.mode,
+                &mut text,
+                &mut changes,
+            )
         }
     }
 }
@@ -65,17 +124,23 @@ pub fn run<'a, F: FileSystem>(
 pub fn first_repeated<'a>(words: &ModifyWords<'a>) -> Option<&'a str>
     ensures { option_copied result ≡ first_repeated words.now }
 {
+    let config = words.config;
     let data = Some(words.data);
     let out = words.out;
     let undo = words.undo;
     let changes = words.changes;
-    if out.is_some() && out == data {
+    if data == config {
+        return data;
+    }
+    if out.is_some() && (out == config || out == data) {
         return out;
     }
-    if undo.is_some() && (undo == data || undo == out) {
+    if undo.is_some() && (undo == config || undo == data || undo == out) {
         return undo;
     }
-    if changes.is_some() && (changes == data || changes == out || changes == undo) {
+    if changes.is_some()
+        && (changes == config || changes == data || changes == out || changes == undo)
+    {
         return changes;
     }
     None
@@ -95,6 +160,7 @@ fn outputs_of<'a>(words: &ModifyWords<'a>) -> Option<OutputPaths<'a>>
 fn with_changes<'a, F: FileSystem, R: Source, R2: Source>(
     alloc: Global,
     files: &mut F,
+    schema: &Schema,
     words: &ModifyWords<'a>,
     mode: u32,
     copy: &mut R,
@@ -104,11 +170,11 @@ fn with_changes<'a, F: FileSystem, R: Source, R2: Source>(
     requires changes { IfSome (F.disk files.old) (λ d. R2.left changes.old ≡ changes_text d (option_copied words.now.changes)) }
     requires mode { IfSome (F.disk files.old) (λ d. mode ≡ d.mode_at words.now.data.now) }
     ensures faults { IfErr result (NamesItsPath words.now) }
-    ensures calls { Made (F.disk files.old) (F.disk files.new) (λ d. WritesAll (outputs_of words.now) (d.mode_at words.now.data.now) (terms_of words.now) (sources_of words.now d) result) }
+    ensures calls { Made (F.disk files.old) (F.disk files.new) (λ d. WritesAll (outputs_of words.now) (d.mode_at words.now.data.now) (terms_of schema.now words.now) (sources_of words.now d) result) }
 {
     match outputs_of(words) {
-        Some(paths) => with_outputs(alloc, files, words, &paths, mode, copy, changes),
-        None => without_outputs(alloc, files, words, copy, changes),
+        Some(paths) => with_outputs(alloc, files, schema, words, &paths, mode, copy, changes),
+        None => without_outputs(alloc, files, schema, words, copy, changes),
     }
 }
 
@@ -116,18 +182,20 @@ fn with_changes<'a, F: FileSystem, R: Source, R2: Source>(
 fn without_outputs<'a, F: FileSystem, R: Source, R2: Source>(
     alloc: Global,
     files: &mut F,
+    schema: &Schema,
     words: &ModifyWords<'a>,
     copy: &mut R,
     changes: &mut R2,
 ) -> Result<Summary, Fault<'a>>
     ensures faults { IfErr result (NamesItsPath words.now) }
-    ensures calls { Made (F.disk files.old) (F.disk files.new) (λ _. WritesReport (terms_of words.now) (sources (R.left copy.old) (R2.left changes.old)) result) }
+    ensures calls { Made (F.disk files.old) (F.disk files.new) (λ _. WritesReport (terms_of schema.now words.now) (sources (R.left copy.old) (R2.left changes.old)) result) }
 {
     let mut undo = dropped();
     let mut out = dropped();
     let mut report = Buffer::new(alloc);
     match with_files(
         alloc,
+        schema,
         words,
         copy,
         changes,
@@ -147,6 +215,7 @@ fn without_outputs<'a, F: FileSystem, R: Source, R2: Source>(
 fn with_outputs<'a, F: FileSystem, R: Source, R2: Source>(
     alloc: Global,
     files: &mut F,
+    schema: &Schema,
     words: &ModifyWords<'a>,
     paths: &OutputPaths<'a>,
     mode: u32,
@@ -155,7 +224,7 @@ fn with_outputs<'a, F: FileSystem, R: Source, R2: Source>(
 ) -> Result<Summary, Fault<'a>>
     requires { outputs_of words.now ≡ Some paths.now }
     ensures faults { IfErr result (NamesItsPath words.now) }
-    ensures calls { Made (F.disk files.old) (F.disk files.new) (λ _. WritesOutputs paths.now mode (terms_of words.now) (sources (R.left copy.old) (R2.left changes.old)) result) }
+    ensures calls { Made (F.disk files.old) (F.disk files.new) (λ _. WritesOutputs paths.now mode (terms_of schema.now words.now) (sources (R.left copy.old) (R2.left changes.old)) result) }
 {
     let mut undo = match files.create(paths.undo, mode) {
         Ok(undo) => undo,
@@ -171,6 +240,7 @@ fn with_outputs<'a, F: FileSystem, R: Source, R2: Source>(
     let mut report = Buffer::new(alloc);
     let answer = with_files(
         alloc,
+        schema,
         words,
         copy,
         changes,
@@ -241,9 +311,10 @@ fn publish_outputs<'a, F: FileSystem>(
     Ok(summary)
 }
 
-/// Runs what the words ask for, with the built-in types.
+/// Runs what the words ask for.
 fn with_files<R: Source, R2: Source, W: Sink, W2: Sink, W3: Sink>(
     alloc: Global,
+    schema: &Schema,
     words: &ModifyWords<'_>,
     copy: &mut R,
     changes: &mut R2,
@@ -253,18 +324,15 @@ fn with_files<R: Source, R2: Source, W: Sink, W2: Sink, W3: Sink>(
 ) -> Result<Summary, ToolFault>
     ensures headline { (output : RunOutput)
         × WroteInOrder words.now.options.dry result output.texts (W.taken undo.old, W.taken undo.new) (W2.taken out.old, W2.taken out.new) (W3.taken report.old, W3.taken report.new)
-        × AnswersRun (terms_of words.now) (sources (R.left copy.old) (R2.left changes.old)) result output
-        × IsWholeRun (terms_of words.now) (sources (R.left copy.old) (R2.left changes.old)) result output }
-    ensures first { IfErr result (HeldBefore (terms_of words.now) (R.left copy.old, R.left copy.new) (R2.left changes.old, R2.left changes.new)) }
+        × AnswersRun (terms_of schema.now words.now) (sources (R.left copy.old) (R2.left changes.old)) result output
+        × IsWholeRun (terms_of schema.now words.now) (sources (R.left copy.old) (R2.left changes.old)) result output }
+    ensures first { IfErr result (HeldBefore (terms_of schema.now words.now) (R.left copy.old, R.left copy.new) (R2.left changes.old, R2.left changes.new)) }
     ensures flushed { FlushedInOrder words.now.options.dry result (W.is_flushed undo.new) (W2.is_flushed out.new) (W3.is_flushed report.new) }
 {
-    let Ok(schema) = Schema::builtin(alloc) else {
-        return Err(ToolFault::Memory);
-    };
     run_modify_holding(
         alloc,
         HeldMemory::Left,
-        &schema,
+        schema,
         words.suffix.as_bytes(),
         words.options,
         copy,

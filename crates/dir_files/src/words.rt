@@ -13,6 +13,8 @@ pub struct ModifyWords<'a> {
     pub undo: Option<&'a str>,
     /// The file of changes; without it they come from standard input.
     pub changes: Option<&'a str>,
+    /// The slapd.conf that defines attribute types; without it there are the built-in ones alone.
+    pub config: Option<&'a str>,
     pub options: ModifyOptions,
 }
 

@@ -46,13 +46,14 @@ impl IsCall for Asked {
     ] };
 }
 
-/// A folder with the files `copy` and `changes`. No other file can be opened, and those two can't be created. A
+/// A folder with the files `copy`, `changes` and `config`. No other file can be opened, and those can't be created. A
 /// call may be refused that could be done.
 #[derive(Drop)]
 pub(super) struct Folder<'a> {
     alloc: Global,
     copy: &'a [u8],
     changes: &'a [u8],
+    config: &'a [u8],
     typed: &'a [u8],
     // How many calls are done before one is refused; the greatest number: all.
     good: u64,
@@ -78,11 +79,17 @@ impl<'a> Folder<'a> {
             alloc,
             copy,
             changes,
+            config: b"",
             typed,
             good,
             calls: Vec::new(alloc),
             lost: false,
         }
+    }
+
+    /// A folder with this text at `config`, which is empty at first.
+    pub(super) fn with_config(self, config: &'a [u8]) -> Folder<'a> {
+        Folder { config, ..self }
     }
 
     /// The calls, if none is missing.
@@ -95,7 +102,7 @@ impl<'a> Folder<'a> {
 
     fn note(&mut self, call: Asked)
         ensures told { Told (⟦<Folder<'a> as FileSystem>⟧.disk self.old) (⟦<Folder<'a> as FileSystem>⟧.disk self.new) (⟦<Asked as IsCall>⟧.call call) }
-        ensures texts { (self.new.copy ≡ self.old.copy) × (self.new.changes ≡ self.old.changes) × (self.new.typed ≡ self.old.typed) }
+        ensures texts { (self.new.copy ≡ self.old.copy) × (self.new.changes ≡ self.old.changes) × (self.new.config ≡ self.old.config) × (self.new.typed ≡ self.old.typed) }
     {
         if self.calls.push(call).is_err() {
             self.lost = true;
@@ -117,7 +124,7 @@ impl<'a> Folder<'a> {
 
     fn note_opened(&mut self, path: &str, why: Option<Refusal>)
         ensures told { Told (⟦<Folder<'a> as FileSystem>⟧.disk self.old) (⟦<Folder<'a> as FileSystem>⟧.disk self.new) (opens path.now why) }
-        ensures texts { (self.new.copy ≡ self.old.copy) × (self.new.changes ≡ self.old.changes) × (self.new.typed ≡ self.old.typed) }
+        ensures texts { (self.new.copy ≡ self.old.copy) × (self.new.changes ≡ self.old.changes) × (self.new.config ≡ self.old.config) × (self.new.typed ≡ self.old.typed) }
     {
         match String::from_str(self.alloc, path) {
             Ok(name) => self.note(Asked::Opens(name, why)),
@@ -126,12 +133,14 @@ impl<'a> Folder<'a> {
     }
 
     fn text_at(&self, path: &str) -> Option<&'a [u8]>
-        ensures { option_copied result ≡ folder_text self.now.copy.now self.now.changes.now path.now }
+        ensures { option_copied result ≡ folder_text self.now.copy.now self.now.changes.now self.now.config.now path.now }
     {
         if path == "copy" {
             Some(self.copy)
         } else if path == "changes" {
             Some(self.changes)
+        } else if path == "config" {
+            Some(self.config)
         } else {
             None
         }
@@ -158,7 +167,7 @@ impl<'a> FileSystem for Folder<'a> {
 
     type Draft = Buffer;
 
-    ghost disk = { λ f. if f.lost then None else Some (record { calls = map ⟦<Asked as IsCall>⟧.call f.calls.items; text_at = folder_text f.copy.now f.changes.now; mode_at = folder_mode; typed = f.typed.now }) };
+    ghost disk = { λ f. if f.lost then None else Some (record { calls = map ⟦<Asked as IsCall>⟧.call f.calls.items; text_at = folder_text f.copy.now f.changes.now f.config.now; mode_at = folder_mode; typed = f.typed.now }) };
 
     fn open(&mut self, path: &str) -> Result<Opened<Script<'a>>, Refusal> {
         match self.text_at(path) {
@@ -182,7 +191,7 @@ impl<'a> FileSystem for Folder<'a> {
     }
 
     fn create(&mut self, path: &str, mode: u32) -> Result<Buffer, Refusal> {
-        let why = if path == "copy" || path == "changes" {
+        let why = if path == "copy" || path == "changes" || path == "config" {
             Some(Refusal::Exists)
         } else {
             self.refusal()

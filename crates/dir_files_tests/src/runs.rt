@@ -27,6 +27,39 @@ const REFUSED: &[u8] = b"line 1: refused, 32 noSuchObject\naccepted 0, refused 1
 
 const WENT_ON: &[u8] = b"line 1: refused, 32 noSuchObject\naccepted 1, refused 1\n";
 
+/// An entry with a value of a type that is not built in.
+const WITH_ROOM: &[u8] = b"dn: dc=com\ndc: com\n\ndn: cn=e,dc=com\ncn: e\nroom: A 1\n\n";
+
+/// Defines that type.
+const ROOM: &[u8] =
+    b"attributetype ( 1.3.6.1.4.1.32473.1 NAME ( 'room' 'roomName' )\n  EQUALITY caseIgnoreMatch SINGLE-VALUE )\n";
+
+/// The value once more, under another name and with other spaces, and then a second value.
+const MORE_ROOMS: &[u8] =
+    b"dn: cn=e,dc=com\nchangetype: modify\nadd: roomName\nroomName: a  1\n-\n\n\
+dn: cn=e,dc=com\nchangetype: modify\nadd: room\nroom: b\n-\n";
+
+const NO_MORE_ROOMS: &[u8] =
+    b"line 1: refused, 20 attributeOrValueExists\nline 7: refused, 19 constraintViolation\naccepted 0, refused 2\n";
+
+const TWO_ACCEPTED: &[u8] = b"accepted 2, refused 0\n";
+
+const LEVEL: &[u8] = b"attributetype ( 1.3.6.1.4.1.32473.2 NAME 'level' SUP uidNumber )\n";
+
+const BAD_LEVEL: &[u8] = b"dn: cn=f,dc=com\nchangetype: add\nlevel: 007\n";
+
+const NO_LEVEL: &[u8] = b"line 1: refused, 21 invalidAttributeSyntax\naccepted 0, refused 1\n";
+
+const FULL_NAME: &[u8] = b"attributetype ( 2.5.4.3 NAME 'fullName' )\n";
+
+const SAME_NAME: &[u8] = b"dn: cn=e,dc=com\nchangetype: modify\nadd: fullName\nfullName: E\n-\n";
+
+const NO_SECOND_NAME: &[u8] =
+    b"line 1: refused, 20 attributeOrValueExists\naccepted 0, refused 1\n";
+
+/// The type above it is not known.
+const BAD_TYPE: &[u8] = b"attributetype ( 1.3.6.1.4.1.32473.2 NAME 'level' SUP nothing )\n";
+
 const STOP: ModifyOptions = ModifyOptions {
     go_on: false,
     dry: false,
@@ -52,11 +85,15 @@ const ALL: u64 = u64::MAX;
 #[derive(Clone, Copy)]
 struct Run {
     shows: &'static str,
+    config: Option<&'static str>,
     data: &'static str,
     changes: Option<&'static str>,
     /// The paths of the new copy and of the undo file.
     onto: [&'static str; 2],
     options: ModifyOptions,
+    /// The texts of the copy and of the configuration.
+    copy: &'static [u8],
+    types: &'static [u8],
     /// What the standard input has.
     typed: &'static [u8],
     /// How many calls are done before one is refused.
@@ -68,10 +105,13 @@ struct Run {
 /// The changes are in a file; other ones are typed.
 const NAMED: Run = Run {
     shows: "",
+    config: None,
     data: "copy",
     changes: Some("changes"),
     onto: ["new", "undo"],
     options: STOP,
+    copy: COPY,
+    types: b"",
     typed: MISSING,
     good: ALL,
     told: "",
@@ -84,7 +124,15 @@ const TYPED: Run = Run {
     ..NAMED
 };
 
-static RUNS: [Run; 19] = [
+/// The types are those of the configuration too, and no file is made.
+const TYPES: Run = Run {
+    config: Some("config"),
+    copy: WITH_ROOM,
+    options: DRY_ON,
+    ..TYPED
+};
+
+static RUNS: [Run; 30] = [
     Run {
         shows: "each file is made in its turn and takes its own text",
         told: "open copy;open changes;create undo 640;create new 640;sync undo UNDO;sync new NEW;publish undo UNDO;publish new NEW;report ACCEPTED;1, 0",
@@ -208,6 +256,83 @@ static RUNS: [Run; 19] = [
         told: "open copy;standard input;report REFUSED, refused;cannot write report",
         ..TYPED
     },
+    Run {
+        shows: "the types are read first",
+        config: Some("config"),
+        types: ROOM,
+        told: "open config;open copy;open changes;create undo 640;create new 640;sync undo UNDO;sync new NEW;publish undo UNDO;publish new NEW;report ACCEPTED;1, 0",
+        ..NAMED
+    },
+    Run {
+        shows: "a configuration that is not there ends the run before a copy that is not there",
+        config: Some("nothing"),
+        data: "none",
+        told: "open nothing, refused;cannot open nothing",
+        ..NAMED
+    },
+    Run {
+        shows: "so does one that is faulty",
+        config: Some("config"),
+        types: BAD_TYPE,
+        data: "none",
+        told: "open config;config, line 1: C12 BadType",
+        ..NAMED
+    },
+    Run {
+        shows: "and before a file is made",
+        config: Some("config"),
+        types: BAD_TYPE,
+        told: "open config;config, line 1: C12 BadType",
+        ..NAMED
+    },
+    Run {
+        shows: "in a dry run too",
+        types: BAD_TYPE,
+        told: "open config;config, line 1: C12 BadType",
+        ..TYPES
+    },
+    Run {
+        shows: "the configuration is not the copy",
+        config: Some("copy"),
+        told: "same path twice: copy",
+        ..TYPES
+    },
+    Run {
+        shows: "a copy that is not there is told after the types are read",
+        data: "none",
+        types: ROOM,
+        told: "open config;open none, refused;cannot open none",
+        ..TYPES
+    },
+    Run {
+        shows: "values are compared by the rule that a configuration gives them",
+        types: ROOM,
+        typed: MORE_ROOMS,
+        told: "open config;open copy;standard input;report NO_MORE_ROOMS;0, 2",
+        ..TYPES
+    },
+    Run {
+        shows: "and byte by byte without one",
+        config: None,
+        types: ROOM,
+        typed: MORE_ROOMS,
+        told: "open copy;standard input;report TWO_ACCEPTED;2, 0",
+        ..TYPES
+    },
+    Run {
+        shows: "a rule is that of the type above",
+        types: LEVEL,
+        typed: BAD_LEVEL,
+        told: "open config;open copy;standard input;report NO_LEVEL;0, 1",
+        ..TYPES
+    },
+    Run {
+        shows: "a built-in type gains a name",
+        types: FULL_NAME,
+        typed: SAME_NAME,
+        told: "open config;open copy;standard input;report NO_SECOND_NAME;0, 1",
+        ..TYPES
+    },
 ];
 
 #[test]
@@ -218,7 +343,7 @@ fn each_run_makes_its_calls_in_their_order(rt: HostRuntime) {
 }
 
 fn assert_run(rt: &impl Abort, alloc: Global, one: &Run) {
-    let mut folder = Folder::new(alloc, COPY, ADD, one.typed, one.good);
+    let mut folder = Folder::new(alloc, one.copy, ADD, one.typed, one.good).with_config(one.types);
     let answer = answer_over(alloc, &mut folder, one);
     let mut text = String::new(alloc);
     for call in folder.calls().expect(rt, "memory") {
@@ -241,6 +366,7 @@ fn answer_over(
         out: Some(out),
         undo: Some(undo),
         changes: one.changes,
+        config: one.config,
         options: one.options,
     };
     run(alloc, folder, &words)
@@ -290,12 +416,16 @@ fn mode_text(mode: u32) -> &'static str {
 }
 
 /// The texts that are written, each with a word for it.
-static WORDS: [(&[u8], &str); 5] = [
+static WORDS: [(&[u8], &str); 9] = [
     (NEW, " NEW"),
     (UNDO, " UNDO"),
     (ACCEPTED, " ACCEPTED"),
     (REFUSED, " REFUSED"),
     (WENT_ON, " WENT_ON"),
+    (NO_MORE_ROOMS, " NO_MORE_ROOMS"),
+    (TWO_ACCEPTED, " TWO_ACCEPTED"),
+    (NO_LEVEL, " NO_LEVEL"),
+    (NO_SECOND_NAME, " NO_SECOND_NAME"),
 ];
 
 /// A text that was written, in one word.

@@ -15,15 +15,22 @@ const STOP: ModifyOptions = ModifyOptions {
     verbose: false,
 };
 
-/// The paths of the copy, the new copy, the undo file and the changes, and the first that is the same as one before it.
-static PATHS: [([&str; 4], &str); 7] = [
-    (["a", "a", "b", "c"], "a"),
-    (["a", "b", "a", "c"], "a"),
-    (["a", "b", "b", "c"], "b"),
-    (["a", "b", "c", "a"], "a"),
-    (["a", "b", "c", "b"], "b"),
-    (["a", "b", "c", "c"], "c"),
-    (["a", "b", "c", "d"], ""),
+/// The paths of the configuration, the copy, the new copy, the undo file and the changes, and the first that is the same as one
+/// before it.
+static PATHS: [([&str; 5], &str); 13] = [
+    (["f", "a", "a", "b", "c"], "a"),
+    (["f", "a", "b", "a", "c"], "a"),
+    (["f", "a", "b", "b", "c"], "b"),
+    (["f", "a", "b", "c", "a"], "a"),
+    (["f", "a", "b", "c", "b"], "b"),
+    (["f", "a", "b", "c", "c"], "c"),
+    (["f", "a", "b", "c", "d"], ""),
+    (["f", "f", "b", "c", "d"], "f"),
+    (["f", "a", "f", "c", "d"], "f"),
+    (["f", "a", "b", "f", "d"], "f"),
+    (["f", "a", "b", "c", "f"], "f"),
+    (["f", "a", "a", "f", "f"], "a"),
+    (["f", "a", "f", "a", "a"], "f"),
 ];
 
 #[test]
@@ -33,18 +40,22 @@ fn paths_must_differ(rt: HostRuntime) {
     }
 }
 
-fn assert_repeated(rt: &impl Abort, paths: &[&str; 4], want: &str) {
-    let [data, out, undo, changes] = *paths;
+fn assert_repeated(rt: &impl Abort, paths: &[&str; 5], want: &str) {
+    let [config, data, out, undo, changes] = *paths;
     let words = ModifyWords {
         suffix: "dc=com",
         data,
         out: Some(out),
         undo: Some(undo),
         changes: Some(changes),
+        config: Some(config),
         options: STOP,
     };
     let found = first_repeated(&words).unwrap_or("");
-    assert!(rt; found == want, "{data} {out} {undo} {changes}: {found}");
+    assert!(rt;
+        found == want,
+        "{config} {data} {out} {undo} {changes}: {found}"
+    );
 }
 
 const BAD_NAME: Cause = Cause::Fault(RecordFault::Name(NameFault::BadDn));

@@ -5,13 +5,14 @@ use Rattle.dir_names.specs.Results.{and_then}
 use Rattle.dir_ldif.specs.SoundRecords.{IsBytes}
 use Rattle.dir_tree.specs.Dir.{Dir}
 use Rattle.dir_acl.specs.declared.fault.ConfigFault.{ConfigFault}
-use Rattle.dir_acl.specs.Config.{config_of}
+use Rattle.dir_names.specs.declared.schema.TypeRow.{TypeRow}
 use Rattle.dir_acl.specs.Rules.{Configuration}
+use Rattle.dir_tools.specs.declared.acl.Question.{Question}
 use Rattle.dir_tools.specs.declared.fault.ToolFault.{ToolFault}
 use Rattle.dir_tools.specs.declared.round_trip.RunInMemory.{RunInMemory}
 use Rattle.dir_tools.specs.declared.run.ModifyOptions.{ModifyOptions}
 use Rattle.dir_tools.specs.AccessAsBefore.{AccessIsAsBefore, HaveSameAccess}
-use Rattle.dir_tools.specs.AccessReport.{AccessTerms, access_terms, acl_report_of, ok_or_bad_config, parts_of, report_on, target_of}
+use Rattle.dir_tools.specs.AccessReport.{AccessTerms, Configured, access_terms, acl_report_of, configured, ok_or_bad_config, parts_of, report_on, target_of}
 use Rattle.dir_tools.specs.Canonical.{canonical_of}
 use Rattle.dir_tools.specs.CopyOf.{CopyFault, copy_of}
 use Rattle.dir_tools.specs.Headline.{Headline, IsTakenBack, RunOutput, RunTerms, canonical_copy_of, ok_or_bad_copy, ok_or_bad_suffix, output_of, terms}
@@ -28,22 +29,21 @@ report_from t c copied =
     and_then (ok_or_bad_copy copied) (λ d.
     and_then (target_of t.question.fake d parts.base) (λ target. Ok (report_on t.question.verbose c d parts target))))
 
-abbrev report_by : AccessTerms → List ℕ → Result Configuration ConfigFault → Result (List ℕ) ToolFault
-report_by t copy config = and_then (ok_or_bad_config config) (λ c. report_from t c (copy_of t.rows c.suffix copy))
+abbrev report_by : Question → List ℕ → Result Configured ConfigFault → Result (List ℕ) ToolFault
+report_by question copy config = and_then (ok_or_bad_config config) (λ found. report_from (access_terms found.rows question) found.configuration (copy_of found.rows found.configuration.suffix copy))
 
 -- under this suffix the two copies are texts of the same directory
 pub same_access : (q : RunTerms) (copy back : List ℕ) (key : DnKeys) → suffix_of q.rows q.suffix ≡ Some key → copy_of q.rows key back ≡ copy_of q.rows key copy → HaveSameAccess q copy back
-same_access q copy back key named same question config of_suffix = by (config_of q.rows config) refl
+same_access q copy back key named same start question config of_run = by (configured start config) refl
   where
-    by : (r : Result Configuration ConfigFault) → config_of q.rows config ≡ r → acl_report_of (access_terms q.rows question) config back ≡ acl_report_of (access_terms q.rows question) config copy
-    by (Err fault) is = ap (report_by (access_terms q.rows question) back) is ∙ sym (ap (report_by (access_terms q.rows question) copy) is)
-    by (Ok c) is =
-        let t : AccessTerms = access_terms q.rows question in
-        let its : Some key ≡ Some c.suffix = sym named ∙ of_suffix c is in
-        let key_is : key ≡ c.suffix = cc in
-        ap (report_by t back) is
-        ∙ ap (report_from t c) (subst (λ (k : DnKeys). copy_of q.rows k back ≡ copy_of q.rows k copy) key_is same)
-        ∙ sym (ap (report_by t copy) is)
+    by : (r : Result Configured ConfigFault) → configured start config ≡ r → acl_report_of (access_terms start question) config back ≡ acl_report_of (access_terms start question) config copy
+    by (Err fault) is = ap (report_by question back) is ∙ sym (ap (report_by question copy) is)
+    by (Ok found) is =
+        let its : Some key ≡ Some found.configuration.suffix = sym named ∙ (of_run found is).1 in
+        let key_is : key ≡ found.configuration.suffix = cc in
+        ap (report_by question back) is
+        ∙ ap (report_from (access_terms found.rows question) found.configuration) (subst (λ (k : DnKeys). copy_of found.rows k back ≡ copy_of found.rows k copy) key_is (subst (λ (rows : List TypeRow). copy_of rows key back ≡ copy_of rows key copy) (sym (of_run found is).0) same))
+        ∙ sym (ap (report_by question copy) is)
 
 -- a copy of which this is the canonical text
 abbrev IsCopyOf : RunTerms → List ℕ → List ℕ → Type 0

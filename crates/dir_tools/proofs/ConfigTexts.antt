@@ -10,10 +10,11 @@ use Rattle.dir_acl.specs.declared.deciding.FaultArgument.{FaultArgument}
 use Rattle.dir_acl.specs.declared.fault.ConfigCause.{ConfigCause}
 use Rattle.dir_acl.specs.declared.fault.ConfigCause.TheVariants as cause
 use Rattle.dir_acl.specs.declared.fault.ConfigFault.{ConfigFault}
-use Rattle.dir_acl.specs.Config.{config_of}
-use Rattle.dir_acl.specs.FaultArgument.{fault_argument}
+use Rattle.dir_names.specs.Results.{and_then}
+use Rattle.dir_acl.specs.Config.{config_of, config_types}
 use Rattle.dir_acl.specs.Outcome.{IsCauseAt}
-use Rattle.dir_tools.specs.AccessAnswers.{IsArgumentOf, IsConfigFault}
+use Rattle.dir_tools.specs.AccessAnswers.{IsArgumentOf, IsFaultOf, argument_under}
+use Rattle.dir_tools.specs.AccessReport.{configured}
 use Rattle.dir_tools.specs.Inside.Asking.{config_fault, fault_at}
 
 longer : (xs text ys : List ℕ) → xs ≡ text ++ ys → 16777216 < length text → nat_lt 16777216 (length xs) ≡ true
@@ -24,41 +25,34 @@ longer xs text ys e h =
 long : (text : List ℕ) → 16777216 < length text → nat_lt 16777216 (length text) ≡ true
 long text h = grind (arith, nat_tests)
 
-or_true : (a b : Bool) → b ≡ true → (a || b) ≡ true
-or_true true b e = refl
-or_true false b e = e
-
 first_of : {A : Type 0} (b : Bool) (x y : A) → b ≡ true → cond b x y ≡ x
 first_of b x y e = ap (λ c. cond c x y) e
 
-module _ (rows : List TypeRow) where
-  too_long : (text : List ℕ) → nat_lt 16777216 (length text) ≡ true → config_of rows text ≡ Err (record { line = 0; cause = cause.ConfigTooLong })
-  too_long text e = first_of (nat_lt 16777216 (length text)) (Err (record { line = 0; cause = cause.ConfigTooLong })) _ e
+-- a text that is too long has this fault, whatever it says
+abbrev pub IsLimited : {A : Type 0} → (List ℕ → Result A ConfigFault) → Type 0
+IsLimited reads = (text : List ℕ) → nat_lt 16777216 (length text) ≡ true → reads text ≡ Err (record { line = 0; cause = cause.ConfigTooLong })
 
-  about_none : (text : List ℕ) (fault : ConfigFault) → nat_lt 16777216 (length text) ≡ true → fault_argument rows text fault ≡ None
-  about_none text fault e = first_of (fault.line == 0 || nat_lt 16777216 (length text)) None _ (or_true (fault.line == 0) (nat_lt 16777216 (length text)) e)
+pub types_limited : (rows : List TypeRow) → IsLimited (config_types rows)
+types_limited rows text e = first_of (nat_lt 16777216 (length text)) (Err (record { line = 0; cause = cause.ConfigTooLong })) _ e
 
-  module _ (known after : Option (List ℕ)) (text : List ℕ) where
-    same_fault : Consumes known after text → (16777216 < length text) ⊎ IsAtEnd after → (fault : ConfigFault) → config_of rows text ≡ Err fault → IfSome known (λ all. config_of rows all ≡ Err fault)
+pub config_limited : (rows : List TypeRow) → IsLimited (configured rows)
+config_limited rows text e = ap (λ (r : Result (List TypeRow) ConfigFault). and_then r (λ now. and_then (config_of now text) (λ c. Ok (record { rows = now; configuration = c })))) (types_limited rows text e)
+
+-- ---- what was read of a source is what is told of all that it had left
+
+module _ (known after : Option (List ℕ)) (text : List ℕ) where
+  module _ {A : Type 0} (reads : List ℕ → Result A ConfigFault) (limited : IsLimited reads) where
+    same_fault : Consumes known after text → (16777216 < length text) ⊎ IsAtEnd after → (fault : ConfigFault) → reads text ≡ Err fault → IfSome known (λ all. reads all ≡ Err fault)
     same_fault = by known after
       where
-        by : (known after : Option (List ℕ)) → Consumes known after text → (16777216 < length text) ⊎ IsAtEnd after → (fault : ConfigFault) → config_of rows text ≡ Err fault → IfSome known (λ all. config_of rows all ≡ Err fault)
+        by : (known after : Option (List ℕ)) → Consumes known after text → (16777216 < length text) ⊎ IsAtEnd after → (fault : ConfigFault) → reads text ≡ Err fault → IfSome known (λ all. reads all ≡ Err fault)
         by None after e ended fault f = tt
         by (Some xs) None e ended fault f = absurd e
-        by (Some xs) (Some ys) e (inl h) fault f = too_long xs (longer xs text ys e h) ∙ sym (too_long text (long text h)) ∙ f
-        by (Some xs) (Some ys) e (inr h) fault f = ap (config_of rows) (e ∙ ap (λ rest. text ++ rest) h ∙ append-nil text) ∙ f
-
-    same_argument : Consumes known after text → (16777216 < length text) ⊎ IsAtEnd after → (fault : ConfigFault) (argument : Option FaultArgument) → argument ≡ fault_argument rows text fault → IfSome known (λ all. argument ≡ fault_argument rows all fault)
-    same_argument = by known after
-      where
-        by : (known after : Option (List ℕ)) → Consumes known after text → (16777216 < length text) ⊎ IsAtEnd after → (fault : ConfigFault) (argument : Option FaultArgument) → argument ≡ fault_argument rows text fault → IfSome known (λ all. argument ≡ fault_argument rows all fault)
-        by None after e ended fault argument f = tt
-        by (Some xs) None e ended fault argument f = absurd e
-        by (Some xs) (Some ys) e (inl h) fault argument f = f ∙ about_none text fault (long text h) ∙ sym (about_none xs fault (longer xs text ys e h))
-        by (Some xs) (Some ys) e (inr h) fault argument f = f ∙ ap (λ all. fault_argument rows all fault) (sym (e ∙ ap (λ rest. text ++ rest) h ∙ append-nil text))
+        by (Some xs) (Some ys) e (inl h) fault f = limited xs (longer xs text ys e h) ∙ sym (limited text (long text h)) ∙ f
+        by (Some xs) (Some ys) e (inr h) fault f = ap reads (e ∙ ap (λ rest. text ++ rest) h ∙ append-nil text) ∙ f
 
     module _ (consumed : Consumes known after text) (ended : (16777216 < length text) ⊎ IsAtEnd after) where
-      pub blamed : (why : ConfigCause) (line : ℕ) → IsCauseAt why line (config_of rows text) → IsConfigFault rows known (fault_at why (record { line = line; cause = why }))
+      pub blamed : (why : ConfigCause) (line : ℕ) → IsCauseAt why line (reads text) → IsFaultOf reads known (fault_at why (record { line = line; cause = why }))
       blamed cause.BadDirective line f = ((λ e. cc), same_fault consumed ended _ f)
       blamed cause.Unsupported line f = ((λ e. cc), same_fault consumed ended _ f)
       blamed cause.BadFilter line f = ((λ e. cc), same_fault consumed ended _ f)
@@ -70,7 +64,25 @@ module _ (rows : List TypeRow) where
       blamed cause.Memory line f = tt
       blamed cause.NoSuffix line f = ((λ e. cc), same_fault consumed ended _ f)
       blamed cause.ConfigTooLong line f = ((λ e. cc), same_fault consumed ended _ f)
+      blamed cause.BadType line f = ((λ e. cc), same_fault consumed ended _ f)
 
+  module _ (rows : List TypeRow) where
+    abbrev argument_in : List ℕ → ConfigFault → Option FaultArgument
+    argument_in all fault = argument_under (config_types rows all) all fault
+
+    about_none : (all : List ℕ) (fault : ConfigFault) → nat_lt 16777216 (length all) ≡ true → argument_in all fault ≡ None
+    about_none all fault e = ap (λ r. argument_under r all fault) (types_limited rows all e)
+
+    same_argument : Consumes known after text → (16777216 < length text) ⊎ IsAtEnd after → (fault : ConfigFault) (argument : Option FaultArgument) → argument ≡ argument_in text fault → IfSome known (λ all. argument ≡ argument_in all fault)
+    same_argument = by known after
+      where
+        by : (known after : Option (List ℕ)) → Consumes known after text → (16777216 < length text) ⊎ IsAtEnd after → (fault : ConfigFault) (argument : Option FaultArgument) → argument ≡ argument_in text fault → IfSome known (λ all. argument ≡ argument_in all fault)
+        by None after e ended fault argument f = tt
+        by (Some xs) None e ended fault argument f = absurd e
+        by (Some xs) (Some ys) e (inl h) fault argument f = f ∙ about_none text fault (long text h) ∙ sym (about_none xs fault (longer xs text ys e h))
+        by (Some xs) (Some ys) e (inr h) fault argument f = f ∙ ap (λ all. argument_in all fault) (sym (e ∙ ap (λ rest. text ++ rest) h ∙ append-nil text))
+
+    module _ (consumed : Consumes known after text) (ended : (16777216 < length text) ⊎ IsAtEnd after) where
       about : (why : ConfigCause) (line : ℕ) (argument : Option FaultArgument) → IsArgumentOf rows (Some text) (fault_at why (record { line = line; cause = why })) argument → IsArgumentOf rows known (fault_at why (record { line = line; cause = why })) argument
       about cause.BadDirective line argument f = same_argument consumed ended (record { line = line; cause = cause.BadDirective }) argument f
       about cause.Unsupported line argument f = same_argument consumed ended (record { line = line; cause = cause.Unsupported }) argument f
@@ -83,6 +95,7 @@ module _ (rows : List TypeRow) where
       about cause.Memory line argument f = f
       about cause.NoSuffix line argument f = same_argument consumed ended (record { line = line; cause = cause.NoSuffix }) argument f
       about cause.ConfigTooLong line argument f = same_argument consumed ended (record { line = line; cause = cause.ConfigTooLong }) argument f
+      about cause.BadType line argument f = same_argument consumed ended (record { line = line; cause = cause.BadType }) argument f
 
       pub about_it : (fault : ConfigFault) (found : Result (Option FaultArgument) NoMemory) → IfOk found (IsArgumentOf rows (Some text) (config_fault fault)) → IfOk found (IsArgumentOf rows known (config_fault fault))
       about_it fault (Ok argument) f = about fault.cause fault.line argument f

@@ -6,14 +6,14 @@ use Rattle.dir_tree.specs.Content.{Content}
 use Rattle.dir_tree.specs.Dir.{Dir}
 use Rattle.dir_acl.specs.declared.deciding.FaultArgument.{FaultArgument}
 use Rattle.dir_acl.specs.declared.fault.ConfigCause.TheVariants.{Memory}
-use Rattle.dir_acl.specs.Config.{config_of}
+use Rattle.dir_acl.specs.declared.fault.ConfigFault.{ConfigFault}
+use Rattle.dir_acl.specs.Config.{config_types}
 use Rattle.dir_acl.specs.FaultArgument.{fault_argument}
-use Rattle.dir_acl.specs.Rules.{Configuration}
 use Rattle.dir_tools.specs.declared.fault.Cause.TheVariants as cause
 use Rattle.dir_tools.specs.declared.fault.Input.TheVariants as input
 use Rattle.dir_tools.specs.declared.fault.ToolFault.{ToolFault}
 use Rattle.dir_tools.specs.declared.fault.ToolFault.TheVariants as tool
-use Rattle.dir_tools.specs.AccessReport.{AccessTerms, QuestionParts, acl_report_of, parts_of, report_on, target_of}
+use Rattle.dir_tools.specs.AccessReport.{AccessTerms, Configured, QuestionParts, access_terms, acl_report_of, configured, parts_of, report_on, target_of}
 use Rattle.dir_tools.specs.CompleteRecords.{CompleteRecordsLoad, GaveBytes, answers_after}
 use Rattle.dir_tools.specs.CopyFaults.{IsBadCopy}
 use Rattle.dir_tools.specs.CopyOf.{copy_of, empty_copy}
@@ -29,20 +29,33 @@ access_sources config copy = record { config = config; copy = copy }
 
 -- ---- a configuration
 
--- the text, where it is known, is that of this configuration
-abbrev pub IsTextOf : List TypeRow → Option (List ℕ) → Configuration → Type 0
-IsTextOf rows text configuration = IfSome text (λ text. config_of rows text ≡ Ok configuration)
+-- the text, where it is known, is that of this configuration, and these are the types with those that it defines
+abbrev pub IsTextOf : List TypeRow → Option (List ℕ) → Configured → Type 0
+IsTextOf rows text found = IfSome text (λ text. configured rows text ≡ Ok found)
 
--- the text is no configuration, and this is its first fault; or it could not be read, or memory ran out
+-- of what is read of a text, this is the first fault; or it could not be read, or memory ran out
+abbrev pub IsFaultOf : {A : Type 0} → (List ℕ → Result A ConfigFault) → Option (List ℕ) → ToolFault → Type 0
+IsFaultOf reads text (tool.Config fault) = (fault.cause ≢ Memory) × IfSome text (λ text. reads text ≡ Err fault)
+IsFaultOf reads text (tool.Read input.Config) = ⊤
+IsFaultOf reads text tool.Memory = ⊤
+IsFaultOf reads text fault = ⊥
+
+-- the text is no configuration
 abbrev pub IsConfigFault : List TypeRow → Option (List ℕ) → ToolFault → Type 0
-IsConfigFault rows text (tool.Config fault) = (fault.cause ≢ Memory) × IfSome text (λ text. config_of rows text ≡ Err fault)
-IsConfigFault rows text (tool.Read input.Config) = ⊤
-IsConfigFault rows text tool.Memory = ⊤
-IsConfigFault rows text fault = ⊥
+IsConfigFault rows text fault = IsFaultOf (configured rows) text fault
+
+-- a type that the text defines can't be added
+abbrev pub IsTypesFault : List TypeRow → Option (List ℕ) → ToolFault → Type 0
+IsTypesFault rows text fault = IsFaultOf (config_types rows) text fault
+
+-- the argument is read under the types that the text defines; the fault of a definition is about none
+abbrev pub argument_under : Result (List TypeRow) ConfigFault → List ℕ → ConfigFault → Option FaultArgument
+argument_under (Ok now) text fault = fault_argument now text fault
+argument_under (Err why) text fault = None
 
 -- the argument that this fault of a configuration is about, where the text is known; any other fault is about none
 abbrev pub IsArgumentOf : List TypeRow → Option (List ℕ) → ToolFault → Option FaultArgument → Type 0
-IsArgumentOf rows text (tool.Config fault) argument = IfSome text (λ text. argument ≡ fault_argument rows text fault)
+IsArgumentOf rows text (tool.Config fault) argument = IfSome text (λ text. argument ≡ argument_under (config_types rows text) text fault)
 IsArgumentOf rows text fault argument = argument ≡ None
 
 -- a fault of what is read after the configuration, or of the report's writer, or out of memory
@@ -53,47 +66,47 @@ ComesAfterConfig fault = ⊤
 
 -- ---- a report
 
--- a configuration, and what the parts of the question say
+-- a configuration with its types, and what the parts of the question say
 pub record Asking : Type 0 where
-  pub config : Configuration
+  pub config : Configured
   pub parts : QuestionParts
 
 -- the text is that of the configuration, and the question has these parts
 pub record IsAsked (t : AccessTerms) (config : Option (List ℕ)) (asking : Asking) : Type 0 where
   pub reads : IsTextOf t.rows config asking.config
-  pub parts : parts_of t ≡ Ok asking.parts
+  pub parts : parts_of (access_terms asking.config.rows t.question) ≡ Ok asking.parts
 
 -- the report on a directory that the copy is the text of
 pub record IsStatedReport (t : AccessTerms) (known : AccessSources) (report : List ℕ) : Type 0 where
   pub asking : Asking
   pub asked : IsAsked t known.config asking
   pub directory : Dir
-  pub copy : IfSome known.copy (λ text. copy_of t.rows asking.config.suffix text ≡ Ok directory)
+  pub copy : IfSome known.copy (λ text. copy_of asking.config.rows asking.config.configuration.suffix text ≡ Ok directory)
   pub target : Option Content
   pub target_is : target_of t.question.fake directory asking.parts.base ≡ Ok target
-  pub report_is : report ≡ report_on t.question.verbose asking.config directory asking.parts target
+  pub report_is : report ≡ report_on t.question.verbose asking.config.configuration directory asking.parts target
 
 -- ---- a fault before the writing
 
 -- the configuration is one, and the question has this fault
 pub record IsBadQuestion (t : AccessTerms) (config : Option (List ℕ)) (fault : ToolFault) : Type 0 where
-  pub configuration : Configuration
-  pub reads : IsTextOf t.rows config configuration
-  pub parts : parts_of t ≡ Err fault
+  pub found : Configured
+  pub reads : IsTextOf t.rows config found
+  pub parts : parts_of (access_terms found.rows t.question) ≡ Err fault
 
 -- the copy is the text of a directory, and the base is no entry of it
 pub record HasNoEntry (t : AccessTerms) (known : AccessSources) : Type 0 where
   pub asking : Asking
   pub asked : IsAsked t known.config asking
   pub directory : Dir
-  pub copy : IfSome known.copy (λ text. copy_of t.rows asking.config.suffix text ≡ Ok directory)
+  pub copy : IfSome known.copy (λ text. copy_of asking.config.rows asking.config.configuration.suffix text ≡ Ok directory)
   pub target_is : target_of t.question.fake directory asking.parts.base ≡ Err tool.NoEntry
 
 -- what a fault says of the texts that were read. Out of memory and a reader's fault say nothing of them
 abbrev pub IsAccessFault : AccessTerms → AccessSources → ToolFault → Type 0
-IsAccessFault t known (tool.Config fault) = (fault.cause ≢ Memory) × IfSome known.config (λ text. config_of t.rows text ≡ Err fault)
+IsAccessFault t known (tool.Config fault) = (fault.cause ≢ Memory) × IfSome known.config (λ text. configured t.rows text ≡ Err fault)
 IsAccessFault t known (tool.BadQuestion item) = IsBadQuestion t known.config (tool.BadQuestion item)
-IsAccessFault t known (tool.BadCopy line why) = (asking : Asking) × IsAsked t known.config asking × IfSome known.copy (λ text. IsBadCopy t.rows asking.config.suffix text line why)
+IsAccessFault t known (tool.BadCopy line why) = (asking : Asking) × IsAsked t known.config asking × IfSome known.copy (λ text. IsBadCopy asking.config.rows asking.config.configuration.suffix text line why)
 IsAccessFault t known tool.NoEntry = HasNoEntry t known
 IsAccessFault t known (tool.Read input.Config) = ⊤
 IsAccessFault t known (tool.Read input.Copy) = ⊤
@@ -127,7 +140,7 @@ IsWholeReport t known result report = IfSome known.config (λ config. IfSome kno
 pub record RecordsWereRight (t : AccessTerms) (config : Option (List ℕ)) (copy : KnownBytes) : Type 0 where
   pub asking : Asking
   pub asked : IsAsked t config asking
-  pub loaded : GaveBytes copy.0 copy.1 (λ bytes. CompleteRecordsLoad t.rows (empty_copy asking.config.suffix) (answers_after t.rows bytes))
+  pub loaded : GaveBytes copy.0 copy.1 (λ bytes. CompleteRecordsLoad asking.config.rows (empty_copy asking.config.configuration.suffix) (answers_after asking.config.rows bytes))
 
 -- for each fault of the copy's reader, what holds of the complete records before it
 abbrev pub AccessHeldBefore : AccessTerms → Option (List ℕ) → KnownBytes → ToolFault → Type 0

@@ -1,22 +1,21 @@
 -- Access as before: once a run is taken back, each question has the answer that it had before the run.
 use Rattle.std.specs.Prelude.{◌≡◌, ℕ, List, Some, Ok}
 use Rattle.dir_ldif.specs.SoundRecords.{IsBytes}
-use Rattle.dir_acl.specs.Config.{config_of}
-use Rattle.dir_acl.specs.Rules.{Configuration}
+use Rattle.dir_names.specs.declared.schema.TypeRow.{TypeRow}
 use Rattle.dir_tools.specs.declared.acl.Question.{Question}
 use Rattle.dir_tools.specs.declared.run.ModifyOptions.{ModifyOptions}
-use Rattle.dir_tools.specs.AccessReport.{access_terms, acl_report_of}
+use Rattle.dir_tools.specs.AccessReport.{Configured, access_terms, acl_report_of, configured}
 use Rattle.dir_tools.specs.Headline.{RunOutput, RunTerms, output_of, terms}
 use Rattle.dir_tools.specs.Suffix.{suffix_of}
 
--- if the text is a configuration, its suffix has the key of the run's suffix
-abbrev pub IsOfSuffix : RunTerms → List ℕ → Type 0
-IsOfSuffix q config = (c : Configuration) → config_of q.rows config ≡ Ok c → suffix_of q.rows q.suffix ≡ Some c.suffix
+-- if the text is a configuration, the types with those that it defines are the run's, and its suffix has the key of the run's suffix
+abbrev pub IsOfRun : RunTerms → List TypeRow → List ℕ → Type 0
+IsOfRun q start config = (found : Configured) → configured start config ≡ Ok found → (found.rows ≡ q.rows) × (suffix_of q.rows q.suffix ≡ Some found.configuration.suffix)
 
--- every question, under every such configuration, has the same report over both copies, or the same fault
+-- every question, from any types and under every such configuration, has the same report over both copies, or the same fault
 abbrev pub HaveSameAccess : RunTerms → List ℕ → List ℕ → Type 0
 HaveSameAccess q copy back =
-    (question : Question) (config : List ℕ) → IsOfSuffix q config → acl_report_of (access_terms q.rows question) config back ≡ acl_report_of (access_terms q.rows question) config copy
+    (start : List TypeRow) (question : Question) (config : List ℕ) → IsOfRun q start config → acl_report_of (access_terms start question) config back ≡ acl_report_of (access_terms start question) config copy
 
 -- the copy that the run back writes has the same access as the first
 abbrev pub AccessIsAsBefore : Type 0

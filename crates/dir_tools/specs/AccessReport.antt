@@ -24,7 +24,7 @@ use Rattle.dir_acl.specs.declared.privileges.Level.{Level}
 use Rattle.dir_acl.specs.declared.privileges.Privilege.{Privilege}
 use Rattle.dir_acl.specs.declared.privileges.Privilege.TheVariants.{Manage, Add, Delete, Read, Search, Compare, Auth, Disclose}
 use Rattle.dir_acl.specs.declared.privileges.Privileges.{Privileges}
-use Rattle.dir_acl.specs.Config.{config_of}
+use Rattle.dir_acl.specs.Config.{config_of, config_types}
 use Rattle.dir_acl.specs.Decision as decision
 use Rattle.dir_acl.specs.Decision.{is_granted}
 use Rattle.dir_acl.specs.Inside.Fakes.{attributes_of}
@@ -192,15 +192,27 @@ report_on verbose c d parts target = requester_line verbose parts.requester ++ f
 
 -- ---- the whole
 
-abbrev pub ok_or_bad_config : Result Configuration ConfigFault → Result Configuration ToolFault
-ok_or_bad_config (Ok c) = Ok c
+-- the types of attributes, with those that a slapd.conf defines, and what it says under them
+pub record Configured : Type 0 where
+  pub rows : List TypeRow
+  pub configuration : Configuration
+
+abbrev pub configured : List TypeRow → List ℕ → Result Configured ConfigFault
+configured rows text = and_then (config_types rows text) (λ now. and_then (config_of now text) (λ c. Ok (record { rows = now; configuration = c })))
+
+abbrev pub ok_or_bad_config : {A : Type 0} → Result A ConfigFault → Result A ToolFault
+ok_or_bad_config (Ok found) = Ok found
 ok_or_bad_config (Err fault) = Err (tool.Config fault)
 
--- the configuration, then the question, then the copy, then the target: the report, or the first fault
-abbrev pub acl_report_of : AccessTerms → List ℕ → List ℕ → Result (List ℕ) ToolFault
-acl_report_of t config copy =
-    and_then (ok_or_bad_config (config_of t.rows config)) (λ c.
+-- the question, then the copy, then the target, under a configuration and its types
+abbrev pub report_under : AccessTerms → Configuration → List ℕ → Result (List ℕ) ToolFault
+report_under t c copy =
     and_then (parts_of t) (λ parts.
     and_then (ok_or_bad_copy (copy_of t.rows c.suffix copy)) (λ d.
     and_then (target_of t.question.fake d parts.base) (λ target.
-    Ok (report_on t.question.verbose c d parts target)))))
+    Ok (report_on t.question.verbose c d parts target))))
+
+-- the types that the configuration defines, then the rest of it, and all else under them: the report, or the first fault
+abbrev pub acl_report_of : AccessTerms → List ℕ → List ℕ → Result (List ℕ) ToolFault
+acl_report_of t config copy =
+    and_then (ok_or_bad_config (configured t.rows config)) (λ found. report_under (access_terms found.rows t.question) found.configuration copy)

@@ -10,7 +10,8 @@ mod word_notes;
 
 ghost use Rattle.std.specs.Io.KnownBytes.{Consumes};
 ghost use Rattle.std.specs.Prelude.{◌≡◌, ◌⊎◌, ◌≤◌, ℕ, Err, IfErr, IfOk, List, Ok, OnOk, Option, length, option_copied};
-ghost use Rattle.dir_acl.specs.Inside.ReadingConfig.{configuration_of};
+ghost use Rattle.dir_names.specs.declared.schema.TypeRow.{TypeRow};
+ghost use Rattle.dir_tools.specs.Inside.Asking.{configured_under};
 ghost use Rattle.dir_ldif.specs.Device.{HasFailed};
 ghost use Rattle.dir_tools.specs.AccessAnswers.{AccessHeldBefore, AnswersQuestion, ComesAfterConfig, IsAccessFault, IsStatedReport, IsTextOf, IsWholeReport, access_sources};
 ghost use Rattle.dir_tools.specs.AccessReport.{access_terms, target_of};
@@ -21,7 +22,7 @@ ghost use Rattle.dir_tools.specs.declared.fault.ToolFault.TheVariants as ToolFau
 
 use crate::acl::configuration::read_config;
 pub use crate::acl::configuration::{
-    FaultWithArgument, read_config_with_argument, read_config_with_notes,
+    FaultWithArgument, NotedConfig, read_config_with_argument, read_config_with_notes, run_schema,
 };
 use crate::acl::parts::read_parts;
 use crate::acl::report::report_text;
@@ -51,8 +52,8 @@ pub struct Question {
     pub verbose: bool,
 }
 
-/// Reports what a requester may do with an entry of a copy, under the access rules of a slapd.conf. The report
-/// is built whole, and then written and flushed.
+/// Reports what a requester may do with an entry of a copy, under the access rules of a slapd.conf, and under the attribute
+/// types of the schema with those that the slapd.conf defines. The report is built whole, and then written and flushed.
 ///
 /// At most 16,785,408 bytes of the configuration are read, whatever its reader gives.
 ///
@@ -83,14 +84,14 @@ pub fn run_acl<R: Source, R2: Source, W: Sink>(
     ensures flushed { OnOk result (W.is_flushed report.new) }
     ensures write_report { result ≡ Err (ToolFault.Write Output.Report) → HasFailed (W.failures report.old) (W.failures report.new) ⊎ W.may_stall report.new }
 {
-    let config = match read_config(alloc, schema, config) {
-        Ok(config) => config,
+    let (types, config) = match read_config(alloc, schema, config) {
+        Ok(found) => found,
         Err(fault) => return Err(fault),
     };
     run_acl_under(
         alloc,
         HeldMemory::Freed,
-        schema,
+        &types,
         question,
         &config,
         copy,
@@ -98,7 +99,7 @@ pub fn run_acl<R: Source, R2: Source, W: Sink>(
     )
 }
 
-/// Reports as `run_acl` does, under a configuration that was read, and says what becomes of the memory
+/// Reports as `run_acl` does, under a configuration that was read, and its types, and says what becomes of the memory
 /// that the directory takes.
 ///
 /// # Errors
@@ -116,11 +117,11 @@ pub fn run_acl_under<R: Source, W: Sink>(
     ensures unfailed { OnOk result (W.failures report.new ≡ W.failures report.old) }
     ensures answer { (text : List ℕ)
         × WroteReport result (W.taken report.old, W.taken report.new) text
-        × ((known : Option (List ℕ)) → IsTextOf schema.now known (configuration_of config.now)
-        → AnswersQuestion (access_terms schema.now question.now) (access_sources known (R.left copy.old)) result text
-        × IsWholeReport (access_terms schema.now question.now) (access_sources known (R.left copy.old)) result text) }
-    ensures first { IfErr result (λ fault. (known : Option (List ℕ)) → IsTextOf schema.now known (configuration_of config.now)
-        → AccessHeldBefore (access_terms schema.now question.now) known (R.left copy.old, R.left copy.new) fault) }
+        × ((start : List TypeRow) (known : Option (List ℕ)) → IsTextOf start known (configured_under schema.now config.now)
+        → AnswersQuestion (access_terms start question.now) (access_sources known (R.left copy.old)) result text
+        × IsWholeReport (access_terms start question.now) (access_sources known (R.left copy.old)) result text) }
+    ensures first { IfErr result (λ fault. (start : List TypeRow) (known : Option (List ℕ)) → IsTextOf start known (configured_under schema.now config.now)
+        → AccessHeldBefore (access_terms start question.now) known (R.left copy.old, R.left copy.new) fault) }
     ensures unfailed_copy { OnOk result (R.failures copy.new ≡ R.failures copy.old) }
     ensures after { IfErr result ComesAfterConfig }
     ensures read_copy { result ≡ Err (ToolFault.Read Input.Copy) → HasFailed (R.failures copy.old) (R.failures copy.new) }
@@ -143,12 +144,12 @@ fn report_under<R: Source>(
     config: &Config,
     copy: &mut R,
 ) -> Result<Vec<u8>, ToolFault>
-    ensures ok { IfOk result (λ text. (known : Option (List ℕ)) → IsTextOf schema.now known (configuration_of config.now)
-        → IsStatedReport (access_terms schema.now question.now) (access_sources known (R.left copy.old)) text.items) }
-    ensures blamed { IfErr result (λ fault. (known : Option (List ℕ)) → IsTextOf schema.now known (configuration_of config.now)
-        → IsAccessFault (access_terms schema.now question.now) (access_sources known (R.left copy.old)) fault) }
-    ensures first { IfErr result (λ fault. (known : Option (List ℕ)) → IsTextOf schema.now known (configuration_of config.now)
-        → AccessHeldBefore (access_terms schema.now question.now) known (R.left copy.old, R.left copy.new) fault) }
+    ensures ok { IfOk result (λ text. (start : List TypeRow) (known : Option (List ℕ)) → IsTextOf start known (configured_under schema.now config.now)
+        → IsStatedReport (access_terms start question.now) (access_sources known (R.left copy.old)) text.items) }
+    ensures blamed { IfErr result (λ fault. (start : List TypeRow) (known : Option (List ℕ)) → IsTextOf start known (configured_under schema.now config.now)
+        → IsAccessFault (access_terms start question.now) (access_sources known (R.left copy.old)) fault) }
+    ensures first { IfErr result (λ fault. (start : List TypeRow) (known : Option (List ℕ)) → IsTextOf start known (configured_under schema.now config.now)
+        → AccessHeldBefore (access_terms start question.now) known (R.left copy.old, R.left copy.new) fault) }
     ensures unfailed_copy { OnOk result (R.failures copy.new ≡ R.failures copy.old) }
     ensures after { IfErr result ComesAfterConfig }
     ensures read_copy { result ≡ Err (ToolFault.Read Input.Copy) → HasFailed (R.failures copy.old) (R.failures copy.new) }

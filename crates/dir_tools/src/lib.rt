@@ -17,8 +17,8 @@ mod taking;
 mod write;
 
 pub use acl::{
-    FaultWithArgument, Question, read_config_with_argument, read_config_with_notes, run_acl,
-    run_acl_under, with_notes_on_words,
+    FaultWithArgument, NotedConfig, Question, read_config_with_argument, read_config_with_notes,
+    run_acl, run_acl_under, run_schema, with_notes_on_words,
 };
 pub use copy::{read_copy, write_copy};
 pub use fault::{Cause, Input, Item, Number, Output, ToolFault};

@@ -122,16 +122,16 @@ fn answer_in_two<R: Source, R2: Source>(
 ) -> Result<(), ToolFault> {
     let schema = Schema::builtin(alloc).expect(rt, "memory");
     let question = question(rt, alloc, ask);
-    let (config, _notes) = match read_config_with_notes(alloc, &schema, config) {
+    let read = match read_config_with_notes(alloc, &schema, config) {
         Ok(noted) => noted,
         Err(fault) => return Err(fault),
     };
     run_acl_under(
         alloc,
         HeldMemory::Left,
-        &schema,
+        &read.types,
         &question,
-        &config,
+        &read.config,
         copy,
         report,
     )

@@ -16,7 +16,7 @@ fn assert_shown(rt: &impl Abort, alloc: Global, fault: ToolFault, want: &str) {
 }
 
 /// Faults, and the text of each.
-static FAULTS: [(ToolFault, &str); 18] = [
+static FAULTS: [(ToolFault, &str); 19] = [
     (
         ToolFault::BadCopy(7, Cause::Code(ResultCode::NoSuchObject)),
         "copy, line 7: 32 noSuchObject",
@@ -60,6 +60,13 @@ static FAULTS: [(ToolFault, &str); 18] = [
             cause: ConfigCause::ConfigTooLong,
         }),
         "config, line 0: C11 ConfigTooLong",
+    ),
+    (
+        ToolFault::Config(ConfigFault {
+            line: 3,
+            cause: ConfigCause::BadType,
+        }),
+        "config, line 3: C12 BadType",
     ),
     (ToolFault::NoEntry, "no such entry"),
 ];

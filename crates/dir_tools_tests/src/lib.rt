@@ -32,3 +32,5 @@ mod round_trip;
 mod running;
 #[cfg(test)]
 mod runs;
+#[cfg(test)]
+mod types;

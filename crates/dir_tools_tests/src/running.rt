@@ -3,7 +3,7 @@
 use crate::flat::assert_flat;
 use dir_ldif::{Script, Tape};
 use dir_names::Schema;
-use dir_tools::{ModifyOptions, Summary, ToolFault, run_modify};
+use dir_tools::{ModifyOptions, Summary, ToolFault, run_modify, run_schema};
 use std::alloc::Global;
 use std::process::Abort;
 
@@ -43,6 +43,8 @@ pub(crate) struct Run<'a> {
     pub(crate) shows: &'a str,
     pub(crate) suffix: &'a str,
     pub(crate) options: ModifyOptions,
+    /// A configuration whose types the run knows beside the built-in ones.
+    pub(crate) types: &'a str,
     pub(crate) copy: &'a str,
     pub(crate) changes: &'a str,
     pub(crate) undo: &'a str,
@@ -59,6 +61,7 @@ pub(crate) const ACCEPTED: Run<'static> = Run {
     shows: "",
     suffix: "dc=com",
     options: STOP,
+    types: "",
     copy: COM,
     changes: "",
     undo: NO_UNDO,
@@ -195,7 +198,7 @@ fn answer_onto(
     out: &mut Tape<'_>,
     report: &mut Tape<'_>,
 ) -> Result<Summary, ToolFault> {
-    let schema = Schema::builtin(alloc).expect(rt, "memory");
+    let schema = types_of(rt, alloc, one);
     let answer = run_modify(
         alloc,
         &schema,
@@ -211,6 +214,13 @@ fn answer_onto(
         panic!(rt; "memory");
     }
     answer
+}
+
+/// The types that a run knows.
+pub(crate) fn types_of(rt: &impl Abort, alloc: Global, one: &Run<'_>) -> Schema {
+    let schema = Schema::builtin(alloc).expect(rt, "memory");
+    let mut config = script(&WHOLE, one.types.as_bytes(), u64::MAX);
+    run_schema(alloc, &schema, &mut config).expect(rt, "types")
 }
 
 /// The same run on another copy, with other changes.

@@ -26,6 +26,7 @@ pub record AreWordsOf (m : ArgMatches) (words : ModifyWords) : Type 0 where
   pub out : option_copied words.out ≡ first_value (found_of m) (codes "out")
   pub undo : option_copied words.undo ≡ first_value (found_of m) (codes "undo")
   pub changes : option_copied words.changes ≡ first_value (found_of m) (codes "changes")
+  pub config : option_copied words.config ≡ first_value (found_of m) (codes "config")
   pub go_on : IsFlag (found_of m) (codes "go_on") words.options.go_on
   pub dry : IsFlag (found_of m) (codes "dry") words.options.dry
   pub verbose : IsFlag (found_of m) (codes "verbose") words.options.verbose

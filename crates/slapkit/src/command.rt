@@ -43,6 +43,7 @@ fn modify_words<'a>(matches: &ArgMatches<'a>) -> ModifyWords<'a>
         out: matches.get_str("out"),
         undo: matches.get_str("undo"),
         changes: matches.get_str("changes"),
+        config: matches.get_str("config"),
         options: ModifyOptions {
             go_on: matches.get_flag("go_on"),
             dry: matches.get_flag("dry"),
@@ -133,6 +134,13 @@ fn slapmodify<'a>(alloc: Global) -> Result<Command<'a>, AllocError> {
             "The change records, in LDIF [default: standard input]",
         )
         .short('l'))?
+        .arg(path(
+            alloc,
+            "config",
+            "CONF",
+            "A slapd.conf whose attribute types are added to the built-in ones",
+        )
+        .short('f'))?
         .arg(flag(alloc, "go_on", 'c', "Go on after a refused record"))?
         .arg(flag(
             alloc,

@@ -11,10 +11,10 @@ use Rattle.dir_acl.specs.declared.fault.ConfigFault.{ConfigFault}
 use Rattle.dir_acl.specs.declared.note.NoteCause.TheVariants.{Include, NoRule}
 use Rattle.dir_acl.specs.Config.{Settings, no_settings, access, after_arguments, after_line, after_lines, at_line, config_of, database, first_argument, if_complete, if_last, of_database, of_suffix, other_than_database, rootdn, suffix, suffix_at, with_rule}
 use Rattle.dir_acl.specs.Config.AccessRules.{access_rule_of}
-use Rattle.dir_acl.specs.Config.Arguments.{arguments_of}
-use Rattle.dir_acl.specs.Config.Lines.{is_comment, logical_lines}
+use Rattle.dir_acl.specs.Config.Arguments.{words_of}
+use Rattle.dir_acl.specs.Config.Lines.{logical_lines}
 use Rattle.dir_acl.specs.Config.Names.{is_word, name_at}
-use Rattle.dir_acl.specs.Notes.{begins_with, file_of, is_rule, line_notes, lines_notes, note_at, notes_of, passed_after, read_notes, rule_notes, words_of}
+use Rattle.dir_acl.specs.Notes.{begins_with, file_of, is_rule, line_notes, lines_notes, note_at, notes_of, passed_after, read_notes, rule_notes}
 use Rattle.dir_acl.specs.Notes.Known.{AreUnderstood, rule_known}
 use Rattle.dir_acl.specs.Rules.{AccessRule, Configuration}
 use Rattle.dir_acl.proofs.NoNotes.Lists.{all_pushed, both_words, left_empty, right_empty}
@@ -186,12 +186,7 @@ module _ (rows : List TypeRow) where
 
       line_goes_on : (line : List ℕ) → line_notes rows s.is_passed_over n (words_of line) ≡ []
           → GoesOn (passed_after s.is_passed_over (words_of line)) (has || is_rule s.is_passed_over (words_of line)) (after_line rows s line)
-      line_goes_on line notes = by (is_comment line) notes
-        where
-          by : (b : Bool) → line_notes rows s.is_passed_over n (cond b [] (arguments_of line)) ≡ []
-              → GoesOn (passed_after s.is_passed_over (cond b [] (arguments_of line))) (has || is_rule s.is_passed_over (cond b [] (arguments_of line))) (cond b (Ok s) (after_arguments rows s (arguments_of line)))
-          by true notes = words_go_on [] notes
-          by false notes = words_go_on (arguments_of line) notes
+      line_goes_on line notes = words_go_on (words_of line) notes
 
   -- ---- all lines
 

@@ -1,11 +1,12 @@
 -- The arguments of a line (slapd.conf(5), "GENERAL FORMAT").
-use Rattle.std.specs.Prelude.{ℕ, cond, ◌==◌, List, [], ◌∷◌, ◌++◌, Option, Some, None}
+use Rattle.std.specs.Prelude.{ℕ, cond, ◌||◌, ◌==◌, List, [], ◌∷◌, ◌++◌, Option, Some, None, is_some}
 use Rattle.dir_names.specs.Ascii.{double_quote, backslash}
 use Rattle.dir_acl.specs.declared.config.arguments.Spot.{Spot}
 use Rattle.dir_acl.specs.declared.config.arguments.Spot.TheVariants.{Between, Plain, Quoted, PlainEscape, QuotedEscape}
 use Rattle.dir_acl.specs.declared.config.arguments.Step.{Step}
 use Rattle.dir_acl.specs.declared.config.arguments.Step.TheVariants.{Skip, Take, Close}
-use Rattle.dir_acl.specs.Config.Lines.{is_white}
+use Rattle.dir_acl.specs.Config.Lines.{is_comment, is_white}
+use Rattle.dir_acl.specs.Config.Types.{definition_in}
 
 -- a byte of an argument outside quotes, or its first one: a quote begins a stretch in which white space is kept, and is dropped; a backslash takes the next byte
 -- as it is
@@ -40,3 +41,7 @@ arguments_from spot item (b ∷ bs) = after_step (step_of spot b) b item (λ nex
 -- the arguments of a line, cut at white space that is not in quotes. One with an open quote or a backslash at the line's end is `None`; it is the last
 abbrev pub arguments_of : List ℕ → List (Option (List ℕ))
 arguments_of line = arguments_from Between [] line
+
+-- the words of a line: its arguments. A comment has none, nor has the definition of a type, which is not cut
+abbrev pub words_of : List ℕ → List (Option (List ℕ))
+words_of line = cond (is_comment line || is_some (definition_in line)) [] (arguments_of line)

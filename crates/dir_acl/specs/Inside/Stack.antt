@@ -6,7 +6,6 @@ use Rattle.dir_acl.specs.declared.filter.reading.Place.{Place}
 use Rattle.dir_acl.specs.declared.filter.reading.Place.TheVariants as place
 use Rattle.dir_acl.specs.declared.filter.reading.Progress.{Progress}
 use Rattle.dir_acl.specs.declared.filter.reading.State.{State}
-use Rattle.dir_acl.specs.Filters.{Tree}
 use Rattle.dir_acl.specs.Filters.Packed.{Complete, before_last, complete, last_tree, outer}
 use Rattle.dir_acl.specs.Filters.Reading as read
 

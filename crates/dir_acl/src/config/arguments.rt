@@ -1,11 +1,13 @@
 //! The arguments of a line (slapd.conf(5), "GENERAL FORMAT").
 
 ghost use Rattle.std.specs.Prelude.{◌≡◌, ◌≤◌, ◌++◌, ℕ, List, Ok, drop, length, take, true};
-ghost use Rattle.dir_acl.specs.Config.Arguments.{arguments_from, arguments_of, last_argument, step_in_argument, step_of};
+ghost use Rattle.dir_acl.specs.Config.Arguments.{arguments_from, arguments_of, last_argument, step_in_argument, step_of, words_of};
+ghost use Rattle.dir_acl.specs.Config.Lines.{is_comment};
 ghost use Rattle.dir_acl.specs.Outcome.{GivesPart};
 
 use crate::ConfigCause;
 use crate::config::lines::is_white;
+use crate::config::types::definition_in;
 use dir_names::Bytes;
 use std::alloc::Global;
 
@@ -35,8 +37,27 @@ pub(crate) enum Step {
     Close,
 }
 
+/// The words of a line: its arguments. A comment has none, nor has the definition of a type, which is not cut.
+pub(crate) fn read_words(alloc: Global, line: &[u8]) -> Result<Vec<Option<Bytes>>, ConfigCause>
+    ensures { GivesPart (λ words. words.items) result (Ok (words_of line.now)) }
+{
+    if is_comment(line) || definition_in(line).is_some() {
+        return Ok(Vec::new(alloc));
+    }
+    read_arguments(alloc, line)
+}
+
+fn is_comment(line: &[u8]) -> bool
+    ensures { result ≡ is_comment line.now }
+{
+    match line {
+        [first, ..] => *first == b'#',
+        [] => false,
+    }
+}
+
 /// The arguments of a line. One with an open quote or a backslash at the line's end is `None`; it is the last.
-pub(crate) fn read_arguments(alloc: Global, line: &[u8]) -> Result<Vec<Option<Bytes>>, ConfigCause>
+fn read_arguments(alloc: Global, line: &[u8]) -> Result<Vec<Option<Bytes>>, ConfigCause>
     ensures { GivesPart (λ arguments. arguments.items) result (Ok (arguments_of line.now)) }
 {
     let mut arguments = Vec::new(alloc);

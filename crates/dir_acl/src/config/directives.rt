@@ -3,13 +3,12 @@
 ghost use Rattle.std.specs.List.{list_all};
 ghost use Rattle.std.specs.Prelude.{◌≡◌, Ok, is_some};
 ghost use Rattle.dir_acl.specs.Config.{access, after_arguments, after_line, database, directive, first_argument, if_complete, if_last, new_root, new_suffix, no_settings, of_database, other_than_database, rootdn, suffix, suffix_at, with_rule};
-ghost use Rattle.dir_acl.specs.Config.Lines.{is_comment};
 ghost use Rattle.dir_acl.specs.Inside.ReadingConfig.{settings_of};
 ghost use Rattle.dir_acl.specs.Outcome.{GivesPart};
 ghost use Rattle.dir_acl.specs.Rules.{rule_of};
 
 use crate::config::access_rules::read_rule;
-use crate::config::arguments::read_arguments;
+use crate::config::arguments::read_words;
 use crate::config::names::read_name;
 use crate::{ConfigCause, Rule};
 use dir_names::{Bytes, DnKey, Schema};
@@ -54,20 +53,8 @@ pub(crate) fn after_line(
 ) -> Result<Settings, ConfigCause>
     ensures { GivesPart settings_of result (after_line schema.now (settings_of settings) line.now) }
 {
-    if is_comment(line) {
-        return Ok(settings);
-    }
-    let arguments = read_arguments(alloc, line)?;
+    let arguments = read_words(alloc, line)?;
     after_arguments(alloc, schema, settings, arguments.as_slice())
-}
-
-pub(crate) fn is_comment(line: &[u8]) -> bool
-    ensures { result ≡ is_comment line.now }
-{
-    match line {
-        [first, ..] => *first == b'#',
-        [] => false,
-    }
 }
 
 fn after_arguments(

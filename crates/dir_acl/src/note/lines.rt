@@ -1,14 +1,13 @@
 //! The notes on the lines of a configuration that reads.
 
 ghost use Rattle.std.specs.Prelude.{◌≡◌, ◌≤◌, ◌++◌, [], Ok, false, length};
-ghost use Rattle.dir_acl.specs.Notes.{after_keyword, begins_with, file_of, is_rule, line_notes, lines_notes, notes_of, passed_after, passed_notes, read_notes, words_of};
+ghost use Rattle.dir_acl.specs.Notes.{after_keyword, begins_with, file_of, is_rule, line_notes, lines_notes, notes_of, passed_after, passed_notes, read_notes};
+ghost use Rattle.dir_acl.specs.Config.Arguments.{words_of};
 ghost use Rattle.dir_acl.specs.Inside.Noting.{after_words, noting_of};
 ghost use Rattle.dir_acl.specs.Outcome.{GivesPart};
 
-use crate::config::arguments::read_arguments;
-use crate::config::directives::is_comment;
-use crate::config::lines::{begins_with_white, without_return};
-use crate::cut::split_once;
+use crate::config::arguments::read_words;
+use crate::config::lines::LogicalLines;
 use crate::note::with_note;
 use crate::note::words::with_rule;
 use crate::{ConfigCause, Note, NoteCause};
@@ -24,8 +23,7 @@ pub(crate) struct Noting {
     has_rule: bool,
 }
 
-/// The notes on all lines of a text. A line that begins with white space is appended to the line before, which is kept
-/// until the next one that doesn't.
+/// The notes on all lines of a text.
 pub(crate) fn read_notes(
     alloc: Global,
     schema: &Schema,
@@ -34,30 +32,16 @@ pub(crate) fn read_notes(
     requires { length text.now ≤ 16777216 }
     ensures { GivesPart (λ notes. notes.items) result (Ok (notes_of schema.now text.now)) }
 {
-    let (first, after_first) = split_once(text, b'\n');
     let mut noting = Noting {
         notes: Vec::new(alloc),
         is_passed_over: false,
         has_rule: false,
     };
-    let mut line = without_return(first).to_vec(alloc)?;
-    let mut number = 1;
-    let mut next_number = 2;
-    let mut rest = after_first;
-    while let Some(more) = rest {
-        let (physical, after) = split_once(more, b'\n');
-        let physical = without_return(physical);
-        if begins_with_white(physical) {
-            line.extend_from_slice(physical)?;
-        } else {
-            noting = after_line(alloc, schema, noting, number, line.as_slice())?;
-            line = physical.to_vec(alloc)?;
-            number = next_number;
-        }
-        next_number += 1;
-        rest = after;
+    let mut lines = LogicalLines::new(alloc, text)?;
+    while let Some((number, line)) = lines.next(alloc)? {
+        noting = after_line(alloc, schema, noting, number, line.as_slice())?;
     }
-    finished(after_line(alloc, schema, noting, number, line.as_slice())?)
+    finished(noting)
 }
 
 /// Last comes that there is no rule.
@@ -82,16 +66,6 @@ fn after_line(
 {
     let words = read_words(alloc, line)?;
     after_words(alloc, schema, noting, number, words.as_slice())
-}
-
-/// The words of a line; a comment has none.
-pub(crate) fn read_words(alloc: Global, line: &[u8]) -> Result<Vec<Option<Bytes>>, ConfigCause>
-    ensures { GivesPart (λ words. words.items) result (Ok (words_of line.now)) }
-{
-    if is_comment(line) {
-        return Ok(Vec::new(alloc));
-    }
-    read_arguments(alloc, line)
 }
 
 fn after_words(

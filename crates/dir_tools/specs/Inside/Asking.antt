@@ -3,16 +3,20 @@ use Rattle.std.specs.Prelude.{◌≡◌, ℕ, ⊤, List, map, Option, option_map
 use Rattle.std.specs.Borrow.{Bor}
 use Rattle.dir_names.specs.Results.{Meets}
 use Rattle.dir_ldif.specs.Device.{HasFailed}
+use Rattle.dir_names.specs.declared.schema.TypeRow.{TypeRow}
+use Rattle.dir_acl.specs.declared.config.Config.{Config}
 use Rattle.dir_acl.specs.declared.fault.ConfigCause.{ConfigCause}
 use Rattle.dir_acl.specs.declared.fault.ConfigCause.TheVariants as cause
 use Rattle.dir_acl.specs.declared.fault.ConfigFault.{ConfigFault}
 use Rattle.dir_acl.specs.declared.privileges.Level.{Level}
+use Rattle.dir_acl.specs.Inside.ReadingConfig.{configuration_of}
+use Rattle.dir_tools.specs.declared.acl.configuration.NotedConfig.{NotedConfig}
 use Rattle.dir_tools.specs.declared.acl.parts.Parts.{Parts}
 use Rattle.dir_tools.specs.declared.acl.parts.Word as code
 use Rattle.dir_tools.specs.declared.fault.Input.TheVariants as input
 use Rattle.dir_tools.specs.declared.fault.ToolFault.{ToolFault}
 use Rattle.dir_tools.specs.declared.fault.ToolFault.TheVariants as tool
-use Rattle.dir_tools.specs.AccessReport.{QuestionParts, Word}
+use Rattle.dir_tools.specs.AccessReport.{Configured, QuestionParts, Word}
 
 -- ---- views
 
@@ -37,6 +41,16 @@ abbrev pub GivesPart : {A T : Type 0} → (T → A) → Result T ToolFault → R
 GivesPart view result wanted = Meets IsPartFault view result wanted
 
 -- ---- how a configuration is read
+
+-- the types of attributes, and the configuration that was read under them
+abbrev pub configured_under : List TypeRow → Config → Configured
+configured_under rows config = record { rows = rows; configuration = configuration_of config }
+
+abbrev pub configured_by : List TypeRow × Config → Configured
+configured_by found = configured_under found.0 found.1
+
+abbrev pub configured_of : NotedConfig → Configured
+configured_of found = configured_under found.types found.config
 
 -- what a configuration's fault means
 abbrev pub fault_at : ConfigCause → ConfigFault → ToolFault

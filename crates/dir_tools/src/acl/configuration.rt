@@ -1,17 +1,21 @@
-//! The configuration read from its source, in pieces, and no further than it may be long.
+//! The configuration read from its source, with the types that it defines, in pieces, and no further than it may be long.
 
 ghost use Rattle.std.specs.Io.KnownBytes.{Consumes, IsAtEnd};
 ghost use Rattle.std.specs.Prelude.{◌≡◌, ◌⊎◌, ◌<◌, ◌≤◌, ℕ, Err, IfErr, IfOk, IfSome, List, None, Ok, OnOk, Some, length};
-ghost use Rattle.dir_acl.specs.Inside.ReadingConfig.{configuration_of};
+ghost use Rattle.dir_acl.specs.Config.{config_types};
 ghost use Rattle.dir_acl.specs.Notes.{notes_of};
 ghost use Rattle.dir_ldif.specs.Device.{HasFailed};
-ghost use Rattle.dir_tools.specs.Inside.Asking.{IsReadFault, config_fault};
-ghost use Rattle.dir_tools.specs.AccessAnswers.{IsArgumentOf, IsConfigFault, IsTextOf};
+ghost use Rattle.dir_acl.specs.Outcome.{GivesConfig};
+ghost use Rattle.dir_tools.specs.AccessReport.{configured};
+ghost use Rattle.dir_tools.specs.Inside.Asking.{IsReadFault, config_fault, configured_by, configured_of};
+ghost use Rattle.dir_tools.specs.AccessAnswers.{IsArgumentOf, IsConfigFault, IsTextOf, IsTypesFault, argument_under};
 ghost use Rattle.dir_tools.specs.declared.fault.Input.TheVariants as Input;
 ghost use Rattle.dir_tools.specs.declared.fault.ToolFault.TheVariants as ToolFault;
 
 use crate::{Input, ToolFault};
-use dir_acl::{Config, ConfigCause, ConfigFault, FaultArgument, MAX_CONFIG, Note, fault_argument};
+use dir_acl::{
+    Config, ConfigCause, ConfigFault, FaultArgument, MAX_CONFIG, Note, fault_argument, read_schema,
+};
 use dir_ldif::Source;
 use dir_names::{Memory, Schema};
 use std::alloc::Global;
@@ -19,7 +23,35 @@ use std::alloc::Global;
 /// The greatest number of bytes that one read call is asked for.
 const PIECE: usize = 8192;
 
-/// Reads a configuration. At most 16,785,408 bytes are read.
+/// Reads the attribute types that a slapd.conf defines, and adds them to a schema's (`read_schema`).
+///
+/// At most 16,785,408 bytes are read, whatever the reader gives.
+///
+/// # Errors
+///
+/// A read fault; the first definition that can't be added, or a text that is too long; out of memory.
+pub fn run_schema<R: Source>(
+    alloc: Global,
+    schema: &Schema,
+    config: &mut R,
+) -> Result<Schema, ToolFault>
+    ensures ok { IfOk result (λ types. IfSome (R.left config.old) (λ text. config_types schema.now text ≡ Ok types)) }
+    ensures fault { IfErr result (IsTypesFault schema.now (R.left config.old)) }
+    ensures bounded { (bytes : List ℕ) × Consumes (R.left config.old) (R.left config.new) bytes × (length bytes ≤ 16785408) }
+    ensures read { result ≡ Err (ToolFault.Read Input.Config) → HasFailed (R.failures config.old) (R.failures config.new) }
+    ensures unfailed { OnOk result (R.failures config.new ≡ R.failures config.old) }
+{
+    let text = match read_text(alloc, config) {
+        Ok(text) => text,
+        Err(fault) => return Err(fault),
+    };
+    match read_schema(alloc, schema, text.as_slice()) {
+        Ok(types) => Ok(types),
+        Err(fault) => Err(config_fault(fault)),
+    }
+}
+
+/// Reads a configuration, and the types that it defines. At most 16,785,408 bytes are read.
 ///
 /// # Errors
 ///
@@ -28,8 +60,8 @@ pub(super) fn read_config<R: Source>(
     alloc: Global,
     schema: &Schema,
     source: &mut R,
-) -> Result<Config, ToolFault>
-    ensures ok { IfOk result (λ config. IsTextOf schema.now (R.left source.old) (configuration_of config)) }
+) -> Result<(Schema, Config), ToolFault>
+    ensures ok { IfOk result (λ found. IsTextOf schema.now (R.left source.old) (configured_by found)) }
     ensures fault { IfErr result (IsConfigFault schema.now (R.left source.old)) }
     ensures bounded { (bytes : List ℕ) × Consumes (R.left source.old) (R.left source.new) bytes × (length bytes ≤ 16785408) }
     ensures read { result ≡ Err (ToolFault.Read Input.Config) → HasFailed (R.failures source.old) (R.failures source.new) }
@@ -39,10 +71,43 @@ pub(super) fn read_config<R: Source>(
         Ok(text) => text,
         Err(fault) => return Err(fault),
     };
-    match Config::read(alloc, schema, text.as_slice()) {
-        Ok(config) => Ok(config),
+    match configured(alloc, schema, text.as_slice()) {
+        Ok(found) => Ok(found),
         Err(fault) => Err(config_fault(fault)),
     }
+}
+
+/// A configuration with the types that it defines.
+fn configured(alloc: Global, schema: &Schema, text: &[u8]) -> Result<(Schema, Config), ConfigFault>
+    ensures { GivesConfig configured_by result (configured schema.now text.now) }
+{
+    let types = read_schema(alloc, schema, text)?;
+    let config = Config::read(alloc, &types, text)?;
+    Ok((types, config))
+}
+
+/// A configuration that was read.
+#[derive(Debug, Drop)]
+pub struct NotedConfig {
+    /// The attribute types, with those that it defines. All else of it was read under them, and so is what is asked.
+    pub types: Schema,
+    pub config: Config,
+    /// The notes on it (`Config::read_with_notes`).
+    pub notes: Vec<Note>,
+}
+
+/// A configuration with the types that it defines, and the notes on it.
+fn noted(alloc: Global, schema: &Schema, text: &[u8]) -> Result<NotedConfig, ConfigFault>
+    ensures read { GivesConfig configured_of result (configured schema.now text.now) }
+    ensures notes { IfOk result (λ found. found.notes.items ≡ notes_of found.types text.now) }
+{
+    let types = read_schema(alloc, schema, text)?;
+    let (config, notes) = Config::read_with_notes(alloc, &types, text)?;
+    Ok(NotedConfig {
+        types,
+        config,
+        notes,
+    })
 }
 
 /// A fault that comes as a configuration is read, with the argument of the configuration that it is about.
@@ -54,7 +119,8 @@ pub struct FaultWithArgument {
     pub argument: Result<Option<FaultArgument>, Memory>,
 }
 
-/// Reads a slapd.conf as `run_acl` does, with the notes on it (`Config::read_with_notes`).
+/// Reads a slapd.conf as `run_acl` does: first the attribute types that it defines, which are added to the schema's, and then the rest
+/// under them, with the notes on it.
 ///
 /// At most 16,785,408 bytes are read, whatever the reader gives.
 ///
@@ -65,9 +131,9 @@ pub fn read_config_with_notes<R: Source>(
     alloc: Global,
     schema: &Schema,
     source: &mut R,
-) -> Result<(Config, Vec<Note>), ToolFault>
-    ensures config { IfOk result (λ noted. IsTextOf schema.now (R.left source.old) (configuration_of noted.0)) }
-    ensures notes { IfOk result (λ noted. IfSome (R.left source.old) (λ text. noted.1.items ≡ notes_of schema.now text)) }
+) -> Result<NotedConfig, ToolFault>
+    ensures config { IfOk result (λ found. IsTextOf schema.now (R.left source.old) (configured_of found)) }
+    ensures notes { IfOk result (λ found. IfSome (R.left source.old) (λ text. found.notes.items ≡ notes_of found.types text)) }
     ensures fault { IfErr result (IsConfigFault schema.now (R.left source.old)) }
     ensures bounded { (bytes : List ℕ) × Consumes (R.left source.old) (R.left source.new) bytes × (length bytes ≤ 16785408) }
     ensures read { result ≡ Err (ToolFault.Read Input.Config) → HasFailed (R.failures source.old) (R.failures source.new) }
@@ -85,9 +151,9 @@ pub fn read_config_with_argument<R: Source>(
     alloc: Global,
     schema: &Schema,
     source: &mut R,
-) -> Result<(Config, Vec<Note>), FaultWithArgument>
-    ensures config { IfOk result (λ noted. IsTextOf schema.now (R.left source.old) (configuration_of noted.0)) }
-    ensures notes { IfOk result (λ noted. IfSome (R.left source.old) (λ text. noted.1.items ≡ notes_of schema.now text)) }
+) -> Result<NotedConfig, FaultWithArgument>
+    ensures config { IfOk result (λ found. IsTextOf schema.now (R.left source.old) (configured_of found)) }
+    ensures notes { IfOk result (λ found. IfSome (R.left source.old) (λ text. found.notes.items ≡ notes_of found.types text)) }
     ensures fault { IfErr result (λ why. IsConfigFault schema.now (R.left source.old) why.fault) }
     ensures argument { IfErr result (λ why. IfOk why.argument (IsArgumentOf schema.now (R.left source.old) why.fault)) }
     ensures bounded { (bytes : List ℕ) × Consumes (R.left source.old) (R.left source.new) bytes × (length bytes ≤ 16785408) }
@@ -103,8 +169,8 @@ pub fn read_config_with_argument<R: Source>(
             });
         }
     };
-    match Config::read_with_notes(alloc, schema, text.as_slice()) {
-        Ok(noted) => Ok(noted),
+    match noted(alloc, schema, text.as_slice()) {
+        Ok(found) => Ok(found),
         Err(fault) => Err(FaultWithArgument {
             fault: config_fault(fault),
             argument: argument_of(alloc, schema, text.as_slice(), fault),
@@ -112,7 +178,7 @@ pub fn read_config_with_argument<R: Source>(
     }
 }
 
-/// The argument that the fault of a configuration with this text is about.
+/// The argument that the fault of a configuration with this text is about, under the types that the text defines.
 fn argument_of(
     alloc: Global,
     schema: &Schema,
@@ -123,7 +189,27 @@ fn argument_of(
 {
     match fault.cause {
         ConfigCause::Memory => Ok(None),
-        _ => fault_argument(alloc, schema, text, fault),
+        _ => argument_under(alloc, schema, text, fault),
+    }
+}
+
+fn argument_under(
+    alloc: Global,
+    schema: &Schema,
+    text: &[u8],
+    fault: ConfigFault,
+) -> Result<Option<FaultArgument>, Memory>
+    ensures { IfOk result (λ found. found ≡ argument_under (config_types schema.now text.now) text.now fault) }
+{
+    match read_schema(alloc, schema, text) {
+        Ok(types) => fault_argument(alloc, &types, text, fault),
+        Err(
+            ConfigFault {
+                line: _,
+                cause: ConfigCause::Memory,
+            },
+        ) => Err(Memory),
+        Err(_) => Ok(None),
     }
 }
 

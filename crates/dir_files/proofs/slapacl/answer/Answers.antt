@@ -1,18 +1,19 @@
-use Rattle.std.proofs.Common.{◌≡◌, ◌++◌, IfOk, IfSome, List, ap, subst, ◌∙◌}
+use Rattle.std.proofs.Common.{◌≡◌, Err, IfOk, List, Result, ap, rules, subst, sym, ◌∙◌}
 use Rattle.dir_names.specs.Table.Builtin.{builtin_rows}
 use Rattle.dir_names.specs.declared.schema.TypeRow.{TypeRow}
-use Rattle.dir_acl.specs.Notes.{notes_of}
 use Rattle.dir_tools.specs.declared.acl.Question.{Question}
 use Rattle.dir_tools.specs.declared.fault.ToolFault.TheVariants as tool
-use Rattle.dir_tools.specs.AccessAnswers.{IsArgumentOf, IsConfigFault, access_sources}
+use Rattle.dir_tools.specs.AccessAnswers.{IsArgumentOf, IsConfigFault, IsTextOf, access_sources}
 use Rattle.dir_tools.specs.AccessReport.{AccessTerms, access_terms}
-use Rattle.dir_tools.specs.WordNotes.{notes_on_words}
-use Rattle.dir_files.specs.AccessRuns.{Asks, access_terms_of, asked_for}
-use Rattle.dir_files.specs.Notes.{AreNotesOf}
+use Rattle.dir_tools.specs.Inside.Asking.{configured_of}
+use Rattle.dir_files.specs.AccessRuns.{Asks, access_terms_of}
+use Rattle.dir_files.specs.declared.fault.Fault.{Fault}
+use Rattle.dir_files.specs.Notes.{AreNotesOf, TellsFor}
 use Rattle.dir_files.specs.Runs.{Made}
 use Rattle.dir_files.proofs.AccessCalls.{answered, unread}
 use Rattle.dir_files.proofs.FaultArgumentLemmas.{found_told, none_told}
-use Rattle.dir_files.proofs.NoteLemmas.{all_told}
+use Rattle.dir_files.proofs.NoteLemmas as note_lemmas
+use Rattle.dir_files.proofs.NoteLemmas.{all_told, are_notes, ended}
 use Rattle.dir_files.proofs.slapacl.answer.Goals as goal
 
 pub returns-in_default-clause-calls : goal.returns-in_default-clause-calls
@@ -38,24 +39,36 @@ returns-clause-calls g c =
     let a = g.F.FileSystem.disk c.args.files.now in
     let b = g.F.FileSystem.disk c.report.new.files in
     let rows : c.in-Ok.schema ≡ builtin_rows = cc c.in-Ok.ensures in
-    let terms : access_terms c.in-Ok.schema c.in-Ok-noted_question.asked.0 ≡ access_terms_of words =
-    ap (λ (question : Question). access_terms c.in-Ok.schema question) c.in-Ok-noted_question.ensures.question ∙ ap (λ (rows : List TypeRow). access_terms rows (asked_for words)) rows in
+    let found = c.in-Ok-read_config_with_argument.noted in
+    let config : IsTextOf builtin_rows text (configured_of found) = subst (λ (rows : List TypeRow). IsTextOf rows text (configured_of found)) rows c.in-Ok-read_config_with_argument.ensures.config in
+    let terms : access_terms builtin_rows c.in-Ok-noted_question.asked.0 ≡ access_terms_of words = ap (λ (question : Question). access_terms builtin_rows question) c.in-Ok-noted_question.ensures.question in
     answered words known c.report.result a b
-    (subst (λ (t : AccessTerms). Made a b (λ d. Asks t known c.report.result)) terms (c.report.ensures.calls text c.in-Ok-read_config_with_argument.ensures.config))
+    (subst (λ (t : AccessTerms). Made a b (λ d. Asks t known c.report.result)) terms (c.report.ensures.calls builtin_rows text config))
 
 pub returns-clause-notes : goal.returns-clause-notes
 returns-clause-notes g c =
     let words = c.args.words.now in
     let text = g.R.Source.left c.args.config.now in
-    let rows : c.in-Ok.schema ≡ builtin_rows = cc c.in-Ok.ensures in
-    let found = c.in-Ok-read_config_with_argument.noted.1.items in
+    let found = c.in-Ok-read_config_with_argument.ensures in
     let notes = c.as_slice.result.now in
-    let are : AreNotesOf words text notes = record {
-      found = found;
-      read = subst (λ (rows : List TypeRow). IfSome text (λ text. found ≡ notes_of rows text)) rows c.in-Ok-read_config_with_argument.ensures.notes;
-      all = c.as_slice.ensures.value ∙ (c.in-Ok-noted_question.ensures.notes ∙ ap (λ (rows : List TypeRow). found ++ notes_on_words rows (asked_for words).words) rows);
-    } in
+    let are : AreNotesOf words text notes = are_notes words text c.in-Ok.schema c.in-Ok-read_config_with_argument.noted notes (cc c.in-Ok.ensures) found.config found.notes (c.as_slice.ensures.value ∙ c.in-Ok-noted_question.ensures.notes) in
     (notes, c.in_ok-tell.ensures.given, all_told words text notes c.report.result c.report.ensures.faults are c.in_ok-tell.ensures.ok)
+
+pub returns-in_err-tell-clause-notes : goal.returns-in_err-tell-clause-notes
+returns-in_err-tell-clause-notes g c =
+    let words = c.args.words.now in
+    let text = g.R.Source.left c.args.config.now in
+    let found = c.in-Ok-read_config_with_argument.ensures in
+    let notes = c.as_slice.result.now in
+    let fault = c.in_err-tell.field-0.0 in
+    let are : AreNotesOf words text notes = are_notes words text c.in-Ok.schema c.in-Ok-read_config_with_argument.noted notes (cc c.in-Ok.ensures) found.config found.notes (c.as_slice.ensures.value ∙ c.in-Ok-noted_question.ensures.notes) in
+    let result : c.from_residual.result ≡ Err fault = search rules in
+    subst (λ (r : Result Unit Fault). TellsFor words text r (g.T.NoteTeller.given c.args.teller.now) (g.T.NoteTeller.given c.tell.new.teller)) (sym result)
+    (notes, c.in_err-tell.ensures.given, ended Unit words text notes fault c.in_err-tell.ensures.err are c.in_err-tell.ensures.some)
+
+pub returns-in-Err-noted_question-clause-notes : goal.returns-in-Err-noted_question-clause-notes
+returns-in-Err-noted_question-clause-notes g c =
+    note_lemmas.none_told Unit c.args.words.now (g.R.Source.left c.args.config.now) tool.Memory c.run_fault-in-Err-noted_question.result (g.T.NoteTeller.given c.args.teller.now) tt c.run_fault-in-Err-noted_question.ensures
 
 pub returns-in-Err-clause-argument : goal.returns-in-Err-clause-argument
 returns-in-Err-clause-argument g c =

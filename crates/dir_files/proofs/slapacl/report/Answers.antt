@@ -7,24 +7,24 @@ use Rattle.dir_files.proofs.CallLemmas.{no_report_due, report_refused}
 use Rattle.dir_files.proofs.slapacl.report.Goals as goal
 
 pub returns-in-Ok-clause-calls : goal.returns-in-Ok-clause-calls
-returns-in-Ok-clause-calls g c known is =
-    let t : AccessTerms = access_terms c.args.schema.now c.args.question.now in
+returns-in-Ok-clause-calls g c start known is =
+    let t : AccessTerms = access_terms start c.args.question.now in
     let sources : AccessSources = access_sources known (g.R.Source.left c.args.copy.now) in
     let answer : Result Unit ToolFault = Ok c.in-Ok.field-0 in
     let h = c.in-Ok.ensures.answer in
-    let told = h.2 known is in
+    let told = h.2 start known is in
     asks_and_ends t sources answer c.as_slice.result.now (Err c.not_reported.result) (g.F.FileSystem.disk c.args.files.now) (g.F.FileSystem.disk c.report.new.self)
     (asks_over t sources answer h.0 _ _ c.as_slice.result.now h.1 told.0 told.1 c.new-report.ensures c.as_slice.ensures)
     (report_refused c.as_slice.result.now c.in-Ok.field-0 c.in-Err-report.why c.not_reported.result (g.F.FileSystem.disk c.args.files.now) (g.F.FileSystem.disk c.report.new.self)
     c.in-Err-report.ensures c.not_reported.ensures)
 
 pub returns-clause-calls : goal.returns-clause-calls
-returns-clause-calls g c known is =
-    let t : AccessTerms = access_terms c.args.schema.now c.args.question.now in
+returns-clause-calls g c start known is =
+    let t : AccessTerms = access_terms start c.args.question.now in
     let sources : AccessSources = access_sources known (g.R.Source.left c.args.copy.now) in
     let answer : Result Unit ToolFault = Err c.in-Err.fault in
     let h = c.in-Err.ensures.answer in
-    let told = h.2 known is in
+    let told = h.2 start known is in
     asks_and_ends t sources answer c.run_acl_under.new.report.bytes.items (Err c.run_fault.result) (g.F.FileSystem.disk c.args.files.now) (g.F.FileSystem.disk c.args.files.now)
     (asks_over t sources answer h.0 _ _ c.run_acl_under.new.report.bytes.items h.1 told.0 told.1 c.new-report.ensures refl)
     (no_report_due Unit c.run_acl_under.new.report.bytes.items c.in-Err.fault c.run_fault.result (g.F.FileSystem.disk c.args.files.now) c.run_fault.ensures)

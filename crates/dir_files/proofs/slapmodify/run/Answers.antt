@@ -1,23 +1,23 @@
 use Rattle.std.proofs.Common.{ap, sym}
 use Rattle.std.specs.Option.{option_copied}
 use Rattle.dir_files.specs.Paths.{first_repeated}
-use Rattle.dir_files.proofs.CallLemmas.{no_file, with_file, with_input}
+use Rattle.dir_files.proofs.CallLemmas.{bad_config, with_config, without_config}
 use Rattle.dir_files.proofs.slapmodify.run.Goals as goal
 
-pub returns-in-Err-open-clause-calls : goal.returns-in-Err-open-clause-calls
-returns-in-Err-open-clause-calls g c =
-    no_file c.args.words.now (first_repeated c.args.words.now) _ (sym c.in_default.ensures) (g.F.FileSystem.disk c.args.files.now) (g.F.FileSystem.disk c.open.new.self)
-    (g.F.FileSystem.disk c.open-in-Some-changes.new.self) c.in-Some-changes.path.now c.in-Err-open.why (ap option_copied c.in-Some-changes.is) c.in-Ok.ensures.told
-    c.in-Err-open.ensures.told c.not_opened-in-Err-open.ensures
+pub returns-in-Ok-types_in-clause-calls : goal.returns-in-Ok-types_in-clause-calls
+returns-in-Ok-types_in-clause-calls g c =
+    with_config c.args.words.now (first_repeated c.args.words.now) _ (sym c.in_default.ensures) c.in-Some-config.path.now (ap option_copied c.in-Some-config.is)
+    (g.F.FileSystem.disk c.args.files.now) (g.F.FileSystem.disk c.open.new.self) (g.F.FileSystem.disk c.run_under.new.files) (g.F.Input.Source.left c.in-Ok.config.file)
+    c.in-Ok.ensures.told c.in-Ok.ensures.text c.in-Ok-types_in.schema c.in-Ok-types_in.ensures.ok c.run_under.ensures.calls
 
-pub returns-in-Some-changes-clause-calls : goal.returns-in-Some-changes-clause-calls
-returns-in-Some-changes-clause-calls g c =
-    with_file c.args.words.now (first_repeated c.args.words.now) _ (sym c.in_default.ensures) (g.F.FileSystem.disk c.args.files.now) (g.F.FileSystem.disk c.open.new.self)
-    (g.F.FileSystem.disk c.open-in-Some-changes.new.self) (g.F.FileSystem.disk c.with_changes.new.files) c.in-Some-changes.path.now (ap option_copied c.in-Some-changes.is)
-    c.in-Ok.ensures.told c.in-Ok-open.ensures.told c.with_changes.ensures.calls
+pub returns-in-Err-types_in-clause-calls : goal.returns-in-Err-types_in-clause-calls
+returns-in-Err-types_in-clause-calls g c =
+    bad_config c.args.words.now (first_repeated c.args.words.now) _ (sym c.in_default.ensures) c.in-Some-config.path.now (ap option_copied c.in-Some-config.is)
+    (g.F.FileSystem.disk c.args.files.now) (g.F.FileSystem.disk c.open.new.self) (g.F.Input.Source.left c.in-Ok.config.file) c.in-Err-types_in.fault
+    c.in-Ok.ensures.told c.in-Ok.ensures.text c.in-Err-types_in.ensures.fault c.run_fault.ensures
 
-pub returns-clause-calls : goal.returns-clause-calls
-returns-clause-calls g c =
-    with_input c.args.words.now (first_repeated c.args.words.now) _ (sym c.in_default.ensures) (g.F.FileSystem.disk c.args.files.now) (g.F.FileSystem.disk c.open.new.self)
-    (g.F.FileSystem.disk c.standard_input-changes.new.self) (g.F.FileSystem.disk c.with_changes-in-None.new.files) (ap option_copied c.in-None.is) c.in-Ok.ensures.told
-    c.standard_input-changes.ensures.told c.with_changes-in-None.ensures.calls
+pub returns-in-Ok-builtin-clause-calls : goal.returns-in-Ok-builtin-clause-calls
+returns-in-Ok-builtin-clause-calls g c =
+    without_config c.args.words.now (first_repeated c.args.words.now) _ (sym c.in_default.ensures)
+    (g.F.FileSystem.disk c.args.files.now) (g.F.FileSystem.disk c.run_under-in-Ok-builtin.new.files) c.in-Ok-builtin.schema (ap option_copied c.in-None.is) (cc c.in-Ok-builtin.ensures)
+    c.run_under-in-Ok-builtin.ensures.calls

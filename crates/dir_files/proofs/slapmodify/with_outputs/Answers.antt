@@ -9,14 +9,14 @@ use Rattle.dir_files.proofs.slapmodify.with_outputs.Goals as goal
 
 pub returns-in-Err-create-clause-calls : goal.returns-in-Err-create-clause-calls
 returns-in-Err-create-clause-calls g c =
-    no_draft c.args.paths.now c.args.mode (terms_of c.args.words.now) (sources (g.R.Source.left c.args.copy.now) (g.R2.Source.left c.args.changes.now))
+    no_draft c.args.paths.now c.args.mode (terms_of c.args.schema.now c.args.words.now) (sources (g.R.Source.left c.args.copy.now) (g.R2.Source.left c.args.changes.now))
     (Err c.not_created-in-Err-create.result)
     (g.F.FileSystem.disk c.args.files.now) (g.F.FileSystem.disk c.create.new.self) (g.F.FileSystem.disk c.create-2.new.self) (g.F.FileSystem.disk c.discard.new.self)
     c.in-Err-create.why c.in-Ok.ensures.told c.in-Err-create.ensures.told c.discard.ensures c.not_created-in-Err-create.ensures
 
 pub returns-in-Ok-answer-clause-calls : goal.returns-in-Ok-answer-clause-calls
 returns-in-Ok-answer-clause-calls g c =
-    let q : RunTerms = terms_of c.args.words.now in
+    let q : RunTerms = terms_of c.args.schema.now c.args.words.now in
     let known : Sources = sources (g.R.Source.left c.args.copy.now) (g.R2.Source.left c.args.changes.now) in
     let answer : Result Summary ToolFault = Ok c.in-Ok-answer.summary in
     let h = c.in-Ok-answer.ensures.headline in
@@ -29,7 +29,7 @@ returns-in-Ok-answer-clause-calls g c =
 
 pub returns-clause-calls : goal.returns-clause-calls
 returns-clause-calls g c =
-    let q : RunTerms = terms_of c.args.words.now in
+    let q : RunTerms = terms_of c.args.schema.now c.args.words.now in
     let known : Sources = sources (g.R.Source.left c.args.copy.now) (g.R2.Source.left c.args.changes.now) in
     let answer : Result Summary ToolFault = Err c.in-Err-answer.fault in
     let h = c.in-Err-answer.ensures.headline in

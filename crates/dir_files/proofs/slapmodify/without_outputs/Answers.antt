@@ -9,7 +9,7 @@ use Rattle.dir_files.proofs.slapmodify.without_outputs.Goals as goal
 
 pub returns-in-Ok-clause-calls : goal.returns-in-Ok-clause-calls
 returns-in-Ok-clause-calls g c =
-    let q : RunTerms = terms_of c.args.words.now in
+    let q : RunTerms = terms_of c.args.schema.now c.args.words.now in
     let known : Sources = sources (g.R.Source.left c.args.copy.now) (g.R2.Source.left c.args.changes.now) in
     let answer : Result Summary ToolFault = Ok c.in-Ok.summary in
     let h = c.in-Ok.ensures.headline in
@@ -20,7 +20,7 @@ returns-in-Ok-clause-calls g c =
 
 pub returns-clause-calls : goal.returns-clause-calls
 returns-clause-calls g c =
-    let q : RunTerms = terms_of c.args.words.now in
+    let q : RunTerms = terms_of c.args.schema.now c.args.words.now in
     let known : Sources = sources (g.R.Source.left c.args.copy.now) (g.R2.Source.left c.args.changes.now) in
     let answer : Result Summary ToolFault = Err c.in-Err.fault in
     let h = c.in-Err.ensures.headline in

@@ -1,7 +1,7 @@
 use Rattle.std.proofs.Common.{[]}
-use Rattle.dir_acl.specs.Inside.ReadingConfig.{configuration_of}
 use Rattle.dir_tools.specs.AccessAnswers.{AccessSources, IsAccessFault, access_sources}
 use Rattle.dir_tools.specs.AccessReport.{AccessTerms, access_terms}
+use Rattle.dir_tools.specs.Inside.Asking.{configured_by}
 use Rattle.dir_tools.proofs.AccessLemmas.{answers_so, blamed, held_before, not_before, nothing_written, whole_answer}
 use Rattle.dir_tools.proofs.acl.run_acl.Goals as goal
 
@@ -21,12 +21,12 @@ returns-in-Err-clause-answer g c =
 pub returns-clause-answer : goal.returns-clause-answer
 returns-clause-answer g c =
     let h = c.run_acl_under.ensures.answer in
-    let answer = h.2 (g.R.Source.left c.args.config.now) c.in-Ok.ensures.ok in
+    let answer = h.2 c.args.schema.now (g.R.Source.left c.args.config.now) c.in-Ok.ensures.ok in
     (h.0, h.1, answer.0, answer.1)
 
 pub returns-clause-first : goal.returns-clause-first
 returns-clause-first g c =
-    held_before (access_terms c.args.schema.now c.args.question.now) (g.R.Source.left c.args.config.now) (configuration_of c.in-Ok.config) _ c.run_acl_under.result c.in-Ok.ensures.ok c.run_acl_under.ensures.first
+    held_before (access_terms c.args.schema.now c.args.question.now) (g.R.Source.left c.args.config.now) (configured_by c.in-Ok.found) _ c.run_acl_under.result c.in-Ok.ensures.ok c.run_acl_under.ensures.first
 
 pub returns-clause-read_config : goal.returns-clause-read_config
 returns-clause-read_config g c is = absurd (not_before c.run_acl_under.result c.run_acl_under.ensures.after is)

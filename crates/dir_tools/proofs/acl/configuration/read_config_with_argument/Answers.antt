@@ -1,10 +1,10 @@
 use Rattle.std.proofs.Common.{Some, sym, subst}
 use Rattle.std.specs.Prelude.{IfOk}
-use Rattle.dir_acl.specs.Config.{config_of}
 use Rattle.dir_acl.specs.Outcome.{IsCauseAt}
 use Rattle.dir_tools.specs.AccessAnswers.{IsArgumentOf, IsConfigFault}
+use Rattle.dir_tools.specs.AccessReport.{configured}
 use Rattle.dir_tools.specs.Inside.Asking.{config_fault}
-use Rattle.dir_tools.proofs.ConfigTexts.{about_it, blamed}
+use Rattle.dir_tools.proofs.ConfigTexts.{about_it, blamed, config_limited}
 use Rattle.dir_tools.proofs.acl.configuration.read_config_with_argument.Goals as goal
 
 pub returns-clause-fault : goal.returns-clause-fault
@@ -12,13 +12,13 @@ returns-clause-fault g c =
     let rows = c.args.schema.now in
     let known = g.R.Source.left c.args.source.now in
     let after = g.R.Source.left c.read_text.new.source in
-    let fault = c.in-Err-read_with_notes.fault in
-    subst (IsConfigFault rows known) (sym c.config_fault.ensures) (blamed rows known after c.in-Ok.text.items c.in-Ok.ensures.text c.in-Ok.ensures.whole fault.cause fault.line (subst (λ t. IsCauseAt fault.cause fault.line (config_of rows t)) c.as_slice.ensures.value c.in-Err-read_with_notes.ensures.read))
+    let fault = c.in-Err-noted.fault in
+    subst (IsConfigFault rows known) (sym c.config_fault.ensures) (blamed known after c.in-Ok.text.items (configured rows) (config_limited rows) c.in-Ok.ensures.text c.in-Ok.ensures.whole fault.cause fault.line (subst (λ t. IsCauseAt fault.cause fault.line (configured rows t)) c.as_slice.ensures.value c.in-Err-noted.ensures.read))
 
 pub returns-clause-argument : goal.returns-clause-argument
 returns-clause-argument g c =
     let rows = c.args.schema.now in
     let known = g.R.Source.left c.args.source.now in
     let after = g.R.Source.left c.read_text.new.source in
-    let fault = c.in-Err-read_with_notes.fault in
-    subst (λ f. IfOk c.argument_of.result (IsArgumentOf rows known f)) (sym c.config_fault.ensures) (about_it rows known after c.in-Ok.text.items c.in-Ok.ensures.text c.in-Ok.ensures.whole fault c.argument_of.result (subst (λ t. IfOk c.argument_of.result (IsArgumentOf rows (Some t) (config_fault fault))) c.as_slice-in-Err-read_with_notes.ensures.value c.argument_of.ensures))
+    let fault = c.in-Err-noted.fault in
+    subst (λ f. IfOk c.argument_of.result (IsArgumentOf rows known f)) (sym c.config_fault.ensures) (about_it known after c.in-Ok.text.items rows c.in-Ok.ensures.text c.in-Ok.ensures.whole fault c.argument_of.result (subst (λ t. IfOk c.argument_of.result (IsArgumentOf rows (Some t) (config_fault fault))) c.as_slice-in-Err-noted.ensures.value c.argument_of.ensures))
