@@ -32,7 +32,10 @@ BUFFERED = {"run_fault"}
 # made, and nobody is told of a fault (`KeptAttributes::packed`).
 COUNTS = {"index", "one_more"}
 
-ANSWER = re.compile(r"\b(?:\w+::)*(?:Memory|AllocError|OutOfMemory)\b")
+# A function that makes the fault of out of memory: each call of it is such an answer.
+MAKES = "out_of_memory"
+
+ANSWER = re.compile(rf"\b(?:\w+::)*(?:(?:Memory|AllocError|OutOfMemory)\b|{MAKES}\(\))")
 
 
 def blanked(text, start, end):
@@ -141,7 +144,7 @@ def places_of(text, only_memory):
     for function, signature, body, end in functions_of(text, code):
         converts = re.search(r"^fn from\(\w+: (?:AllocError|AllocFailed<\w+>|Memory)\)", signature)
         for found in ANSWER.finditer(code, body, end):
-            if converts or re.match(r"\s*\)*\s*(?:\|[^=]*)?=>|\(_\)\)* =>", code[found.end() :]):
+            if converts or function == MAKES or re.match(r"[\s),}]*(?:\|[^=]*)?=>|\(_\)\)* =>", code[found.end() :]):
                 continue
             pattern, calls = answered(code, body, found.start())
             if pattern is not None and ANSWER.search(pattern):
