@@ -155,6 +155,9 @@ impl Schema {
     /// that `EQUALITY` names, byte by byte by one that `Rule` doesn't have; without `EQUALITY` by that of the type that `SUP`
     /// names. Whether an attribute takes one value is not passed on by `SUP`.
     ///
+    /// A schema to which types were added looks each type up by its name; `try_clone` gives one that has the frequent ones at hand
+    /// again, so copy it once after the last of them.
+    ///
     /// # Errors
     ///
     /// `BadType` if the text is no definition, if its number has more than `MAX_DESCRIPTION` bytes, if one of its names is no
@@ -169,10 +172,9 @@ impl Schema {
             return Err(NameFault::BadType);
         };
         self.types.add(alloc, definition)?;
+        // They are looked up in the table from now on. A copy has them again.
         self.frequent.clear();
         self.ranked.clear();
-        // Without memory for them they are looked up in the table each time.
-        let _ = self.keep_frequent(alloc);
         Ok(())
     }
 

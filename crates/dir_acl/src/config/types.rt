@@ -32,7 +32,8 @@ pub fn read_schema(alloc: Global, schema: &Schema, text: &[u8]) -> Result<Schema
     while let Some((number, line)) = lines.next(alloc)? {
         types = with_line(types, number, line.as_slice())?;
     }
-    Ok(types)
+    // A copy has the frequent types at hand again.
+    copied(alloc, &types)
 }
 
 fn copied(alloc: Global, schema: &Schema) -> Result<Schema, ConfigFault>
