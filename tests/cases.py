@@ -23,6 +23,8 @@ class Texts:
     suffix: str = "dc=com"
     # after each so many bytes the changes are cut, and the copy
     steps: tuple[int, int] = (1, 1)
+    # the configuration whose attribute types hold, if there is one
+    config: bytes | None = None
 
 
 def entry(name, *more):
@@ -46,6 +48,23 @@ THREE_MOVES = [
     rename("cn=p,dc=com", "cn=r"),
 ]
 STAFF = entry("cn=t,dc=com", "cn: t", "manager: cn=m,dc=com") + entry("cn=g,dc=com", "cn: g", "objectClass: groupOfNames", "member: cn=k,dc=com")
+# definitions of attribute types (RFC 4512, section 4.1.2), and an entry and changes for which each of them makes a difference
+TYPES = (
+    "# types|attributetype ( 1.3.6.1.4.1.32473.1 NAME ( 'room' 'roomName' )|  EQUALITY caseIgnoreMatch SINGLE-VALUE )|"
+    "AttributeType|\t(1.2.3 SUP uidNumber NAME'level' DESC 'a )| level\\' OBSOLETE) ||"
+    "attributetype ( 1.2.4 X-ORIGIN ( 'a' 'b' ) NAME 'seat' EQUALITY noMatch SINGLE-VALUE x-y 'c' )|"
+    "attributetype ( 1.2.5 NAME 'boss' SUP seat EQUALITY 'distinguishedNameMatch' )|"
+    "attributetype ( 2.5.4.4 NAME ( 'sn' 'lastName' ) SYNTAX 1.2{64} )"
+)
+TYPED = ROOT + entry("cn=e,dc=com", "cn: e", "room: A 1", "boss: cn=B", "level: 7")
+OF_TYPES = (
+    "dn: cn=e,dc=com|changetype: modify|delete: roomName|roomName: a  1|-||"
+    "dn: level=07,dc=com|changetype: add||"
+    "dn: cn=e,dc=com|changetype: modify|add: seat|1.2.4: a|-||"
+    "dn: cn=e,dc=com|changetype: modify|add: seat|seat: A|-||"
+    "dn: cn=e,dc=com|changetype: modify|add: boss|boss: CN=b|-||"
+    "dn: lastName=x,dc=com|changetype: add|surname: X|"
+)
 FOLDED = "# folded|  comment|dn: cn=e,dc=com|changetype: modify|add: description|description: two|  words |"
 
 TEXTS = {
@@ -118,6 +137,7 @@ TEXTS = {
             "uidNumber: 7|-||dn: cn=a,dc=com|control: 1.2.3 true|changetype: delete||dn: cn=a,dc=com|changetype: add|photo:< file:///a|"
         ),
     ),
+    "attribute types of a configuration": Texts(lines(TYPED), lines(OF_TYPES), steps=(3, 3), config=lines(TYPES)),
 }
 
 
@@ -170,6 +190,16 @@ RULES = {
     "an open filter": Rules(lines(HEAD + "access to filter=(cn=a by * read|"), OF_ROOT[:1]),
     "a second database, and a part that is passed over": Rules(
         lines(HEAD + "database monitor|access to nothing|database mdb|"), OF_ROOT[:1]
+    ),
+    "attribute types that rules name": Rules(
+        lines(HEAD + "access to attrs=lastName,seat,cn \"filter=(&(roomName=a  1)(level<=10))\" by * read|" + TYPES).replace(b"\n", b"\r\n"),
+        [Question("cn=e,dc=com", None, ("surname/read", "boss", "1.2.3"), is_verbose=True), Question("cn=e,dc=com", USER, ("cn",), is_strict=True)],
+        lines(TYPED),
+    ),
+    "an attribute type that a rule must know": Rules(
+        lines(HEAD + "access to * by dnattr=boss write|attributetype ( 1.2.5 NAME 'boss' SUP distinguishedName )|"),
+        [Question("cn=e,dc=com", "CN=b", ("cn",), is_verbose=True)],
+        lines(TYPED),
     ),
     "quotes and backslashes": Rules(lines('database "mdb"|suffix "dc=co\\m"|rootdn "cn=\\\\41,dc=com"|access to * by * read|'), OF_ROOT[:1]),
 }

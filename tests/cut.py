@@ -8,7 +8,7 @@ With a word, only the texts whose names have it.
 Each run must end by itself, with status 0 or 1 and, after notes on a configuration, at most one line on standard error. And it must answer what
 the definitions say of the texts as they are then: a run of slapmodify by answers.py, which reads LDIF and makes the changes in another language
 (the report, both files, or the fault with its line), a question by access.py, which reads rules in another language (the notes, and the report or
-the fault with its line).
+the fault with its line). The attribute types of a configuration are those of definitions.py.
 
 Last, a line without end comes through a pipe: slapkit may take no more than 8,192 bytes after the limit of a line.
 """
@@ -42,6 +42,8 @@ def cuts(text, step=1):
 def left_by(place, texts, *options):
     """What a run leaves, with all files."""
     words = ["slapmodify", "-b", texts.suffix, "--data", "copy", "-l", "changes", "--out", "new", "--undo", "undo", *options]
+    if texts.config is not None:
+        words += ["-f", "conf"]
     ended = place.run(*words)
     files = [place.read(name) for name in ("new", "undo")]
     place.remove("new", "undo")
@@ -52,10 +54,11 @@ def check_run(place, texts, what):
     """Runs changes on a copy, and where one refused record makes a difference also without going on after it."""
     place.write("copy", texts.copy)
     place.write("changes", texts.changes)
-    text = texts.suffix.encode(), texts.copy, texts.changes
-    wanted = answer(*text, goes_on=True, is_verbose=True)
+    place.write("conf", texts.config or b"")
+    text = {"suffix": texts.suffix.encode(), "copy": texts.copy, "changes": texts.changes, "config": texts.config or b"", "is_verbose": True}
+    wanted = answer(goes_on=True, **text)
     expect(left_by(place, texts, "-v", "-c"), wanted, f"{what}, -c")
-    if wanted.status and (other := answer(*text, goes_on=False, is_verbose=True)) != wanted:
+    if wanted.status and (other := answer(goes_on=False, **text)) != wanted:
         expect(left_by(place, texts, "-v"), other, what)
 
 
@@ -65,7 +68,11 @@ def cut_after_each_byte(program, texts):
             check_run(place, dataclasses.replace(texts, changes=texts.changes[:at]), f"the changes cut after byte {at}")
         for at in cuts(texts.copy, texts.steps[1]):
             check_run(place, dataclasses.replace(texts, copy=texts.copy[:at]), f"the copy cut after byte {at}")
-    return f"{len(texts.changes)} and {len(texts.copy)} bytes"
+        if texts.config is None:
+            return f"{len(texts.changes)} and {len(texts.copy)} bytes"
+        for at in cuts(texts.config):
+            check_run(place, dataclasses.replace(texts, config=texts.config[:at]), f"the configuration cut after byte {at}")
+    return f"{len(texts.changes)} and {len(texts.copy)} bytes, {len(texts.config)} of the configuration"
 
 
 # ---- configurations
