@@ -1,5 +1,5 @@
 #!/usr/bin/env python3
-"""Runs slapkit on short texts of each form, right and wrong, and at each limit of names and descriptions.
+"""Runs slapkit on short texts of each form, right and wrong, and at each limit of names, descriptions and definitions of attribute types.
 
 usage: forms.py PROGRAM
 
@@ -16,6 +16,8 @@ from cases import lines
 from checks import expect
 from names import as_bytes
 from runs import Place
+from type_forms import BAD_TYPE, DEFINITIONS, IN_TURN, KINDS, LIMITS, MOST_OF_A_CONFIGURATION, PLACES, RULES_OF_A_TYPE, VALUES_OF_A_TYPE
+from type_forms import around, configurations_of
 
 COPY = lines("dn: dc=com|dc: com||")
 HEAD = "database mdb|suffix dc=com|"
@@ -29,10 +31,6 @@ def added(name, *more):
 
 def entry(*more):
     return added("cn=e,dc=com", *more)
-
-
-def around(limit):
-    return limit - 1, limit, limit + 1
 
 
 def each(texts, begin="", end=""):
@@ -422,15 +420,19 @@ ASKED += [("dc=com", None, word) for word in ("", "cn/", "/read", "cn/read/x", "
 
 def check_changes(place, texts):
     place.write("copy", COPY)
-    words = ["slapmodify", "-b", "dc=com", "--data", "copy", "-l", "changes", "--out", "new", "--undo", "undo", "-c", "-v"]
     for text in texts:
-        place.write("changes", text)
-        wanted = dataclasses.astuple(answer(b"dc=com", COPY, text, goes_on=True, is_verbose=True))
-        ended = place.run(*words)
-        files = [None if wanted is None else wanted.encode() for wanted in wanted[3:]]
-        expect((*ended, *map(place.read, ("new", "undo"))), (*wanted[:3], *files), repr(text))
-        place.remove("new", "undo")
+        check_change(place, text, dataclasses.astuple(answer(b"dc=com", COPY, text, goes_on=True, is_verbose=True)), repr(text))
     return f"{len(texts)} texts"
+
+
+def check_change(place, text, wanted, what, *options):
+    """A run of these changes, of which status, report, message and both files are wanted."""
+    place.write("changes", text)
+    ended = place.run("slapmodify", "-b", "dc=com", "--data", "copy", "-l", "changes", "--out", "new", "--undo", "undo", "-c", "-v", *options)
+    found = (*ended, *map(place.read, ("new", "undo")))
+    place.remove("new", "undo")
+    files = [None if wanted is None else wanted.encode() for wanted in wanted[3:]]
+    expect(found, (*wanted[:3], *files), what)
 
 
 def check_question(place, config, question):
@@ -469,6 +471,73 @@ def check_questions(place):
     return f"{2 * len(ASKED)} questions"
 
 
+# ---- attribute types
+
+
+def changes_of_a_type(kinds):
+    pairs = [text.format(*kinds).split("|") for text in VALUES_OF_A_TYPE.strip().split("\n")]
+    return b"".join(added(f"uid={number},dc=com", *pair) for number, pair in enumerate(pairs))
+
+
+def check_types(place, config, kinds=KINDS, fault=None):
+    """A run and a question under the types of a configuration. Where its fault is given, an empty text for none, the model must have it too."""
+    changes, question = changes_of_a_type(kinds), Question("dc=com", None, (*kinds, "cn"))
+    copy = COPY.removesuffix(b"\n") + lines(f"{kinds[0]}: 10||")
+    wanted = dataclasses.astuple(answer(b"dc=com", COPY, changes, goes_on=True, is_verbose=True, config=config))
+    told = access_answer(config, copy, question)
+    if fault is not None:
+        expect((wanted[2], "C11" in told[2] or "C12" in told[2]), (fault, fault != ""), f"the model of {config[:300]}")
+    place.write("conf", config)
+    place.write("copy", COPY)
+    check_change(place, changes, wanted, config[:300], "-f", "conf")
+    place.write("copy", copy)
+    expect(place.run("slapacl", "-f", "conf", "--data", "copy", *question.options()), told, config[:300])
+
+
+def with_rules(text, kinds=KINDS):
+    """A configuration that begins with this text."""
+    return text + b"\n" + lines(HEAD) + RULES_OF_A_TYPE.format(*kinds).encode()
+
+
+def defining(text):
+    return b"attributetype " + text
+
+
+def check_definitions(place, right, wrong):
+    for texts, fault in ((right, ""), (wrong, BAD_TYPE.format(1))):
+        for text in texts:
+            check_types(place, with_rules(defining(text)), fault=fault)
+    return f"{len(right)} right and {len(wrong)} wrong"
+
+
+def check_definitions_in_turn(place):
+    for text, line in IN_TURN:
+        definitions = lines(text).replace(b"\n(", b"\nattributetype (")
+        check_types(place, with_rules(defining(definitions)), fault=BAD_TYPE.format(line) if line else "")
+    return f"{len(IN_TURN)} configurations"
+
+
+def check_places(place):
+    places = each(PLACES)
+    for text in places:
+        check_types(place, with_rules(text))
+    return f"{len(places)} configurations"
+
+
+def check_limits(place):
+    for text, kinds, is_right in LIMITS:
+        check_types(place, with_rules(defining(text.encode()), kinds), kinds, "" if is_right else BAD_TYPE.format(1))
+    return f"{len(LIMITS)} definitions"
+
+
+def check_long_configurations(place):
+    rules = with_rules(b"")
+    for length in around(MOST_OF_A_CONFIGURATION):
+        fault = "" if length <= MOST_OF_A_CONFIGURATION else "slapkit: config, line 0: C11 ConfigTooLong\n"
+        for text in configurations_of(length - len(rules)):
+            check_types(place, rules + text, fault=fault)
+
+
 def main():
     program = str(pathlib.Path(sys.argv[1]).resolve())
     with Place(program) as place:
@@ -476,6 +545,11 @@ def main():
         pairs += [(name, lambda texts=texts: check_configs(place, texts)) for name, texts in CONFIGS.items()]
         pairs.append(("filters", lambda: check_filters(place)))
         pairs.append(("questions", lambda: check_questions(place)))
+        pairs += [(name, lambda texts=texts: check_definitions(place, *texts)) for name, texts in DEFINITIONS.items()]
+        pairs.append(("definitions one after the other", lambda: check_definitions_in_turn(place)))
+        pairs.append(("where definitions are", lambda: check_places(place)))
+        pairs.append(("limits of definitions", lambda: check_limits(place)))
+        pairs.append(("long configurations with definitions", lambda: check_long_configurations(place)))
         status = checks.run("forms", pairs)
     sys.exit(status)
 
