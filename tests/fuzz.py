@@ -4,19 +4,21 @@
 usage: fuzz.py PROGRAM [--seed S] [--runs N] [--minutes M] [--jobs J] [--failures FOLDER]
 
 Each case begins with texts that are right, or with the random directories of operations.py, and changes bytes, lines, words, records,
-folds, base64, names, options and characters of them. Then
+folds, base64, names, options and characters of them, and tokens of definitions of attribute types. Some runs are under the types of the
+configuration (slapmodify -f); questions always are. Then
 
 - each run ends by itself with status 0 or 1 and, after notes on a configuration, at most one line on standard error, and a fault leaves no file;
 - the report, the new copy and the undo file, or the fault, are those of answers.py; what a requester may do, and each note, is what access.py says;
 - the undo file, run on the new copy, is accepted whole and gives the first copy's canonical text, byte for byte, and its own undo file
   gives the new copy again;
-- questions are answered before the run as after it was taken back.
+- questions under the types of the run are answered before it as after it was taken back.
 
 The same seed gives the same cases, whatever the number of jobs. A case that fails is told with its number, and its texts are kept.
 """
 import argparse
 import base64
 import collections
+import contextlib
 import dataclasses
 import multiprocessing
 import pathlib
@@ -26,8 +28,10 @@ import sys
 import time
 import traceback
 
+import definitions
 import names
 import operations
+import type_forms
 from access import Question, access_answer
 from answers import answer
 from cases import RULES, TEXTS
@@ -53,6 +57,12 @@ class Case:
     config: bytes
     question: Question
     goes_on: bool = True
+    # whether the run is under the types of the configuration, as the question is
+    is_typed: bool = False
+
+    def has_types_of_its_run(self):
+        """Whether the types of the question are those of the run."""
+        return self.is_typed or definitions.table_of(self.config) == names.BUILT_IN
 
 
 def example():
@@ -60,8 +70,6 @@ def example():
     return "dc=example,dc=com", copy, changes, config
 
 
-FIXED = [example()] + [(texts.suffix, texts.copy, texts.changes, None) for texts in TEXTS.values() if len(texts.copy) < 4096]
-CONFIGS = [rules.config for rules in RULES.values()]
 CONFIG_OF_ALL_PARTS = b"""database mdb
 suffix dc=com
 rootdn "cn=root,dc=com"
@@ -86,6 +94,44 @@ access to dn.sub=dc=com
 database config
 access to * by * none
 """
+CONFIG_OF_TYPES = b"""database mdb
+suffix dc=com
+access to filter=(&(roomName=f*)(!(level>=2))(NOTE=f f)(1.3.6.1.4.1.32473.4=a)) attrs=room,1.3.6.1.4.1.32473.2,note;x
+  by dnattr=manager write break
+access to attrs=lastName,fullName,a,gn,foo by * +rs break
+access to "filter=(|(fullName=A)(lastName=b)(a>=1)(b=x*))" by * +w break
+access to dn.children="fullName=b,dc=com" by dn.base="a=1,dc=com" read by * +x
+"""
+CONFIGS = [CONFIG_OF_ALL_PARTS, CONFIG_OF_ALL_NOTES, CONFIG_OF_TYPES, *(rules.config for rules in RULES.values())]
+FIXED = [example()]
+for texts in TEXTS.values():
+    if len(texts.copy) < 4096:
+        FIXED.append((texts.suffix, texts.copy, texts.changes, texts.config and CONFIG_OF_TYPES + texts.config))
+# definitions beside those of operations.py: of types that the rules above and the words below name, and of each right form
+DEFINITIONS = [
+    "( 2.5.4.42 NAME ( 'givenName' 'gn' ) )",
+    "( 0.9.2342.19200300.100.1.3 NAME ( 'mail' 'rfc822Mailbox' ) SUP x )",
+    "( 2.16.840.1.113730.3.1.4 NAME 'employeeType' EQUALITY integerMatch )",
+    "( 1.2.3 NAME 'foo' SUP distinguishedName )",
+    "( 1.2.4 NAME 'com' EQUALITY telephoneNumberMatch SINGLE-VALUE )",
+    "( 1.2.5 SUP uidNumber NAME ( 'posixAccount' 'none' ) )",
+    "( 2.5.4.0 NAME ( 'class' 'objectClass' ) )",
+]
+RIGHT_DEFINITIONS = [names.as_text(text) for right, _ in type_forms.DEFINITIONS.values() for text in right if b"\n" not in text]
+
+
+def more_definitions(rng):
+    """Lines that define other types, the most often such that fit together."""
+    chosen = rng.sample(DEFINITIONS, rng.choice([0, 1, 2])) + rng.sample(RIGHT_DEFINITIONS, rng.choice([0, 0, 1]))
+    return [operations.random_line(rng, definition) for definition in chosen]
+
+
+def with_lines_between(rng, config, lines):
+    """A configuration with these lines, each somewhere between the others."""
+    parts = re.split(rb"(?<=\n)(?![ \t])", config)
+    for line in lines:
+        parts.insert(rng.randrange(len(parts)), names.as_bytes(line))
+    return b"".join(parts)
 
 
 def random_texts(rng):
@@ -107,6 +153,11 @@ WORDS = """dn changetype control version add delete modify modrdn moddn replace 
     access to by stop continue break read write auth search compare disclose manage users anonymous self dnattr group filter attrs suffix
     rootdn database monitor config include gn objectClass 2.5.4.0 foo dn.base dn.one dn.children dn.sub dn.regex entry children * =wx +r -s =0 (cn=a) (&) (!(cn=*)) (cn>=1)"""
 WORDS = [word.encode() for word in WORDS.split()]
+TOKENS = """( ) ' '' 'a' 'b' 'cn' 'room' 'dn' 'Control' NAME DESC SUP EQUALITY ORDERING SYNTAX SINGLE-VALUE OBSOLETE USAGE X-a 1.2.9 1.2.3 2.5.4.3 2.5.4.4
+    01.2 1 a cn note room name distinguishedName uidNumber integerMatch caseIgnoreMatch distinguishedNameMatch telephoneNumberMatch caseExactMatch
+    attributetype # \\ " """
+TOKENS = [token.encode() for token in TOKENS.split()]
+PARTS = [b"NAME 'a'", b"NAME ( 'b' 'dn' )", b"DESC ''", b"SUP cn", b"SUP nothing", b"EQUALITY integerMatch", b"SINGLE-VALUE", b"OBSOLETE", b"X-a 'b'", b"USAGE a"]
 SIGNS = [sign.encode() for sign in list('\0\t\r\n "#+,;<=>\\:-*()&|!/.@') + ["\n ", "\n\n", "\r\n", ": ", ":: ", ":< ", "\n-\n", "\\20", "\\5c", "\\,", "  "]]
 CHARACTERS = [
     char.encode()
@@ -138,6 +189,25 @@ def with_word(rng, data):
     start, end = place_of(rng, rb"[\w.*-]+", data)
     others = place_of(rng, rb"[\w.*-]+", data)
     return data[:start] + rng.choice([rng.choice(WORDS), data[slice(*others)]]) + data[end:]
+
+
+def with_token(rng, data):
+    """A token of a definition goes, comes twice, becomes another one, or changes places with one; or another one comes, or another part."""
+    start, end = place_of(rng, rb"(?mi)^[ \t]*attributetype\b[^\n]*(?:\n[ \t][^\n]*)*", data)
+    tokens = re.findall(rb"\s+|'[^']*'|[()']|[^\s()']+", data[start:end]) or [b""]
+    a, b = rng.randrange(len(tokens)), rng.randrange(len(tokens))
+    match rng.randrange(5):
+        case 0:
+            del tokens[a]
+        case 1:
+            tokens.insert(b, tokens[a])
+        case 2:
+            tokens[a], tokens[b] = tokens[b], tokens[a]
+        case 3:
+            tokens[a] = rng.choice(TOKENS)
+        case 4:
+            tokens.insert(a, b" " + rng.choice(TOKENS + PARTS * 4) + b" ")
+    return data[:start] + b"".join(tokens) + data[end:]
 
 
 def with_lines(rng, data):
@@ -241,14 +311,20 @@ def random_question(rng, suffix, copy):
     found = re.findall(rb"^dn: (?!-)([ -~]+)$", copy, re.M)
     known = [name.decode() for name in found] + [suffix, f"cn=a,{suffix}", f"cn=none,{suffix}", f"cn=root,{suffix}"]
     words = ["entry", "children", "cn", "sn/read", "description/write", "description;lang-en", "mail/add", "note", "member/disclose", "Entry/none"]
+    words += ["room", "ROOMNAME/read", "level", "1.3.6.1.4.1.32473.3/write", "a", "b/search", "gn"]
     requester = rng.choice([None, "", *known]) if rng.random() < 0.8 else rng.choice(known)
     return Question(rng.choice(known), requester, tuple(rng.sample(words, rng.randrange(4))), rng.random() < 0.3, rng.random() < 0.5, rng.random() < 0.1)
 
 
 def random_case(rng):
-    suffix, copy, changes, config = random_texts(rng) if rng.random() < 0.5 else rng.choice(FIXED)
+    types, spellings = operations.random_definitions(rng)
+    has_definitions = rng.random() < 0.5
+    with operations.under_types("".join(types), spellings) if has_definitions else contextlib.nullcontext():
+        suffix, copy, changes, config = random_texts(rng) if rng.random() < 0.5 else rng.choice(FIXED)
     if config is None:
-        config = rng.choice([CONFIG_OF_ALL_PARTS, CONFIG_OF_ALL_NOTES, *CONFIGS]).replace(b"dc=com", suffix.encode())
+        config = rng.choice(CONFIGS).replace(b"dc=com", suffix.encode())
+    if has_definitions:
+        config = with_lines_between(rng, config, types + more_definitions(rng))
     others = [text for texts in FIXED for text in texts[1:3] if text]
     if rng.random() < 0.8:
         changes = changed(rng, changes, [*others, changes])
@@ -256,7 +332,9 @@ def random_case(rng):
         copy = changed(rng, copy, [*others, copy])
     if rng.random() < 0.5:
         config = changed(rng, config, [])
-    return Case(suffix, copy, changes, config, random_question(rng, suffix, copy), rng.random() < 0.8)
+    for _ in range(rng.choice([0, 0, 0, 0, 1, 2])):
+        config = with_token(rng, config)
+    return Case(suffix, copy, changes, config, random_question(rng, suffix, copy), rng.random() < 0.8, rng.random() < (0.9 if has_definitions else 0.1))
 
 
 # ---- a case
@@ -274,7 +352,7 @@ class Trial:
 
     def modify(self, case, copy, changes, new, undo, *options):
         words = ["slapmodify", "-b", case.suffix, "--data", copy, "-l", changes, "--out", new, "--undo", undo]
-        return self.run(*words, *options)
+        return self.run(*words, *options, *(["-f", "conf"] if case.is_typed else []))
 
     def text(self, name):
         data = self.place.read(name)
@@ -299,7 +377,8 @@ class Trial:
 
     def expect_answer(self, found, case):
         try:
-            wanted = dataclasses.astuple(answer(case.suffix.encode(), case.copy, case.changes, case.goes_on, True))
+            config = case.config if case.is_typed else b""
+            wanted = dataclasses.astuple(answer(case.suffix.encode(), case.copy, case.changes, case.goes_on, True, config))
         except UnknownCharacter:
             self.told["not compared: a character that Python does not know"] += 1
             return
@@ -321,7 +400,7 @@ class Trial:
     def expect_access(self, case, other):
         """A question, by the copy and by what came back."""
         found = self.ask(case, "copy")
-        if other != "copy" and found[0] == 0:
+        if other != "copy" and found[0] == 0 and case.has_types_of_its_run():
             expect(self.ask(case, other), found, "the question about the copy that came back")
         self.count_question(found)
         try:
@@ -356,7 +435,7 @@ def keep(folder, number, case):
     place.mkdir(parents=True, exist_ok=True)
     for name, data in (("copy", case.copy), ("changes", case.changes), ("conf", case.config)):
         (place / name).write_bytes(data)
-    (place / "case").write_text(f"-b {case.suffix} {'-c' if case.goes_on else ''}\n{case.question.options()}\n")
+    (place / "case").write_text(f"-b {case.suffix} {'-c' if case.goes_on else ''} {'-f conf' if case.is_typed else ''}\n{case.question.options()}\n")
 
 
 def try_cases(task):

@@ -8,6 +8,7 @@ usage: operations.py PROGRAM [SEED]
 The model gives the report, the new copy and the undo file, which must come out byte for byte. The undo file, run on the
 new copy, must give the copy again and the model's undo file of that run, and this one the new copy again.
 """
+import contextlib
 import pathlib
 import random
 import subprocess
@@ -64,21 +65,43 @@ NAMING = ["cn", "cn", "cn", "description", "note", "sn", "uidnumber"]
 # ---- a random configuration
 
 
+def random_definitions(rng):
+    """Lines that define some types, and the spellings of all types under them."""
+    spellings, lines = {kind: list(known) for kind, known in BUILT_IN_SPELLINGS.items()}, []
+    for kind in rng.sample(sorted(DEFINED), rng.randrange(1, len(DEFINED) + 1)):
+        definition, more = DEFINED[kind]
+        lines.append(random_line(rng, definition))
+        spellings[kind] = [*spellings.get(kind, []), *more]
+    return lines, spellings
+
+
+def random_line(rng, definition):
+    """The line of a definition, spelled and folded in one of many ways."""
+    keyword = rng.choice(["attributetype", "AttributeType"])
+    return f"{keyword} {definition}\n".replace(" ", rng.choice([" ", "\t", "\n ", "  "]))
+
+
 def random_config(rng):
     """A slapd.conf that defines some types, and the spellings of all types under it."""
-    spellings, config = {kind: list(known) for kind, known in BUILT_IN_SPELLINGS.items()}, "database mdb\nsuffix dc=com\n"
-    chosen = rng.sample(sorted(DEFINED), rng.randrange(1, len(DEFINED) + 1))
-    for kind in chosen:
-        definition, more = DEFINED[kind]
-        keyword = rng.choice(["attributetype", "AttributeType"])
-        config += rng.choice(["", "# a comment\n", 'open "quote\n', "include other.conf\n", "database monitor\n", "\n"])
-        config += f"{keyword} {definition}\n".replace(" ", rng.choice([" ", "\t", "\n ", "  "]))
-        spellings[kind] = [*spellings.get(kind, []), *more]
+    definitions_of_types, spellings = random_definitions(rng)
+    config = "database mdb\nsuffix dc=com\n"
+    for line in definitions_of_types:
+        config += rng.choice(["", "# a comment\n", 'open "quote\n', "include other.conf\n", "database monitor\n", "\n"]) + line
     return config, spellings
 
 
-def other_types(spellings):
-    """Goes on with these types, as they are spelled."""
+@contextlib.contextmanager
+def under_types(config, spellings):
+    """Goes by the types of a configuration, as they are spelled, and then by the built-in ones again."""
+    set_types(spellings)
+    try:
+        with names.types_of(definitions.table_of(config.encode())):
+            yield
+    finally:
+        set_types(BUILT_IN_SPELLINGS)
+
+
+def set_types(spellings):
     TYPES.clear()
     TYPES.update(spellings)
 
@@ -313,12 +336,8 @@ def a_run(program, seed):
     if seed % 2:
         return run_beside_model(program, rng, seed, None)
     config, spellings = random_config(random.Random(f"{seed} types"))
-    other_types(spellings)
-    try:
-        with names.types_of(definitions.table_of(config.encode())):
-            return run_beside_model(program, rng, seed, config)
-    finally:
-        other_types(BUILT_IN_SPELLINGS)
+    with under_types(config, spellings):
+        return run_beside_model(program, rng, seed, config)
 
 
 def run_beside_model(program, rng, seed, config):
