@@ -8,6 +8,9 @@ refused: that call alone, or it and all after it. A shared object, made by cc an
 end with the fault that docs/CODES.md names, and leave no file; where files can't be removed, none that is cut under the name
 that it was to have, and no new copy without its undo file. There are notes on the configuration: a fault of what comes after them
 is told after all of them, and where one can't be written there is no report.
+
+Both tools are also run under the attribute types of a configuration: its opening and reads are refused, and each call for memory from the first read of
+it up to the first of the copy.
 """
 import dataclasses
 import os
@@ -17,15 +20,28 @@ import sys
 import tempfile
 
 import checks
-from access import notes_of
+from access import Question, access_answer, notes_of
 from checks import Wrong
+from runs import IN_MEMORY
 
 EXAMPLES = pathlib.Path(__file__).resolve().parent.parent / "examples"
 COPY, CHANGES, CONF = EXAMPLES / "company.ldif", EXAMPLES / "changes.ldif", EXAMPLES / "slapd.conf"
 NOTES = notes_of(CONF.read_bytes())
 
+# A configuration that defines an attribute type, and a copy with changes that are accepted only where values are compared by it. Its rule names
+# the type, on which there is a note where it is not known.
+TYPED = {
+    "conf": "include x\ndatabase mdb\nsuffix dc=com\naccess to attrs=roomName by * read\n"
+    "attributetype ( 1.3.6.1.4.1.32473.1 NAME ( 'room' 'roomName' )\n  EQUALITY caseIgnoreMatch SINGLE-VALUE )\n",
+    "copy": "dn: dc=com\ndc: com\nroom: A 1\n\n",
+    "changes": "dn: dc=com\nchangetype: modify\ndelete: roomName\nroomName: a  1\n-\n",
+}
+ASKED = Question("dc=com", None, ("room/read",), is_verbose=True)
+TYPED_NOTES = access_answer(TYPED["conf"].encode(), TYPED["copy"].encode(), ASKED)[2]
+
 # Counts the calls of the kind that REFUSE_KIND names, and refuses number REFUSE_AT, with REFUSE_ON all after
-# it too. A call that is refused leaves the file REFUSE_TOLD. With NO_LINKS the file system has no hard links.
+# it too. With REFUSE_AFTER only calls after the first read of this file are counted, up to when another file is
+# opened or read. A call that is refused leaves the file REFUSE_TOLD. With NO_LINKS the file system has no hard links.
 SHIM = r"""
 #define _GNU_SOURCE
 #include <dlfcn.h>
@@ -37,11 +53,15 @@ SHIM = r"""
 #include <sys/syscall.h>
 #include <unistd.h>
 
+static int last_read = -1;
+static int counted = -1;
+
 static int is_refused(const char *kind) {
     static long calls;
     const char *asked = getenv("REFUSE_KIND");
     if (asked == NULL || strcmp(asked, kind) != 0) return 0;
     long at = atol(getenv("REFUSE_AT"));
+    if (calls < at && getenv("REFUSE_AFTER") != NULL && (counted < 0 || last_read != counted)) return 0;
     calls += 1;
     if (calls < at || (calls > at && getenv("REFUSE_ON") == NULL)) return 0;
     syscall(SYS_close, syscall(SYS_openat, AT_FDCWD, getenv("REFUSE_TOLD"), O_CREAT | O_WRONLY, 0600));
@@ -73,6 +93,8 @@ int open(const char *path, int flags, ...) {
     if (is_refused(is_of_proc ? "opening in /proc" : "opening")) { errno = EMFILE; return -1; }
     if (is_refused("opening, by a signal")) { errno = EINTR; return -1; }
     int file = syscall(SYS_openat, AT_FDCWD, path, flags, mode);
+    if (getenv("REFUSE_AFTER") != NULL && strcmp(path, getenv("REFUSE_AFTER")) == 0) counted = file;
+    else last_read = -1;
     if (is_of_proc) of_proc = file;
     else if (file == of_proc) of_proc = -1;
     return file;
@@ -102,6 +124,7 @@ int unlink(const char *path) {
 }
 
 ssize_t read(int file, void *to, size_t size) {
+    last_read = file;
     if (is_refused(file == of_proc ? "read in /proc" : "read")) { errno = EIO; return -1; }
     if (is_refused("read, by a signal")) { errno = EINTR; return -1; }
     if (size > 1 && is_refused("all but a byte of a read")) size = 1;
@@ -147,13 +170,23 @@ def question_in(folder):
     return ["slapacl", "-b", zoe, "-f", CONF, "--data", COPY, "-D", juergen, "-v", "mail/write", "title", "userPassword"]
 
 
+def typed_changes_in(folder):
+    """A run under the types of a configuration."""
+    words = ["slapmodify", "-b", "dc=com", "--data", "copy", "-l", "changes", "-f", "conf"]
+    return [*words, "--out", folder / "new", "--undo", folder / "undo", "-v"]
+
+
+def typed_question_in(folder):
+    return ["slapacl", "-f", "conf", "--data", "copy", *ASKED.options()]
+
+
 def run(program, shim, words_in, refusal):
-    """What a run leaves, and whether a call of it was refused."""
-    with tempfile.TemporaryDirectory() as name:
+    """What a run leaves, and whether a call of it was refused. It is run where the shared object is, and the texts of TYPED."""
+    with tempfile.TemporaryDirectory(dir=IN_MEMORY) as name:
         folder = pathlib.Path(name)
         words = [program, *words_in(folder)]
         environment = {"LD_PRELOAD": shim, "REFUSE_TOLD": str(folder / "told")} | refusal
-        ended = subprocess.run(words, env=environment, capture_output=True, timeout=60)
+        ended = subprocess.run(words, cwd=os.path.dirname(shim), env=environment, capture_output=True, timeout=60)
         files = {path.name: path.read_bytes() for path in folder.iterdir()}
         # The paths of the run's own folder are not the same twice.
         message = ended.stderr.decode().replace(f"{folder}/", "").replace(str(folder), ".")
@@ -176,7 +209,7 @@ def memory_is_told(left, whole):
 
 
 def opening_is_told(left, whole):
-    paths = ("/", str(CONF), str(COPY), str(CHANGES), "undo", "new")
+    paths = ("/", str(CONF), str(COPY), str(CHANGES), *TYPED, "undo", "new")
     # The folder is opened to be synced.
     return ends(left, *(f"slapkit: cannot open {path}\n" for path in paths), *NOT_WRITTEN)
 
@@ -267,12 +300,27 @@ KINDS_OF_QUESTIONS = {
     "write to standard error, by a signal": (run_is_whole, None),
 }
 
+# Under the types of a configuration: its opening and reading, and each call for memory while the types are read.
+KINDS_UNDER_TYPES = {
+    "opening": (opening_is_told, opening_is_told),
+    "read": (read_is_told, read_is_told),
+    "all but a byte of a read": (run_is_whole, run_is_whole),
+    "opening, by a signal": (run_is_whole, None),
+    "read, by a signal": (run_is_whole, None),
+}
+MEMORY = {"memory": (memory_is_told, memory_is_told)}
+WHILE_TYPES_ARE_READ = {"REFUSE_AFTER": "conf"}
+
 # The runs that are tried: what a run is called, its words, the files that it makes, what goes to standard error, the kinds of calls, and what
 # else is set.
 RUNS = [
     ("", changes_in, ["new", "undo"], "", KINDS, {}),
     (", without hard links", changes_in, ["new", "undo"], "", KINDS_WITHOUT_LINKS, NO_LINKS),
     (" of a question", question_in, [], NOTES, KINDS_OF_QUESTIONS, {}),
+    (" under types", typed_changes_in, ["new", "undo"], "", KINDS_UNDER_TYPES, {}),
+    (" while the types of a run are read", typed_changes_in, ["new", "undo"], "", MEMORY, WHILE_TYPES_ARE_READ),
+    (" of a question under types", typed_question_in, [], TYPED_NOTES, KINDS_UNDER_TYPES, {}),
+    (" while the types of a question are read", typed_question_in, [], TYPED_NOTES, MEMORY, WHILE_TYPES_ARE_READ),
 ]
 
 
@@ -297,9 +345,11 @@ def main():
     with tempfile.TemporaryDirectory() as folder:
         source, shim = f"{folder}/shim.c", f"{folder}/shim.so"
         pathlib.Path(source).write_text(SHIM)
+        for name, text in TYPED.items():
+            pathlib.Path(folder, name).write_text(text)
         subprocess.run([os.environ.get("CC", "cc"), "-shared", "-fPIC", "-o", shim, source, "-ldl"], check=True)
-        if not NOTES:
-            sys.exit("refusals: there is no note on the configuration of the question")
+        if not NOTES or not TYPED_NOTES:
+            sys.exit("refusals: there is no note on the configuration of a question")
         trials = []
         for called, words_in, files, message, kinds, more in RUNS:
             whole, _ = run(program, shim, words_in, {})

@@ -8,6 +8,8 @@ from checks import Wrong
 
 SECONDS = 10
 MEMORY = "/dev/shm"
+# where folders are made, for many short runs
+IN_MEMORY = MEMORY if os.path.isdir(MEMORY) else None
 REPORT, MESSAGE = ".report", ".message"
 
 
@@ -18,7 +20,7 @@ class Place:
         self.program = str(pathlib.Path(program).resolve())
 
     def __enter__(self):
-        self.folder = tempfile.TemporaryDirectory(dir=MEMORY if os.path.isdir(MEMORY) else None)
+        self.folder = tempfile.TemporaryDirectory(dir=IN_MEMORY)
         self.came_from = os.getcwd()
         os.chdir(self.folder.name)
         signal.signal(signal.SIGALRM, too_long)
