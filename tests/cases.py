@@ -65,6 +65,20 @@ OF_TYPES = (
     "dn: cn=e,dc=com|changetype: modify|add: boss|boss: CN=b|-||"
     "dn: lastName=x,dc=com|changetype: add|surname: X|"
 )
+# definitions of types that no other text here names, nor one of program.py or forms.py; and what says otherwise of known types, which stay as they are
+OTHER_TYPES = lines(
+    "database monitor|attributetype ( 1.3.6.1.4.1.32473.1 NAME ( 'room' 'roomName' )|  EQUALITY caseIgnoreMatch SINGLE-VALUE )|"
+    "attributetype ( 1.3.6.1.4.1.32473.2 NAME 'level' SUP uidNumber )|"
+    "attributetype ( 1.3.6.1.4.1.32473.3 SUP distinguishedName )|"
+    "attributetype ( 2.5.4.3 NAME ( 'fullName' 'cn' ) EQUALITY caseExactMatch SINGLE-VALUE )|"
+    "attributetype ( 2.5.4.4 NAME 'lastName' EQUALITY integerMatch )|"
+    "attributetype ( 2.5.4.13 NAME 'description' SUP nothing SINGLE-VALUE )|"
+    "attributetype ( 2.5.4.11 NAME ( 'unit' 'ou' ) EQUALITY distinguishedNameMatch )|"
+    "attributetype ( 0.9.2342.19200300.100.1.25 EQUALITY octetStringMatch )|"
+    "attributetype ( 1.3.6.1.1.1.1.0 NAME 'uidNumber' EQUALITY caseIgnoreMatch )|"
+    "attributetype ( 2.5.4.31 NAME 'member' EQUALITY uniqueMemberMatch SINGLE-VALUE )|"
+    "attributetype ( 2.5.4.0 NAME 'objectClass' EQUALITY caseExactMatch )|"
+)
 FOLDED = "# folded|  comment|dn: cn=e,dc=com|changetype: modify|add: description|description: two|  words |"
 
 TEXTS = {

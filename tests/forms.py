@@ -12,7 +12,7 @@ import sys
 import checks
 from access import Question, access_answer
 from answers import answer
-from cases import lines
+from cases import OTHER_TYPES, TEXTS, lines
 from checks import expect
 from names import as_bytes
 from runs import Place
@@ -418,17 +418,32 @@ ASKED = [("dc=com", ""), ("", ""), ("x", None), ("dc=com", "x", "y"), ("dc=org",
 ASKED += [("dc=com", None, word) for word in ("", "cn/", "/read", "cn/read/x", "cn:/read", "cn/READ", "CN;X/Auth", "ENTRY", "Children/None:x", "dn")]
 
 
-def check_changes(place, texts):
-    place.write("copy", COPY)
+def check_changes(place, texts, *options):
     for text in texts:
-        check_change(place, text, dataclasses.astuple(answer(b"dc=com", COPY, text, goes_on=True, is_verbose=True)), repr(text))
+        check_run(place, "dc=com", COPY, text, *options)
     return f"{len(texts)} texts"
 
 
-def check_change(place, text, wanted, what, *options):
+def check_run(place, suffix, copy, text, *options):
+    place.write("copy", copy)
+    wanted = answer(suffix.encode(), copy, text, goes_on=True, is_verbose=True)
+    check_change(place, suffix, text, dataclasses.astuple(wanted), repr(text), *options)
+
+
+def check_under_other_types(place):
+    """All changes under types that they don't name. What is wanted of them is as it is without these."""
+    place.write("conf", OTHER_TYPES)
+    for texts in CHANGES.values():
+        check_changes(place, texts, "-f", "conf")
+    for texts in TEXTS.values():
+        if texts.config is None:
+            check_run(place, texts.suffix, texts.copy, texts.changes, "-f", "conf")
+
+
+def check_change(place, suffix, text, wanted, what, *options):
     """A run of these changes, of which status, report, message and both files are wanted."""
     place.write("changes", text)
-    ended = place.run("slapmodify", "-b", "dc=com", "--data", "copy", "-l", "changes", "--out", "new", "--undo", "undo", "-c", "-v", *options)
+    ended = place.run("slapmodify", "-b", suffix, "--data", "copy", "-l", "changes", "--out", "new", "--undo", "undo", "-c", "-v", *options)
     found = (*ended, *map(place.read, ("new", "undo")))
     place.remove("new", "undo")
     files = [None if wanted is None else wanted.encode() for wanted in wanted[3:]]
@@ -489,7 +504,7 @@ def check_types(place, config, kinds=KINDS, fault=None):
         expect((wanted[2], "C11" in told[2] or "C12" in told[2]), (fault, fault != ""), f"the model of {config[:300]}")
     place.write("conf", config)
     place.write("copy", COPY)
-    check_change(place, changes, wanted, config[:300], "-f", "conf")
+    check_change(place, "dc=com", changes, wanted, config[:300], "-f", "conf")
     place.write("copy", copy)
     expect(place.run("slapacl", "-f", "conf", "--data", "copy", *question.options()), told, config[:300])
 
@@ -542,6 +557,7 @@ def main():
     program = str(pathlib.Path(sys.argv[1]).resolve())
     with Place(program) as place:
         pairs = [(name, lambda texts=texts: check_changes(place, texts)) for name, texts in CHANGES.items()]
+        pairs.append(("the same and others under other types", lambda: check_under_other_types(place)))
         pairs += [(name, lambda texts=texts: check_configs(place, texts)) for name, texts in CONFIGS.items()]
         pairs.append(("filters", lambda: check_filters(place)))
         pairs.append(("questions", lambda: check_questions(place)))

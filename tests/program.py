@@ -2,6 +2,8 @@
 """Runs slapkit on files: what it writes where, its exit statuses, and how it opens and makes files.
 
 usage: program.py PROGRAM
+
+What is tried of slapmodify is also tried under the types of a configuration (-f) that says nothing of the types of its texts: nothing may be otherwise.
 """
 import os
 import pathlib
@@ -11,6 +13,7 @@ import tempfile
 import time
 
 import checks
+from cases import OTHER_TYPES
 from checks import expect
 from texts import NOTHING, block, renamed
 
@@ -25,10 +28,10 @@ ONTO = ["--out", "new", "--undo", "undo"]
 
 
 class Trial:
-    """Runs of the program in a folder of their own."""
+    """Runs of the program in a folder of their own. Those of slapmodify have these options before others."""
 
-    def __init__(self, program, folder, files):
-        self.program, self.folder = program, pathlib.Path(folder)
+    def __init__(self, program, folder, files, options=()):
+        self.program, self.folder, self.options = program, pathlib.Path(folder), options
         for name, text in files.items():
             (self.folder / name).write_text(text)
 
@@ -40,9 +43,13 @@ class Trial:
                 os.close(stream)
 
         ended = subprocess.run(
-            [self.program, *words], cwd=self.folder, input=typed.encode(), stdout=out, stderr=err, preexec_fn=close, timeout=60
+            self.command(words), cwd=self.folder, input=typed.encode(), stdout=out, stderr=err, preexec_fn=close, timeout=60
         )
         return ended.returncode, (ended.stdout or b"").decode(), (ended.stderr or b"").decode()
+
+    def command(self, words):
+        options = self.options if words[:1] == ["slapmodify"] else ()
+        return [self.program, *words[:1], *options, *words[1:]]
 
     def modify(self, *words, **how):
         return self.run(["slapmodify", "-b", "dc=com", "--data", "copy", *words], **how)
@@ -832,8 +839,8 @@ def the_version_is_told(trial):
 
 def running(trial, *words):
     """A run that waits for the changes on its standard input."""
-    words = [trial.program, "slapmodify", "-b", "dc=com", "--data", "copy", *words]
-    return subprocess.Popen(words, cwd=trial.folder, stdin=subprocess.PIPE, stdout=subprocess.PIPE, stderr=subprocess.PIPE)
+    words = ["slapmodify", "-b", "dc=com", "--data", "copy", *words]
+    return subprocess.Popen(trial.command(words), cwd=trial.folder, stdin=subprocess.PIPE, stdout=subprocess.PIPE, stderr=subprocess.PIPE)
 
 
 def wait_for(holds):
@@ -845,7 +852,8 @@ def wait_for(holds):
     raise checks.Wrong("waited for a minute")
 
 
-TRIALS = [
+# what is tried of slapmodify, also under other types
+RUNS = [
     an_add_is_taken_back,
     a_rename_moves_what_is_below_and_is_taken_back,
     a_rename_is_refused,
@@ -862,7 +870,6 @@ TRIALS = [
     a_run_goes_on_after_a_refused_record,
     a_verbose_run_alone_does_not_go_on,
     a_verbose_run_reports_each_record,
-    one_option_alone_is_refused,
     each_of_four_options_is_needed,
     a_fault_leaves_no_file,
     a_faulty_copy_is_named_by_its_line,
@@ -877,11 +884,6 @@ TRIALS = [
     an_undo_file_that_is_there_comes_first,
     a_link_is_not_followed_to_a_file_that_is_made,
     paths_must_differ,
-    the_configuration_has_a_path_of_its_own,
-    values_are_compared_by_the_types_of_the_configuration,
-    a_run_under_the_types_of_a_configuration_is_taken_back,
-    the_types_are_read_before_the_copy_is_opened,
-    the_types_of_a_question_are_those_of_its_configuration,
     the_copy_is_not_written_over,
     the_copy_is_opened_before_the_changes,
     a_folder_cannot_be_read,
@@ -896,6 +898,16 @@ TRIALS = [
     control_characters_of_a_path_are_escaped,
     a_folder_that_is_missing_is_told,
     a_folder_may_be_another_one,
+    access_is_as_before_once_a_run_is_taken_back,
+    letters_are_folded_and_not_only_made_small,
+]
+OTHERS = [
+    one_option_alone_is_refused,
+    the_configuration_has_a_path_of_its_own,
+    values_are_compared_by_the_types_of_the_configuration,
+    a_run_under_the_types_of_a_configuration_is_taken_back,
+    the_types_are_read_before_the_copy_is_opened,
+    the_types_of_a_question_are_those_of_its_configuration,
     a_question_is_answered,
     a_question_of_a_missing_entry_needs_its_option,
     faults_of_questions_are_told,
@@ -911,8 +923,6 @@ TRIALS = [
     control_characters_of_a_note_are_escaped,
     notes_that_cannot_be_told_end_the_run,
     a_question_is_not_answered_on_a_full_device,
-    access_is_as_before_once_a_run_is_taken_back,
-    letters_are_folded_and_not_only_made_small,
     a_faulty_command_line_ends_with_status_1,
     words_that_are_not_utf_8_are_refused,
     help_ends_with_status_0,
@@ -925,9 +935,21 @@ def tried(program, trial):
         trial(Trial(program, folder, {"copy": COPY, "changes": ADD}))
 
 
+def tried_under_other_types(program, trial):
+    with tempfile.TemporaryDirectory() as folder, tempfile.NamedTemporaryFile() as types:
+        types.write(OTHER_TYPES)
+        types.flush()
+        trial(Trial(program, folder, {"copy": COPY, "changes": ADD}, ["-f", types.name]))
+
+
+def shown(trial):
+    return trial.__name__.replace("_", " ")
+
+
 def main():
     program = os.path.abspath(sys.argv[1])
-    named = [(trial.__name__.replace("_", " "), lambda trial=trial: tried(program, trial)) for trial in TRIALS]
+    named = [(shown(trial), lambda trial=trial: tried(program, trial)) for trial in RUNS + OTHERS]
+    named += [(f"{shown(trial)}, under other types", lambda trial=trial: tried_under_other_types(program, trial)) for trial in RUNS]
     sys.exit(checks.run("program", named))
 
 
