@@ -224,3 +224,55 @@ fn a_text_with_definitions_may_not_be_too_long(rt: HostRuntime) {
     text.truncate(16_777_216);
     assert_refused(&rt, rt.alloc(), text.as_slice(), 1, ConfigCause::BadType);
 }
+
+/// Configurations that define types of several names, one by another, and more names of a type that is known.
+static AGAIN: [Row; 3] = [
+    Row {
+        config: "attributetype ( 1.2.3 NAME ( 'level' 'grade' )\n  EQUALITY integerMatch SINGLE-VALUE )\n",
+        text: "GRADE",
+        same: "level",
+        rule: Rule::Integer,
+        single: true,
+    },
+    Row {
+        config: "attributetype ( 1.2.3 NAME 'level' SUP uidNumber )\ninclude x\nattributetype ( 1.2.4 NAME 'a1' SUP LEVEL )\n",
+        ..READ
+    },
+    Row {
+        config: "attributetype ( 2.5.4.3 NAME ( 'cn' 'fullName' ) )\n",
+        text: "fullName",
+        same: "cn",
+        rule: Rule::CaseIgnore,
+        single: false,
+    },
+];
+
+/// Each allocation of this may be made to fail, by `rt try --test --fail-alloc N`.
+#[test]
+fn types_for_which_memory_ran_out_are_read_later(rt: HostRuntime) {
+    let schema = schema(&rt, rt.alloc());
+    for row in &AGAIN {
+        assert!(&rt;
+            is_read_later(&rt, rt.alloc(), &schema, row),
+            "{}",
+            row.config
+        );
+    }
+}
+
+/// Whether a configuration gives these types, or has no memory for them and gives them when it is read once more.
+fn is_read_later(rt: &impl Abort, alloc: Global, schema: &Schema, row: &Row) -> bool {
+    match read_schema(alloc, schema, row.config.as_bytes()) {
+        Ok(types) => means(rt, alloc, &types, row),
+        Err(fault) => {
+            fault.line == 0 && fault.cause == ConfigCause::Memory && is_read(rt, alloc, schema, row)
+        }
+    }
+}
+
+fn is_read(rt: &impl Abort, alloc: Global, schema: &Schema, row: &Row) -> bool {
+    match read_schema(alloc, schema, row.config.as_bytes()) {
+        Ok(types) => means(rt, alloc, &types, row),
+        Err(_) => false,
+    }
+}
