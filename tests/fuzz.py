@@ -32,7 +32,7 @@ import definitions
 import names
 import operations
 import type_forms
-from access import Question, access_answer
+from access import Question, access_answer, read_config
 from answers import answer
 from cases import RULES, TEXTS
 from checks import Wrong, expect
@@ -73,7 +73,7 @@ def example():
 CONFIG_OF_ALL_PARTS = b"""database mdb
 suffix dc=com
 rootdn "cn=root,dc=com"
-access to dn.one="dc=com" filter=(|(cn=a*)(&(sn=*)(!(uidNumber>=2)))(description~=f f)) attrs=cn,description;lang-en,entry
+access to dn.one="dc=com" "filter=(|(cn=a*)(&(sn=*)(!(uidNumber>=2)))(description~=f f))" attrs=cn,description;lang-en,entry
   by self =w continue
   by users +rsc break
 access to dn.children=cn=a,dc=com attrs=children,note
@@ -96,17 +96,17 @@ access to * by * none
 """
 CONFIG_OF_TYPES = b"""database mdb
 suffix dc=com
-access to filter=(&(roomName=f*)(!(level>=2))(NOTE=f f)(1.3.6.1.4.1.32473.4=a)) attrs=room,1.3.6.1.4.1.32473.2,note;x
+access to "filter=(|(roomName=f*)(!(level>=2))(NOTE=f f)(1.3.6.1.4.1.32473.4=a))" attrs=room,1.3.6.1.4.1.32473.2,note;x
   by dnattr=manager write break
 access to attrs=lastName,fullName,a,gn,foo by * +rs break
 access to "filter=(|(fullName=A)(lastName=b)(a>=1)(b=x*))" by * +w break
 access to dn.children="fullName=b,dc=com" by dn.base="a=1,dc=com" read by * +x
 """
-CONFIGS = [CONFIG_OF_ALL_PARTS, CONFIG_OF_ALL_NOTES, CONFIG_OF_TYPES, *(rules.config for rules in RULES.values())]
-FIXED = [example()]
-for texts in TEXTS.values():
-    if len(texts.copy) < 4096:
-        FIXED.append((texts.suffix, texts.copy, texts.changes, texts.config and CONFIG_OF_TYPES + texts.config))
+WHOLE_CONFIGS = [CONFIG_OF_ALL_PARTS, CONFIG_OF_ALL_NOTES, CONFIG_OF_TYPES]
+CONFIGS = WHOLE_CONFIGS + [rules.config for rules in RULES.values()]
+FIXED = [example()] + [
+    (texts.suffix, texts.copy, texts.changes, texts.config and CONFIG_OF_TYPES + texts.config) for texts in TEXTS.values() if len(texts.copy) < 4096
+]
 # definitions beside those of operations.py: of types that the rules above and the words below name, and of each right form
 DEFINITIONS = [
     "( 2.5.4.42 NAME ( 'givenName' 'gn' ) )",
@@ -157,7 +157,8 @@ TOKENS = """( ) ' '' 'a' 'b' 'cn' 'room' 'dn' 'Control' NAME DESC SUP EQUALITY O
     01.2 1 a cn note room name distinguishedName uidNumber integerMatch caseIgnoreMatch distinguishedNameMatch telephoneNumberMatch caseExactMatch
     attributetype # \\ " """
 TOKENS = [token.encode() for token in TOKENS.split()]
-PARTS = [b"NAME 'a'", b"NAME ( 'b' 'dn' )", b"DESC ''", b"SUP cn", b"SUP nothing", b"EQUALITY integerMatch", b"SINGLE-VALUE", b"OBSOLETE", b"X-a 'b'", b"USAGE a"]
+PARTS = [b"NAME 'a'", b"NAME ( 'b' 'dn' )", b"DESC ''", b"SUP cn", b"SUP nothing", b"EQUALITY integerMatch", b"SINGLE-VALUE", b"OBSOLETE"]
+PARTS += [b"X-a 'b'", b"USAGE a"]
 SIGNS = [sign.encode() for sign in list('\0\t\r\n "#+,;<=>\\:-*()&|!/.@') + ["\n ", "\n\n", "\r\n", ": ", ":: ", ":< ", "\n-\n", "\\20", "\\5c", "\\,", "  "]]
 CHARACTERS = [
     char.encode()
@@ -473,6 +474,9 @@ def main():
     parser.add_argument("--jobs", type=int, default=1)
     parser.add_argument("--failures", type=pathlib.Path, default=pathlib.Path("fuzz-failures").absolute())
     args = parser.parse_args()
+    # they are right before they are changed
+    for config in WHOLE_CONFIGS:
+        read_config(config)
     args.program = str(pathlib.Path(args.program).resolve())
     runs = cases = failures = 0
     ends_by = time.monotonic() + 60 * args.minutes
