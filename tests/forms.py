@@ -145,6 +145,8 @@ modify
 modify|add: x|-|-
 modify|-
 modify|increment: x|x: 1|-
+modify|increment: x
+modify|INCREMENT:: dWlkTnVtYmVy|uidnumber: 1|-|increment: uidNumber|uidNumber: 1|uidNumber: 2|-
 modify|add: x|x: 1|- 
 modify|add:: eA==|X: 1|-|REPLACE: x|x:2
 modify|add: cn;x|cn: 1
@@ -157,6 +159,14 @@ modify|add: cn|2.5.4.3: b|-
     "dn: cn=e,dc=com|changetype: ",
     "|",
 )
+MOST, LEAST = 2**127 - 1, -(2**127)
+NUMBERS = [0, 7, -7, MOST, LEAST, MOST + 1, LEAST - 1, int("9" * 60)]
+AMOUNTS = [*map(str, [0, 1, -1, 7, MOST, LEAST, MOST + 1, LEAST - 1]), "9" * 60, "+1", "01", "-0", "-", "", " 1", "1a"]
+INCREMENTS = [
+    entry(f"gidNumber: {number}") + lines(f"dn: cn=e,dc=com|changetype: modify|increment: gidNumber|gidNumber: {amount}|-||")
+    for number in NUMBERS
+    for amount in AMOUNTS
+]
 RENAMES = each(
     f"""
 modrdn
@@ -186,6 +196,7 @@ CHANGES = {
     "versions": VERSIONS,
     "lines": LINES,
     "modifies": MODIFIES,
+    "increments": INCREMENTS,
     "renames": RENAMES,
     "modifies and renames of an entry that is there": [entry() + text for text in MODIFIES + RENAMES],
 }

@@ -203,7 +203,7 @@ def modify_of(dn, lines):
                 raise RecordFault(BAD_MODIFY)
             values.append(as_text(pair.value))
         else:
-            if not pair.is_named("add", "delete", "replace"):
+            if not pair.is_named("add", "delete", "replace", "increment"):
                 raise RecordFault(BAD_MODIFY)
             spelling = as_text(pair.value)
             description_key(spelling)

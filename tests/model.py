@@ -134,8 +134,34 @@ def lines_of(attributes):
     return [(attributes[kind][0], value) for kind in in_order_of_keys(attributes) for value in in_order(attributes[kind][1])]
 
 
+def number_of(text):
+    """The number that a text of an integer writes, if it is one of 128 bits."""
+    number = int(text) if len(text) <= 40 else None
+    if number is None or not -(2**127) <= number < 2**127:
+        raise Refused(19)
+    return number
+
+
+def incremented(slot, kind, values):
+    """What an entry has under a type when a number was added to each value (RFC 4525)."""
+    if len(values) != 1:
+        raise Refused(2)
+    if names.rule_of(kind) is not names.Rule.INTEGER:
+        raise Refused(21)
+    value_key(kind, values[0])
+    if slot is None:
+        raise Refused(16)
+    amount = number_of(values[0])
+    sums = [str(number_of(value) + amount) for value in slot[1].values()]
+    for text in sums:
+        number_of(text)
+    return slot[0], {text: text for text in sums}
+
+
 def slot_after(slot, op, spelling, values):
     """What an entry has under a type after one modification; nothing where no value is left."""
+    if op == "increment":
+        return incremented(slot, description_key(spelling), values)
     if not values:
         if op == "add":
             raise Refused(2)

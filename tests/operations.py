@@ -56,6 +56,8 @@ BUILT_IN_SPELLINGS = dict(TYPES)
 # values with signs that a name escapes, spaces at their ends, letters of other scripts, and the same ones spelled otherwise
 TEXTS = ["a", "A", "b", "B", "c", "d", "D", " e", "F  f", "f F ", "g,h", "G,H", "i+j", "#k", 'l"l', "m\\m", "<n;n>", "o=o", "\u00fc", "\u00dc", "stra\u00dfe"]
 NUMBERS = ["1", "2", "3"]
+# what numbers are incremented by, and the ends of 128 bits
+AMOUNTS = ["1", "1", "-1", "2", "0", "-5", str(2**127 - 1), str(-(2**127)), str(2**127), "7" * 60]
 # types that may have many values
 MULTIPLE = ["cn", "cn;lang-en", "description", "note", "sn"]
 # types that a name may have: without options
@@ -190,8 +192,16 @@ def random_lines(rng, rdn):
     return [pair for pair in lines + own if rng.random() < 0.95] + many
 
 
+def random_increment(rng, entry):
+    """An increment, most often of numbers that are there."""
+    there = [kind for kind in (entry.attributes if entry else []) if names.rule_of(kind) is Rule.INTEGER]
+    kind = rng.choice([*there * 8, *TYPES])
+    given = [rng.choice([*AMOUNTS, "007", "a"]) for _ in range(rng.choice([1] * 12 + [0, 2]))]
+    return "increment", rng.choice(TYPES[kind]), given
+
+
 def random_mods(rng, entry):
-    mods = []
+    mods = [random_increment(rng, entry)] if rng.random() < 0.15 else []
     large = [kind for kind, (_, values) in (entry.attributes if entry else {}).items() if len(values) > 9]
     for _ in range(rng.choice([0, 1, 1, 1, 2, 2, 3])):
         kind = rng.choice([*TYPES, *(entry.attributes if entry else []), *large * 4])

@@ -2,6 +2,7 @@ pub mod AfterOperations
 pub mod AttributesBack
 pub mod Conditions
 pub mod Examples
+pub mod Decimals
 pub mod DistinctKeys
 pub mod ExchangedAttributes
 pub mod ExchangedInTurn
@@ -9,6 +10,7 @@ pub mod ExchangedParts
 pub mod ExchangedSlots
 pub mod InOrder
 pub mod InTurn
+pub mod IncrementedValues
 pub mod JudgedParts
 pub mod KeysInOrder
 pub mod LegalDifference
@@ -21,6 +23,7 @@ pub mod ModifiedEntry
 pub mod ModifyAnswers
 pub mod ModifyBack
 pub mod ModifyUndo
+pub mod Numbers
 pub mod OverlaidParts
 pub mod PartDifference
 pub mod PartOfSlot

@@ -303,7 +303,7 @@ left_among keys rest i k is = ap (is_one_of k) (sym (take-append-drop i keys)) �
     or_true true = refl
     or_true false = refl
 
-pub left_here : (keys : List Attr) (i : ℕ) (k : Attr) → i < length keys → k ≡ get_or keys i k → drop i keys ≡ k ∷ drop (i + 1) keys
+pub left_here : {A : Type 0} (keys : List A) (i : ℕ) (k : A) → i < length keys → k ≡ get_or keys i k → drop i keys ≡ k ∷ drop (i + 1) keys
 left_here keys i k lt is = drop-cons keys i k lt ∙ ap (λ z. z ∷ drop (suc i) keys) (sym is) ∙ ap (λ n. k ∷ drop n keys) one
   where
     one : suc i ≡ i + 1

@@ -1,10 +1,11 @@
 -- Attributes after modifications: those that are sound stay so, and no other key is touched.
-use Rattle.std.proofs.Common.{◌≡◌, ℕ, Bool, true, false, cond, not, ◌&&◌, ◌||◌, ◌==◌, List, [], ◌∷◌, ◌++◌, length, map, Option, Some, None, Result, Ok, Err, refl, sym, ap, subst, ◌∙◌, true≢false}
+use Rattle.std.proofs.Common.{◌≡◌, ℕ, Bool, true, false, cond, not, ◌&&◌, ◌||◌, ◌==◌, List, [], ◌∷◌, ◌++◌, length, map, ℤ, Option, Some, None, is_some, Result, Ok, Err, refl, sym, ap, subst, ◌∙◌, true≢false}
 use Rattle.std.specs.List.{list_all, list_any}
 use Rattle.std.specs.FinMap as fin
 use Rattle.std.specs.FinMap.{len-entries}
 use Rattle.std.specs.Option.{ok_or}
 use Rattle.std.specs.Ordering.{eq_by_cmp}
+use Rattle.dir_names.specs.declared.schema.Rule.TheVariants.{Integer}
 use Rattle.dir_names.specs.declared.schema.TypeRow.{TypeRow}
 use Rattle.dir_names.specs.declared.value.ValueKey.{ValueKey}
 use Rattle.dir_names.specs.Attr.{Attr}
@@ -12,6 +13,7 @@ use Rattle.dir_names.specs.Descriptions.{description_of}
 use Rattle.dir_names.specs.Orders.{attr_cmp, attr_cmp_ties, attr_cmp_total, attr_cmp_exact, attr_eq, bytes_eq_decides}
 use Rattle.dir_names.specs.Results.{and_then}
 use Rattle.dir_names.specs.Sorted.{set_of}
+use Rattle.dir_names.specs.Table.{rule_of}
 use Rattle.dir_names.specs.Values.{value_key_cmp, value_key_cmp_total, value_key_cmp_exact}
 use Rattle.dir_ldif.specs.declared.records.Mod.{Mod}
 use Rattle.dir_ldif.specs.declared.records.ModOp.{ModOp}
@@ -23,11 +25,13 @@ use Rattle.dir_tree.specs.WellFormed.{Each, IsSoundAttribute, IsSoundValue}
 use Rattle.dir_tree.proofs.EachEntry.{each_entry}
 use Rattle.dir_tree.proofs.SoundMade.{each_get, each_insert, entries_of_none}
 use Rattle.dir_change.specs.Difference.{bytes_of, difference, difference_at, modification_if_any, slot_difference, values_missing_in}
-use Rattle.dir_change.specs.Modify.{KeyedValues, are_distinct, attributes_after, has_all, has_any, is_given, keyed_values, no_slot, slot_after, slot_after_op, slot_of_given, slot_with, slot_without, values_with, values_without}
+use Rattle.dir_change.specs.Increment.{keyed_integer, number_within, sums}
+use Rattle.dir_change.specs.Modify.{KeyedValues, are_distinct, attributes_after, has_all, has_any, has_integers, is_given, keyed_value, keyed_values, no_slot, slot_after, slot_after_op, slot_incremented, slot_of_given, slot_with, slot_with_sums, slot_without, values_with, values_without}
 use Rattle.dir_change.specs.Refusals.{unless}
 use Rattle.dir_change.specs.declared.result_code.ResultCode.{ResultCode}
-use Rattle.dir_change.specs.declared.result_code.ResultCode.TheVariants.{AttributeOrValueExists, InvalidAttributeSyntax, NoSuchAttribute}
+use Rattle.dir_change.specs.declared.result_code.ResultCode.TheVariants.{AttributeOrValueExists, ConstraintViolation, InvalidAttributeSyntax, NoSuchAttribute}
 use Rattle.dir_change.proofs.AttributesBack.{AreSoundSlots, attr_itself, difference_of_key, get_slot, neither}
+use Rattle.dir_change.proofs.IncrementedValues.{integers_only, sums_sound}
 use Rattle.dir_change.proofs.KeysInOrder.{is_among, same_attr, same_listed, set_among, set_rises}
 use Rattle.dir_change.proofs.LegalValues.{IsLegalMod, keyed_sound}
 use Rattle.dir_change.proofs.SlotBack.{IsSoundSlot, if_differs, missing_found}
@@ -123,6 +127,31 @@ module _ (rows : List TypeRow) where
       whole None h = absurd (cc)
       whole (Some a) h = none h
 
+      -- increment
+      by_sums : rule_of rows k ≡ Integer → (amount : List ℕ) (slot : Option Stored) → IsSoundSlot rows k slot → slot_with_sums amount slot ≡ Ok new → IsSoundSlot rows k new
+      by_sums rule amount None is_sound h = absurd (cc)
+      by_sums rule amount (Some a) is_sound h = by_number (number_within amount) h
+        where
+          by_texts : (number : ℤ) (o : Option (List (List ℕ))) → sums number a.values ≡ o → and_then (ok_or o ConstraintViolation) (λ texts. Ok (slot_of a.spelling (values_with fin.empty (map keyed_integer texts)))) ≡ Ok new → IsSoundSlot rows k new
+          by_texts number None t e = absurd (cc)
+          by_texts number (Some texts) t e =
+              let same : slot_of a.spelling (values_with fin.empty (map keyed_integer texts)) ≡ new = cc in
+              subst (IsSoundSlot rows k) same (slot_sound rows k a.spelling (values_with fin.empty (map keyed_integer texts)) is_sound.0 (with_sound rows k fin.empty (map keyed_integer texts) (empty_sound rows k) (sums_sound rows k rule number (fin.entries a.values) texts t)))
+
+          by_number : (o : Option ℤ) → and_then (ok_or o ConstraintViolation) (λ number. and_then (ok_or (sums number a.values) ConstraintViolation) (λ texts. Ok (slot_of a.spelling (values_with fin.empty (map keyed_integer texts))))) ≡ Ok new → IsSoundSlot rows k new
+          by_number None e = absurd (cc)
+          by_number (Some number) e = by_texts number (sums number a.values) refl e
+
+      incremented : (values : List (List ℕ)) → slot_incremented rows k values slot ≡ Ok new → IsSoundSlot rows k new
+      incremented [] h = absurd (cc)
+      incremented (amount ∷ another ∷ vs) h = absurd (cc)
+      incremented (amount ∷ []) h = by_rule (has_integers (rule_of rows k)) (is_some (keyed_value rows k amount)) refl h
+        where
+          by_rule : (b c : Bool) → has_integers (rule_of rows k) ≡ b → unless (not (b && c)) InvalidAttributeSyntax (slot_with_sums amount slot) ≡ Ok new → IsSoundSlot rows k new
+          by_rule false c t e = absurd (cc)
+          by_rule true false t e = absurd (cc)
+          by_rule true true t e = by_sums (integers_only (rule_of rows k) t) amount slot sound e
+
       by : (what : ModOp) (values : List (List ℕ)) → slot_after_op rows m what values slot ≡ Ok new → IsSoundSlot rows k new
       by op.Add [] h = absurd (cc)
       by op.Add (v ∷ vs) h = keyed (slot_with m slot) by_add h
@@ -130,6 +159,7 @@ module _ (rows : List TypeRow) where
       by op.Delete (v ∷ vs) h = keyed (slot_without m slot) by_delete h
       by op.Replace [] h = none h
       by op.Replace (v ∷ vs) h = keyed (slot_of_given m) by_replace h
+      by op.Increment values h = incremented values h
 
   -- ---- all modifications, one after the other
 

@@ -15,7 +15,7 @@ use Rattle.dir_ldif.specs.declared.records.ModOp.TheVariants as op
 use Rattle.dir_tree.specs.Content.{Stored, StoredAttributes}
 use Rattle.dir_tree.specs.Slots.{slot_of, with_slot}
 use Rattle.dir_tree.specs.WellFormed.{Each}
-use Rattle.dir_change.specs.Inside.Looked.{AreAlike, AreSlotsAlike, IsPartOf, Looked, NamesInside, NamesLooked, is_replace, names_values}
+use Rattle.dir_change.specs.Inside.Looked.{AreAlike, AreSlotsAlike, IsPartOf, Looked, NamesInside, NamesLooked, adds_or_deletes, names_values}
 use Rattle.dir_change.specs.Modify.{KeyedValues, are_distinct, attributes_after, has_all, has_any, if_keyed, is_given, keyed_values, slot_after, slot_after_op, slot_with, slot_without, values_with, values_without}
 use Rattle.dir_change.specs.Refusals.{unless}
 use Rattle.dir_change.specs.declared.result_code.ResultCode.{ResultCode}
@@ -127,12 +127,13 @@ module _ (test : ValueKey → Bool) (first : Stored) (one : ValueKey) (rows : Li
     pub alike_after : names_values m ≡ true → AreAlike test first one (slot_after rows m (Some whole)) (slot_after rows m (Some part))
     alike_after names = by m.op m.values names
       where
-        by : (o : ModOp) (vs : List (List ℕ)) → (not (is_replace o) && not (length vs == 0)) ≡ true → AreAlike test first one (slot_after_op rows m o vs (Some whole)) (slot_after_op rows m o vs (Some part))
+        by : (o : ModOp) (vs : List (List ℕ)) → (adds_or_deletes o && not (length vs == 0)) ≡ true → AreAlike test first one (slot_after_op rows m o vs (Some whole)) (slot_after_op rows m o vs (Some part))
         by op.Add [] e = absurd (true≢false (sym e))
         by op.Add (v ∷ vs) e = alike_keyed (slot_with m (Some whole)) (slot_with m (Some part)) (λ given h none. alike_with given h)
         by op.Delete [] e = absurd (true≢false (sym e))
         by op.Delete (v ∷ vs) e = alike_keyed (slot_without m (Some whole)) (slot_without m (Some part)) alike_without
         by op.Replace vs e = absurd (true≢false (sym e))
+        by op.Increment vs e = absurd (true≢false (sym e))
 
 -- ---- all modifications of an entry
 

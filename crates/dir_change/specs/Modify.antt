@@ -1,13 +1,16 @@
 -- The modify operation on an entry (RFC 4511, section 4.6): each modification changes what the entry has under one key.
-use Rattle.std.specs.Prelude.{ℕ, Bool, true, not, ◌&&◌, ◌||◌, List, [], ◌∷◌, Option, Some, None, is_some, option_map, ok_or, Result, Ok, Err}
+use Rattle.std.specs.Prelude.{ℕ, Bool, true, false, not, ◌&&◌, ◌||◌, List, [], ◌∷◌, map, Option, Some, None, is_some, option_map, ok_or, Result, Ok, Err}
 use Rattle.std.specs.List.{list_all, list_any}
 use Rattle.std.specs.Result.{result_ok}
 use Rattle.std.specs.FinMap as fin
+use Rattle.dir_names.specs.declared.schema.Rule.{Rule}
+use Rattle.dir_names.specs.declared.schema.Rule.TheVariants.{Integer}
 use Rattle.dir_names.specs.declared.schema.TypeRow.{TypeRow}
 use Rattle.dir_names.specs.declared.value.ValueKey.{ValueKey}
 use Rattle.dir_names.specs.Attr.{Attr}
 use Rattle.dir_names.specs.NameKeys.{value_key_of}
 use Rattle.dir_names.specs.Results.{and_then, option_collect}
+use Rattle.dir_names.specs.Table.{rule_of}
 use Rattle.dir_names.specs.Values.{value_key_cmp}
 use Rattle.dir_ldif.specs.declared.records.Mod.{Mod}
 use Rattle.dir_ldif.specs.declared.records.ModOp.{ModOp}
@@ -15,9 +18,10 @@ use Rattle.dir_ldif.specs.declared.records.ModOp.TheVariants as op
 use Rattle.dir_tree.specs.ChangedEntry.{changed_entry}
 use Rattle.dir_tree.specs.Content.{Content, Stored, StoredValues, StoredAttributes}
 use Rattle.dir_tree.specs.Slots.{slot_of, spelling_or, values_of, with_slot}
+use Rattle.dir_change.specs.Increment.{keyed_integer, number_within, sums}
 use Rattle.dir_change.specs.Refusals.{entry_or_code, unless}
 use Rattle.dir_change.specs.declared.result_code.ResultCode.{ResultCode}
-use Rattle.dir_change.specs.declared.result_code.ResultCode.TheVariants.{ProtocolError, NoSuchAttribute, AttributeOrValueExists, InvalidAttributeSyntax}
+use Rattle.dir_change.specs.declared.result_code.ResultCode.TheVariants.{ProtocolError, NoSuchAttribute, AttributeOrValueExists, InvalidAttributeSyntax, ConstraintViolation}
 
 -- values with their keys, in the order in which a modification gives them
 abbrev pub KeyedValues : Type 0
@@ -83,6 +87,26 @@ abbrev pub no_slot : Option Stored → Result (Option Stored) ResultCode
 no_slot None = Err NoSuchAttribute
 no_slot (Some a) = Ok None
 
+-- whether the values of a type are integers
+abbrev pub has_integers : Rule → Bool
+has_integers Integer = true
+has_integers other = false
+
+-- increment: the attribute is there; the amount, each value and each sum is a number of 128 bits. The attribute keeps its spelling
+abbrev pub slot_with_sums : List ℕ → Option Stored → Result (Option Stored) ResultCode
+slot_with_sums amount None = Err NoSuchAttribute
+slot_with_sums amount (Some a) =
+    and_then (ok_or (number_within amount) ConstraintViolation)
+    (λ number. and_then (ok_or (sums number a.values) ConstraintViolation) (λ texts. Ok (slot_of a.spelling (values_with fin.empty (map keyed_integer texts)))))
+
+-- increment (RFC 4525, section 2): one value is given, of a type whose values are integers
+abbrev pub slot_incremented : List TypeRow → Attr → List (List ℕ) → Option Stored → Result (Option Stored) ResultCode
+slot_incremented rows k [] slot = Err ProtocolError
+slot_incremented rows k (amount ∷ []) slot =
+    unless (not (has_integers (rule_of rows k) && is_some (keyed_value rows k amount))) InvalidAttributeSyntax
+    (slot_with_sums amount slot)
+slot_incremented rows k (amount ∷ another ∷ values) slot = Err ProtocolError
+
 -- what the operation does with the values that it is given, of which there may be none
 abbrev pub slot_after_op : List TypeRow → Mod → ModOp → List (List ℕ) → Option Stored → Result (Option Stored) ResultCode
 slot_after_op rows m op.Add [] slot = Err ProtocolError
@@ -91,6 +115,7 @@ slot_after_op rows m op.Delete [] slot = no_slot slot
 slot_after_op rows m op.Delete (value ∷ values) slot = if_keyed rows m (slot_without m slot)
 slot_after_op rows m op.Replace [] slot = Ok None
 slot_after_op rows m op.Replace (value ∷ values) slot = if_keyed rows m (slot_of_given m)
+slot_after_op rows m op.Increment values slot = slot_incremented rows m.description.key values slot
 
 abbrev pub slot_after : List TypeRow → Mod → Option Stored → Result (Option Stored) ResultCode
 slot_after rows m slot = slot_after_op rows m m.op m.values slot

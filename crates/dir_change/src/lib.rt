@@ -6,6 +6,7 @@ mod delete;
 mod difference;
 mod exchange;
 mod history;
+mod increment;
 mod judged;
 mod laws;
 mod looked;

@@ -5,7 +5,7 @@ ghost use Rattle.std.specs.Prelude.{◌≡◌, ◌&&◌, ◌||◌, IfErr, IfOk, 
 ghost use Rattle.std.specs.List.{list_all};
 ghost use Rattle.std.specs.FinMap as fin;
 ghost use Rattle.dir_names.specs.Orders.{attr_eq};
-ghost use Rattle.dir_change.specs.Inside.Looked.{AreLooks, LooksAt, all_name_values, all_named, is_free, names_values, with_each, with_names};
+ghost use Rattle.dir_change.specs.Inside.Looked.{AreLooks, LooksAt, adds_or_deletes, all_name_values, all_named, is_free, names_values, with_each, with_names};
 ghost use Rattle.dir_tree.specs.Lent.{lent_key};
 ghost use Rattle.dir_change.specs.declared.operation.Refusal.TheVariants as refusal;
 
@@ -95,7 +95,16 @@ fn all_name_values(key: &AttrKey, mods: &[Mod]) -> bool
 fn names_values(m: &Mod) -> bool
     ensures { result ≡ names_values m.now }
 {
-    m.op != ModOp::Replace && !m.values.as_slice().is_empty()
+    adds_or_deletes(m.op) && !m.values.as_slice().is_empty()
+}
+
+fn adds_or_deletes(op: ModOp) -> bool
+    ensures { result ≡ adds_or_deletes op }
+{
+    match op {
+        ModOp::Add | ModOp::Delete => true,
+        ModOp::Replace | ModOp::Increment => false,
+    }
 }
 
 /// The values that modifications of the key name, if they have keys.

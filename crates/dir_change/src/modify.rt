@@ -21,6 +21,7 @@ ghost use Rattle.dir_change.specs.declared.result_code.ResultCode.TheVariants as
 
 use crate::difference::{difference, named_keys};
 use crate::exchange::exchange;
+use crate::increment::incremented;
 use crate::judged::judge;
 use crate::looked::looked_at;
 use crate::touched::{attributes_at, is_cheap_to_copy};
@@ -261,6 +262,7 @@ fn modified_attribute(
         ModOp::Add => with_values(alloc, schema, m, attribute),
         ModOp::Delete => without_values(alloc, schema, m, attribute),
         ModOp::Replace => replaced(alloc, schema, m),
+        ModOp::Increment => incremented(alloc, schema, m, attribute),
     }
 }
 

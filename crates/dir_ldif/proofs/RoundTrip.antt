@@ -120,6 +120,7 @@ good_op : (o : ModOp) (value : List ℕ) → length value ≤ 1048576 → Good (
 good_op op.Add value short = good_line 97 (100 ∷ 100 ∷ []) value refl refl refl (omega arith) short
 good_op op.Delete value short = good_line 100 (101 ∷ 108 ∷ 101 ∷ 116 ∷ 101 ∷ []) value refl refl refl (omega arith) short
 good_op op.Replace value short = good_line 114 (101 ∷ 112 ∷ 108 ∷ 97 ∷ 99 ∷ 101 ∷ []) value refl refl refl (omega arith) short
+good_op op.Increment value short = good_line 105 (110 ∷ 99 ∷ 114 ∷ 101 ∷ 109 ∷ 101 ∷ 110 ∷ 116 ∷ []) value refl refl refl (omega arith) short
 
 good_values : (rows : List TypeRow) (lines : List (Described × List ℕ)) → list_all (is_legal_line rows) lines ≡ true → AllGood (map value_line_of lines)
 good_values rows [] e = tt

@@ -142,11 +142,13 @@ attrval_of-op : (o : ModOp) (value : List ℕ) → IsBytes value → length valu
 attrval_of-op op.Add value bytes short = attrval_of-line 97 (100 ∷ 100 ∷ []) value refl bytes short
 attrval_of-op op.Delete value bytes short = attrval_of-line 100 (101 ∷ 108 ∷ 101 ∷ 116 ∷ 101 ∷ []) value refl bytes short
 attrval_of-op op.Replace value bytes short = attrval_of-line 114 (101 ∷ 112 ∷ 108 ∷ 97 ∷ 99 ∷ 101 ∷ []) value refl bytes short
+attrval_of-op op.Increment value bytes short = attrval_of-line 105 (110 ∷ 99 ∷ 114 ∷ 101 ∷ 109 ∷ 101 ∷ 110 ∷ 116 ∷ []) value refl bytes short
 
 op_of-word : (o : ModOp) → op_of (op_word o) ≡ Some o
 op_of-word op.Add = refl
 op_of-word op.Delete = refl
 op_of-word op.Replace = refl
+op_of-word op.Increment = refl
 
 mod_head-back : (rows : List TypeRow) (o : ModOp) (d : Described) (line : Line) → line.1 ≡ line_of (op_word o) d.spelling → is_read_under rows d ≡ true → mod_head rows line ≡ Ok (o, d)
 mod_head-back rows o d line e read =
@@ -204,6 +206,7 @@ pub op_some : (o : ModOp) → is_empty (op_word o) ≡ false
 op_some op.Add = refl
 op_some op.Delete = refl
 op_some op.Replace = refl
+op_some op.Increment = refl
 
 front_no_dash : (m : Mod) (block : List Line) → is_empty m.description.spelling ≡ false → texts block ≡ mod_front m → list_any is_dash block ≡ false
 front_no_dash m [] some e = cc

@@ -66,12 +66,13 @@ value_lines rows lines = try_map (value_line rows) lines
 abbrev pub is_dash : Line → Bool
 is_dash line = bytes_eq line.1 (codes "-")
 
--- `add`, `delete` or `replace`
+-- `add`, `delete` or `replace`, and `increment` (RFC 4525, section 2.1)
 abbrev pub op_of : List ℕ → Option ModOp
 op_of name =
     if is_keyword name (codes "add") then Some op.Add
     else (if is_keyword name (codes "delete") then Some op.Delete
-    else (if is_keyword name (codes "replace") then Some op.Replace else None))
+    else (if is_keyword name (codes "replace") then Some op.Replace
+    else (if is_keyword name (codes "increment") then Some op.Increment else None)))
 
 abbrev pub head_of : List TypeRow → Option ModOp → List ℕ → Result (ModOp × Described) RecordFault
 head_of rows None value = Err BadModify

@@ -27,6 +27,7 @@ abbrev pub op_word : ModOp → List ℕ
 op_word op.Add = codes "add"
 op_word op.Delete = codes "delete"
 op_word op.Replace = codes "replace"
+op_word op.Increment = codes "increment"
 
 -- the text of a modification: its head, its values and a line `-`
 abbrev pub mod_text : Mod → List ℕ

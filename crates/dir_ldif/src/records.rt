@@ -39,6 +39,8 @@ pub enum ModOp {
     Add,
     Delete,
     Replace,
+    /// Adds a number to each value (RFC 4525).
+    Increment,
 }
 
 /// One modification of an entry: an operation on an attribute, with a list of values.

@@ -357,5 +357,6 @@ fn op_word(op: ModOp) -> &'static [u8]
         ModOp::Add => b"add",
         ModOp::Delete => b"delete",
         ModOp::Replace => b"replace",
+        ModOp::Increment => b"increment",
     }
 }

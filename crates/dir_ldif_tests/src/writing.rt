@@ -10,11 +10,12 @@ use std::alloc::Global;
 use std::process::Abort;
 
 /// Texts of one record that is written as it was read. Each LF is a `|`.
-static TEXTS: [&str; 6] = [
+static TEXTS: [&str; 7] = [
     "dn: DC=Example,dc=com|DC: Example|objectClass: domain||",
     "dn: DC=Example,dc=com|changetype: delete||",
     "dn: cn=a,dc=com|changetype: add|cn: a|description:: IGxlYWQ=|note:|userPassword:: AP8=||",
     "dn: cn=e,dc=com|changetype: modify|delete: description|description: Foo|-|add: description|description: foo|-||",
+    "dn: cn=max-uidNumber,dc=example,dc=com|changetype: modify|increment: uidNumber|uidNumber: 1|-||",
     "dn: dc=b,dc=com|changetype: modrdn|newrdn: dc=a|deleteoldrdn: 1||",
     "dn: ou=Team,ou=B,dc=com|changetype: modrdn|newrdn: ou=Team|deleteoldrdn: 1|newsuperior: ou=A,dc=com||",
 ];

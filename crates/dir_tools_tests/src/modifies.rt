@@ -36,7 +36,7 @@ macro_rules! modify {
 }
 
 /// Modifies, alone and between other changes.
-static MODIFIES: [Run<'static>; 15] = [
+static MODIFIES: [Run<'static>; 20] = [
     modify!(
         "the undo says only what the modify changes",
         "cn=e",
@@ -148,6 +148,49 @@ static MODIFIES: [Run<'static>; 15] = [
         mods: "delete: cn\n-\nadd: CN\nCN: E\n-\n",
         after: "CN: E\n",
         undo: "replace: cn\ncn: e\n-\n"
+    ),
+    modify!(
+        "an increment is taken back by the values",
+        "cn=u",
+        before: "cn: u\nuidNumber: 1000\n",
+        mods: "increment: uidNumber\nuidNumber: -1\n-\n",
+        after: "cn: u\nuidNumber: 999\n",
+        undo: "delete: uidNumber\nuidNumber: 999\n-\nadd: uidNumber\nuidNumber: 1000\n-\n"
+    ),
+    modify!(
+        "an increment by 0 has an empty group",
+        "cn=u",
+        before: "cn: u\nuidNumber: 1000\n",
+        mods: "increment: uidNumber\nuidNumber: 0\n-\n",
+        after: "cn: u\nuidNumber: 1000\n",
+        undo: none
+    ),
+    modify!(
+        "a number keeps the spelling of its type",
+        "cn=u",
+        before: "cn: u\nUIDNUMBER: -1\n",
+        mods: "increment: uidnumber\nuidNumber: 1\n-\nincrement: uidnumber\nuidNumber: 1\n-\n",
+        after: "cn: u\nUIDNUMBER: 1\n",
+        undo: "delete: UIDNUMBER\nUIDNUMBER: 1\n-\nadd: UIDNUMBER\nUIDNUMBER: -1\n-\n"
+    ),
+    modify!(
+        "from one end of the numbers of 128 bits to the other",
+        "cn=u",
+        before: "cn: u\ngidNumber: -170141183460469231731687303715884105728\n",
+        mods: "increment: gidNumber\ngidNumber: 170141183460469231731687303715884105727\n-\n\
+            increment: gidNumber\ngidNumber: 1\n-\n\
+            increment: gidNumber\ngidNumber: 170141183460469231731687303715884105727\n-\n",
+        after: "cn: u\ngidNumber: 170141183460469231731687303715884105727\n",
+        undo: "delete: gidNumber\ngidNumber: 170141183460469231731687303715884105727\n-\n\
+            add: gidNumber\ngidNumber: -170141183460469231731687303715884105728\n-\n"
+    ),
+    modify!(
+        "down to the least number",
+        "cn=u",
+        before: "cn: u\ngidNumber: 0\n",
+        mods: "increment: gidNumber\ngidNumber: -170141183460469231731687303715884105728\n-\n",
+        after: "cn: u\ngidNumber: -170141183460469231731687303715884105728\n",
+        undo: "delete: gidNumber\ngidNumber: -170141183460469231731687303715884105728\n-\nadd: gidNumber\ngidNumber: 0\n-\n"
     ),
     Run {
         shows: "modifies between other changes are taken back, the last one first",

@@ -14,6 +14,9 @@ const REFUSED: Run<'static> = Run {
 const COPY: &str = "dn: dc=com\ndc: com\n\ndn: cn=e,dc=com\ncn: e\ndescription: foo\n\n\
     dn: cn=p,dc=com\ncn: p\n\ndn: cn=q,cn=p,dc=com\ncn: q\n\ndn: cn=r,dc=com\ncn: r\n\ndn: dc=a,dc=com\ndc: a\n\n";
 
+/// A copy with an entry that is named by a number.
+const NUMBERED: &str = "dn: dc=com\ndc: com\n\ndn: uidNumber=5,dc=com\nuidNumber: 5\n\n";
+
 /// A run of one record, which is refused with this code or fault.
 macro_rules! refused {
     ($shows:literal, $record:literal, $cause:literal) => {
@@ -44,7 +47,7 @@ const MOVES: &str =
     dn: cn=p,dc=com\nchangetype: modrdn\nnewrdn: cn=r\ndeleteoldrdn: 1\nnewsuperior: cn=none,dc=com\n\n\
     dn: cn=p,dc=com\nchangetype: modrdn\nnewrdn: cn=r\ndeleteoldrdn: 1\n";
 
-static REFUSALS: [Run<'static>; 30] = [
+static REFUSALS: [Run<'static>; 40] = [
     refused!(
         "a delete of an entry with children",
         "dn: dc=com\nchangetype: delete\n",
@@ -181,6 +184,60 @@ static REFUSALS: [Run<'static>; 30] = [
         "delete: uidNumber\nuidNumber: 007\n-\n",
         "21 invalidAttributeSyntax"
     ),
+    modify_refused!(
+        "an increment of no value",
+        "increment: gidNumber\n-\n",
+        "2 protocolError"
+    ),
+    modify_refused!(
+        "an increment by two values",
+        "increment: cn\ncn: 1\ncn: 2\n-\n",
+        "2 protocolError"
+    ),
+    modify_refused!(
+        "an increment of a type without integers",
+        "increment: sn\nsn: 1\n-\n",
+        "21 invalidAttributeSyntax"
+    ),
+    modify_refused!(
+        "an increment by no integer",
+        "increment: gidNumber\ngidNumber: 01\n-\n",
+        "21 invalidAttributeSyntax"
+    ),
+    modify_refused!(
+        "an increment of a type that is not there",
+        "increment: gidNumber\ngidNumber: 170141183460469231731687303715884105728\n-\n",
+        "16 noSuchAttribute"
+    ),
+    modify_refused!(
+        "an increment past the greatest number",
+        "add: gidNumber\ngidNumber: 170141183460469231731687303715884105727\n-\nincrement: gidNumber\ngidNumber: 1\n-\n",
+        "19 constraintViolation"
+    ),
+    modify_refused!(
+        "an increment past the least number",
+        "add: gidNumber\ngidNumber: -170141183460469231731687303715884105728\n-\nincrement: gidNumber\ngidNumber: -1\n-\n",
+        "19 constraintViolation"
+    ),
+    modify_refused!(
+        "an increment by a number past 128 bits",
+        "add: gidNumber\ngidNumber: -1\n-\nincrement: gidNumber\ngidNumber: 170141183460469231731687303715884105728\n-\n",
+        "19 constraintViolation"
+    ),
+    modify_refused!(
+        "an increment of a number past 128 bits",
+        "add: gidNumber\ngidNumber: 111111111111111111111111111111111111111111111111111111111111\n-\nincrement: gidNumber\ngidNumber: 0\n-\n",
+        "19 constraintViolation"
+    ),
+    Run {
+        shows: "an increment of the naming value",
+        copy: NUMBERED,
+        changes: "dn: uidNumber=5,dc=com\nchangetype: modify\nincrement: uidNumber\nuidNumber: 1\n-\n",
+        report: "line 1: refused, 67 notAllowedOnRDN\naccepted 0, refused 1\n",
+        out: NUMBERED,
+        back: Some(NUMBERED),
+        ..REFUSED
+    },
     Run {
         shows: "refusals of renames come in order",
         options: GO_ON,

@@ -17,6 +17,9 @@ const LEVEL: &str = "attributetype ( 1.3.6.1.4.1.32473.2 NAME 'level' SUP uidNum
 
 const COPY: &str = "dn: dc=com\ndc: com\n\ndn: cn=e,dc=com\ncn: e\nroom: A 1\n\n";
 
+const LEVELS: &str =
+    "dn: dc=com\ndc: com\n\ndn: cn=e,dc=com\ncn: e\nLevel: -5\nLevel: 0\nLevel: 5\n\n";
+
 const ROOMS: &str = "dn: dc=com\ndc: com\n\ndn: room=A 1,dc=com\nroom: A 1\n\n";
 
 /// A run over an entry with a room, which refuses all.
@@ -30,7 +33,7 @@ const REFUSING: Run<'static> = Run {
     ..ACCEPTED
 };
 
-static RUNS: [Run<'static>; 6] = [
+static RUNS: [Run<'static>; 7] = [
     Run {
         shows: "the same room with other spaces, and a second room",
         changes: "dn: cn=e,dc=com\nchangetype: modify\nadd: roomName\nroomName: a  1\n-\n\n\
@@ -58,6 +61,19 @@ static RUNS: [Run<'static>; 6] = [
         changes: "dn: cn=f,dc=com\nchangetype: add\ncn: f\nlevel: 007\n",
         report: "line 1: refused, 21 invalidAttributeSyntax\naccepted 0, refused 1\n",
         answer: "accepted 0, refused 1",
+        ..REFUSING
+    },
+    Run {
+        shows: "several integers are incremented, past each other, and in the order of their texts",
+        types: LEVEL,
+        copy: LEVELS,
+        changes: "dn: cn=e,dc=com\nchangetype: modify\nincrement: level\nlevel: 10\n-\n",
+        undo: "version: 1\n\ndn: cn=e,dc=com\nchangetype: modify\ndelete: Level\nLevel: 10\nLevel: 15\n-\n\
+            add: Level\nLevel: -5\nLevel: 0\n-\n\n",
+        out: "dn: dc=com\ndc: com\n\ndn: cn=e,dc=com\ncn: e\nLevel: 10\nLevel: 15\nLevel: 5\n\n",
+        report: "accepted 1, refused 0\n",
+        answer: "accepted 1, refused 0",
+        back: Some(LEVELS),
         ..REFUSING
     },
     Run {

@@ -50,13 +50,14 @@ AreSlotsAlike (Some p) s f = AreAlike p.test p.first p.one (Ok s) (Ok f)
 
 -- ---- what modifications name
 
-abbrev pub is_replace : ModOp → Bool
-is_replace op.Replace = true
-is_replace other = false
+abbrev pub adds_or_deletes : ModOp → Bool
+adds_or_deletes op.Add = true
+adds_or_deletes op.Delete = true
+adds_or_deletes other = false
 
 -- a modification that adds or deletes values that it names
 abbrev pub names_values : Mod → Bool
-names_values m = not (is_replace m.op) && not (length m.values == 0)
+names_values m = adds_or_deletes m.op && not (length m.values == 0)
 
 abbrev pub all_name_values : Attr → List Mod → Bool
 all_name_values k mods = list_all (λ m. not (attr_eq m.description.key k) || names_values m) mods

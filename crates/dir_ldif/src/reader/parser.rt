@@ -273,6 +273,8 @@ fn op_of(name: &[u8]) -> Option<ModOp>
         Some(ModOp::Delete)
     } else if is_keyword(name, b"replace") {
         Some(ModOp::Replace)
+    } else if is_keyword(name, b"increment") {
+        Some(ModOp::Increment)
     } else {
         None
     }

@@ -1,4 +1,4 @@
-use Rattle.std.proofs.Common.{◌≡◌, Err, IfOk, Ok, Result, ap, map, take, ◌∙◌}
+use Rattle.std.proofs.Common.{Err, IfOk, Ok, Result, ap, map, take, ◌∙◌}
 use Rattle.dir_ldif.specs.declared.records.Mod.{Mod}
 use Rattle.dir_names.specs.Orders.{attr_cmp}
 use Rattle.dir_names.specs.Sorted.{rises, set_of}
