@@ -1,20 +1,27 @@
 #!/usr/bin/env python3
-"""Plants the bugs of bugs/, one at a time: the prover must refuse each.
+"""Plants wrong bodies, one at a time: the prover must refuse each.
 
-usage: bugs.py [--quick] [--tenth SEED] [CRATE[/PATTERN] ...]
+usage: bugs.py [--listed] [--quick] [--tenth SEED] [CRATE[/PATTERN] ...]
 
-They are must-fail edits that the gate leaves out (docs/CONTRIBUTING.md says which), at about half a minute each. Try
-those of a crate when it has changed; with a pattern, as in 'dir_change/*rename*', only those whose names it fits. The first
-of a crate takes as long as a proof of it, and so do the libraries below it, where `rt lib` has not built them in this
-checkout.
+They are those of bugs/, which the gate leaves out (docs/CONTRIBUTING.md says which), or with --listed those of must-fail/, which the gate
+tries by `bugs.py --listed`. Try those of a crate when it has changed; with a pattern, as in 'dir_change/*rename*', only those whose names it
+fits.
 
---quick proves nothing: it looks whether each of them, and each edit of must-fail/, still finds the line that it changes,
-changes code, and compiles. It also names those that take away a name which a proof of the changed function may cite: where
-the prover refuses one of these, that need not show anything of the contract. It plants many at once, in a minute or so a
-crate whose libraries are built. --tenth tries a tenth of each crate's, drawn by the seed, and says which.
+Each is a file with a line `file:`, pairs of lines `old:` (once in that file) and `new:`, and where the function that the prover must refuse
+isn't the one whose line changes first, a line `fn:` with its path. One wrong body after the other is planted in a copy of the crates, and its
+function tried by `rt check --only`, with all that it calls in its crate: it is refused where the edited crate compiles, and the prover ends and does not accept
+the function, but all others. That it accepts the function as it stands is seen before; with --listed the gate has just seen that of the whole crate. The libraries
+below are taken as `rt` has built them in this checkout; it builds those that are lacking.
+
+--quick proves nothing: it looks whether each of bugs/ and must-fail/ still finds the line that it changes, changes code, and compiles. It
+also names those that take away a name which a proof of the changed function may cite: where the prover refuses one of these, that need not show
+anything of the contract. It plants many at once, in a minute or so a crate whose libraries are built. --tenth tries a tenth of each crate's,
+drawn by the seed, and says which.
 """
 import argparse
 import collections
+import concurrent.futures
+import os
 import pathlib
 import random
 import re
@@ -40,25 +47,120 @@ def copy_of_crates(folder):
     return copy
 
 
-def bugs_of(wanted):
-    """The bugs of a crate, or those of them whose names fit a pattern."""
+def edits_of(wanted, among):
+    """The edits of a crate, or those of them whose names fit a pattern."""
     crate, _, pattern = wanted.partition("/")
-    bugs = sorted((ROOT / "bugs" / crate).glob(f"{pattern or '*'}.edit"))
-    if not bugs:
-        sys.exit(f"no such bug: {wanted}")
-    return crate, bugs
+    edits = sorted((ROOT / among / crate).glob(f"{pattern or '*'}.edit"))
+    if not edits:
+        sys.exit(f"no such edit in {among}: {wanted}")
+    return crate, edits
 
 
-def are_refused(crate, bugs):
-    """Whether the prover refuses each of these bugs of the crate, planted in a copy of the repository."""
+# ---- with proofs
+
+
+def module_of(file):
+    """The path of a source file's module below its crate: `history` of src/history.rt, nothing of src/lib.rt."""
+    names = list(pathlib.PurePath(file).with_suffix("").parts[1:])
+    return names[:-1] if names[-1] in ("lib", "main", "mod") else names
+
+
+def owner_of(header):
+    """How the prover names the methods of an impl: by their type, or by the type, the trait and its types."""
+    header = re.sub(r"'\w+,? ?", "", header)
+    name = re.match(r"impl(?:<.*?>)? (.*?)(?: where .*)?\{", header)[1].strip()
+    trait, _, of = name.rpartition(" for ")
+    return "".join(re.findall(r"\w+", re.sub(r"<.*", "", of) + trait if trait else re.sub(r"<.*", "", of)))
+
+
+def path_of(file, lines, number):
+    """The path of the function that has a line of a source file, below its crate."""
+    name, begin, _ = function_at(lines, number)
+    if name is None:
+        return None
+    owner = []
+    if lines[begin].startswith(" "):
+        header = next((n for n in range(begin, -1, -1) if re.match(r"(impl|trait|pub trait|pub\(crate\) trait)\b", lines[n])), None)
+        if header is not None and lines[header].startswith("impl"):
+            owner = [owner_of(" ".join(lines[header : header + 4]))]
+    return "::".join([*module_of(file), *owner, name])
+
+
+def function_of(edit, crate, changes, texts):
+    """The path of the function that the prover must refuse with this edit, and nothing where it may be any of the crate's."""
+    named = re.search(r"^fn: (\S+)$", edit.read_text(), re.M)
+    first = changes[0]
+    folder = ROOT / "crates" / crate
+    return named[1] if named else path_of(first.file.relative_to(folder), texts[first.file].split("\n"), first.line)
+
+
+def check(home, functions):
+    """Has the prover try these functions of a crate, with what they call there, or else all of it, and returns the status and what it said."""
+    words = [] if None in functions else [word for function in sorted(functions) for word in ("--only", function)]
+    ran = subprocess.run(["rt", "check", "--jobs", "1", *words], cwd=home, stdout=subprocess.PIPE, stderr=subprocess.STDOUT, text=True, errors="replace")
+    return ran.returncode, ran.stdout
+
+
+# What a proof says that names what an edit took away: it shows nothing of a contract.
+OF_NAMES = re.compile(r"proofs/.*(has no field|is not in scope|has no `|was not admitted)")
+
+
+def names_of(changes, texts):
+    """The names of the functions that these changes are in, and of those that they bring."""
+    names = {function_at(texts[change.file].split("\n"), change.line)[0] for change in changes}
+    return names | {name for change in changes for name in re.findall(r"\bfn (\w+)", change.new)}
+
+
+def refused_for(status, said, edited):
+    """The function that the prover refuses, which is one of those edited, or why nothing is known of it."""
+    if status == 0:
+        return None, "NOT REFUSED"
+    refused = re.findall(r"^fn (\S+): (?:not proved|no proof)", said, re.M)
+    others = [name for name in refused if None not in edited and edited.isdisjoint(name.split("::"))]
+    if others:
+        return None, f"NOT TRIED: {others[0]} is not proved either"
+    has_ended = re.search(r"^(only=\d+ proved=\d+|logic=not-proved)", said, re.M)
+    if status != 1 or not has_ended or not refused:
+        told = re.search(r"^(\S+: )?error[\[:].*$", said, re.M)
+        return None, f"NOT TRIED (status {status}): {told[0] if told else said[-300:]}"
+    told = re.findall(r"^\S+:\d+:\d+: error.*$", said, re.M)
+    is_of_names = bool(told) and all(OF_NAMES.search(line) for line in told)
+    return refused[0] + (", but only since a proof names what was taken away" if is_of_names else ""), None
+
+
+def refused_of(crate, edits, is_proved):
+    """How many of these edits of the crate the prover refuses, each planted in a copy of the repository. Whether the crate is known to be proved."""
+    texts, found, count = {}, {}, 0
+    for edit in edits:
+        changes, fault = changes_of(edit, crate, texts)
+        if fault:
+            print(f"{crate}/{edit.stem}: BAD EDIT: {fault}", flush=True)
+        else:
+            found[edit] = function_of(edit, crate, changes, texts), changes
     with tempfile.TemporaryDirectory() as folder:
         copy = copy_of_crates(folder)
-        edits = copy / "crates" / crate / "must-fail"
-        shutil.rmtree(edits, ignore_errors=True)
-        edits.mkdir()
-        for bug in bugs:
-            shutil.copy(bug, edits)
-        return subprocess.run(["rt", "must-fail", crate], cwd=copy).returncode == 0
+        home = copy / "crates" / crate
+        status, said = (0, "") if is_proved else check(home, {function for function, _ in found.values()})
+        if status:
+            print(f"{crate}: what the wrong bodies change is not proved as it stands:\n{said[-2000:]}", flush=True)
+            return 0
+        for edit, (function, changes) in found.items():
+            plant(copy, texts, changes)
+            refused, fault = refused_for(*check(home, {function}), names_of(changes, texts))
+            unplant(copy, texts, changes)
+            count += refused is not None
+            print(f"{crate}/{edit.stem}: {fault or 'refused, as it must be: ' + refused}", flush=True)
+    return count
+
+
+def are_refused(wanted, are_proved):
+    """Whether the prover refuses each of these edits, by their crates, which may be known to be proved. As many crates are tried at a time as there are
+    processors."""
+    with concurrent.futures.ThreadPoolExecutor(len(os.sched_getaffinity(0))) as pool:
+        counts = dict(zip(wanted, pool.map(refused_of, wanted, wanted.values(), [are_proved] * len(wanted))))
+    for crate, count in counts.items():
+        print(f"{crate}: {count} of {len(wanted[crate])} wrong bodies refused", flush=True)
+    return all(count == len(wanted[crate]) for crate, count in counts.items())
 
 
 # ---- without proofs
@@ -150,20 +252,27 @@ def groups_of(found):
     return groups
 
 
+def plant(copy, texts, changes):
+    """Has the copy's files say what these changes make of them."""
+    after = {change.file: texts[change.file].split("\n") for change in changes}
+    for change in changes:
+        after[change.file][change.line] = change.new
+    for path, lines in after.items():
+        (copy / path.relative_to(ROOT)).write_text("\n".join(lines))
+
+
+def unplant(copy, texts, changes):
+    """Gives the copy's files their texts back."""
+    for path in {change.file for change in changes}:
+        (copy / path.relative_to(ROOT)).write_text(texts[path])
+
+
 def compile_together(copy, crate, texts, edits):
     """Whether the crate compiles with these edits, and what was said."""
-    planted = collections.defaultdict(list)
-    for changes in edits:
-        for change in changes:
-            planted[change.file].append(change)
-    for path, changes in planted.items():
-        lines = texts[path].split("\n")
-        for change in changes:
-            lines[change.line] = change.new
-        (copy / path.relative_to(ROOT)).write_text("\n".join(lines))
+    changes = [change for edit in edits for change in edit]
+    plant(copy, texts, changes)
     ran = subprocess.run(["rt", "check", "--only", ""], cwd=copy / "crates" / crate, capture_output=True, text=True)
-    for path in planted:
-        (copy / path.relative_to(ROOT)).write_text(texts[path])
+    unplant(copy, texts, changes)
     said = ran.stdout + ran.stderr
     return not re.search(r"^(\S+: )?error[\[:]", said, re.M) and "only=0" in said, said
 
@@ -190,7 +299,7 @@ def quick(crates):
         copy = copy_of_crates(folder)
         for crate in crates:
             texts, found, faults = {}, {}, {}
-            edits = [*sorted((ROOT / "bugs" / crate).glob("*.edit")), *sorted((ROOT / "crates" / crate / "must-fail").glob("*.edit"))]
+            edits = [edit for among in ("bugs", "must-fail") for edit in sorted((ROOT / among / crate).glob("*.edit"))]
             for edit in edits:
                 changes, fault = changes_of(edit, crate, texts)
                 fault = fault or why_no_code(changes)
@@ -216,24 +325,24 @@ def quick(crates):
 
 def main():
     parser = argparse.ArgumentParser(description=__doc__, formatter_class=argparse.RawDescriptionHelpFormatter)
+    parser.add_argument("--listed", action="store_true")
     parser.add_argument("--quick", action="store_true")
     parser.add_argument("--tenth", metavar="SEED")
     parser.add_argument("wanted", metavar="CRATE[/PATTERN]", nargs="*")
     args = parser.parse_args()
-    wanted = args.wanted or sorted(folder.name for folder in (ROOT / "bugs").iterdir())
+    among = "must-fail" if args.listed else "bugs"
+    wanted = args.wanted or sorted(folder.name for folder in (ROOT / among).iterdir())
     if args.quick:
         sys.exit(0 if quick([each.partition("/")[0] for each in wanted]) else 1)
-    bugs = collections.defaultdict(set)
+    edits = collections.defaultdict(set)
     for each in wanted:
-        crate, found = bugs_of(each)
-        bugs[crate].update(found)
+        crate, found = edits_of(each, among)
+        edits[crate].update(found)
     if args.tenth is not None:
-        for crate, found in bugs.items():
-            drawn = random.Random(f"{args.tenth} {crate}").sample(sorted(found), (len(found) + 9) // 10)
-            print(crate, *(bug.stem for bug in sorted(drawn)), flush=True)
-            bugs[crate] = set(drawn)
-    failed = [crate for crate, found in bugs.items() if not are_refused(crate, found)]
-    sys.exit(f"not refused: {' '.join(failed)}" if failed else 0)
+        for crate, found in edits.items():
+            edits[crate] = set(random.Random(f"{args.tenth} {crate}").sample(sorted(found), (len(found) + 9) // 10))
+            print(crate, *(edit.stem for edit in sorted(edits[crate])), flush=True)
+    sys.exit(0 if are_refused({crate: sorted(found) for crate, found in edits.items()}, args.listed) else 1)
 
 
 main()
