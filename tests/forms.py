@@ -161,6 +161,8 @@ modify|add: cn|2.5.4.3: b|-
 )
 MOST, LEAST = 2**127 - 1, -(2**127)
 NUMBERS = [0, 7, -7, MOST, LEAST, MOST + 1, LEAST - 1, int("9" * 60)]
+# how many values an increment raises: in an entry of one, in one that is kept in little memory, and in larger ones
+COUNTS = (1, 20, 70, 2000)
 AMOUNTS = [*map(str, [0, 1, -1, 7, MOST, LEAST, MOST + 1, LEAST - 1]), "9" * 60, "+1", "01", "-0", "-", "", " 1", "1a"]
 INCREMENTS = [
     entry(f"gidNumber: {number}") + lines(f"dn: cn=e,dc=com|changetype: modify|increment: gidNumber|gidNumber: {amount}|-||")
@@ -461,6 +463,21 @@ def check_change(place, suffix, text, wanted, what, *options):
     expect(found, (*wanted[:3], *files), what)
 
 
+def check_increments_of_many(place):
+    """Increments of so many integers of one type, by less than the values are apart from each other, and by more, so that they pass each other."""
+    config = lines("attributetype ( 1.2.9 NAME 'level' SUP uidNumber )|")
+    place.write("conf", config)
+    for count in COUNTS:
+        copy = COPY + lines("dn: cn=e,dc=com|cn: e|") + b"".join(b"level: %d\n" % (3 * number) for number in range(count)) + b"\n"
+        place.write("copy", copy)
+        for amount in (1, 3, -3 * count):
+            text = lines(f"dn: cn=e,dc=com|changetype: modify|increment: LEVEL|level: {amount}|-||")
+            wanted = answer(b"dc=com", copy, text, goes_on=True, is_verbose=True, config=config)
+            expect(wanted.status, 0, "the model")
+            check_change(place, "dc=com", text, dataclasses.astuple(wanted), f"{count} values incremented by {amount}", "-f", "conf")
+    return " and ".join(map(str, COUNTS)) + " values"
+
+
 def check_question(place, config, question):
     place.write("copy", COPY)
     check_answer(place, config, COPY, question)
@@ -568,6 +585,7 @@ def main():
     program = str(pathlib.Path(sys.argv[1]).resolve())
     with Place(program) as place:
         pairs = [(name, lambda texts=texts: check_changes(place, texts)) for name, texts in CHANGES.items()]
+        pairs.append(("increments of many values", lambda: check_increments_of_many(place)))
         pairs.append(("the same and others under other types", lambda: check_under_other_types(place)))
         pairs += [(name, lambda texts=texts: check_configs(place, texts)) for name, texts in CONFIGS.items()]
         pairs.append(("filters", lambda: check_filters(place)))

@@ -45,7 +45,7 @@ static TEXTS: [(&str, &str); 36] = [
     ("dn: cn=a\nchangetype: move\n", "1 L5 BadChangetype;"),
     ("dn: cn=a\nchangetype: delete\ncn: a\n", "1 L1 BadLine;"),
     (
-        "dn: cn=a\nchangetype: modify\nincrement: a\n",
+        "dn: cn=a\nchangetype: modify\nmultiply: a\n",
         "1 L6 BadModify;",
     ),
     ("dn: cn=a\nchangetype: modify\n-\n", "1 L1 BadLine;"),

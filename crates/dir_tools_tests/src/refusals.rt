@@ -47,7 +47,7 @@ const MOVES: &str =
     dn: cn=p,dc=com\nchangetype: modrdn\nnewrdn: cn=r\ndeleteoldrdn: 1\nnewsuperior: cn=none,dc=com\n\n\
     dn: cn=p,dc=com\nchangetype: modrdn\nnewrdn: cn=r\ndeleteoldrdn: 1\n";
 
-static REFUSALS: [Run<'static>; 40] = [
+static REFUSALS: [Run<'static>; 30] = [
     refused!(
         "a delete of an entry with children",
         "dn: dc=com\nchangetype: delete\n",
@@ -184,6 +184,32 @@ static REFUSALS: [Run<'static>; 40] = [
         "delete: uidNumber\nuidNumber: 007\n-\n",
         "21 invalidAttributeSyntax"
     ),
+    Run {
+        shows: "refusals of renames come in order",
+        options: GO_ON,
+        changes: MOVES,
+        report: "line 1: refused, 53 unwillingToPerform\nline 7: refused, 32 noSuchObject\n\
+            line 13: refused, 68 entryAlreadyExists\naccepted 0, refused 3\n",
+        answer: "accepted 0, refused 3",
+        ..REFUSED
+    },
+    Run {
+        shows: "the first of them",
+        changes: MOVES,
+        report: "line 1: refused, 53 unwillingToPerform\naccepted 0, refused 1\n",
+        ..REFUSED
+    },
+];
+
+#[test]
+fn what_is_refused_stays_as_it_was(rt: HostRuntime) {
+    for one in &REFUSALS {
+        assert_run(&rt, rt.alloc(), &WHOLE, one);
+    }
+}
+
+/// Increments that are refused.
+static INCREMENTS: [Run<'static>; 10] = [
     modify_refused!(
         "an increment of no value",
         "increment: gidNumber\n-\n",
@@ -238,26 +264,11 @@ static REFUSALS: [Run<'static>; 40] = [
         back: Some(NUMBERED),
         ..REFUSED
     },
-    Run {
-        shows: "refusals of renames come in order",
-        options: GO_ON,
-        changes: MOVES,
-        report: "line 1: refused, 53 unwillingToPerform\nline 7: refused, 32 noSuchObject\n\
-            line 13: refused, 68 entryAlreadyExists\naccepted 0, refused 3\n",
-        answer: "accepted 0, refused 3",
-        ..REFUSED
-    },
-    Run {
-        shows: "the first of them",
-        changes: MOVES,
-        report: "line 1: refused, 53 unwillingToPerform\naccepted 0, refused 1\n",
-        ..REFUSED
-    },
 ];
 
 #[test]
-fn what_is_refused_stays_as_it_was(rt: HostRuntime) {
-    for one in &REFUSALS {
+fn what_an_increment_refuses_stays_as_it_was(rt: HostRuntime) {
+    for one in &INCREMENTS {
         assert_run(&rt, rt.alloc(), &WHOLE, one);
     }
 }
