@@ -3,15 +3,15 @@
 
 usage: bugs.py [--listed] [--quick] [--tenth SEED] [CRATE[/PATTERN] ...]
 
-They are those of bugs/, which the gate leaves out (docs/CONTRIBUTING.md says which), or with --listed those of must-fail/, which the gate
-tries by `bugs.py --listed`. Try those of a crate when it has changed; with a pattern, as in 'dir_change/*rename*', only those whose names it
+They are those of bugs/, which the gate leaves out (docs/CONTRIBUTING.md says which), or with --listed those of the crates' must-fail/, which the gate
+tries by `rt ci`. Try those of a crate when it has changed; with a pattern, as in 'dir_change/*rename*', only those whose names it
 fits.
 
 Each is a file with a line `file:`, pairs of lines `old:` (once in that file) and `new:`, and where the function that the prover must refuse
 isn't the one whose line changes first, a line `fn:` with its path. One wrong body after the other is planted in a copy of the crates, and its
 function tried by `rt check --only`, with all that it calls in its crate: it is refused where the edited crate compiles, and the prover ends and does not accept
-the function, but all others. That it accepts the function as it stands is seen before; with --listed the gate has just seen that of the whole crate. The libraries
-below are taken as `rt` has built them in this checkout; it builds those that are lacking.
+the function, but all others. That it accepts the functions as they stand is seen before. The libraries below are taken as `rt lib` or `rt check` have built them in
+this checkout, and those that are lacking are built (`rt ci` leaves none that `rt check` takes).
 
 --quick proves nothing: it looks whether each of bugs/ and must-fail/ still finds the line that it changes, changes code, and compiles. It
 also names those that take away a name which a proof of the changed function may cite: where the prover refuses one of these, that need not show
@@ -47,12 +47,16 @@ def copy_of_crates(folder):
     return copy
 
 
-def edits_of(wanted, among):
+def folder_of(crate, is_listed):
+    return ROOT / "crates" / crate / "must-fail" if is_listed else ROOT / "bugs" / crate
+
+
+def edits_of(wanted, is_listed):
     """The edits of a crate, or those of them whose names fit a pattern."""
     crate, _, pattern = wanted.partition("/")
-    edits = sorted((ROOT / among / crate).glob(f"{pattern or '*'}.edit"))
+    edits = sorted(folder_of(crate, is_listed).glob(f"{pattern or '*'}.edit"))
     if not edits:
-        sys.exit(f"no such edit in {among}: {wanted}")
+        sys.exit(f"no such edit: {wanted}")
     return crate, edits
 
 
@@ -128,8 +132,8 @@ def refused_for(status, said, edited):
     return refused[0] + (", but only since a proof names what was taken away" if is_of_names else ""), None
 
 
-def refused_of(crate, edits, is_proved):
-    """How many of these edits of the crate the prover refuses, each planted in a copy of the repository. Whether the crate is known to be proved."""
+def refused_of(crate, edits):
+    """How many of these edits of the crate the prover refuses, each planted in a copy of the repository."""
     texts, found, count = {}, {}, 0
     for edit in edits:
         changes, fault = changes_of(edit, crate, texts)
@@ -140,7 +144,7 @@ def refused_of(crate, edits, is_proved):
     with tempfile.TemporaryDirectory() as folder:
         copy = copy_of_crates(folder)
         home = copy / "crates" / crate
-        status, said = (0, "") if is_proved else check(home, {function for function, _ in found.values()})
+        status, said = check(home, {function for function, _ in found.values()})
         if status:
             print(f"{crate}: what the wrong bodies change is not proved as it stands:\n{said[-2000:]}", flush=True)
             return 0
@@ -153,11 +157,10 @@ def refused_of(crate, edits, is_proved):
     return count
 
 
-def are_refused(wanted, are_proved):
-    """Whether the prover refuses each of these edits, by their crates, which may be known to be proved. As many crates are tried at a time as there are
-    processors."""
+def are_refused(wanted):
+    """Whether the prover refuses each of these edits, by their crates. As many crates are tried at a time as there are processors."""
     with concurrent.futures.ThreadPoolExecutor(len(os.sched_getaffinity(0))) as pool:
-        counts = dict(zip(wanted, pool.map(refused_of, wanted, wanted.values(), [are_proved] * len(wanted))))
+        counts = dict(zip(wanted, pool.map(refused_of, wanted, wanted.values())))
     for crate, count in counts.items():
         print(f"{crate}: {count} of {len(wanted[crate])} wrong bodies refused", flush=True)
     return all(count == len(wanted[crate]) for crate, count in counts.items())
@@ -299,7 +302,7 @@ def quick(crates):
         copy = copy_of_crates(folder)
         for crate in crates:
             texts, found, faults = {}, {}, {}
-            edits = [edit for among in ("bugs", "must-fail") for edit in sorted((ROOT / among / crate).glob("*.edit"))]
+            edits = [edit for is_listed in (False, True) for edit in sorted(folder_of(crate, is_listed).glob("*.edit"))]
             for edit in edits:
                 changes, fault = changes_of(edit, crate, texts)
                 fault = fault or why_no_code(changes)
@@ -330,19 +333,19 @@ def main():
     parser.add_argument("--tenth", metavar="SEED")
     parser.add_argument("wanted", metavar="CRATE[/PATTERN]", nargs="*")
     args = parser.parse_args()
-    among = "must-fail" if args.listed else "bugs"
-    wanted = args.wanted or sorted(folder.name for folder in (ROOT / among).iterdir())
+    crates = sorted(folder.name for folder in (ROOT / "crates").iterdir())
+    wanted = args.wanted or [crate for crate in crates if folder_of(crate, args.listed).is_dir()]
     if args.quick:
         sys.exit(0 if quick([each.partition("/")[0] for each in wanted]) else 1)
     edits = collections.defaultdict(set)
     for each in wanted:
-        crate, found = edits_of(each, among)
+        crate, found = edits_of(each, args.listed)
         edits[crate].update(found)
     if args.tenth is not None:
         for crate, found in edits.items():
             edits[crate] = set(random.Random(f"{args.tenth} {crate}").sample(sorted(found), (len(found) + 9) // 10))
             print(crate, *(edit.stem for edit in sorted(edits[crate])), flush=True)
-    sys.exit(0 if are_refused({crate: sorted(found) for crate, found in edits.items()}, args.listed) else 1)
+    sys.exit(0 if are_refused({crate: sorted(found) for crate, found in edits.items()}) else 1)
 
 
 main()

@@ -1,11 +1,11 @@
 #!/usr/bin/env python3
-"""The gate: `rt ci`, the trial of the program that it has proved and built, and the wrong bodies of must-fail/.
+"""The gate: `rt ci`, and then the trial of the program that it has proved and built.
 
 usage: gate.py
 
-The last line is that of `rt ci`. It is held back until the trial has passed and each wrong body was refused; where one of these fails, the last
-line tells so. The line before it has the time that all took, and what was left of memory and disk. Where something failed, the ends of
-what was said of it come once more before these, since of a long log often only the end is kept.
+The last line is that of `rt ci`. It is held back until the trial has passed; where the trial fails, the last line tells so. The
+line before it has the time that all took, and what was left of memory and disk. Where something failed, the ends of what was said
+of it come once more before these, since of a long log often only the end is kept.
 
 Each proof has one processor. Where some are idle, `rt ci` would give one proof several, which ends sooner and takes half as much
 processor time again. RT_JOBS says otherwise.
@@ -59,10 +59,6 @@ def prove():
     return running.returncode, last, failures
 
 
-# What is tried once all is proved and built.
-AFTER = [("tests/trial.py", [ROOT / "crates/slapkit/out/slapkit"]), ("tests/bugs.py", ["--listed"])]
-
-
 def minutes(seconds):
     return f"{seconds / 60:.1f} minutes"
 
@@ -78,12 +74,11 @@ def tell_time(begin):
 def main():
     begin = time.monotonic()
     status, last, failures = prove()
-    for script, words in AFTER:
-        if status == 0:
-            status = subprocess.run([sys.executable, ROOT / script, *words], cwd=ROOT).returncode
-            if status:
-                passed = re.match(r"\d+ passed", last)
-                last = f"{passed[0] if passed else '0 passed'}, 1 failed ({script})\n"
+    if status == 0:
+        status = subprocess.run([sys.executable, ROOT / "tests/trial.py", ROOT / "crates/slapkit/out/slapkit"]).returncode
+        if status:
+            passed = re.match(r"\d+ passed", last)
+            last = f"{passed[0] if passed else '0 passed'}, 1 failed (tests/trial.py)\n"
     for failure in failures:
         print(f"gate: what failed:\n{failure}", end="", flush=True)
     tell_time(begin)
