@@ -2,9 +2,10 @@
 //! them names. A person in ten has a name in another script, one in fifty a picture.
 
 use crate::draws::Draws;
-use crate::ldif::Ldif;
 use crate::ldif::Part::{self, Digits, Number, Text};
-use std::alloc::{AllocError, Global};
+use crate::ldif::Piece::{Own, Same};
+use crate::ldif::{Ldif, Line};
+use std::alloc::Global;
 
 pub const SUFFIX: &str = "dc=example,dc=com";
 
@@ -77,7 +78,81 @@ const WORDS: [&str; 16] = [
     "here",
 ];
 
-const CLASSES: [&str; 4] = ["top", "person", "organizationalPerson", "inetOrgPerson"];
+/// The lines of the suffix.
+static ROOT: [Line; 3] = [
+    ("dn", &[Same(SUFFIX)]),
+    ("objectClass", &[Same("domain")]),
+    ("dc", &[Same("example")]),
+];
+
+/// The first lines of a person. Its own are two names, the login, two numbers of its telephone, its number, its title and its town.
+static PERSON: [Line; 16] = [
+    ("objectClass", &[Same("top")]),
+    ("objectClass", &[Same("person")]),
+    ("objectClass", &[Same("organizationalPerson")]),
+    ("objectClass", &[Same("inetOrgPerson")]),
+    ("uid", &[Same("u"), Own(2)]),
+    ("cn", &[Own(0), Same(" "), Own(1)]),
+    ("cn", &[Same("u"), Own(2)]),
+    ("sn", &[Own(1)]),
+    ("givenName", &[Own(0)]),
+    (
+        "displayName",
+        &[Own(0), Same(" "), Own(1), Same(" (u"), Own(2), Same(")")],
+    ),
+    ("mail", &[Same("u"), Own(2), Same("@example.com")]),
+    ("mail", &[Same("u"), Own(2), Same("@mail.example.com")]),
+    (
+        "telephoneNumber",
+        &[Same("+49 "), Own(3), Same(" "), Own(4)],
+    ),
+    ("employeeNumber", &[Own(5)]),
+    ("title", &[Own(6)]),
+    ("l", &[Own(7)]),
+];
+
+/// The operational attributes of an entry. Its own are its class, its number, four numbers of its time and six of its UUID.
+static OPERATIONAL: [Line; 7] = [
+    ("structuralObjectClass", &[Own(0)]),
+    (
+        "entryUUID",
+        &[
+            Own(6),
+            Same("-"),
+            Own(7),
+            Same("-"),
+            Own(8),
+            Same("-"),
+            Own(9),
+            Same("-"),
+            Own(10),
+            Own(11),
+        ],
+    ),
+    ("creatorsName", &[Same("cn=root,dc=example,dc=com")]),
+    (
+        "createTimestamp",
+        &[Same("202609"), Own(2), Own(3), Own(4), Own(5), Same("Z")],
+    ),
+    (
+        "entryCSN",
+        &[
+            Same("202609"),
+            Own(2),
+            Own(3),
+            Own(4),
+            Own(5),
+            Same("."),
+            Own(1),
+            Same("Z#000000#000#000000"),
+        ],
+    ),
+    ("modifiersName", &[Same("cn=root,dc=example,dc=com")]),
+    (
+        "modifyTimestamp",
+        &[Same("202609"), Own(2), Own(3), Own(4), Own(5), Same("Z")],
+    ),
+];
 
 const CODE: &[u8] = b"ABCDEFGHIJKLMNOPQRSTUVWXYZabcdefghijklmnopqrstuvwxyz0123456789+/";
 
@@ -90,18 +165,23 @@ pub struct Company {
 
 /// The number in the login name of a person.
 pub fn login(person: u32) -> Part<'static> {
-    Number(1_000_000 + u64::from(person))
+    Number(person.saturating_add(1_000_000))
 }
 
 /// The department of a number.
 pub fn department(number: u32) -> [Part<'static>; 5] {
     [
         Text("ou=dept "),
-        Number(u64::from(number)),
+        Number(number),
         Text(",ou=region "),
-        Number(u64::from(number / REGION)),
+        Number(region_of(number)),
         Text(",ou=people,dc=example,dc=com"),
     ]
+}
+
+/// The region that a department is in.
+pub fn region_of(department: u32) -> u32 {
+    department / REGION
 }
 
 /// The department that a person is in.
@@ -110,9 +190,9 @@ pub fn department_of(person: u32) -> u32 {
 }
 
 /// Adds the name of a person to the value that is put next.
-pub fn add_person(ldif: &mut Ldif, person: u32) -> Result<(), AllocError> {
-    ldif.add_all(&[Text("uid=u"), login(person), Text(",")])?;
-    ldif.add_all(&department(department_of(person)))
+pub fn add_person(ldif: &mut Ldif, person: u32) {
+    ldif.add_all(&[Text("uid=u"), login(person), Text(",")]);
+    ldif.add_all(&department(department_of(person)));
 }
 
 impl Company {
@@ -122,238 +202,183 @@ impl Company {
     }
 
     /// The text of all entries, parents first.
-    pub fn copy(self, alloc: Global) -> Result<Ldif, AllocError> {
+    pub fn copy(self, alloc: Global) -> Ldif {
         let mut ldif = Ldif::new(alloc);
-        self.put_units(&mut ldif)?;
+        self.put_units(&mut ldif);
         for person in 0..self.people {
-            ldif_dn(&mut ldif, person)?;
-            self.put_person(&mut ldif, person)?;
-            self.put_operational(&mut ldif, person, "inetOrgPerson")?;
+            put_person_dn(&mut ldif, person);
+            self.put_person(&mut ldif, person);
+            self.put_operational(&mut ldif, person, "inetOrgPerson");
         }
         for group in 0..self.people.div_ceil(GROUP) {
-            self.put_group(&mut ldif, group)?;
+            self.put_group(&mut ldif, group);
         }
-        Ok(ldif)
+        ldif
     }
 
-    fn put_units(self, ldif: &mut Ldif) -> Result<(), AllocError> {
-        ldif.word("dn", SUFFIX)?;
-        ldif.word("objectClass", "domain")?;
-        ldif.word("dc", "example")?;
-        self.put_operational(ldif, 0, "domain")?;
+    fn put_units(self, ldif: &mut Ldif) {
+        ldif.lines(&ROOT, &[]);
+        self.put_operational(ldif, 0, "domain");
         self.put_unit(
             ldif,
             &[Text("ou=people,dc=example,dc=com")],
             &[Text("people")],
-        )?;
+        );
         self.put_unit(
             ldif,
             &[Text("ou=groups,dc=example,dc=com")],
             &[Text("groups")],
-        )?;
+        );
         let departments = self.people.div_ceil(DEPARTMENT);
         for region in 0..departments.div_ceil(REGION) {
-            let name = [Text("region "), Number(u64::from(region))];
-            let dn = [
-                Text("ou=region "),
-                Number(u64::from(region)),
-                Text(",ou=people,dc=example,dc=com"),
-            ];
-            self.put_unit(ldif, &dn, &name)?;
+            self.put_region(ldif, region);
         }
         for number in 0..departments {
-            let name = [Text("dept "), Number(u64::from(number))];
-            self.put_unit(ldif, &department(number), &name)?;
+            let name = [Text("dept "), Number(number)];
+            self.put_unit(ldif, &department(number), &name);
         }
-        Ok(())
     }
 
-    fn put_unit(
-        self,
-        ldif: &mut Ldif,
-        dn: &[Part<'_>],
-        name: &[Part<'_>],
-    ) -> Result<(), AllocError> {
-        ldif.line("dn", dn)?;
-        ldif.word("objectClass", "organizationalUnit")?;
-        ldif.line("ou", name)?;
-        self.put_operational(ldif, 0, "organizationalUnit")
+    fn put_region(self, ldif: &mut Ldif, region: u32) {
+        let dn = [
+            Text("ou=region "),
+            Number(region),
+            Text(",ou=people,dc=example,dc=com"),
+        ];
+        self.put_unit(ldif, &dn, &[Text("region "), Number(region)]);
+    }
+
+    fn put_unit(self, ldif: &mut Ldif, dn: &[Part<'_>], name: &[Part<'_>]) {
+        ldif.line("dn", dn);
+        ldif.word("objectClass", "organizationalUnit");
+        ldif.line("ou", name);
+        self.put_operational(ldif, 0, "organizationalUnit");
     }
 
     /// Puts the lines of a person, without the operational ones.
-    pub fn put_person(self, ldif: &mut Ldif, person: u32) -> Result<(), AllocError> {
+    pub fn put_person(self, ldif: &mut Ldif, person: u32) {
         let mut draws = self.draws(person);
-        let (first, last) = match (person % 10, OTHERS.get((person / 10 % 5) as usize)) {
-            (7, Some(name)) => *name,
-            _ => (draws.pick(&FIRST), draws.pick(&LAST)),
-        };
-        for class in &CLASSES {
-            ldif.word("objectClass", class)?;
-        }
-        ldif.line("uid", &[Text("u"), login(person)])?;
-        ldif.line("cn", &[Text(first), Text(" "), Text(last)])?;
-        ldif.line("cn", &[Text("u"), login(person)])?;
-        ldif.word("sn", last)?;
-        ldif.word("givenName", first)?;
-        ldif.line(
-            "displayName",
-            &[
-                Text(first),
-                Text(" "),
-                Text(last),
-                Text(" (u"),
-                login(person),
-                Text(")"),
-            ],
-        )?;
-        ldif.line("mail", &[Text("u"), login(person), Text("@example.com")])?;
-        ldif.line(
-            "mail",
-            &[Text("u"), login(person), Text("@mail.example.com")],
-        )?;
-        let phone = [
-            Text("+49 "),
+        let (first, last) = names_of(person, &mut draws);
+        let own = [
+            Text(first),
+            Text(last),
+            login(person),
             Number(draws.from(30, 9000)),
-            Text(" "),
             Number(draws.from(100_000, 60_000)),
+            Number(person),
+            Text(draws.pick(&TITLES)),
+            Text(draws.pick(&TOWNS)),
         ];
-        ldif.line("telephoneNumber", &phone)?;
-        ldif.line("employeeNumber", &[Number(u64::from(person))])?;
-        ldif.word("title", draws.pick(&TITLES))?;
-        ldif.word("l", draws.pick(&TOWNS))?;
-        add_description(ldif, &mut self.draws(person))?;
-        ldif.put("description")?;
-        put_password(ldif, &mut draws)?;
+        ldif.lines(&PERSON, &own);
+        self.add_description(ldif, person);
+        ldif.put("description");
+        put_password(ldif, &mut draws);
         if person % 10 != 0 {
-            add_person(ldif, person - person % 10)?;
-            ldif.put("manager")?;
+            add_person(ldif, person - person % 10);
+            ldif.put("manager");
         }
         if person % 50 == 1 {
-            put_picture(ldif, &mut draws)?;
+            put_picture(ldif, &mut draws);
         }
-        Ok(())
     }
 
     /// Puts the operational attributes of an entry, and ends it.
-    pub fn put_operational(
-        self,
-        ldif: &mut Ldif,
-        number: u32,
-        class: &str,
-    ) -> Result<(), AllocError> {
+    pub fn put_operational(self, ldif: &mut Ldif, number: u32, class: &str) {
         let mut draws = Draws::of(self.seed.wrapping_add(1), number);
-        let stamp = [
-            Text("202609"),
+        let own = [
+            Text(class),
+            Digits(number, 6),
             Digits(draws.from(1, 27), 2),
             Digits(draws.from(0, 23), 2),
             Digits(draws.from(0, 59), 2),
             Digits(draws.from(0, 59), 2),
+            Digits(draws.from(10_000_000, 60_000), 8),
+            Digits(draws.from(0, 9999), 4),
+            Digits(draws.from(0, 9999), 4),
+            Digits(draws.from(0, 9999), 4),
+            Digits(draws.from(0, 60_000), 6),
+            Digits(draws.from(0, 60_000), 6),
         ];
-        ldif.word("structuralObjectClass", class)?;
-        put_uuid(ldif, &mut draws)?;
-        ldif.word("creatorsName", "cn=root,dc=example,dc=com")?;
-        ldif.add_all(&stamp)?;
-        ldif.line("createTimestamp", &[Text("Z")])?;
-        ldif.add_all(&stamp)?;
-        ldif.line(
-            "entryCSN",
-            &[
-                Text("."),
-                Digits(u64::from(number), 6),
-                Text("Z#000000#000#000000"),
-            ],
-        )?;
-        ldif.word("modifiersName", "cn=root,dc=example,dc=com")?;
-        ldif.add_all(&stamp)?;
-        ldif.line("modifyTimestamp", &[Text("Z")])?;
-        ldif.end()
+        ldif.lines(&OPERATIONAL, &own);
+        ldif.end();
     }
 
-    fn put_group(self, ldif: &mut Ldif, group: u32) -> Result<(), AllocError> {
-        let mut draws = Draws::of(self.seed.wrapping_add(2), group);
-        add_group(ldif, group)?;
-        ldif.put("dn")?;
-        ldif.word("objectClass", "groupOfNames")?;
-        ldif.line("cn", &[Text("group "), Number(u64::from(group))])?;
+    fn put_group(self, ldif: &mut Ldif, group: u32) {
+        put_group_head(ldif, group);
         let members = self.people.min(MEMBERS);
         let step = self.people.checked_div(members).unwrap_or(0);
-        let mut member = draws.below(self.people);
+        let mut member = Draws::of(self.seed.wrapping_add(2), group).below(self.people);
         for _ in 0..members {
-            add_person(ldif, member)?;
-            ldif.put("member")?;
+            add_person(ldif, member);
+            ldif.put("member");
             member = member
                 .wrapping_add(step)
                 .checked_rem(self.people)
                 .unwrap_or(0);
         }
-        self.put_operational(ldif, group, "groupOfNames")
+        self.put_operational(ldif, group, "groupOfNames");
     }
 
     /// Adds the description of a person to the value that is put next.
-    pub fn add_description_of(self, ldif: &mut Ldif, person: u32) -> Result<(), AllocError> {
-        add_description(ldif, &mut self.draws(person))
+    pub fn add_description(self, ldif: &mut Ldif, person: u32) {
+        let mut draws = self.draws(person);
+        ldif.add(Text("About"));
+        for _ in 0..draws.from(3, 13) {
+            ldif.add(Text(" "));
+            ldif.add(Text(draws.pick(&WORDS)));
+        }
     }
 }
 
-/// Adds the name of a group to the value that is put next.
-pub fn add_group(ldif: &mut Ldif, group: u32) -> Result<(), AllocError> {
-    ldif.add_all(&[
+fn names_of(person: u32, draws: &mut Draws) -> (&'static str, &'static str) {
+    match (person % 10, OTHERS.get((person / 10 % 5) as usize)) {
+        (7, Some(name)) => *name,
+        _ => (draws.pick(&FIRST), draws.pick(&LAST)),
+    }
+}
+
+/// Puts the line that begins a group's record.
+pub fn put_group_dn(ldif: &mut Ldif, group: u32) {
+    let dn = [
         Text("cn=group "),
-        Number(u64::from(group)),
+        Number(group),
         Text(",ou=groups,dc=example,dc=com"),
-    ])
+    ];
+    ldif.line("dn", &dn);
+}
+
+/// Puts the lines of a group that come before its members.
+pub fn put_group_head(ldif: &mut Ldif, group: u32) {
+    put_group_dn(ldif, group);
+    ldif.word("objectClass", "groupOfNames");
+    ldif.line("cn", &[Text("group "), Number(group)]);
 }
 
 /// Puts the line that begins a person's record.
-pub fn ldif_dn(ldif: &mut Ldif, person: u32) -> Result<(), AllocError> {
-    add_person(ldif, person)?;
-    ldif.put("dn")
-}
-
-fn add_description(ldif: &mut Ldif, draws: &mut Draws) -> Result<(), AllocError> {
-    ldif.add(Text("About"))?;
-    for _ in 0..draws.from(3, 13) {
-        ldif.add(Text(" "))?;
-        ldif.add(Text(draws.pick(&WORDS)))?;
-    }
-    Ok(())
+pub fn put_person_dn(ldif: &mut Ldif, person: u32) {
+    add_person(ldif, person);
+    ldif.put("dn");
 }
 
 /// Puts a password as slapd keeps it: SSHA, which is in base64 itself.
-fn put_password(ldif: &mut Ldif, draws: &mut Draws) -> Result<(), AllocError> {
-    ldif.add(Text("{SSHA}"))?;
+fn put_password(ldif: &mut Ldif, draws: &mut Draws) {
+    ldif.add(Text("{SSHA}"));
     for _ in 0..32 {
         let at = usize::from(draws.byte() % 64);
-        ldif.add_byte(CODE.get(at).copied().unwrap_or(b'='))?;
+        ldif.add_byte(CODE.get(at).copied().unwrap_or(b'='));
     }
-    ldif.put("userPassword")
-}
-
-fn put_uuid(ldif: &mut Ldif, draws: &mut Draws) -> Result<(), AllocError> {
-    ldif.add(Digits(draws.from(10_000_000, 60_000), 8))?;
-    for _ in 0..3 {
-        ldif.add(Text("-"))?;
-        ldif.add(Digits(draws.from(0, 9999), 4))?;
-    }
-    ldif.add(Text("-"))?;
-    ldif.line(
-        "entryUUID",
-        &[
-            Digits(draws.from(0, 60_000), 6),
-            Digits(draws.from(0, 60_000), 6),
-        ],
-    )
+    ldif.put("userPassword");
 }
 
 /// Puts a picture, between the first and the last bytes of a JPEG.
-fn put_picture(ldif: &mut Ldif, draws: &mut Draws) -> Result<(), AllocError> {
-    for byte in [0xff, 0xd8, 0xff, 0xe0] {
-        ldif.add_byte(byte)?;
+fn put_picture(ldif: &mut Ldif, draws: &mut Draws) {
+    for byte in &[0xff, 0xd8, 0xff, 0xe0] {
+        ldif.add_byte(*byte);
     }
     for _ in 0..PICTURE {
-        ldif.add_byte(draws.byte())?;
+        ldif.add_byte(draws.byte());
     }
-    ldif.add_byte(0xff)?;
-    ldif.add_byte(0xd9)?;
-    ldif.put("jpegPhoto")
+    ldif.add_byte(0xff);
+    ldif.add_byte(0xd9);
+    ldif.put("jpegPhoto");
 }
