@@ -3,7 +3,7 @@
 use crate::directories::answers;
 use crate::make::{check, fill, key_of};
 use crate::script::Step;
-use dir_tree::{Entry, KeptAttributes, Parts, TreeDirectory};
+use dir_tree::{AttributeMap, Entry, KeptAttributes, Parts, TreeDirectory};
 use std::alloc::Global;
 use std::process::Abort;
 
@@ -30,14 +30,23 @@ pub(crate) fn opened(rt: &impl Abort, alloc: Global, entry: Entry) -> Entry {
         key,
         attributes,
     } = entry.into_parts();
-    let Ok(map) = attributes.open(alloc) else {
-        panic!(rt; "memory");
-    };
     Entry::of(Parts {
         own,
         key,
-        attributes: KeptAttributes::of(map),
+        attributes: KeptAttributes::of(map_of_kept(rt, alloc, attributes)),
     })
+}
+
+/// The attributes, opened.
+pub(crate) fn map_of_kept(
+    rt: &impl Abort,
+    alloc: Global,
+    attributes: KeptAttributes,
+) -> AttributeMap {
+    match attributes.open(alloc) {
+        Ok(map) => map,
+        Err(_) => panic!(rt; "memory"),
+    }
 }
 
 /// As they are put in, and as they are put back with their attributes opened.

@@ -7,7 +7,7 @@ use crate::alike::opened;
 use crate::levels::{assert_64_levels, assert_long_own_name};
 use crate::make::{check, fill, key_of, made, put};
 use crate::moves::{has_height, shift};
-use crate::script::{Step, begun, names, names_own, says, split, step_of, tell};
+use crate::script::{Step, begun, is_next, names, names_own, pieces, says, split, step_of};
 use crate::views::has_lines;
 use dir_names::{Dn, DnKey};
 use dir_tree::{Directory, Entry, FlatDirectory, NotAdded, TreeDirectory};
@@ -126,7 +126,7 @@ put dc=com
 long-own-name
 ";
 
-static SCRIPTS: [&str; 9] = [
+static SCRIPTS: [&str; 11] = [
     PUT,
     SPELLED,
     EMPTY,
@@ -136,10 +136,9 @@ static SCRIPTS: [&str; 9] = [
     REPLACED,
     REMOVED,
     MOVED,
+    LEVELS,
+    LONG_OWN_NAME,
 ];
-
-/// The same, with names of 64 RDNs.
-static LONG_SCRIPTS: [&str; 2] = [LEVELS, LONG_OWN_NAME];
 
 #[test]
 fn a_map_of_whole_names_answers_each_step(rt: HostRuntime) {
@@ -151,14 +150,6 @@ fn a_map_of_whole_names_answers_each_step(rt: HostRuntime) {
 #[test]
 fn a_tree_of_nodes_answers_each_step(rt: HostRuntime) {
     for script in &SCRIPTS {
-        run_tree(&rt, rt.alloc(), script);
-    }
-}
-
-#[test]
-fn names_of_64_rdns_are_spelled_in_both_directories(rt: HostRuntime) {
-    for script in &LONG_SCRIPTS {
-        run_flat(&rt, rt.alloc(), script);
         run_tree(&rt, rt.alloc(), script);
     }
 }
@@ -190,15 +181,6 @@ pub(crate) fn answers<D: Directory>(
     step: &Step<'_>,
 ) -> bool {
     match step.verb {
-        "has-child" | "height" | "spelled" | "walk" | "lines" => asked(rt, alloc, directory, step),
-        "replace" | "remove" | "move" => changed(rt, alloc, directory, step),
-        _ => filled(rt, alloc, directory, step),
-    }
-}
-
-/// Whether a question is answered so.
-fn asked<D: Directory>(rt: &impl Abort, alloc: Global, directory: &D, step: &Step<'_>) -> bool {
-    match step.verb {
         "has-child" => says(
             step.want,
             directory.has_child(&key_of(rt, alloc, step.given)),
@@ -213,11 +195,11 @@ fn asked<D: Directory>(rt: &impl Abort, alloc: Global, directory: &D, step: &Ste
         "spelled" => is_spelled(rt, alloc, directory, step.given, step.want),
         "walk" => is_walked(rt, alloc, directory, step.want),
         "lines" => is_kept(rt, alloc, directory, step.given),
-        _ => false,
+        _ => changed(rt, alloc, directory, step),
     }
 }
 
-/// Whether an entry that is replaced, taken out or moved had this RDN.
+/// Whether a change is answered so: an entry that is replaced, taken out or moved had this RDN.
 fn changed<D: Directory>(
     rt: &impl Abort,
     alloc: Global,
@@ -227,7 +209,8 @@ fn changed<D: Directory>(
     let former = match step.verb {
         "replace" => replaced(rt, alloc, directory, step.given),
         "move" => moved(rt, alloc, directory, step.given),
-        _ => taken(rt, directory, &key_of(rt, alloc, step.given)),
+        "remove" => taken(rt, directory, &key_of(rt, alloc, step.given)),
+        _ => return filled(rt, alloc, directory, step),
     };
     names_own(rt, alloc, step.want, former.own())
 }
@@ -261,8 +244,8 @@ fn put_clone<D: Directory>(rt: &impl Abort, alloc: Global, directory: &mut D, te
 /// Puts an entry, with its attributes opened, in the place of the one that is there.
 fn put_back<D: Directory>(rt: &impl Abort, alloc: Global, directory: &mut D, text: &str) {
     let entry = opened(rt, alloc, made(rt, alloc, text));
-    let key = key_of(rt, alloc, split(text, " | ").0);
-    let _ = exchange(rt, directory, &key, entry);
+    let name = split(text, " | ").0;
+    let _ = exchange(rt, directory, &key_of(rt, alloc, name), entry);
 }
 
 /// Whether the entry at this key has these lines, as they are spelled.
@@ -283,32 +266,45 @@ fn is_added<D: Directory>(
     want: &str,
 ) -> bool {
     let entry = made(rt, alloc, text);
-    let told = match directory.add(alloc, &key_of(rt, alloc, text), entry) {
-        Ok(()) => "added",
-        Err(NotAdded::Taken) => "taken",
+    let added = directory.add(alloc, &key_of(rt, alloc, text), entry);
+    is_outcome(rt, alloc, added, text, want)
+}
+
+fn is_outcome(
+    rt: &impl Abort,
+    alloc: Global,
+    added: Result<(), NotAdded>,
+    text: &str,
+    want: &str,
+) -> bool {
+    match added {
+        Ok(()) => want == "added",
+        Err(NotAdded::Taken) => want == "taken",
         Err(NotAdded::NoParent(back)) => {
-            let own = split(text, ",").0;
-            check(rt, names_own(rt, alloc, own, back.own()), text);
-            "no parent"
+            want == "no parent" && names_own(rt, alloc, split(text, ",").0, back.own())
         }
         Err(NotAdded::Memory) => panic!(rt; "memory"),
-    };
-    told == want
+    }
 }
 
 /// Whether a walk meets entries of these names, in this order.
 fn is_walked<D: Directory>(rt: &impl Abort, alloc: Global, directory: &D, want: &str) -> bool {
     let walk = directory.walk().expect(rt, "memory");
-    let mut told = Vec::new(alloc);
-    for item in walk.iter() {
-        tell_name(rt, alloc, &mut told, &item.0);
-    }
-    told.as_slice() == want.as_bytes()
+    are_names(rt, alloc, walk.as_slice(), want)
 }
 
-fn tell_name(rt: &impl Abort, alloc: Global, told: &mut Vec<u8>, name: &Dn) {
-    let name = name.print(alloc).expect(rt, "memory");
-    tell(rt, told, name.as_slice());
+fn are_names(rt: &impl Abort, alloc: Global, walk: &[(Dn, &Entry)], want: &str) -> bool {
+    let mut pieces = pieces(want);
+    for item in walk {
+        if !is_next_name(rt, alloc, &mut pieces, &item.0) {
+            return false;
+        }
+    }
+    pieces.is_none()
+}
+
+fn is_next_name(rt: &impl Abort, alloc: Global, pieces: &mut Option<&str>, name: &Dn) -> bool {
+    is_next(pieces, name.print(alloc).expect(rt, "memory").as_slice())
 }
 
 /// Whether the entry at the key of this name is spelled so.
@@ -319,12 +315,25 @@ pub(crate) fn is_spelled<D: Directory>(
     text: &str,
     want: &str,
 ) -> bool {
-    let key = key_of(rt, alloc, text);
-    let Some(_) = directory.get(&key) else {
-        return false;
-    };
-    let name = directory.spelled(&key).expect(rt, "memory");
-    names(rt, alloc, want, &name)
+    has_spelling(rt, alloc, directory, &key_of(rt, alloc, text), want)
+}
+
+fn has_spelling<D: Directory>(
+    rt: &impl Abort,
+    alloc: Global,
+    directory: &D,
+    key: &DnKey,
+    want: &str,
+) -> bool {
+    match directory.get(key) {
+        Some(_) => names(
+            rt,
+            alloc,
+            want,
+            &directory.spelled(key).expect(rt, "memory"),
+        ),
+        None => false,
+    }
 }
 
 /// Puts an entry of the second name in the place of the one at the first.

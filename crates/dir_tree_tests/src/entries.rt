@@ -6,8 +6,8 @@
 use crate::alike::opened;
 use crate::exchanged_parts::{with_attribute, with_part};
 use crate::make::{check, description, made, make, name, refused_for, schema, value, view_count};
-use crate::script::{Step, begun, counts, names_own, says, split, step_of, tell};
-use crate::views::{has_lines, view_answers};
+use crate::script::{Step, begun, counts, is_next, names_own, pieces, says, split, step_of};
+use crate::views::{has_lines, view_answers, view_of};
 use dir_names::{Bytes, Description, Lines};
 use dir_tree::{AttributeView, Entry, EntryFault, entries_hold_their_lines};
 use std::alloc::Global;
@@ -78,41 +78,25 @@ exchange UIDNUMBER: UIDNUMBER=9
 exchange description: description=New  one
 ";
 
+static SCRIPTS: [&str; 7] = [
+    HELD, NAMED, ORDERED, PART_TAKEN, PART_LEFT, OPENED, EXCHANGED,
+];
+
 #[test]
-fn an_entry_has_its_lines(rt: HostRuntime) {
+fn an_entry_answers_each_step(rt: HostRuntime) {
     entries_hold_their_lines();
-    run(&rt, rt.alloc(), HELD);
-}
-
-#[test]
-fn an_entry_has_its_own_rdn_and_is_made_again_of_its_fields(rt: HostRuntime) {
-    run(&rt, rt.alloc(), NAMED);
-}
-
-#[test]
-fn values_come_in_order_of_their_keys(rt: HostRuntime) {
-    run(&rt, rt.alloc(), ORDERED);
-}
-
-#[test]
-fn a_small_entry_gets_the_attributes_of_a_part(rt: HostRuntime) {
-    run(&rt, rt.alloc(), PART_TAKEN);
-}
-
-#[test]
-fn what_a_part_has_under_other_keys_is_left_out(rt: HostRuntime) {
-    run(&rt, rt.alloc(), PART_LEFT);
-    run(&rt, rt.alloc(), OPENED);
-}
-
-#[test]
-fn one_attribute_takes_the_place_of_another(rt: HostRuntime) {
-    run(&rt, rt.alloc(), EXCHANGED);
+    for script in &SCRIPTS {
+        run(&rt, rt.alloc(), script);
+    }
 }
 
 fn run(rt: &impl Abort, alloc: Global, script: &str) {
     let (text, steps) = begun(script);
-    let mut entry = made(rt, alloc, text);
+    take_steps(rt, alloc, made(rt, alloc, text), steps);
+}
+
+/// Takes the steps with this entry.
+fn take_steps(rt: &impl Abort, alloc: Global, mut entry: Entry, steps: &str) {
     for line in steps.lines() {
         entry = after(rt, alloc, entry, line);
     }
@@ -140,8 +124,9 @@ fn answers(rt: &impl Abort, alloc: Global, entry: &Entry, step: &Step<'_>) -> bo
         "own" => names_own(rt, alloc, step.want, entry.own()),
         "key" => counts(rt, alloc, step.want, entry.key().pairs().len()),
         "count" => counts(rt, alloc, step.want, view_count(entry.attributes())),
-        "spellings" => are_spelled(rt, alloc, entry, step.want),
+        "spellings" => are_spelled(entry, step.want),
         "small" => says(step.want, entry.is_small()),
+        "notes" => says(step.want, has_notes(rt, alloc, entry)),
         "lines" => says(step.want, has_lines(rt, alloc, entry, step.given)),
         "takes-part" => says(step.want, with_part(rt, alloc, entry, step.given).is_some()),
         _ => attribute_answers(rt, alloc, entry, step),
@@ -151,30 +136,34 @@ fn answers(rt: &impl Abort, alloc: Global, entry: &Entry, step: &Step<'_>) -> bo
 /// Whether a question about an attribute is answered so.
 fn attribute_answers(rt: &impl Abort, alloc: Global, entry: &Entry, step: &Step<'_>) -> bool {
     let (attr_type, text) = split(step.given, "=");
-    let description = description(rt, alloc, attr_type);
     match step.verb {
-        "has" => says(
-            step.want,
-            entry.has(description.key(), &value(rt, alloc, attr_type, text)),
-        ),
-        "has-text" => says(
-            step.want,
-            entry.has_text(description.key(), text.as_bytes()),
-        ),
-        _ => match entry.attribute(description.key()) {
+        "has" => says(step.want, has(rt, alloc, entry, attr_type, text)),
+        "has-text" => says(step.want, has_text(rt, alloc, entry, attr_type, text)),
+        _ => match view_of(rt, alloc, entry, attr_type) {
             Some(attribute) => view_answers(rt, alloc, &attribute, step),
             None => step.want == "none",
         },
     }
 }
 
+fn has(rt: &impl Abort, alloc: Global, entry: &Entry, attr_type: &str, text: &str) -> bool {
+    let description = description(rt, alloc, attr_type);
+    entry.has(description.key(), &value(rt, alloc, attr_type, text))
+}
+
+fn has_text(rt: &impl Abort, alloc: Global, entry: &Entry, attr_type: &str, text: &str) -> bool {
+    entry.has_text(description(rt, alloc, attr_type).key(), text.as_bytes())
+}
+
 /// Whether an entry's attributes are so spelled, in order.
-fn are_spelled(rt: &impl Abort, alloc: Global, entry: &Entry, want: &str) -> bool {
-    let mut told = Vec::new(alloc);
+fn are_spelled(entry: &Entry, want: &str) -> bool {
+    let mut pieces = pieces(want);
     for (_, attribute) in entry.attributes() {
-        tell(rt, &mut told, attribute.description().spelling());
+        if !is_next(&mut pieces, attribute.description().spelling()) {
+            return false;
+        }
     }
-    told.as_slice() == want.as_bytes()
+    pieces.is_none()
 }
 
 /// The entry with the attributes of a part, which leave its name.
@@ -205,11 +194,7 @@ fn note(rt: &impl Abort, alloc: Global, n: u8) -> (Description, Bytes) {
 /// The values are the bytes from 0 to 199.
 #[test]
 fn many_lines_make_the_entry_that_few_would(rt: HostRuntime) {
-    check(
-        &rt,
-        has_notes(&rt, rt.alloc(), &noted(&rt, rt.alloc())),
-        "notes",
-    );
+    take_steps(&rt, rt.alloc(), noted(&rt, rt.alloc()), "notes -> yes");
 }
 
 /// The entry with these notes.
@@ -220,7 +205,7 @@ fn noted(rt: &impl Abort, alloc: Global) -> Entry {
 }
 
 fn has_notes(rt: &impl Abort, alloc: Global, entry: &Entry) -> bool {
-    match entry.attribute(description(rt, alloc, "note").key()) {
+    match view_of(rt, alloc, entry, "note") {
         Some(notes) => are_notes(&notes),
         None => false,
     }

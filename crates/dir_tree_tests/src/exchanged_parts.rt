@@ -1,23 +1,15 @@
 //! Attributes of an entry exchanged for those of a part.
 
 use crate::entries::changed;
-use crate::make::{bytes, check, description, map_count, name, schema, value, view_count};
+use crate::make::{check, description, made, map_count, view_count};
+use crate::maps::attribute_of;
 use crate::script::split;
-use dir_names::{AttrKey, Bytes, Description, Lines};
+use crate::values::numbered;
+use crate::views::are_bytes;
+use dir_names::AttrKey;
 use dir_tree::{Attribute, AttributeMap, AttributeView, Entry, KeptAttributes};
 use std::alloc::Global;
 use std::process::Abort;
-
-/// An attribute with the value of a line.
-fn attribute(rt: &impl Abort, alloc: Global, line: &str) -> Attribute {
-    let (attr_type, text) = split(line, "=");
-    let mut attribute = Attribute::new(alloc, description(rt, alloc, attr_type));
-    let key = value(rt, alloc, attr_type, text);
-    attribute
-        .add(alloc, key, bytes(rt, alloc, text))
-        .expect(rt, "a value");
-    attribute
-}
 
 /// The attributes of an entry with those of a part in the place of those of some types, if that can be packed: as in
 /// `title sn: title=Boss`, the types and the lines of the part.
@@ -36,33 +28,38 @@ pub(crate) fn with_part(
 fn keys_of(rt: &impl Abort, alloc: Global, types: &str) -> Vec<AttrKey> {
     let mut keys = Vec::new(alloc);
     for attr_type in types.split(' ') {
-        let description = description(rt, alloc, attr_type);
-        let key = description.key().try_clone(alloc).expect(rt, "memory");
-        keys.push(key).expect(rt, "memory");
+        keys.push(attr_key(rt, alloc, attr_type))
+            .expect(rt, "memory");
     }
     keys
+}
+
+fn attr_key(rt: &impl Abort, alloc: Global, attr_type: &str) -> AttrKey {
+    let key = description(rt, alloc, attr_type).key().try_clone(alloc);
+    key.expect(rt, "memory")
 }
 
 fn part_of(rt: &impl Abort, alloc: Global, lines: &str) -> AttributeMap {
     let mut part = AttributeMap::empty(alloc);
     for line in lines.split(" | ") {
-        part.put(attribute(rt, alloc, line)).expect(rt, "memory");
+        part.put(attribute_of(rt, alloc, line)).expect(rt, "memory");
     }
     part
 }
 
 /// The entry with the attribute of a part. It must have that, and no others than before.
 pub(crate) fn with_attribute(rt: &impl Abort, alloc: Global, entry: &Entry, part: &str) -> Entry {
-    let expected = exchanged(rt, alloc, entry, split(part, ": ").1);
     let changed = changed(rt, alloc, entry, part);
-    check(rt, has_attributes(&changed, &expected), part);
+    let line = split(part, ": ").1;
+    let holds = has_attributes(&changed, &exchanged(rt, alloc, entry, line));
+    check(rt, holds, part);
     changed
 }
 
 /// The attributes of an entry in memory of their own, with that of a line in the place of the one of its key.
 fn exchanged(rt: &impl Abort, alloc: Global, entry: &Entry, line: &str) -> AttributeMap {
     let mut attributes = entry.to_map(alloc).expect(rt, "memory");
-    let new = attribute(rt, alloc, line);
+    let new = attribute_of(rt, alloc, line);
     let _ = attributes.take(new.description().key());
     attributes.put(new).expect(rt, "memory");
     attributes
@@ -86,24 +83,20 @@ fn has_attributes(entry: &Entry, attributes: &AttributeMap) -> bool {
 /// Whether an attribute is spelled as another, with the same values. None has more than two.
 fn is_like(found: &AttributeView<'_>, attribute: &Attribute) -> bool {
     for (value, bytes) in attribute.values() {
-        if found.get(value) != Some(bytes.as_slice()) {
+        if !are_bytes(found.get(value), bytes.as_slice()) {
             return false;
         }
     }
     found.description() == attribute.description() && found.has_many() == attribute.has_many()
 }
 
-/// How many values an entry has, how many bytes of text, and whether it is small.
-static SIZES: [(usize, usize, bool); 4] = [
-    (64, 1000, true),
-    (65, 1000, false),
-    (3, 65535, true),
-    (3, 65536, false),
-];
-
-/// How many values an entry has, how many bytes of text, the new value of an attribute that it lacks or has, and whether
-/// there is a packed entry with it.
-static GROWN: [(usize, usize, &str, bool); 7] = [
+/// How many values an entry has, how many bytes of text, and whether it is small; and the same with the new value of an
+/// attribute that it lacks or has, and whether there is a packed entry with it.
+static SIZES: [(usize, usize, &str, bool); 11] = [
+    (64, 1000, "", true),
+    (65, 1000, "", false),
+    (3, 65535, "", true),
+    (3, 65536, "", false),
     (63, 1000, "title: title=t", true),
     (64, 1000, "title: title=t", false),
     (64, 1000, "cn: cn=b", true),
@@ -116,13 +109,14 @@ static GROWN: [(usize, usize, &str, bool); 7] = [
 /// An entry that grows too large is left to be changed in place.
 #[test]
 fn a_small_entry_has_few_values_and_little_text(rt: HostRuntime) {
-    for (values, size, want) in &SIZES {
-        let is_small = sized(&rt, rt.alloc(), *values, *size).is_small();
+    for (values, size, part, want) in &SIZES {
+        let is_small = is_small(
+            &rt,
+            rt.alloc(),
+            &sized(&rt, rt.alloc(), *values, *size),
+            part,
+        );
         check_sized(&rt, is_small == *want, *values, *size);
-    }
-    for (values, size, part, want) in &GROWN {
-        let takes = takes_part(&rt, rt.alloc(), *values, *size, part);
-        check_sized(&rt, takes == *want, *values, *size);
     }
 }
 
@@ -131,38 +125,32 @@ fn check_sized(rt: &impl Abort, holds: bool, values: usize, size: usize) {
     assert!(rt; holds, "{values} {size}");
 }
 
-/// Whether there is a packed entry with a part of one with this many values, of so many bytes.
-fn takes_part(rt: &impl Abort, alloc: Global, values: usize, size: usize, part: &str) -> bool {
-    with_part(rt, alloc, &sized(rt, alloc, values, size), part).is_some()
+/// Whether an entry is small; or, where a part is given, whether there is a packed entry with it.
+fn is_small(rt: &impl Abort, alloc: Global, entry: &Entry, part: &str) -> bool {
+    if part.is_empty() {
+        return entry.is_small();
+    }
+    with_part(rt, alloc, entry, part).is_some()
 }
 
 /// An entry with this many values, of so many bytes together, which are keys themselves.
 fn sized(rt: &impl Abort, alloc: Global, values: usize, size: usize) -> Entry {
-    let mut items = Vec::new(alloc);
+    let mut text = String::from_str(alloc, "cn=a").expect(rt, "memory");
     for number in 2..values {
-        items.push(numbered(rt, alloc, number)).expect(rt, "memory");
+        append(
+            rt,
+            &mut text,
+            numbered(rt, alloc, " | x=#", number).as_str(),
+        );
     }
-    let others = values.saturating_sub(2).saturating_mul(3);
-    let rest = size.saturating_sub(others.saturating_add(1));
-    items.push(long(rt, alloc, rest)).expect(rt, "memory");
-    let own = name(rt, alloc, "cn=a").into_rdns();
-    Entry::make(alloc, &schema(rt, alloc), own, Lines::new(items)).expect(rt, "an entry")
+    append(rt, &mut text, " | long=");
+    let others = values.saturating_sub(2).saturating_mul(5);
+    for _ in others.saturating_add(1)..size {
+        append(rt, &mut text, "a");
+    }
+    made(rt, alloc, text.as_str())
 }
 
-/// A line with a value of three bytes.
-fn numbered(rt: &impl Abort, alloc: Global, number: usize) -> (Description, Bytes) {
-    let text = format!(in alloc; "{number:03}").expect(rt, "memory");
-    (description(rt, alloc, "x"), bytes(rt, alloc, text.as_str()))
-}
-
-/// A line with a value of so many bytes.
-fn long(rt: &impl Abort, alloc: Global, size: usize) -> (Description, Bytes) {
-    let mut long = String::new(alloc);
-    for _ in 0..size {
-        long.push('a').expect(rt, "memory");
-    }
-    (
-        description(rt, alloc, "long"),
-        bytes(rt, alloc, long.as_str()),
-    )
+fn append(rt: &impl Abort, text: &mut String, piece: &str) {
+    text.push_str(piece).expect(rt, "memory");
 }

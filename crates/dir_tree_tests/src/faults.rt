@@ -3,6 +3,8 @@
 use crate::make::check;
 use crate::script::is_shown;
 use dir_tree::EntryFault;
+use std::alloc::AllocError;
+use std::process::Abort;
 
 static TEXTS: [(EntryFault, &str); 5] = [
     (EntryFault::BadValue, "E1 BadValue"),
@@ -16,9 +18,11 @@ static TEXTS: [(EntryFault, &str); 5] = [
 #[test]
 fn each_fault_shows_its_text(rt: HostRuntime) {
     for (fault, want) in &TEXTS {
-        let plain = format!(in rt.alloc(); "{fault}");
-        check(&rt, is_shown(&rt, plain, want), want);
-        let styled = format!(in rt.alloc(); "{fault:#}");
-        check(&rt, is_shown(&rt, styled, want), want);
+        check_shown(&rt, format!(in rt.alloc(); "{fault}"), want);
+        check_shown(&rt, format!(in rt.alloc(); "{fault:#}"), want);
     }
+}
+
+fn check_shown(rt: &impl Abort, shown: Result<String, AllocError>, want: &str) {
+    check(rt, is_shown(rt, shown, want), want);
 }

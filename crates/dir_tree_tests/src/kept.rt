@@ -4,9 +4,10 @@
 //! order.
 
 use crate::make::{check, description, made, schema, view_count};
+use crate::maps::map_made;
 use crate::script::{Step, begun, counts, says, split, step_of};
 use crate::views::view_answers;
-use dir_tree::{Entry, KeptAttributes};
+use dir_tree::KeptAttributes;
 use std::alloc::Global;
 use std::process::Abort;
 
@@ -43,18 +44,18 @@ fn values_are_lent_as_they_are_opened(rt: HostRuntime) {
 
 fn run(rt: &impl Abort, alloc: Global, is_open: bool) {
     let (text, steps) = begun(LENT);
-    let kept = kept_of(rt, alloc, made(rt, alloc, text), is_open);
+    let kept = kept_of(rt, alloc, text, is_open);
     for line in steps.lines() {
         check(rt, answers(rt, alloc, &kept, &step_of(line)), line);
     }
 }
 
 /// The attributes of an entry, as they are, or opened and closed again.
-fn kept_of(rt: &impl Abort, alloc: Global, entry: Entry, is_open: bool) -> KeptAttributes {
+fn kept_of(rt: &impl Abort, alloc: Global, text: &str, is_open: bool) -> KeptAttributes {
     if is_open {
-        KeptAttributes::of(entry.to_map(alloc).expect(rt, "memory"))
+        KeptAttributes::of(map_made(rt, alloc, text))
     } else {
-        entry.into_parts().attributes
+        made(rt, alloc, text).into_parts().attributes
     }
 }
 

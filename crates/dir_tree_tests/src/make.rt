@@ -84,10 +84,11 @@ pub(crate) fn put<D: Directory>(
     if !may_stand(alloc, directory, key).expect(rt, "memory") {
         panic!(rt; "no parent");
     }
-    if directory.insert(key, entry).is_err() {
-        check(rt, directory.get(key).is_none(), "put in");
-        panic!(rt; "memory");
-    }
+    let Err(_back) = directory.insert(key, entry) else {
+        return;
+    };
+    check(rt, directory.get(key).is_none(), "put in");
+    panic!(rt; "memory");
 }
 
 /// Puts in the entry of a text.
@@ -97,7 +98,6 @@ pub(crate) fn fill<D: Directory>(rt: &impl Abort, alloc: Global, directory: &mut
     put(rt, alloc, directory, &key, entry.expect(rt, "an entry"));
 }
 
-/// Ends the test with this text unless this holds. Each `assert!` makes the proof of its function longer; a call is cheaper.
 /// How many attributes a map has.
 pub(crate) fn map_count(attributes: &AttributeMap) -> usize {
     let mut count: usize = 0;
@@ -116,6 +116,7 @@ pub(crate) fn view_count(attributes: AttributeViews<'_>) -> usize {
     count
 }
 
+/// Ends the test with this text unless this holds. Each `assert!` makes the proof of its function longer; a call is cheaper.
 pub(crate) fn check(rt: &impl Abort, holds: bool, what: &str) {
     assert!(rt; holds, "{what}");
 }

@@ -114,7 +114,12 @@ fn is_outcome(
 ) -> bool {
     match outcome {
         Ok(entry) => want.is_none() && has_lines(rt, alloc, &entry, text),
-        Err(EntryFault::Memory) => panic!(rt; "memory"),
-        Err(fault) => want == Some(fault),
+        Err(fault) => is_refused(rt, fault, want),
     }
+}
+
+/// Whether an entry may be refused for this fault. Out of memory ends the test.
+fn is_refused(rt: &impl Abort, fault: EntryFault, want: Option<EntryFault>) -> bool {
+    check(rt, fault != EntryFault::Memory, "memory");
+    want == Some(fault)
 }

@@ -1,9 +1,11 @@
 //! The map of very many attributes, which are kept in pieces: they are put in, found, exchanged and taken out in orders of their
 //! own. Each is a description with a number in an option; they have no values at first.
 
-use crate::make::{bytes, check, map_count, schema};
-use dir_names::{AttrKey, Description, Schema, ValueKey};
-use dir_tree::{Attribute, AttributeMap, ValueMap};
+use crate::make::{check, map_count, schema};
+use crate::maps::{exchange, with_values};
+use crate::views::one_value;
+use dir_names::{AttrKey, Description, Schema};
+use dir_tree::{Attribute, AttributeMap};
 use std::alloc::Global;
 use std::process::Abort;
 
@@ -11,20 +13,27 @@ use std::process::Abort;
 /// all of them in no order.
 const COUNT: usize = 5000;
 
-/// Attributes are put in in no order, upwards and downwards, and listed in order; each is found, and no other.
+/// In no order, upwards and downwards.
+static ORDERS: [usize; 3] = [1237, 1, 4999];
+
+/// Attributes are put in in each order, and listed in order; each is found, and no other.
 #[test]
 fn many_attributes_are_listed_in_order_and_found(rt: HostRuntime) {
     let schema = schema(&rt, rt.alloc());
-    for times in [1237, 1, 4999] {
-        let attributes = all(&rt, rt.alloc(), &schema, times);
-        check(&rt, are_all(&attributes), "all are listed in order");
-        for i in 0..COUNT {
-            let key = described(&rt, rt.alloc(), &schema, "cn", nth(i, 3001));
-            check(&rt, attributes.get(key.key()).is_some(), "each is found");
-        }
-        let other = described(&rt, rt.alloc(), &schema, "cn", COUNT);
-        check(&rt, attributes.get(other.key()).is_none(), "no other");
+    for times in &ORDERS {
+        let attributes = all(&rt, rt.alloc(), &schema, *times);
+        check_listed(&rt, rt.alloc(), &schema, &attributes);
     }
+}
+
+fn check_listed(rt: &impl Abort, alloc: Global, schema: &Schema, attributes: &AttributeMap) {
+    check(rt, are_all(attributes), "all are listed in order");
+    for i in 0..COUNT {
+        let found = is_there(rt, alloc, schema, attributes, nth(i, 3001));
+        check(rt, found, "each is found");
+    }
+    let other = is_there(rt, alloc, schema, attributes, COUNT);
+    check(rt, !other, "no other");
 }
 
 /// An attribute takes the place of another, and gets other values; a copy keeps its own.
@@ -33,30 +42,56 @@ fn many_attributes_are_exchanged_in_place(rt: HostRuntime) {
     let schema = schema(&rt, rt.alloc());
     let mut attributes = all(&rt, rt.alloc(), &schema, 1237);
     let copy = attributes.try_clone(rt.alloc()).expect(&rt, "memory");
+    exchange_all(&rt, rt.alloc(), &schema, &mut attributes);
+    check(&rt, are_like(&copy, "cn", true), "a copy keeps its own");
+}
+
+fn exchange_all(rt: &impl Abort, alloc: Global, schema: &Schema, attributes: &mut AttributeMap) {
     for i in 0..COUNT {
-        let new = described(&rt, rt.alloc(), &schema, "CN", nth(i, 3001));
-        let old = exchanged(&rt, &mut attributes, Attribute::new(rt.alloc(), new));
-        check(&rt, is_spelled(&old, "cn"), "the old one");
+        let old = is_exchanged(rt, alloc, schema, attributes, nth(i, 3001));
+        check(rt, old, "the old one");
     }
     for i in 0..COUNT {
-        let key = described(&rt, rt.alloc(), &schema, "cn", nth(i, 1237));
-        let old = given_a_value(&rt, rt.alloc(), &mut attributes, key.key());
-        check(&rt, old.is_empty(), "it had none");
+        let had_none = gets_value(rt, alloc, schema, attributes, nth(i, 1237));
+        check(rt, had_none, "it had none");
     }
-    check(&rt, are_all(&attributes), "all are there");
-    check(
-        &rt,
-        attributes
-            .iter()
-            .all(|(_, a)| is_spelled(a, "CN") && !a.is_empty()),
-        "each is new",
-    );
-    check(
-        &rt,
-        copy.iter()
-            .all(|(_, a)| is_spelled(a, "cn") && a.is_empty()),
-        "a copy keeps its own",
-    );
+    check(rt, are_all(attributes), "all are there");
+    check(rt, are_like(attributes, "CN", false), "each is new");
+}
+
+/// Whether the attribute of a number is spelled `cn` before one that is spelled `CN` takes its place.
+fn is_exchanged(
+    rt: &impl Abort,
+    alloc: Global,
+    schema: &Schema,
+    attributes: &mut AttributeMap,
+    number: usize,
+) -> bool {
+    let new = Attribute::new(alloc, described(rt, alloc, schema, "CN", number));
+    is_spelled(&exchange(rt, attributes, new), "cn")
+}
+
+/// Whether the attribute of a number has no values before it gets one.
+fn gets_value(
+    rt: &impl Abort,
+    alloc: Global,
+    schema: &Schema,
+    attributes: &mut AttributeMap,
+    number: usize,
+) -> bool {
+    let values = one_value(rt, alloc, "cn", "a");
+    let key = described(rt, alloc, schema, "cn", number);
+    with_values(rt, attributes, key.key(), values).is_empty()
+}
+
+/// Whether all attributes have this type's spelling, and no values or some.
+fn are_like(attributes: &AttributeMap, attr_type: &str, are_empty: bool) -> bool {
+    for (_, attribute) in attributes.iter() {
+        if !is_spelled(attribute, attr_type) || attribute.is_empty() != are_empty {
+            return false;
+        }
+    }
+    true
 }
 
 /// Attributes are taken out, and others are put in between.
@@ -64,25 +99,52 @@ fn many_attributes_are_exchanged_in_place(rt: HostRuntime) {
 fn many_attributes_are_taken_out(rt: HostRuntime) {
     let schema = schema(&rt, rt.alloc());
     let mut attributes = all(&rt, rt.alloc(), &schema, 1237);
+    take_all(&rt, rt.alloc(), &schema, &mut attributes);
+}
+
+/// Takes out one half, puts it in again, and takes out all.
+fn take_all(rt: &impl Abort, alloc: Global, schema: &Schema, attributes: &mut AttributeMap) {
     for i in 0..COUNT / 2 {
-        let key = described(&rt, rt.alloc(), &schema, "cn", nth(i, 3001));
-        check(&rt, attributes.take(key.key()).is_some(), "it was there");
-        check(&rt, attributes.take(key.key()).is_none(), "it is gone");
+        let first = is_taken(rt, alloc, schema, attributes, nth(i, 3001));
+        check(rt, first, "it was there");
+        let second = is_taken(rt, alloc, schema, attributes, nth(i, 3001));
+        check(rt, !second, "it is gone");
     }
-    check(
-        &rt,
-        map_count(&attributes) == COUNT - COUNT / 2,
-        "the others stay",
-    );
+    let others = map_count(attributes) == COUNT - COUNT / 2;
+    check(rt, others, "the others stay");
     for i in 0..COUNT / 2 {
-        put(&rt, rt.alloc(), &schema, &mut attributes, nth(i, 3001));
+        put(rt, alloc, schema, attributes, nth(i, 3001));
     }
-    check(&rt, are_all(&attributes), "all are there again");
+    check(rt, are_all(attributes), "all are there again");
     for i in 0..COUNT {
-        let key = described(&rt, rt.alloc(), &schema, "cn", nth(i, 1237));
-        check(&rt, attributes.take(key.key()).is_some(), "it was there");
+        let taken = is_taken(rt, alloc, schema, attributes, nth(i, 1237));
+        check(rt, taken, "it was there");
     }
-    check(&rt, map_count(&attributes) == 0, "none is left");
+    check(rt, map_count(attributes) == 0, "none is left");
+}
+
+/// Whether the attribute of a number is there.
+fn is_there(
+    rt: &impl Abort,
+    alloc: Global,
+    schema: &Schema,
+    attributes: &AttributeMap,
+    number: usize,
+) -> bool {
+    let key = described(rt, alloc, schema, "cn", number);
+    attributes.get(key.key()).is_some()
+}
+
+/// Whether the attribute of a number is there to be taken out.
+fn is_taken(
+    rt: &impl Abort,
+    alloc: Global,
+    schema: &Schema,
+    attributes: &mut AttributeMap,
+    number: usize,
+) -> bool {
+    let key = described(rt, alloc, schema, "cn", number);
+    attributes.take(key.key()).is_some()
 }
 
 fn nth(i: usize, times: usize) -> usize {
@@ -140,29 +202,4 @@ fn is_spelled(attribute: &Attribute, attr_type: &str) -> bool {
         .description()
         .spelling()
         .starts_with(attr_type.as_bytes())
-}
-
-/// Puts an attribute in the place of one that is there.
-fn exchanged(rt: &impl Abort, attributes: &mut AttributeMap, new: Attribute) -> Attribute {
-    if attributes.get(new.description().key()).is_none() {
-        panic!(rt; "not there");
-    }
-    attributes.replace(new)
-}
-
-/// Gives an attribute that is there one value alone.
-fn given_a_value(
-    rt: &impl Abort,
-    alloc: Global,
-    attributes: &mut AttributeMap,
-    key: &AttrKey,
-) -> ValueMap {
-    let mut values = ValueMap::empty(alloc);
-    let text = ValueKey::Text(bytes(rt, alloc, "a"));
-    let inserted = values.insert(alloc, text, bytes(rt, alloc, "a"));
-    check(rt, inserted.is_ok(), "memory");
-    if attributes.get(key).is_none() {
-        panic!(rt; "not there");
-    }
-    attributes.replace_values(key, values)
 }

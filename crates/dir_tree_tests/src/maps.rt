@@ -44,32 +44,38 @@ spelled -> SN
 #[test]
 fn attributes_and_their_values_are_found_by_their_keys(rt: HostRuntime) {
     let (text, steps) = begun(LOOKED_UP);
-    let entry = made(&rt, rt.alloc(), text);
-    let copy = entry.to_map(rt.alloc()).expect(&rt, "memory");
-    run_attributes(&rt, rt.alloc(), copy, steps);
+    run_attributes(&rt, rt.alloc(), map_made(&rt, rt.alloc(), text), steps);
 }
+
+/// The attributes of the entry of a text, in memory of their own.
+pub(crate) fn map_made(rt: &impl Abort, alloc: Global, text: &str) -> AttributeMap {
+    made(rt, alloc, text).to_map(alloc).expect(rt, "memory")
+}
+
+static SCRIPTS: [&str; 2] = [OTHER_VALUES, OTHER_ATTRIBUTE];
 
 #[test]
-fn an_attribute_gets_other_values(rt: HostRuntime) {
-    let (line, steps) = begun(OTHER_VALUES);
-    run_attributes(&rt, rt.alloc(), map_of(&rt, rt.alloc(), line), steps);
+fn an_attribute_gets_other_values_or_gives_its_place_to_another(rt: HostRuntime) {
+    for script in &SCRIPTS {
+        run(&rt, rt.alloc(), script);
+    }
 }
 
-#[test]
-fn an_attribute_takes_the_place_of_another(rt: HostRuntime) {
-    let (line, steps) = begun(OTHER_ATTRIBUTE);
-    run_attributes(&rt, rt.alloc(), map_of(&rt, rt.alloc(), line), steps);
-}
-
-/// The map of one attribute, with the value of a line.
-fn map_of(rt: &impl Abort, alloc: Global, line: &str) -> AttributeMap {
-    let mut attributes = AttributeMap::empty(alloc);
+/// Takes the steps of a script with the map of one attribute.
+fn run(rt: &impl Abort, alloc: Global, script: &str) {
+    let (line, steps) = begun(script);
     let attribute = attribute_of(rt, alloc, line);
+    run_attributes(rt, alloc, only(rt, alloc, attribute), steps);
+}
+
+/// The map of this attribute alone.
+pub(crate) fn only(rt: &impl Abort, alloc: Global, attribute: Attribute) -> AttributeMap {
+    let mut attributes = AttributeMap::empty(alloc);
     attributes.put(attribute).expect(rt, "memory");
     attributes
 }
 
-fn attribute_of(rt: &impl Abort, alloc: Global, line: &str) -> Attribute {
+pub(crate) fn attribute_of(rt: &impl Abort, alloc: Global, line: &str) -> Attribute {
     let (attr_type, text) = split(line, "=");
     let values = one_value(rt, alloc, attr_type, text);
     Attribute::of(description(rt, alloc, attr_type), values)
@@ -91,7 +97,10 @@ fn attributes_answer(
     step: &Step<'_>,
 ) -> bool {
     match step.verb {
-        "there" => says(step.want, is_there(rt, alloc, attributes, step.given)),
+        "there" => says(
+            step.want,
+            found(rt, alloc, attributes, step.given).is_some(),
+        ),
         "count" => counts(rt, alloc, step.want, map_count(attributes)),
         "exceeds-single" => says(
             step.want,
@@ -99,7 +108,11 @@ fn attributes_answer(
         ),
         "replace-values" => has_replaced_values(rt, alloc, attributes, step),
         "replace" => has_replaced(rt, alloc, attributes, step),
-        _ => sn_answers(rt, alloc, attributes, step),
+        "has-text" => says(step.want, has_text(rt, alloc, attributes, step.given)),
+        _ => match found(rt, alloc, attributes, "sn") {
+            Some(attribute) => sn_answers(rt, alloc, attribute, step),
+            None => false,
+        },
     }
 }
 
@@ -108,24 +121,25 @@ fn sn(rt: &impl Abort, alloc: Global, text: &str) -> ValueKey {
     value(rt, alloc, "sn", text)
 }
 
-fn is_there(rt: &impl Abort, alloc: Global, attributes: &AttributeMap, attr_type: &str) -> bool {
-    let description = description(rt, alloc, attr_type);
-    attributes.get(description.key()).is_some()
+fn has_text(rt: &impl Abort, alloc: Global, attributes: &AttributeMap, text: &str) -> bool {
+    attributes.has_text(description(rt, alloc, "sn").key(), text.as_bytes())
+}
+
+/// The attribute of this type.
+fn found<'a>(
+    rt: &impl Abort,
+    alloc: Global,
+    attributes: &'a AttributeMap,
+    attr_type: &str,
+) -> Option<&'a Attribute> {
+    attributes.get(description(rt, alloc, attr_type).key())
 }
 
 /// Whether a question about `sn` is answered so.
-fn sn_answers(rt: &impl Abort, alloc: Global, attributes: &AttributeMap, step: &Step<'_>) -> bool {
-    let description = description(rt, alloc, "sn");
-    let Some(attribute) = attributes.get(description.key()) else {
-        return false;
-    };
+fn sn_answers(rt: &impl Abort, alloc: Global, attribute: &Attribute, step: &Step<'_>) -> bool {
     match step.verb {
         "spelled" => attribute.description().spelling() == step.want.as_bytes(),
         "has" => says(step.want, attribute.has(&sn(rt, alloc, step.given))),
-        "has-text" => says(
-            step.want,
-            attributes.has_text(description.key(), step.given.as_bytes()),
-        ),
         _ => false,
     }
 }
@@ -137,14 +151,13 @@ fn has_replaced_values(
     attributes: &mut AttributeMap,
     step: &Step<'_>,
 ) -> bool {
-    let description = description(rt, alloc, "sn");
     let new = one_value(rt, alloc, "sn", step.given);
-    let old = with_values(rt, attributes, description.key(), new);
-    are_all(rt, alloc, &old, step.want)
+    let old = with_values(rt, attributes, description(rt, alloc, "sn").key(), new);
+    are_all(&old, step.want)
 }
 
 /// Gives an attribute that is there other values.
-fn with_values(
+pub(crate) fn with_values(
     rt: &impl Abort,
     attributes: &mut AttributeMap,
     key: &AttrKey,
@@ -163,13 +176,21 @@ fn has_replaced(
     attributes: &mut AttributeMap,
     step: &Step<'_>,
 ) -> bool {
-    let new = attribute_of(rt, alloc, step.given);
-    let old = exchange(rt, attributes, new);
-    old.has(&sn(rt, alloc, step.want)) && !old.has_many()
+    let old = exchange(rt, attributes, attribute_of(rt, alloc, step.given));
+    has_only(rt, alloc, &old, step.want)
+}
+
+/// Whether an attribute has this value alone.
+fn has_only(rt: &impl Abort, alloc: Global, attribute: &Attribute, text: &str) -> bool {
+    attribute.has(&sn(rt, alloc, text)) && !attribute.has_many()
 }
 
 /// Puts an attribute in the place of one that is there.
-fn exchange(rt: &impl Abort, attributes: &mut AttributeMap, new: Attribute) -> Attribute {
+pub(crate) fn exchange(
+    rt: &impl Abort,
+    attributes: &mut AttributeMap,
+    new: Attribute,
+) -> Attribute {
     if attributes.get(new.description().key()).is_none() {
         panic!(rt; "not there");
     }

@@ -2,9 +2,10 @@
 //!
 //! A script begins with the entry whose fields are changed. The fields of an entry that is closed are taken again.
 
+use crate::alike::map_of_kept;
 use crate::make::{bytes, check, description, made, schema, value, view_count};
-use crate::script::{begun, counts, split, step_of};
-use dir_names::Rdn;
+use crate::script::{begun, counts, is_shown, split, step_of};
+use dir_names::{Rdn, RdnKey};
 use dir_tree::{Attribute, AttributeMap, EntryFault, KeptAttributes, Parts};
 use std::alloc::Global;
 use std::process::Abort;
@@ -30,14 +31,13 @@ close -> E4 Single
 count -> 2
 ";
 
-#[test]
-fn fields_are_closed_to_an_entry(rt: HostRuntime) {
-    run(&rt, rt.alloc(), CLOSED);
-}
+static SCRIPTS: [&str; 2] = [CLOSED, REFUSED];
 
 #[test]
-fn an_entry_has_the_values_of_its_own_rdn(rt: HostRuntime) {
-    run(&rt, rt.alloc(), REFUSED);
+fn fields_are_closed_to_an_entry_or_refused(rt: HostRuntime) {
+    for script in &SCRIPTS {
+        run(&rt, rt.alloc(), script);
+    }
 }
 
 fn run(rt: &impl Abort, alloc: Global, script: &str) {
@@ -68,9 +68,15 @@ fn after(rt: &impl Abort, alloc: Global, parts: Parts, line: &str) -> Parts {
 
 /// The fields with the key of another RDN.
 fn with_key(rt: &impl Abort, alloc: Global, parts: Parts, text: &str) -> Parts {
+    Parts {
+        key: rdn_key(rt, alloc, text),
+        ..parts
+    }
+}
+
+fn rdn_key(rt: &impl Abort, alloc: Global, text: &str) -> RdnKey {
     let rdn = Rdn::read(alloc, text.as_bytes()).expect(rt, "an RDN");
-    let key = rdn.key(alloc, &schema(rt, alloc)).expect(rt, "a key");
-    Parts { key, ..parts }
+    rdn.key(alloc, &schema(rt, alloc)).expect(rt, "a key")
 }
 
 /// The fields with one value more in the attribute of this type, or in a new attribute.
@@ -80,11 +86,10 @@ fn with_value(rt: &impl Abort, alloc: Global, parts: Parts, line: &str) -> Parts
         key,
         attributes,
     } = parts;
-    let attributes = with_line(rt, alloc, attributes, line);
     Parts {
         own,
         key,
-        attributes,
+        attributes: with_line(rt, alloc, attributes, line),
     }
 }
 
@@ -94,9 +99,7 @@ fn with_line(
     attributes: KeptAttributes,
     line: &str,
 ) -> KeptAttributes {
-    let Ok(mut map) = attributes.open(alloc) else {
-        panic!(rt; "memory");
-    };
+    let mut map = map_of_kept(rt, alloc, attributes);
     let attribute = grown(rt, alloc, &mut map, line);
     map.put(attribute).expect(rt, "memory");
     KeptAttributes::of(map)
@@ -135,16 +138,12 @@ fn closed(rt: &impl Abort, alloc: Global, parts: Parts, want: &str) -> Parts {
             entry.into_parts()
         }
         Err((back, fault)) => {
-            check(rt, is_fault(fault, want), want);
+            check(rt, is_fault(rt, alloc, fault, want), want);
             back
         }
     }
 }
 
-fn is_fault(fault: EntryFault, want: &str) -> bool {
-    match fault {
-        EntryFault::NotNamed => want == "E3 NotNamed",
-        EntryFault::Single => want == "E4 Single",
-        _ => false,
-    }
+fn is_fault(rt: &impl Abort, alloc: Global, fault: EntryFault, want: &str) -> bool {
+    is_shown(rt, format!(in alloc; "{fault}"), want)
 }

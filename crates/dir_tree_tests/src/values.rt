@@ -6,7 +6,8 @@
 //! remainder of `COUNT`: all of them, in no order, if STEP has no divisor in common with that. A number stands for `#`.
 
 use crate::make::{bytes, check, description, schema};
-use crate::script::{Step, begun, counts, says, split, step_of, tell};
+use crate::maps::only;
+use crate::script::{Step, begun, counts, is_next, pieces, says, split, step_of};
 use dir_names::{AttrKey, Bytes, Description, Schema, ValueKey};
 use dir_tree::{Attribute, AttributeMap, EntryFault, ValueMap};
 use std::alloc::Global;
@@ -41,23 +42,23 @@ empty -> yes
 const COUNT: usize = 5000;
 
 /// Values are listed in order however they are put in: in no order, upwards and downwards.
-static LISTED: [&str; 3] = [
-    "
+const LISTED: &str = "
 values of sn
 each 1237 0 5000: insert #
 numbers -> 5000
-",
-    "
+";
+
+const LISTED_UPWARDS: &str = "
 values of sn
 each 1 0 5000: insert #
 numbers -> 5000
-",
-    "
+";
+
+const LISTED_DOWNWARDS: &str = "
 values of sn
 each 4999 1 5001: insert #
 numbers -> 5000
-",
-];
+";
 
 /// Values of a long list are found, and put in once.
 const FOUND_AMONG_MANY: &str = "
@@ -100,37 +101,27 @@ each 3001 0 5000: insert #
 numbers -> 5000
 ";
 
-#[test]
-fn values_are_found_by_their_keys_and_put_in_once(rt: HostRuntime) {
-    let _ = run(&rt, rt.alloc(), FOUND);
-}
+static SCRIPTS: [&str; 7] = [
+    FOUND,
+    SET,
+    LISTED,
+    LISTED_UPWARDS,
+    LISTED_DOWNWARDS,
+    FOUND_AMONG_MANY,
+    SET_AMONG_MANY,
+];
 
 #[test]
-fn a_value_gets_other_bytes(rt: HostRuntime) {
-    let _ = run(&rt, rt.alloc(), SET);
-}
-
-#[test]
-fn values_are_listed_in_order_however_they_are_put_in(rt: HostRuntime) {
-    for script in &LISTED {
+fn a_map_of_values_answers_each_step(rt: HostRuntime) {
+    for script in &SCRIPTS {
         let _ = run(&rt, rt.alloc(), script);
     }
-}
-
-#[test]
-fn values_of_a_long_list_are_found_and_put_in_once(rt: HostRuntime) {
-    let _ = run(&rt, rt.alloc(), FOUND_AMONG_MANY);
-}
-
-#[test]
-fn values_of_a_long_list_get_other_bytes(rt: HostRuntime) {
-    let _ = run(&rt, rt.alloc(), SET_AMONG_MANY);
 }
 
 /// A copy keeps its own.
 #[test]
 fn values_of_a_long_list_are_removed(rt: HostRuntime) {
-    let mut values = run(&rt, rt.alloc(), LISTED[0]);
+    let mut values = run(&rt, rt.alloc(), LISTED);
     let copy = values.try_clone(rt.alloc()).expect(&rt, "memory");
     take_steps(&rt, rt.alloc(), &mut values, REMOVED);
     let count = numbers(&rt, rt.alloc(), &copy);
@@ -140,12 +131,14 @@ fn values_of_a_long_list_are_removed(rt: HostRuntime) {
 
 #[test]
 fn values_of_a_long_list_are_found_by_their_texts(rt: HostRuntime) {
-    let mut attributes = AttributeMap::empty(rt.alloc());
-    let values = run(&rt, rt.alloc(), LISTED[0]);
+    let values = run(&rt, rt.alloc(), LISTED);
     let attribute = Attribute::of(description(&rt, rt.alloc(), "sn"), values);
-    attributes.put(attribute).expect(&rt, "memory");
-    let sn = description(&rt, rt.alloc(), "sn");
-    check_texts(&rt, rt.alloc(), &attributes, sn.key());
+    check_texts(
+        &rt,
+        rt.alloc(),
+        &only(&rt, rt.alloc(), attribute),
+        description(&rt, rt.alloc(), "sn").key(),
+    );
 }
 
 fn check_texts(rt: &impl Abort, alloc: Global, attributes: &AttributeMap, sn: &AttrKey) {
@@ -254,7 +247,7 @@ fn number_answers(
 }
 
 /// A text with a number in the place of `#`.
-fn numbered(rt: &impl Abort, alloc: Global, text: &str, number: usize) -> String {
+pub(crate) fn numbered(rt: &impl Abort, alloc: Global, text: &str, number: usize) -> String {
     let text = match text.split_once("#") {
         Some((before, after)) => format!(in alloc; "{before}{number:05}{after}"),
         None => String::from_str(alloc, text),
@@ -338,15 +331,18 @@ fn is_told(bytes: Option<&Bytes>, want: &str) -> bool {
 /// Whether a copy has these values, in order of their keys.
 fn are_all_of_copy(rt: &impl Abort, alloc: Global, values: &ValueMap, want: &str) -> bool {
     let copy = values.try_clone(alloc).expect(rt, "memory");
-    are_all(rt, alloc, &copy, want)
+    are_all(&copy, want)
 }
 
-pub(crate) fn are_all(rt: &impl Abort, alloc: Global, values: &ValueMap, want: &str) -> bool {
-    let mut told = Vec::new(alloc);
+/// Whether these are all values, in order of their keys.
+pub(crate) fn are_all(values: &ValueMap, want: &str) -> bool {
+    let mut pieces = pieces(want);
     for (_, bytes) in values.iter() {
-        tell(rt, &mut told, bytes.as_slice());
+        if !is_next(&mut pieces, bytes.as_slice()) {
+            return false;
+        }
     }
-    told.as_slice() == want.as_bytes()
+    pieces.is_none()
 }
 
 /// How many values there are. They must be those of the first numbers, in order.
