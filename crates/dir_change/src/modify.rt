@@ -1,16 +1,17 @@
 //! The modify operation (RFC 4511, section 4.6) and the modify that takes it back.
 
-ghost use Rattle.std.specs.Prelude.{◌≡◌, IfErr, IfOk, IfSome, IsTrue, Ok, OnErr, OnOk, Option, Some, is_none, not, true};
+ghost use Rattle.std.specs.Prelude.{◌≡◌, IfErr, IfOk, IfSome, IsSome, IsTrue, Ok, OnErr, OnOk, Option, Some, is_none, not, true};
 ghost use Rattle.std.specs.Option.{option_map};
 ghost use Rattle.std.specs.FinMap as fin;
 ghost use Rattle.dir_ldif.specs.declared.records.ChangeKind.TheVariants as kind;
 ghost use Rattle.dir_ldif.specs.declared.records.ModOp.TheVariants as op;
 ghost use Rattle.dir_tree.specs.Content.{Stored};
+ghost use Rattle.dir_tree.specs.Dir.{entry_at, put_entry};
 ghost use Rattle.dir_tree.specs.Slots.{slot_of, spelling_or, values_of, with_slots};
 ghost use Rattle.dir_change.specs.Inside.Exchanged.{FitAttributes};
 ghost use Rattle.dir_change.specs.Inside.Looked.{AreLooks};
 ghost use Rattle.dir_change.specs.Inside.Touched.{IsPartAt};
-ghost use Rattle.dir_change.specs.Inside.Planned.{AreExchanged, IsPlan};
+ghost use Rattle.dir_change.specs.Inside.Planned.{AreExchanged, IsExchangedAt, IsPlan};
 ghost use Rattle.dir_change.specs.Inside.ValuesInTurn.{are_new, are_there, without_each};
 ghost use Rattle.dir_change.specs.Modify.{attributes_after, attributes_after_one, entry_after, keyed_value, keyed_values, slot_after, slot_after_op, values_with, with_attributes};
 ghost use Rattle.dir_change.specs.Operation.{IsRefused, directory_after_modify};
@@ -49,24 +50,49 @@ pub(crate) fn modify<D: Directory>(
     let Some(entry) = directory.get(key) else {
         return Err(Refusal::Code(ResultCode::NoSuchObject));
     };
-    let Plan {
-        keys,
-        is_whole,
-        before,
-        after,
-        back,
-    } = planned(alloc, schema, entry, mods, directory.packs_entries())?;
+    let Plan { exchange, back } = planned(alloc, schema, entry, mods, directory.packs_entries())?;
     let undo = Undo::modify(alloc, directory.spelled(key)?, back)?;
-    if let Some(entry) = modified_copy(alloc, entry, is_whole, keys.as_slice(), &after) {
-        let _ = directory.replace(key, entry);
+    let (first, is_done) = replacement(alloc, entry, &exchange)?;
+    let entry = directory.replace(key, first);
+    if is_done {
         return Ok(undo);
     }
-    let stand_in = stand_in(alloc, entry)?;
-    let entry = directory.replace(key, stand_in);
-    let (entry, exchanged) = exchanged_entry(alloc, entry, &before, after);
-    let _ = directory.replace(key, entry);
-    exchanged?;
+    settle(alloc, directory, key, entry, exchange)?;
     Ok(undo)
+}
+
+/// What takes an entry's place, and whether this is the entry after the exchange: if so, it is a copy with whole attributes
+/// exchanged, and else an entry without attributes.
+fn replacement(alloc: Global, entry: &Entry, exchange: &Exchange) -> Result<(Entry, bool), Refusal>
+    ensures whole { IfOk result (λ r. IsTrue r.1 → IsTrue exchange.now.is_whole) }
+    ensures modified { IfOk result (λ r. IsTrue r.1 → r.0 ≡ with_attributes entry.now (with_slots entry.now.attributes exchange.now.keys.items exchange.now.after)) }
+    ensures memory { IfErr result (λ e. e ≡ refusal.Memory) }
+{
+    let keys = exchange.keys.as_slice();
+    match modified_copy(alloc, entry, exchange.is_whole, keys, &exchange.after) {
+        Some(modified) => Ok((modified, true)),
+        None => Ok((stand_in(alloc, entry)?, false)),
+    }
+}
+
+/// Puts an entry back in the place of its stand-in, with its attributes exchanged if memory suffices; else as it was.
+fn settle<D: Directory>(
+    alloc: Global,
+    directory: &mut D,
+    key: &DnKey,
+    entry: Entry,
+    exchange: Exchange,
+) -> Result<(), Refusal>
+    requires there { IsSome (entry_at (D.state directory.now) key.now) }
+    requires fit { FitAttributes entry.attributes exchange.before exchange.after }
+    ensures ok { OnOk result (IsExchangedAt (D.state directory.old) key.now entry exchange.before exchange.after (D.state directory.new)) }
+    ensures err { OnErr result (D.state directory.new ≡ put_entry (D.state directory.old) key.now entry) }
+    ensures memory { IfErr result (λ e. e ≡ refusal.Memory) }
+{
+    let after = exchange.after;
+    let (entry, exchanged) = exchanged_entry(alloc, entry, &exchange.before, after);
+    let _ = directory.replace(key, entry);
+    exchanged
 }
 
 /// The entry with what a part has under these keys, if it is small and the part is of whole attributes.
@@ -139,12 +165,18 @@ fn exchanged_map(
 /// what takes this back.
 #[derive(Drop)]
 struct Plan {
+    exchange: Exchange,
+    back: Vec<Mod>,
+}
+
+/// Attributes of an entry, or parts of them, and what takes their place.
+#[derive(Drop)]
+struct Exchange {
     keys: Vec<AttrKey>,
     /// Whether whole attributes are exchanged.
     is_whole: bool,
     before: AttributeMap,
     after: AttributeMap,
-    back: Vec<Mod>,
 }
 
 /// The exchange that all modifications come to, if none of them, nor the entry after them, is refused.
@@ -155,8 +187,8 @@ fn planned(
     mods: &[Mod],
     packs: bool,
 ) -> Result<Plan, Refusal>
-    ensures ok { IfOk result (λ plan. IsPlan schema.now entry.now mods.now plan.before plan.after plan.back.items) }
-    ensures whole { IfOk result (λ plan. IsTrue plan.is_whole → AreExchanged entry.now.attributes plan.before plan.after (with_slots entry.now.attributes plan.keys.items plan.after)) }
+    ensures ok { IfOk result (λ plan. IsPlan schema.now entry.now mods.now plan.exchange.before plan.exchange.after plan.back.items) }
+    ensures whole { IfOk result (λ plan. IsTrue plan.exchange.is_whole → AreExchanged entry.now.attributes plan.exchange.before plan.exchange.after (with_slots entry.now.attributes plan.exchange.keys.items plan.exchange.after)) }
     ensures refused { IfErr result (λ e. IsRefused e (entry_after schema.now entry.now mods.now)) }
 {
     let keys = named_keys(alloc, mods)?;
@@ -167,10 +199,12 @@ fn planned(
     judge(schema, entry, keys.as_slice(), &after)?;
     let back = difference(alloc, keys.as_slice(), &after, &before)?;
     Ok(Plan {
-        keys,
-        is_whole,
-        before,
-        after,
+        exchange: Exchange {
+            keys,
+            is_whole,
+            before,
+            after,
+        },
         back,
     })
 }

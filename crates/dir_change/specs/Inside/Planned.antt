@@ -6,7 +6,9 @@ use Rattle.dir_names.specs.Attr.{Attr}
 use Rattle.dir_names.specs.Orders.{attr_cmp}
 use Rattle.dir_names.specs.Sorted.{set_of}
 use Rattle.dir_ldif.specs.declared.records.Mod.{Mod}
+use Rattle.dir_names.specs.Keys.{DnKeys}
 use Rattle.dir_tree.specs.Content.{Content, StoredAttributes}
+use Rattle.dir_tree.specs.Dir.{Dir, put_entry}
 use Rattle.dir_change.specs.Difference.{difference_at}
 use Rattle.dir_change.specs.Inside.Exchanged.{FitAttributes, exchanged_slot}
 use Rattle.dir_change.specs.Modify.{entry_after, with_attributes}
@@ -14,6 +16,10 @@ use Rattle.dir_change.specs.Modify.{entry_after, with_attributes}
 -- the attributes with the part before exchanged for the part after
 abbrev pub AreExchanged : StoredAttributes → StoredAttributes → StoredAttributes → StoredAttributes → Type 0
 AreExchanged xs before after new = (q : Attr) → fin.get new q ≡ exchanged_slot (fin.get xs q) (fin.get before q) (fin.get after q)
+
+-- the directory after has the entry at the key, with the part before exchanged for the part after
+abbrev pub IsExchangedAt : Dir → DnKeys → Content → StoredAttributes → StoredAttributes → Dir → Type 0
+IsExchangedAt d k e before after done = (new : StoredAttributes) × AreExchanged e.attributes before after new × (done ≡ put_entry d k (with_attributes e new))
 
 -- the exchange gives the entry after the modifications, and these lead back
 pub record IsPlan (rows : List TypeRow) (e : Content) (mods : List Mod) (before after : StoredAttributes) (back : List Mod) : Type 0 where
