@@ -1,73 +1,111 @@
 //! Copies, and lists of what they are made of.
 
 use crate::make::{
-    are, check, description, gives, gives_text, name, name_key, rdn, rdn_key, value_key,
+    Case, are, check, description, each, fields, gives, gives_text, name, name_key, rdn, rdn_key,
+    value_key,
 };
-use dir_names::{Bytes, Description, Lines, Texts};
+use dir_names::{Bytes, Description, Lines, Rdn, RdnKey, Schema, Texts};
 use std::alloc::Global;
 use std::process::Abort;
 
-#[test]
-fn copies_of_names_are_equal_to_them(rt: HostRuntime) {
-    let name = name(&rt, rt.alloc(), "ou=a,dc=com");
-    check(&rt, gives(&rt, name.try_clone(rt.alloc()), &name), "a name");
-    let key = name_key(&rt, rt.alloc(), "ou=a,dc=com");
-    check(&rt, gives(&rt, key.try_clone(rt.alloc()), &key), "a key");
-}
+/// What is copied.
+static COPIED: [&str; 7] = [
+    "name | ou=a,dc=com",
+    "RDN | SN=B+cn=A",
+    "description | cn;x-a",
+    "value | cn;x-a | A",
+    "value | member | cn=a",
+    "texts | a | b",
+    "lines | CN;lang-en | Ann",
+];
 
 #[test]
-fn copies_of_rdns_are_equal_to_them(rt: HostRuntime) {
-    let rdn = rdn(&rt, rt.alloc(), "SN=B+cn=A");
-    let copy = rdn.try_clone(rt.alloc()).expect(&rt, "memory");
-    let is_printed = gives_text(&rt, copy.print(rt.alloc()), "SN=B+cn=A");
-    check(&rt, copy == rdn && is_printed, "an RDN");
+fn copies_are_equal_to_what_is_copied(rt: HostRuntime) {
+    each::<IsCopied>(&rt, rt.alloc(), &COPIED);
 }
 
-#[test]
-fn copies_of_rdn_keys_are_equal_to_them(rt: HostRuntime) {
-    let key = rdn_key(&rt, rt.alloc(), "SN=B+cn=A");
-    let copy = key.try_clone(rt.alloc()).expect(&rt, "memory");
-    check(&rt, copy == key && copy.pairs().len() == 2, "a key");
+/// A copy is equal to what is copied, and so is one of its key, where it has one.
+struct IsCopied;
+
+impl Case for IsCopied {
+    fn holds(rt: &impl Abort, alloc: Global, schema: &Schema, row: &str) -> bool {
+        let [kind, text, value, ..] = fields(row);
+        match kind {
+            "name" => is_name_copied(rt, alloc, schema, text),
+            "RDN" => is_rdn_copied(rt, alloc, schema, &rdn(rt, alloc, text), text),
+            "description" => is_description_copied(
+                rt,
+                alloc,
+                &description(rt, alloc, schema, text),
+            ),
+            "value" => is_value_key_copied(rt, alloc, schema, text, value.as_bytes()),
+            "texts" => are_texts_copied(rt, alloc, text, value),
+            _ => are_lines_copied(rt, alloc, schema, text, value),
+        }
+    }
 }
 
-#[test]
-fn copies_of_descriptions_are_equal_to_them(rt: HostRuntime) {
-    let description = description(&rt, rt.alloc(), "cn;x-a");
-    let is_copied = gives(&rt, description.try_clone(rt.alloc()), &description);
-    check(&rt, is_copied, "a description");
-    let key = description.key();
-    check(&rt, gives(&rt, key.try_clone(rt.alloc()), key), "a key");
+fn is_name_copied(rt: &impl Abort, alloc: Global, schema: &Schema, text: &str) -> bool {
+    let name = name(rt, alloc, text);
+    let key = name_key(rt, alloc, schema, text);
+    check(rt, gives(rt, name.try_clone(alloc), &name), text);
+    gives(rt, key.try_clone(alloc), &key)
 }
 
-#[test]
-fn copies_of_value_keys_are_equal_to_them(rt: HostRuntime) {
-    assert_copied(&rt, rt.alloc(), "cn;x-a", b"A");
-    assert_copied(&rt, rt.alloc(), "member", b"cn=a");
+fn is_rdn_copied(rt: &impl Abort, alloc: Global, schema: &Schema, rdn: &Rdn, text: &str) -> bool {
+    let copy = rdn.try_clone(alloc).expect(rt, "memory");
+    check(rt, copy == *rdn, text);
+    check(rt, gives_text(rt, copy.print(alloc), text), text);
+    is_rdn_key_copied(rt, alloc, &rdn_key(rt, alloc, schema, text))
 }
 
-fn assert_copied(rt: &impl Abort, alloc: Global, attr: &str, value: &[u8]) {
-    let key = value_key(rt, alloc, attr, value);
-    check(rt, gives(rt, key.try_clone(alloc), &key), attr);
+fn is_rdn_key_copied(rt: &impl Abort, alloc: Global, key: &RdnKey) -> bool {
+    let copy = key.try_clone(alloc).expect(rt, "memory");
+    check(rt, copy.pairs().len() == 2, "two pairs");
+    copy == *key
 }
 
-#[test]
-fn copies_of_texts_are_equal_to_them(rt: HostRuntime) {
-    let first = bytes(&rt, rt.alloc(), "a");
-    let second = bytes(&rt, rt.alloc(), "b");
-    let mut items = Vec::new(rt.alloc());
+fn is_description_copied(rt: &impl Abort, alloc: Global, description: &Description) -> bool {
+    gives(rt, description.try_clone(alloc), description)
+        && gives(rt, description.key().try_clone(alloc), description.key())
+}
+
+fn is_value_key_copied(
+    rt: &impl Abort,
+    alloc: Global,
+    schema: &Schema,
+    attr: &str,
+    value: &[u8],
+) -> bool {
+    let key = value_key(rt, alloc, schema, attr, value);
+    gives(rt, key.try_clone(alloc), &key)
+}
+
+fn are_texts_copied(rt: &impl Abort, alloc: Global, first: &str, second: &str) -> bool {
+    let texts = texts(rt, alloc, first, second);
+    let copy = texts.try_clone(alloc).expect(rt, "memory");
+    check(rt, copy == texts, first);
+    are(
+        copy.as_slice(),
+        &bytes(rt, alloc, first),
+        &bytes(rt, alloc, second),
+    )
+}
+
+/// Two texts.
+fn texts(rt: &impl Abort, alloc: Global, first: &str, second: &str) -> Texts {
+    let mut items = Vec::new(alloc);
     items
-        .push(first.try_clone(rt.alloc()).expect(&rt, "memory"))
-        .expect(&rt, "memory");
+        .push(copied_bytes(rt, alloc, first))
+        .expect(rt, "memory");
     items
-        .push(second.try_clone(rt.alloc()).expect(&rt, "memory"))
-        .expect(&rt, "memory");
-    let texts = Texts::new(items);
-    let copy = texts.try_clone(rt.alloc()).expect(&rt, "memory");
-    check(
-        &rt,
-        copy == texts && are(copy.as_slice(), &first, &second),
-        "two texts",
-    );
+        .push(copied_bytes(rt, alloc, second))
+        .expect(rt, "memory");
+    Texts::new(items)
+}
+
+fn copied_bytes(rt: &impl Abort, alloc: Global, text: &str) -> Bytes {
+    bytes(rt, alloc, text).try_clone(alloc).expect(rt, "memory")
 }
 
 fn bytes(rt: &impl Abort, alloc: Global, text: &str) -> Bytes {
@@ -76,30 +114,43 @@ fn bytes(rt: &impl Abort, alloc: Global, text: &str) -> Bytes {
     bytes
 }
 
+fn are_lines_copied(
+    rt: &impl Abort,
+    alloc: Global,
+    schema: &Schema,
+    spelling: &str,
+    value: &str,
+) -> bool {
+    let lines = line(rt, alloc, schema, spelling, value);
+    let copy = lines.try_clone(alloc).expect(rt, "memory");
+    check(rt, copy == lines, spelling);
+    is_one_line(copy.as_slice(), spelling, value)
+}
+
 /// The lines of one value.
-fn line(rt: &impl Abort, alloc: Global, spelling: &str, value: &str) -> Lines {
+fn line(rt: &impl Abort, alloc: Global, schema: &Schema, spelling: &str, value: &str) -> Lines {
     let mut items = Vec::new(alloc);
-    let item = (description(rt, alloc, spelling), bytes(rt, alloc, value));
+    let item = (
+        description(rt, alloc, schema, spelling),
+        bytes(rt, alloc, value),
+    );
     items.push(item).expect(rt, "memory");
     Lines::new(items)
 }
 
 #[test]
-fn copies_of_lines_are_equal_to_them(rt: HostRuntime) {
-    let lines = line(&rt, rt.alloc(), "CN;lang-en", "Ann");
-    let copy = lines.try_clone(rt.alloc()).expect(&rt, "memory");
-    let is_same = is_one_line(copy.as_slice(), "CN;lang-en", "Ann");
-    check(&rt, copy == lines && is_same, "a line");
+fn lists_hold_what_they_are_made_of(rt: HostRuntime) {
+    each::<HoldsItems>(&rt, rt.alloc(), &["cn | a value"]);
 }
 
-#[test]
-fn lists_hold_what_they_are_made_of(rt: HostRuntime) {
-    let items = line(&rt, rt.alloc(), "cn", "a value").into_items();
-    check(
-        &rt,
-        is_one_line(items.as_slice(), "cn", "a value"),
-        "a line",
-    );
+struct HoldsItems;
+
+impl Case for HoldsItems {
+    fn holds(rt: &impl Abort, alloc: Global, schema: &Schema, row: &str) -> bool {
+        let [spelling, value, ..] = fields(row);
+        let items = line(rt, alloc, schema, spelling, value).into_items();
+        is_one_line(items.as_slice(), spelling, value)
+    }
 }
 
 fn is_one_line(items: &[(Description, Bytes)], spelling: &str, value: &str) -> bool {

@@ -25,6 +25,8 @@ mod rdns;
 #[cfg(test)]
 mod reader;
 #[cfg(test)]
+mod reading;
+#[cfg(test)]
 mod recent;
 #[cfg(test)]
 mod recent_parents;

@@ -1,102 +1,79 @@
 //! The limits of descriptions, RDNs and names, each from both sides.
 
-use crate::make::{check, gives_text, name, name_key, rdn, rdn_key, repeated, schema};
-use dir_names::{Description, Dn, DnKey, NameFault, Rdn};
+use crate::make::{
+    Case, check, description_fault, each, fields, gives_text, is_fault, name, name_key, number,
+    rdn, rdn_key, repeated,
+};
+use dir_names::{Dn, DnKey, NameFault, Rdn, Schema};
 use std::alloc::Global;
 use std::process::Abort;
 
-/// What a text is read as.
-#[derive(Clone, Copy)]
-enum Kind {
-    Description,
-    Rdn,
-    Name,
-}
+/// Texts, each a first one, a second one so many times and a last one, and the fault of each as an RDN: it has at most
+/// 4,096 bytes as it is printed.
+static RDNS: [&str; 4] = [
+    "cn= | a | 4093 |  | ",
+    "cn= | a | 4094 |  | NameLimit",
+    "cn= | \u{e9} | 682 |  | ",
+    "cn= | \u{e9} | 683 |  | NameLimit",
+];
 
-/// Texts, each a first one, a second one so many times and a last one, and the fault of each. A description has at
-/// most 512 bytes, an RDN 4,096 as it is printed, and a name 64 RDNs; a text past a limit is first of its kind, which
-/// is told once all of it is read.
-static TEXTS: [(Kind, &str, &str, usize, &str, Option<NameFault>); 13] = [
-    (Kind::Rdn, "cn=", "a", 4093, "", None),
-    (Kind::Rdn, "cn=", "a", 4094, "", Some(NameFault::NameLimit)),
-    (Kind::Rdn, "cn=", "\u{e9}", 682, "", None),
-    (
-        Kind::Rdn,
-        "cn=",
-        "\u{e9}",
-        683,
-        "",
-        Some(NameFault::NameLimit),
-    ),
-    (Kind::Description, "", "a", 512, "", None),
-    (
-        Kind::Description,
-        "",
-        "a",
-        513,
-        "",
-        Some(NameFault::BadDescription),
-    ),
-    (Kind::Name, "cn=a", ",dc=b", 63, "", None),
-    (
-        Kind::Name,
-        "cn=a",
-        ",dc=b",
-        64,
-        "",
-        Some(NameFault::NameLimit),
-    ),
-    (
-        Kind::Name,
-        "cn=a",
-        ",dc=b",
-        64,
-        ",cn",
-        Some(NameFault::BadDn),
-    ),
-    (Kind::Name, "cn=", "a", 4093, ",dc=com", None),
-    (
-        Kind::Name,
-        "cn=",
-        "a",
-        4094,
-        ",dc=com",
-        Some(NameFault::NameLimit),
-    ),
-    (
-        Kind::Name,
-        "cn=",
-        "a",
-        4093,
-        ",dc=com,",
-        Some(NameFault::BadDn),
-    ),
-    (
-        Kind::Name,
-        "cn=",
-        "a",
-        4094,
-        ",dc=com,",
-        Some(NameFault::BadDn),
-    ),
+/// The same as a description, which has at most 512 bytes.
+static DESCRIPTIONS: [&str; 2] = [" | a | 512 |  | ", " | a | 513 |  | BadDescription"];
+
+/// The same as a name, which has at most 64 RDNs. A text past a limit is first of its kind, which is told once all of it
+/// is read.
+static NAMES: [&str; 7] = [
+    "cn=a | ,dc=b | 63 |  | ",
+    "cn=a | ,dc=b | 64 |  | NameLimit",
+    "cn=a | ,dc=b | 64 | ,cn | BadDn",
+    "cn= | a | 4093 | ,dc=com | ",
+    "cn= | a | 4094 | ,dc=com | NameLimit",
+    "cn= | a | 4093 | ,dc=com, | BadDn",
+    "cn= | a | 4094 | ,dc=com, | BadDn",
 ];
 
 #[test]
 fn texts_are_read_up_to_their_limits(rt: HostRuntime) {
-    for (kind, first, piece, count, last, want) in &TEXTS {
-        let text = repeated(&rt, rt.alloc(), first, piece, *count, last);
-        let fault = fault_of(&rt, rt.alloc(), *kind, text.as_slice());
-        assert!(rt; fault == *want, "{first} {count} {last}");
+    each::<AsRdn>(&rt, rt.alloc(), &RDNS);
+    each::<AsDescription>(&rt, rt.alloc(), &DESCRIPTIONS);
+    each::<AsName>(&rt, rt.alloc(), &NAMES);
+}
+
+struct AsRdn;
+
+impl Case for AsRdn {
+    fn holds(rt: &impl Abort, alloc: Global, _schema: &Schema, row: &str) -> bool {
+        let fault = Rdn::read(alloc, text_of(rt, alloc, row).as_slice()).err();
+        has_fault(rt, alloc, fault, row)
     }
 }
 
-/// The fault of a text that is read as this, if it has one.
-fn fault_of(rt: &impl Abort, alloc: Global, kind: Kind, text: &[u8]) -> Option<NameFault> {
-    match kind {
-        Kind::Description => Description::read(alloc, &schema(rt, alloc), text).err(),
-        Kind::Rdn => Rdn::read(alloc, text).err(),
-        Kind::Name => Dn::read(alloc, text).err(),
+struct AsDescription;
+
+impl Case for AsDescription {
+    fn holds(rt: &impl Abort, alloc: Global, schema: &Schema, row: &str) -> bool {
+        let fault = description_fault(rt, alloc, schema, text_of(rt, alloc, row).as_slice());
+        has_fault(rt, alloc, fault, row)
     }
+}
+
+struct AsName;
+
+impl Case for AsName {
+    fn holds(rt: &impl Abort, alloc: Global, _schema: &Schema, row: &str) -> bool {
+        let fault = Dn::read(alloc, text_of(rt, alloc, row).as_slice()).err();
+        has_fault(rt, alloc, fault, row)
+    }
+}
+
+fn text_of(rt: &impl Abort, alloc: Global, row: &str) -> Vec<u8> {
+    let [first, piece, count, last, ..] = fields(row);
+    repeated(rt, alloc, first, piece, number(count), last)
+}
+
+fn has_fault(rt: &impl Abort, alloc: Global, fault: Option<NameFault>, row: &str) -> bool {
+    let [_, _, _, _, want] = fields(row);
+    is_fault(rt, alloc, fault, want)
 }
 
 /// The text of a name of this many RDNs.
@@ -109,18 +86,22 @@ fn name_text(rt: &impl Abort, alloc: Global, count: usize) -> String {
 }
 
 /// The key of a name of this many RDNs.
-fn key(rt: &impl Abort, alloc: Global, count: usize) -> DnKey {
+fn key(rt: &impl Abort, alloc: Global, schema: &Schema, count: usize) -> DnKey {
     let text = name_text(rt, alloc, count);
-    name_key(rt, alloc, text.as_str())
+    name_key(rt, alloc, schema, text.as_str())
 }
 
 #[test]
 fn a_name_has_at_most_64_rdns(rt: HostRuntime) {
     check(&rt, is_read(&rt, rt.alloc(), 63), "63 RDNs");
     check(&rt, is_read(&rt, rt.alloc(), 64), "64 RDNs");
-    let text = name_text(&rt, rt.alloc(), 65);
-    let fault = fault_of(&rt, rt.alloc(), Kind::Name, text.as_bytes());
+    let fault = fault_of(&rt, rt.alloc(), 65);
     check(&rt, fault == Some(NameFault::NameLimit), "65 RDNs");
+}
+
+/// The fault of the text of a name of this many RDNs.
+fn fault_of(rt: &impl Abort, alloc: Global, count: usize) -> Option<NameFault> {
+    Dn::read(alloc, name_text(rt, alloc, count).as_bytes()).err()
 }
 
 /// Whether the name of this many RDNs is read, printed, and made of its RDNs again.
@@ -128,41 +109,59 @@ fn is_read(rt: &impl Abort, alloc: Global, count: usize) -> bool {
     let text = name_text(rt, alloc, count);
     let name = name(rt, alloc, text.as_str());
     let is_printed = gives_text(rt, name.print(alloc), text.as_str());
+    check(rt, is_printed, "printed");
     let again = Dn::from_rdns(name.into_rdns()).expect(rt, "a name");
-    is_printed && gives_text(rt, again.print(alloc), text.as_str())
+    gives_text(rt, again.print(alloc), text.as_str())
 }
 
 #[test]
 fn a_name_is_not_made_of_65_rdns(rt: HostRuntime) {
-    let text = name_text(&rt, rt.alloc(), 64);
-    let mut rdns = name(&rt, rt.alloc(), text.as_str()).into_rdns();
-    rdns.push(rdn(&rt, rt.alloc(), "cn=a"))
-        .expect(&rt, "memory");
-    let fault = Dn::from_rdns(rdns).err();
+    let fault = made_fault(&rt, rt.alloc(), 64);
     check(&rt, fault == Some(NameFault::NameLimit), "65 RDNs");
 }
 
+/// The fault of what is made of this many RDNs and one more.
+fn made_fault(rt: &impl Abort, alloc: Global, count: usize) -> Option<NameFault> {
+    let mut rdns = name(rt, alloc, name_text(rt, alloc, count).as_str()).into_rdns();
+    rdns.push(rdn(rt, alloc, "cn=a")).expect(rt, "memory");
+    Dn::from_rdns(rdns).err()
+}
+
 /// Numbers of RDNs, with the leaf of the name of one RDN more, and their number.
-static CHILDREN: [(usize, &str, usize); 2] = [(62, "ou=62", 63), (63, "ou=63", 64)];
+static CHILDREN: [&str; 2] = ["62 | ou=62 | 63", "63 | ou=63 | 64"];
 
 #[test]
 fn a_key_of_62_or_63_rdns_has_a_child_and_one_of_64_has_none(rt: HostRuntime) {
-    for (count, leaf, below) in &CHILDREN {
-        check(&rt, has_child(&rt, rt.alloc(), *count, leaf, *below), leaf);
-    }
-    let above = key(&rt, rt.alloc(), 64);
-    let fault = above
-        .child(rt.alloc(), &rdn_key(&rt, rt.alloc(), "cn=a"))
-        .err();
-    check(&rt, fault == Some(NameFault::NameLimit), "64 RDNs");
+    each::<HasChild>(&rt, rt.alloc(), &CHILDREN);
+    each::<HasNoChild>(&rt, rt.alloc(), &["64"]);
 }
 
-/// Whether the key of this many RDNs has a child, the key of one RDN more.
-fn has_child(rt: &impl Abort, alloc: Global, count: usize, leaf: &str, below: usize) -> bool {
-    let above = key(rt, alloc, count);
-    let want = key(rt, alloc, below);
-    match above.child(alloc, &rdn_key(rt, alloc, leaf)) {
-        Ok(child) => child == want && child.depth() == below && above.is_parent_of(&child),
-        Err(_) => false,
+/// The key of this many RDNs has a child, the key of one RDN more.
+struct HasChild;
+
+impl Case for HasChild {
+    fn holds(rt: &impl Abort, alloc: Global, schema: &Schema, row: &str) -> bool {
+        let [count, leaf, below, ..] = fields(row);
+        let above = key(rt, alloc, schema, number(count));
+        let child = above.child(alloc, &rdn_key(rt, alloc, schema, leaf));
+        let child = child.expect(rt, "a child");
+        let want = key(rt, alloc, schema, number(below));
+        is_child(&child, &above, &want, number(below))
+    }
+}
+
+/// Whether a key is this one, of this many RDNs, and below the one above it.
+fn is_child(child: &DnKey, above: &DnKey, want: &DnKey, depth: usize) -> bool {
+    child == want && child.depth() == depth && above.is_parent_of(child)
+}
+
+/// The key of this many RDNs has none.
+struct HasNoChild;
+
+impl Case for HasNoChild {
+    fn holds(rt: &impl Abort, alloc: Global, schema: &Schema, row: &str) -> bool {
+        let above = key(rt, alloc, schema, number(row));
+        let child = above.child(alloc, &rdn_key(rt, alloc, schema, "cn=a"));
+        child.err() == Some(NameFault::NameLimit)
     }
 }

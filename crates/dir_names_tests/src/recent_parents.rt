@@ -1,7 +1,7 @@
 //! Names that were read as values before, and their parents, which are remembered after the first 64 names.
 
 use crate::make::{attr_key, check, repeated, schema};
-use dir_names::{Dn, DnKey, DnSortKey, NameFault, RecentNames, Schema};
+use dir_names::{AttrKey, Dn, DnKey, DnSortKey, NameFault, RecentNames, Schema};
 use std::alloc::Global;
 use std::process::Abort;
 
@@ -44,8 +44,11 @@ static IN_TURN: [&str; 34] = [
     "cn=\u{e4} \u{fb01},dc=com",
 ];
 
-/// Leaves, spelled as they are printed and otherwise, and texts that are none or have no keys.
-static LEAVES: [&str; 34] = [
+/// Leaves, spelled as they are printed and otherwise, and texts that are none or have no keys. After the first two their
+/// parent is remembered, if it may be.
+static LEAVES: [&str; 36] = [
+    "cn=one",
+    "cn=two",
     "cn=a",
     "CN=A",
     "commonName=b",
@@ -104,50 +107,88 @@ static PARENTS: [&str; 14] = [
 static OF_ONE_SLOT: [&str; 3] = [",ou=x2,dc=com", ",ou=x227,dc=com", ",ou=x525,dc=com"];
 
 /// The number of names that are read before parents are remembered, and a few more.
-const FIRST_NAMES: usize = 70;
+pub(crate) const FIRST_NAMES: usize = 70;
 
 /// Two plain children, after which their parent is remembered if it may be.
 static CHILDREN: [&str; 2] = ["cn=one,ou=x,dc=com", "cn=two,ou=x,dc=com"];
 
-/// Names that remember parents.
-pub(crate) fn used_names(rt: &impl Abort, alloc: Global) -> RecentNames {
+/// Names after so many others.
+pub(crate) fn names_after(rt: &impl Abort, alloc: Global, count: usize) -> RecentNames {
     let schema = schema(rt, alloc);
     let mut names = RecentNames::new();
-    for count in 0..FIRST_NAMES {
-        let value = repeated(rt, alloc, "cn=", "a", count + 1, ",o=first");
-        let key = names.read(alloc, &schema, value.as_slice());
-        assert!(rt; key.is_ok(), "{count}");
+    for number in 0..count {
+        assert_repeated(
+            rt,
+            alloc,
+            &schema,
+            &mut names,
+            ("cn=", "a", number + 1, ",o=first"),
+        );
     }
     names
 }
 
-/// Where the values are begun, how many are gone on by, and whether the two children are read before each: forwards,
-/// backwards, and below the same parent as before.
-static ORDERS: [(usize, usize, bool); 3] = [(0, 1, false), (33, 33, false), (0, 1, true)];
+/// A value: a text, a second one so many times and a last one.
+type Value = (&'static str, &'static str, usize, &'static str);
 
-#[test]
-fn names_are_read_in_turn(rt: HostRuntime) {
-    for (start, step, below) in &ORDERS {
-        let mut names = used_names(&rt, rt.alloc());
-        let mut at = *start;
-        for _ in 0..IN_TURN.len() {
-            let value = IN_TURN[at % IN_TURN.len()];
-            assert_anew(&rt, rt.alloc(), &mut names, value, *below);
-            at = at.wrapping_add(*step);
-        }
+/// Values that are read one after the other.
+trait Values {
+    /// The value at a place, which may go by a number that looks like chance.
+    fn value(at: usize, chance: u64) -> Value;
+}
+
+/// What values are read by, and what remembers them.
+#[derive(Drop)]
+pub(crate) struct Reading {
+    pub(crate) schema: Schema,
+    pub(crate) names: RecentNames,
+}
+
+/// Reading after so many names.
+pub(crate) fn reading_after(rt: &impl Abort, alloc: Global, count: usize) -> Reading {
+    Reading {
+        schema: schema(rt, alloc),
+        names: names_after(rt, alloc, count),
     }
 }
 
-/// Asserts that a value is read as where nothing was read before, under a schema of its own; before that, if so told,
-/// the two children.
-fn assert_anew(rt: &impl Abort, alloc: Global, names: &mut RecentNames, value: &str, below: bool) {
-    let schema = schema(rt, alloc);
-    if below {
-        for child in &CHILDREN {
-            assert_same(rt, alloc, &schema, names, child.as_bytes());
+/// Asserts that each value has the key that it has where nothing was read before. A schema is made anew for each so many
+/// of them, or there is one for all.
+fn assert_all<V: Values>(
+    rt: &impl Abort,
+    alloc: Global,
+    mut reading: Reading,
+    count: usize,
+    for_each: usize,
+) {
+    let mut chance = 1u64;
+    for at in 0..count {
+        chance = chance
+            .wrapping_mul(6_364_136_223_846_793_005)
+            .wrapping_add(1);
+        if at.checked_rem(for_each) == Some(0) {
+            reading.schema = schema(rt, alloc);
         }
+        assert_repeated(
+            rt,
+            alloc,
+            &reading.schema,
+            &mut reading.names,
+            V::value(at, chance),
+        );
     }
-    assert_same(rt, alloc, &schema, names, value.as_bytes());
+    drop(reading);
+}
+
+fn assert_repeated(
+    rt: &impl Abort,
+    alloc: Global,
+    schema: &Schema,
+    names: &mut RecentNames,
+    value: Value,
+) {
+    let value = repeated(rt, alloc, value.0, value.1, value.2, value.3);
+    assert_same(rt, alloc, schema, names, value.as_slice());
 }
 
 /// Asserts that a value has the key that it has where nothing was read before, which is that of the name that it
@@ -160,12 +201,28 @@ pub(crate) fn assert_same(
     value: &[u8],
 ) {
     let got = names.read(alloc, schema, value);
-    assert!(rt; got == DnSortKey::read(alloc, schema, value), "{value:?}");
-    assert!(rt; are_same(got, whole_key(alloc, schema, value)), "{value:?}");
+    assert_found(rt, alloc, schema, got, value);
+}
+
+/// Asserts that this is what was found for a value.
+pub(crate) fn assert_found(
+    rt: &impl Abort,
+    alloc: Global,
+    schema: &Schema,
+    got: Result<DnSortKey, NameFault>,
+    value: &[u8],
+) {
+    let is_read = got == DnSortKey::read(alloc, schema, value);
+    check_value(rt, is_read, value);
+    check_value(rt, is_same(got, whole_key(alloc, schema, value)), value);
+}
+
+fn check_value(rt: &impl Abort, holds: bool, value: &[u8]) {
+    assert!(rt; holds, "{value:?}");
 }
 
 /// Whether both are keys of one name, or neither is a key.
-fn are_same(got: Result<DnSortKey, NameFault>, want: Result<DnKey, NameFault>) -> bool {
+fn is_same(got: Result<DnSortKey, NameFault>, want: Result<DnKey, NameFault>) -> bool {
     match (got, want) {
         (Ok(got), Ok(want)) => got.is_same(&want),
         (Err(got), Err(_)) => got == NameFault::BadValue,
@@ -177,23 +234,63 @@ fn whole_key(alloc: Global, schema: &Schema, value: &[u8]) -> Result<DnKey, Name
     Dn::read(alloc, value)?.key(alloc, schema)
 }
 
-/// Asserts the same of a value that is repeated.
-fn assert_repeated(
-    rt: &impl Abort,
-    alloc: Global,
-    schema: &Schema,
-    names: &mut RecentNames,
-    long: Long<'_>,
-) {
-    let value = repeated(rt, alloc, long.0, long.1, long.2, long.3);
-    assert_same(rt, alloc, schema, names, value.as_slice());
+#[test]
+fn names_are_read_in_turn(rt: HostRuntime) {
+    assert_all::<InTurn>(
+        &rt,
+        rt.alloc(),
+        reading_after(&rt, rt.alloc(), FIRST_NAMES),
+        34,
+        1,
+    );
+    assert_all::<Backwards>(
+        &rt,
+        rt.alloc(),
+        reading_after(&rt, rt.alloc(), FIRST_NAMES),
+        34,
+        1,
+    );
+    assert_all::<Below>(
+        &rt,
+        rt.alloc(),
+        reading_after(&rt, rt.alloc(), FIRST_NAMES),
+        3 * 34,
+        3,
+    );
 }
 
-/// A value: a text, a second one so many times and a last one.
-type Long<'a> = (&'a str, &'a str, usize, &'a str);
+struct InTurn;
+
+impl Values for InTurn {
+    fn value(at: usize, _chance: u64) -> Value {
+        (IN_TURN[at % IN_TURN.len()], "", 0, "")
+    }
+}
+
+struct Backwards;
+
+impl Values for Backwards {
+    fn value(at: usize, _chance: u64) -> Value {
+        (IN_TURN[33 - at % IN_TURN.len()], "", 0, "")
+    }
+}
+
+/// Each after the two children of one parent.
+struct Below;
+
+impl Values for Below {
+    fn value(at: usize, _chance: u64) -> Value {
+        let value = match at % 3 {
+            0 => CHILDREN[0],
+            1 => CHILDREN[1],
+            _ => IN_TURN[at / 3 % IN_TURN.len()],
+        };
+        (value, "", 0, "")
+    }
+}
 
 /// A name has at most 64 RDNs below each parent.
-const MANY_RDNS: [Long<'static>; 14] = [
+static MANY_RDNS: [Value; 14] = [
     ("cn=a", ",l=b", 62, ""),
     ("cn=a", ",l=b", 63, ""),
     ("cn=b", ",l=b", 62, ""),
@@ -211,7 +308,7 @@ const MANY_RDNS: [Long<'static>; 14] = [
 ];
 
 /// A leaf has at most 4,096 bytes below a parent.
-const LONG_LEAVES: [Long<'static>; 4] = [
+static LONG_LEAVES: [Value; 4] = [
     ("cn=", "a", 1, ",dc=com"),
     ("cn=", "a", 4093, ",dc=com"),
     ("cn=", "a", 4094, ",dc=com"),
@@ -219,7 +316,7 @@ const LONG_LEAVES: [Long<'static>; 4] = [
 ];
 
 /// The text of a parent that is remembered has at most 256 bytes.
-const LONG_PARENTS: [Long<'static>; 8] = [
+static LONG_PARENTS: [Value; 8] = [
     ("cn=a,o=", "x", 253, ""),
     ("cn=b,o=", "x", 253, ""),
     ("cn=a,o=", "x", 254, ""),
@@ -230,120 +327,184 @@ const LONG_PARENTS: [Long<'static>; 8] = [
     ("cn=b,o=", "x", 254, ""),
 ];
 
-/// What is read by a reader each.
-static LONG: [&[Long<'static>]; 3] = [&MANY_RDNS, &LONG_LEAVES, &LONG_PARENTS];
-
 #[test]
 fn long_values_have_the_same_keys_below_a_parent(rt: HostRuntime) {
-    let schema = schema(&rt, rt.alloc());
-    for values in &LONG {
-        let mut names = used_names(&rt, rt.alloc());
-        for value in *values {
-            assert_repeated(&rt, rt.alloc(), &schema, &mut names, *value);
-        }
+    assert_all::<ManyRdns>(
+        &rt,
+        rt.alloc(),
+        reading_after(&rt, rt.alloc(), FIRST_NAMES),
+        14,
+        0,
+    );
+    assert_all::<LongLeaves>(
+        &rt,
+        rt.alloc(),
+        reading_after(&rt, rt.alloc(), FIRST_NAMES),
+        4,
+        0,
+    );
+    assert_all::<LongParents>(
+        &rt,
+        rt.alloc(),
+        reading_after(&rt, rt.alloc(), FIRST_NAMES),
+        8,
+        0,
+    );
+}
+
+struct ManyRdns;
+
+impl Values for ManyRdns {
+    fn value(at: usize, _chance: u64) -> Value {
+        MANY_RDNS[at % MANY_RDNS.len()]
     }
 }
 
-#[test]
-fn values_of_each_type_have_their_keys(rt: HostRuntime) {
-    let mut names = used_names(&rt, rt.alloc());
-    for value in &IN_TURN {
-        assert_value_key(&rt, rt.alloc(), &mut names, "member", value);
-        assert_value_key(&rt, rt.alloc(), &mut names, "cn", value);
+struct LongLeaves;
+
+impl Values for LongLeaves {
+    fn value(at: usize, _chance: u64) -> Value {
+        LONG_LEAVES[at % LONG_LEAVES.len()]
     }
 }
 
-fn assert_value_key(
-    rt: &impl Abort,
-    alloc: Global,
-    names: &mut RecentNames,
-    attr: &str,
-    value: &str,
-) {
-    let attr = attr_key(rt, alloc, attr);
-    let got = names.value_key(alloc, &schema(rt, alloc), &attr, value.as_bytes());
-    let want = schema(rt, alloc).value_key(alloc, &attr, value.as_bytes());
-    check(rt, got == want, value);
+struct LongParents;
+
+impl Values for LongParents {
+    fn value(at: usize, _chance: u64) -> Value {
+        LONG_PARENTS[at % LONG_PARENTS.len()]
+    }
 }
 
 /// Each leaf below each parent, which is remembered by then if it may be.
 #[test]
 fn a_leaf_has_the_same_key_below_a_parent_that_is_remembered(rt: HostRuntime) {
-    let schema = schema(&rt, rt.alloc());
-    let mut names = used_names(&rt, rt.alloc());
-    for above in &PARENTS {
-        assert_repeated(
-            &rt,
-            rt.alloc(),
-            &schema,
-            &mut names,
-            ("cn=one", above, 1, ""),
-        );
-        assert_repeated(
-            &rt,
-            rt.alloc(),
-            &schema,
-            &mut names,
-            ("cn=two", above, 1, ""),
-        );
-        for leaf in &LEAVES {
-            assert_repeated(&rt, rt.alloc(), &schema, &mut names, (leaf, above, 1, ""));
-        }
+    assert_all::<LeafBelow>(
+        &rt,
+        rt.alloc(),
+        reading_after(&rt, rt.alloc(), FIRST_NAMES),
+        14 * 36,
+        0,
+    );
+}
+
+struct LeafBelow;
+
+impl Values for LeafBelow {
+    fn value(at: usize, _chance: u64) -> Value {
+        let above = PARENTS[at / LEAVES.len() % PARENTS.len()];
+        (LEAVES[at % LEAVES.len()], above, 1, "")
     }
 }
 
 /// Leaves and parents in an order that looks like chance.
 #[test]
 fn leaves_and_parents_in_no_order_have_the_same_keys(rt: HostRuntime) {
-    let schema = schema(&rt, rt.alloc());
-    let mut names = used_names(&rt, rt.alloc());
-    let mut number = 1u64;
-    for _ in 0..5000 {
-        number = number
-            .wrapping_mul(6_364_136_223_846_793_005)
-            .wrapping_add(1);
-        let leaf = LEAVES[(number >> 33) as usize % LEAVES.len()];
-        let above = PARENTS[(number >> 53) as usize % PARENTS.len()];
-        assert_repeated(&rt, rt.alloc(), &schema, &mut names, (leaf, above, 1, ""));
+    assert_all::<InNoOrder>(
+        &rt,
+        rt.alloc(),
+        reading_after(&rt, rt.alloc(), FIRST_NAMES),
+        5000,
+        0,
+    );
+}
+
+struct InNoOrder;
+
+impl Values for InNoOrder {
+    fn value(_at: usize, chance: u64) -> Value {
+        let leaf = LEAVES[(chance >> 33) as usize % LEAVES.len()];
+        (
+            leaf,
+            PARENTS[(chance >> 53) as usize % PARENTS.len()],
+            1,
+            "",
+        )
     }
 }
 
 /// Each of them comes often enough to take the place of another one.
 #[test]
 fn parents_of_one_slot_are_told_apart(rt: HostRuntime) {
-    let schema = schema(&rt, rt.alloc());
-    let mut names = used_names(&rt, rt.alloc());
-    for times in &[1usize, 2, 3, 4, 5, 9] {
-        for above in &OF_ONE_SLOT {
-            for count in 1..=*times {
-                assert_repeated(
-                    &rt,
-                    rt.alloc(),
-                    &schema,
-                    &mut names,
-                    ("cn=", "a", count, above),
-                );
-            }
-        }
+    assert_all::<OfOneSlot>(
+        &rt,
+        rt.alloc(),
+        reading_after(&rt, rt.alloc(), FIRST_NAMES),
+        72,
+        0,
+    );
+}
+
+/// Below each parent in turn a number of leaves: 1, 2, 3, 4, 5 and 9.
+struct OfOneSlot;
+
+impl Values for OfOneSlot {
+    fn value(at: usize, _chance: u64) -> Value {
+        let (parent, count) = match at {
+            0..=2 => (at, 1),
+            3..=8 => ((at - 3) / 2, (at - 3) % 2 + 1),
+            9..=17 => ((at - 9) / 3, (at - 9) % 3 + 1),
+            18..=29 => ((at - 18) / 4, (at - 18) % 4 + 1),
+            30..=44 => ((at - 30) / 5, (at - 30) % 5 + 1),
+            _ => (at.wrapping_sub(45) / 9, at.wrapping_sub(45) % 9 + 1),
+        };
+        ("cn=", "a", count, OF_ONE_SLOT[parent % OF_ONE_SLOT.len()])
     }
 }
 
 /// The last name is remembered whatever its length, the one before it if it has at most 512 bytes.
 #[test]
 fn long_names_have_their_keys_again(rt: HostRuntime) {
-    let schema = schema(&rt, rt.alloc());
-    let mut names = RecentNames::new();
-    for count in &[
-        1usize, 503, 504, 503, 1, 504, 504, 1, 503, 4093, 4093, 1, 4093,
-    ] {
-        for ending in &[",dc=a", ",dc=b", ",dc=a", ",dc=a"] {
-            assert_repeated(
-                &rt,
-                rt.alloc(),
-                &schema,
-                &mut names,
-                ("cn=", "a", *count, ending),
-            );
-        }
+    assert_all::<LongAgain>(
+        &rt,
+        rt.alloc(),
+        reading_after(&rt, rt.alloc(), 0),
+        13 * 4,
+        0,
+    );
+}
+
+/// Lengths of leaves, each below four parents.
+static LENGTHS: [usize; 13] = [1, 503, 504, 503, 1, 504, 504, 1, 503, 4093, 4093, 1, 4093];
+
+static ENDINGS: [&str; 4] = [",dc=a", ",dc=b", ",dc=a", ",dc=a"];
+
+struct LongAgain;
+
+impl Values for LongAgain {
+    fn value(at: usize, _chance: u64) -> Value {
+        let length = LENGTHS[at / ENDINGS.len() % LENGTHS.len()];
+        ("cn=", "a", length, ENDINGS[at % ENDINGS.len()])
     }
+}
+
+#[test]
+fn values_of_each_type_have_their_keys(rt: HostRuntime) {
+    let mut reading = reading_after(&rt, rt.alloc(), FIRST_NAMES);
+    for value in &IN_TURN {
+        assert_value_keys(&rt, rt.alloc(), &mut reading, value);
+    }
+    drop(reading);
+}
+
+/// Asserts that a value of these types has the keys that it has where nothing was read before.
+fn assert_value_keys(rt: &impl Abort, alloc: Global, reading: &mut Reading, value: &str) {
+    let member = attr_key(rt, alloc, &reading.schema, "member");
+    assert_value_key(rt, alloc, reading, &member, value);
+    let cn = attr_key(rt, alloc, &reading.schema, "cn");
+    assert_value_key(rt, alloc, reading, &cn, value);
+}
+
+fn assert_value_key(
+    rt: &impl Abort,
+    alloc: Global,
+    reading: &mut Reading,
+    attr: &AttrKey,
+    value: &str,
+) {
+    let schema = &reading.schema;
+    let names = &mut reading.names;
+    let got = names.value_key(alloc, schema, attr, value.as_bytes());
+    let is_same = got == schema.value_key(alloc, attr, value.as_bytes());
+    check(rt, is_same, value);
 }

@@ -1,13 +1,16 @@
 //! Definitions that are refused, and those for which memory ran out: neither changes a schema.
 
-use crate::added_types::{Added, MOBILE, ROOM, has_meaning, with_types};
-use crate::make::{check, gives, repeated, schema};
-use dir_names::{NameFault, Rule, Schema};
+use crate::added_types::{definition, has_meaning, key_of, with_types};
+use crate::make::{
+    Case, attr_key, check, copy_of, each, fields, gives, is_fault, number, repeated, schema,
+};
+use crate::types::{is_told, means};
+use dir_names::{AttrKey, NameFault, Schema};
 use std::alloc::Global;
 use std::process::Abort;
 
 /// Definitions that are refused where `ROOM` was added, each for one reason. What is right of them would give the name `x`.
-static REFUSED: [&str; 34] = [
+static REFUSED: [&str; 19] = [
     // no definitions
     "",
     "( 1.2.9 NAME x )",
@@ -29,6 +32,10 @@ static REFUSED: [&str; 34] = [
     "( 1.2.9 NAME ( 'CONTROL' 'x' ) )",
     "( 2.5.4.3 NAME ( 'x' 'a_b' ) )",
     "( 2.5.4.3 NAME ( 'x' 'dn' ) )",
+];
+
+/// The same.
+static REFUSED_FOR_OTHERS: [&str; 15] = [
     // names of other types
     "( 1.2.9 NAME ( 'x' 'cn' ) )",
     "( 1.2.9 NAME ( 'CommonName' 'x' ) )",
@@ -48,23 +55,30 @@ static REFUSED: [&str; 34] = [
     "( 1.2.9 NAME 'x' SUP '' )",
 ];
 
-/// What texts mean before and after a definition is refused.
-static UNCHANGED: [Added; 6] = [
-    (&[], "x", "x", None, false),
-    (&[], "1.2.9", "1.2.9", None, false),
-    (&[], "room", "room", Some(Rule::CaseIgnore), true),
-    (&[], "roomName", "room", Some(Rule::CaseIgnore), true),
-    (&[], "commonName", "cn", Some(Rule::CaseIgnore), false),
-    (&[], "mobile", "mobile", None, false),
+/// What texts mean before and after a definition is refused, as rows of `added_types` without definitions.
+static UNCHANGED: [&str; 6] = [
+    " | x | x | Octet unknown many",
+    " | 1.2.9 | 1.2.9 | Octet unknown many",
+    " | room | room | CaseIgnore known one",
+    " | roomName | room | CaseIgnore known one",
+    " | commonName | cn | CaseIgnore known many",
+    " | mobile | mobile | Octet unknown many",
 ];
 
 #[test]
 fn a_definition_that_is_refused_adds_nothing(rt: HostRuntime) {
-    for definition in &REFUSED {
-        let mut schema = with_types(&rt, rt.alloc(), &[ROOM]);
-        let fault = fault_of(&rt, &mut schema, definition.as_bytes());
-        check(&rt, fault == Some(NameFault::BadType), definition);
-        check(&rt, is_unchanged(&rt, rt.alloc(), &schema), definition);
+    each::<AddsNothing>(&rt, rt.alloc(), &REFUSED);
+    each::<AddsNothing>(&rt, rt.alloc(), &REFUSED_FOR_OTHERS);
+}
+
+struct AddsNothing;
+
+impl Case for AddsNothing {
+    fn holds(rt: &impl Abort, alloc: Global, schema: &Schema, row: &str) -> bool {
+        let mut added = with_types(rt, alloc, "ROOM");
+        let fault = fault_of(rt, &mut added, row.as_bytes());
+        check(rt, fault == Some(NameFault::BadType), row);
+        is_unchanged(rt, alloc, schema, &added)
     }
 }
 
@@ -75,96 +89,104 @@ fn fault_of(rt: &impl Abort, schema: &mut Schema, definition: &[u8]) -> Option<N
     fault
 }
 
-fn is_unchanged(rt: &impl Abort, alloc: Global, schema: &Schema) -> bool {
+fn is_unchanged(rt: &impl Abort, alloc: Global, builtin: &Schema, schema: &Schema) -> bool {
+    let mut is_unchanged = true;
     for row in &UNCHANGED {
-        if !has_meaning(rt, alloc, schema, row) {
-            return false;
-        }
+        let key = key_of(rt, alloc, builtin, row);
+        is_unchanged = is_unchanged && has_meaning(rt, alloc, schema, row, &key);
     }
-    true
+    is_unchanged
 }
 
-/// A definition, in which a text comes so many times, and whether it is accepted: a name and a number have at most 512 bytes.
-static LONG: [(&str, &str, usize, &str, Option<NameFault>); 6] = [
-    ("( 1.2.9 NAME ( 'x' '", "a", 512, "' ) )", None),
-    (
-        "( 1.2.9 NAME ( 'x' '",
-        "a",
-        513,
-        "' ) )",
-        Some(NameFault::BadType),
-    ),
-    ("( 2.5.4.3 NAME ( 'x' '", "a", 512, "' ) )", None),
-    (
-        "( 2.5.4.3 NAME ( 'x' '",
-        "a",
-        513,
-        "' ) )",
-        Some(NameFault::BadType),
-    ),
-    ("( 1.", "2", 510, " NAME 'x' )", None),
-    ("( 1.", "2", 511, " NAME 'x' )", Some(NameFault::BadType)),
+/// Definitions, each a first text, a second one so many times and a last one, and the fault of each: a name and a number
+/// have at most 512 bytes.
+static LONG: [&str; 6] = [
+    "( 1.2.9 NAME ( 'x' ' | a | 512 | ' ) ) | ",
+    "( 1.2.9 NAME ( 'x' ' | a | 513 | ' ) ) | BadType",
+    "( 2.5.4.3 NAME ( 'x' ' | a | 512 | ' ) ) | ",
+    "( 2.5.4.3 NAME ( 'x' ' | a | 513 | ' ) ) | BadType",
+    "( 1. | 2 | 510 |  NAME 'x' ) | ",
+    "( 1. | 2 | 511 |  NAME 'x' ) | BadType",
 ];
 
 #[test]
 fn a_name_and_a_number_have_at_most_512_bytes(rt: HostRuntime) {
-    for (first, piece, count, last, want) in &LONG {
-        let definition = repeated(&rt, rt.alloc(), first, piece, *count, last);
-        let fault = fault_of(&rt, &mut schema(&rt, rt.alloc()), definition.as_slice());
-        check(&rt, fault == *want, first);
+    each::<Limited>(&rt, rt.alloc(), &LONG);
+}
+
+struct Limited;
+
+impl Case for Limited {
+    fn holds(rt: &impl Abort, alloc: Global, _schema: &Schema, row: &str) -> bool {
+        let [first, piece, count, last, want] = fields(row);
+        let fault = fault_of(
+            rt,
+            &mut schema(rt, alloc),
+            repeated(rt, alloc, first, piece, number(count), last).as_slice(),
+        );
+        is_fault(rt, alloc, fault, want)
     }
 }
 
-/// Definitions that are added one after the other. Each text names no type before its definition.
-static IN_TURN: [Added; 4] = [
-    (&[ROOM], "roomName", "room", Some(Rule::CaseIgnore), true),
-    (
-        &["( 2.5.4.3 NAME ( 'x' 'fullName' ) )"],
-        "fullName",
-        "cn",
-        Some(Rule::CaseIgnore),
-        false,
-    ),
-    (&[MOBILE], "mobile", "mobile", Some(Rule::Telephone), false),
-    (
-        &["( 1.2.9 NAME ( 'y' 'pager' ) SUP owner )"],
-        "pager",
-        "y",
-        Some(Rule::Name),
-        false,
-    ),
+/// Definitions that are added one after the other, as rows of `added_types`. Each text names no type before its definition.
+static IN_TURN: [&str; 4] = [
+    "ROOM | roomName | room | CaseIgnore known one",
+    "( 2.5.4.3 NAME ( 'x' 'fullName' ) ) | fullName | cn | CaseIgnore known many",
+    "MOBILE | mobile | mobile | Telephone known many",
+    "( 1.2.9 NAME ( 'y' 'pager' ) SUP owner ) | pager | y | Name known many",
 ];
 
 /// Each allocation of these may be made to fail, by `rt try --test --fail-alloc N`.
 #[test]
 fn out_of_memory_adds_nothing_and_the_definition_is_accepted_later(rt: HostRuntime) {
-    let mut schema = schema(&rt, rt.alloc());
-    for row in &IN_TURN {
-        check(
-            &rt,
-            is_accepted_later(&rt, rt.alloc(), &mut schema, row),
-            row.1,
-        );
-    }
+    each::<AreAccepted>(&rt, rt.alloc(), &["in turn"]);
 }
 
-/// Whether a definition for which memory ran out changes nothing, and is accepted when it comes once more.
-fn is_accepted_later(rt: &impl Abort, alloc: Global, schema: &mut Schema, row: &Added) -> bool {
-    for definition in row.0 {
-        let fault = schema.add_type(definition.as_bytes()).err();
-        let is_right = match fault {
-            None => true,
-            Some(NameFault::Memory) => names_no_type(rt, alloc, schema, row.1),
-            Some(_) => false,
-        };
-        let again = schema.add_type(definition.as_bytes());
-        if !is_right || !gives(rt, again, &()) {
-            return false;
+struct AreAccepted;
+
+impl Case for AreAccepted {
+    fn holds(rt: &impl Abort, alloc: Global, schema: &Schema, _row: &str) -> bool {
+        let mut added = copy_of(rt, alloc, schema);
+        for row in &IN_TURN {
+            assert_accepted_later(rt, alloc, schema, &mut added, row);
         }
+        true
     }
-    has_meaning(rt, alloc, schema, row)
 }
 
-fn names_no_type(rt: &impl Abort, alloc: Global, schema: &Schema, text: &'static str) -> bool {
-    has_meaning(rt, alloc, schema, &(&[], text, text, None, false))
+/// Asserts that a definition for which memory ran out changes nothing, and is accepted when it comes once more.
+fn assert_accepted_later(
+    rt: &impl Abort,
+    alloc: Global,
+    builtin: &Schema,
+    added: &mut Schema,
+    row: &str,
+) {
+    let [text, name, ..] = fields(row);
+    let text = definition(text).as_bytes();
+    let is_right = match added.add_type(text) {
+        Ok(()) => true,
+        Err(NameFault::Memory) => names_no_type(
+            rt,
+            alloc,
+            added,
+            name,
+            &attr_key(rt, alloc, builtin, name),
+        ),
+        Err(_) => false,
+    };
+    check(rt, is_right, row);
+    check(rt, gives(rt, added.add_type(text), &()), row);
+    let key = key_of(rt, alloc, builtin, row);
+    check(rt, has_meaning(rt, alloc, added, row, &key), row);
+}
+
+fn names_no_type(
+    rt: &impl Abort,
+    alloc: Global,
+    added: &Schema,
+    text: &str,
+    key: &AttrKey,
+) -> bool {
+    means(rt, alloc, added, text, key) && is_told(rt, alloc, added, key, "Octet unknown many")
 }
