@@ -1,9 +1,11 @@
 //! Entries of a directory that are alike: each keeps what is its own.
 
-use crate::directories::answers;
-use crate::make::{check, fill, key_of};
-use crate::script::Step;
-use dir_tree::{Entry, KeptAttributes, Parts, TreeDirectory};
+use crate::directories::exchange;
+use crate::entries::was;
+use crate::make::{check, fill, key_of, made};
+use crate::script::split;
+use crate::views::has_lines;
+use dir_tree::{AttributeMap, Directory, Entry, KeptAttributes, Parts};
 use std::alloc::Global;
 use std::process::Abort;
 
@@ -30,40 +32,59 @@ pub(crate) fn opened(rt: &impl Abort, alloc: Global, entry: Entry) -> Entry {
         key,
         attributes,
     } = entry.into_parts();
-    let Ok(map) = attributes.open(alloc) else {
-        panic!(rt; "memory");
-    };
     Entry::of(Parts {
         own,
         key,
-        attributes: KeptAttributes::of(map),
+        attributes: KeptAttributes::of(map_of_kept(rt, alloc, attributes)),
     })
 }
 
-/// As they are put in, and as they are put back with their attributes opened.
-static STEPS: [&str; 4] = ["put", "lines", "put-back", "lines"];
-
-#[test]
-fn entries_that_are_alike_keep_their_own_values(rt: HostRuntime) {
-    let mut tree = TreeDirectory::new(rt.alloc(), key_of(&rt, rt.alloc(), "dc=com"));
-    take_steps(&rt, rt.alloc(), &mut tree);
-}
-
-fn take_steps(rt: &impl Abort, alloc: Global, tree: &mut TreeDirectory) {
-    fill(rt, alloc, tree, "dc=com");
-    for verb in &STEPS {
-        take_step(rt, alloc, tree, verb);
+/// The attributes, opened.
+pub(crate) fn map_of_kept(
+    rt: &impl Abort,
+    alloc: Global,
+    attributes: KeptAttributes,
+) -> AttributeMap {
+    match attributes.open(alloc) {
+        Ok(map) => map,
+        Err(_) => panic!(rt; "memory"),
     }
 }
 
-/// Takes a step with each entry.
-fn take_step(rt: &impl Abort, alloc: Global, tree: &mut TreeDirectory, verb: &str) {
-    for given in &ENTRIES {
-        let step = Step {
-            verb,
-            given,
-            want: "",
-        };
-        check(rt, answers(rt, alloc, tree, &step), given);
+/// Puts in the entries; each has its lines, also when it is put back with its attributes opened.
+pub(crate) fn assert_alike<D: Directory>(rt: &impl Abort, alloc: Global, directory: &mut D) {
+    for text in &ENTRIES {
+        fill(rt, alloc, directory, text);
+    }
+    for text in &ENTRIES {
+        check(rt, is_kept(rt, alloc, directory, text), text);
+    }
+    for text in &ENTRIES {
+        check(rt, is_put_back(rt, alloc, directory, text), text);
+    }
+    for text in &ENTRIES {
+        check(rt, is_kept(rt, alloc, directory, text), text);
+    }
+}
+
+/// Puts an entry, with its attributes opened, in the place of the one that is there. Whether that had its own RDN.
+fn is_put_back<D: Directory>(
+    rt: &impl Abort,
+    alloc: Global,
+    directory: &mut D,
+    text: &str,
+) -> bool {
+    let name = split(text, " | ").0;
+    let entry = opened(rt, alloc, made(rt, alloc, text));
+    let former = exchange(rt, directory, &key_of(rt, alloc, name), entry);
+    was(rt, alloc, split(name, ",").0, former)
+}
+
+/// Whether the entry at this key has these lines, as they are spelled.
+fn is_kept<D: Directory>(rt: &impl Abort, alloc: Global, directory: &D, text: &str) -> bool {
+    let (name, lines) = split(text, " | ");
+    match directory.get(&key_of(rt, alloc, name)) {
+        Some(entry) => has_lines(rt, alloc, entry, lines),
+        None => false,
     }
 }

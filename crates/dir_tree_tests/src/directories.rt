@@ -3,12 +3,12 @@
 //! A key is given as the text of a name. Of an entry that is replaced, removed or moved the answer is its own name, and of a
 //! walk the names that it meets, in order.
 
-use crate::alike::opened;
+use crate::alike::assert_alike;
+use crate::entries::was;
 use crate::levels::{assert_64_levels, assert_long_own_name};
-use crate::make::{check, fill, key_of, made, put};
+use crate::make::{check, clone_of, fill, key_of, made};
 use crate::moves::{has_height, shift};
-use crate::script::{Step, begun, names, names_own, says, split, step_of, tell};
-use crate::views::has_lines;
+use crate::script::{Step, begun, is_next, names, pieces, says, split, step_of};
 use dir_names::{Dn, DnKey};
 use dir_tree::{Directory, Entry, FlatDirectory, NotAdded, TreeDirectory};
 use std::alloc::Global;
@@ -100,12 +100,13 @@ walk -> dc=com | cn=A,dc=com
 has-child cn=a,dc=com -> no
 ";
 
-/// A subtree moves with what is below it.
+/// A subtree moves with what is below it. A clone of an entry takes its place.
 const MOVED: &str = "
 suffix dc=com
 put dc=com
 put cn=A,dc=com
-put-clone cn=b,cn=A,dc=com
+put cn=b,cn=A,dc=com
+clone cn=b,cn=A,dc=com -> cn=b
 height dc=com -> 2
 move cn=a,dc=com to cn=C,dc=com -> cn=A
 spelled cn=b,cn=c,dc=com -> cn=b,cn=C,dc=com
@@ -126,7 +127,14 @@ put dc=com
 long-own-name
 ";
 
-static SCRIPTS: [&str; 9] = [
+/// Entries that are alike keep their own values.
+const ALIKE: &str = "
+suffix dc=com
+put dc=com
+alike
+";
+
+static SCRIPTS: [&str; 12] = [
     PUT,
     SPELLED,
     EMPTY,
@@ -136,10 +144,10 @@ static SCRIPTS: [&str; 9] = [
     REPLACED,
     REMOVED,
     MOVED,
+    LEVELS,
+    LONG_OWN_NAME,
+    ALIKE,
 ];
-
-/// The same, with names of 64 RDNs.
-static LONG_SCRIPTS: [&str; 2] = [LEVELS, LONG_OWN_NAME];
 
 #[test]
 fn a_map_of_whole_names_answers_each_step(rt: HostRuntime) {
@@ -155,28 +163,24 @@ fn a_tree_of_nodes_answers_each_step(rt: HostRuntime) {
     }
 }
 
-#[test]
-fn names_of_64_rdns_are_spelled_in_both_directories(rt: HostRuntime) {
-    for script in &LONG_SCRIPTS {
-        run_flat(&rt, rt.alloc(), script);
-        run_tree(&rt, rt.alloc(), script);
-    }
-}
-
 fn run_flat(rt: &impl Abort, alloc: Global, script: &str) {
     let (suffix, steps) = begun(script);
-    let mut flat = FlatDirectory::new(alloc, key_of(rt, alloc, suffix));
-    run(rt, alloc, &mut flat, steps);
+    let key = key_of(rt, alloc, suffix);
+    run(rt, alloc, FlatDirectory::new(alloc, key), steps);
 }
 
 fn run_tree(rt: &impl Abort, alloc: Global, script: &str) {
     let (suffix, steps) = begun(script);
-    let mut tree = TreeDirectory::new(alloc, key_of(rt, alloc, suffix));
-    run(rt, alloc, &mut tree, steps);
+    let key = key_of(rt, alloc, suffix);
+    run(rt, alloc, TreeDirectory::new(alloc, key), steps);
 }
 
 /// Takes the steps of a script, and asserts each answer.
-fn run<D: Directory>(rt: &impl Abort, alloc: Global, directory: &mut D, steps: &str) {
+fn run<D: Directory + Drop>(rt: &impl Abort, alloc: Global, mut directory: D, steps: &str) {
+    take_steps(rt, alloc, &mut directory, steps);
+}
+
+fn take_steps<D: Directory>(rt: &impl Abort, alloc: Global, directory: &mut D, steps: &str) {
     for line in steps.lines() {
         check(rt, answers(rt, alloc, directory, &step_of(line)), line);
     }
@@ -189,15 +193,6 @@ pub(crate) fn answers<D: Directory>(
     directory: &mut D,
     step: &Step<'_>,
 ) -> bool {
-    match step.verb {
-        "has-child" | "height" | "spelled" | "walk" | "lines" => asked(rt, alloc, directory, step),
-        "replace" | "remove" | "move" => changed(rt, alloc, directory, step),
-        _ => filled(rt, alloc, directory, step),
-    }
-}
-
-/// Whether a question is answered so.
-fn asked<D: Directory>(rt: &impl Abort, alloc: Global, directory: &D, step: &Step<'_>) -> bool {
     match step.verb {
         "has-child" => says(
             step.want,
@@ -212,12 +207,11 @@ fn asked<D: Directory>(rt: &impl Abort, alloc: Global, directory: &D, step: &Ste
         ),
         "spelled" => is_spelled(rt, alloc, directory, step.given, step.want),
         "walk" => is_walked(rt, alloc, directory, step.want),
-        "lines" => is_kept(rt, alloc, directory, step.given),
-        _ => false,
+        _ => changed(rt, alloc, directory, step),
     }
 }
 
-/// Whether an entry that is replaced, taken out or moved had this RDN.
+/// Whether a change is answered so: an entry that is replaced, taken out or moved had this RDN.
 fn changed<D: Directory>(
     rt: &impl Abort,
     alloc: Global,
@@ -227,9 +221,11 @@ fn changed<D: Directory>(
     let former = match step.verb {
         "replace" => replaced(rt, alloc, directory, step.given),
         "move" => moved(rt, alloc, directory, step.given),
-        _ => taken(rt, directory, &key_of(rt, alloc, step.given)),
+        "clone" => cloned(rt, alloc, directory, &key_of(rt, alloc, step.given)),
+        "remove" => taken(rt, directory, &key_of(rt, alloc, step.given)),
+        _ => return filled(rt, alloc, directory, step),
     };
-    names_own(rt, alloc, step.want, former.own())
+    was(rt, alloc, step.want, former)
 }
 
 /// Whether an entry is put in or added with this answer.
@@ -241,37 +237,13 @@ fn filled<D: Directory>(
 ) -> bool {
     match step.verb {
         "put" => fill(rt, alloc, directory, step.given),
-        "put-clone" => put_clone(rt, alloc, directory, step.given),
-        "put-back" => put_back(rt, alloc, directory, step.given),
         "add" => return is_added(rt, alloc, directory, step.given, step.want),
+        "alike" => assert_alike(rt, alloc, directory),
         "levels" => assert_64_levels(rt, alloc, directory),
         "long-own-name" => assert_long_own_name(rt, alloc, directory),
         _ => return false,
     }
     step.want.is_empty()
-}
-
-/// Puts in a clone of the entry of this name.
-fn put_clone<D: Directory>(rt: &impl Abort, alloc: Global, directory: &mut D, text: &str) {
-    let clone = made(rt, alloc, text).try_clone(alloc);
-    let clone = clone.expect(rt, "memory");
-    put(rt, alloc, directory, &key_of(rt, alloc, text), clone);
-}
-
-/// Puts an entry, with its attributes opened, in the place of the one that is there.
-fn put_back<D: Directory>(rt: &impl Abort, alloc: Global, directory: &mut D, text: &str) {
-    let entry = opened(rt, alloc, made(rt, alloc, text));
-    let key = key_of(rt, alloc, split(text, " | ").0);
-    let _ = exchange(rt, directory, &key, entry);
-}
-
-/// Whether the entry at this key has these lines, as they are spelled.
-fn is_kept<D: Directory>(rt: &impl Abort, alloc: Global, directory: &D, text: &str) -> bool {
-    let (name, lines) = split(text, " | ");
-    match directory.get(&key_of(rt, alloc, name)) {
-        Some(entry) => has_lines(rt, alloc, entry, lines),
-        None => false,
-    }
 }
 
 /// Whether this comes of an entry that is added at this name. One that comes back is the one that was given.
@@ -283,32 +255,40 @@ fn is_added<D: Directory>(
     want: &str,
 ) -> bool {
     let entry = made(rt, alloc, text);
-    let told = match directory.add(alloc, &key_of(rt, alloc, text), entry) {
-        Ok(()) => "added",
-        Err(NotAdded::Taken) => "taken",
-        Err(NotAdded::NoParent(back)) => {
-            let own = split(text, ",").0;
-            check(rt, names_own(rt, alloc, own, back.own()), text);
-            "no parent"
+    match directory.add(alloc, &key_of(rt, alloc, text), entry) {
+        Ok(()) => want == "added",
+        Err(fault) => is_refused(rt, alloc, fault, text, want),
+    }
+}
+
+fn is_refused(rt: &impl Abort, alloc: Global, fault: NotAdded, text: &str, want: &str) -> bool {
+    match fault {
+        NotAdded::Taken => want == "taken",
+        NotAdded::NoParent(back) => {
+            was(rt, alloc, split(text, ",").0, back) && want == "no parent"
         }
-        Err(NotAdded::Memory) => panic!(rt; "memory"),
-    };
-    told == want
+        NotAdded::Memory => panic!(rt; "memory"),
+    }
 }
 
 /// Whether a walk meets entries of these names, in this order.
 fn is_walked<D: Directory>(rt: &impl Abort, alloc: Global, directory: &D, want: &str) -> bool {
     let walk = directory.walk().expect(rt, "memory");
-    let mut told = Vec::new(alloc);
-    for item in walk.iter() {
-        tell_name(rt, alloc, &mut told, &item.0);
-    }
-    told.as_slice() == want.as_bytes()
+    are_names(rt, alloc, walk.as_slice(), want)
 }
 
-fn tell_name(rt: &impl Abort, alloc: Global, told: &mut Vec<u8>, name: &Dn) {
-    let name = name.print(alloc).expect(rt, "memory");
-    tell(rt, told, name.as_slice());
+fn are_names(rt: &impl Abort, alloc: Global, walk: &[(Dn, &Entry)], want: &str) -> bool {
+    let mut pieces = pieces(want);
+    for item in walk {
+        if !is_next_name(rt, alloc, &mut pieces, &item.0) {
+            return false;
+        }
+    }
+    pieces.is_none()
+}
+
+fn is_next_name(rt: &impl Abort, alloc: Global, pieces: &mut Option<&str>, name: &Dn) -> bool {
+    is_next(pieces, name.print(alloc).expect(rt, "memory").as_slice())
 }
 
 /// Whether the entry at the key of this name is spelled so.
@@ -319,12 +299,25 @@ pub(crate) fn is_spelled<D: Directory>(
     text: &str,
     want: &str,
 ) -> bool {
-    let key = key_of(rt, alloc, text);
-    let Some(_) = directory.get(&key) else {
-        return false;
-    };
-    let name = directory.spelled(&key).expect(rt, "memory");
-    names(rt, alloc, want, &name)
+    has_spelling(rt, alloc, directory, &key_of(rt, alloc, text), want)
+}
+
+fn has_spelling<D: Directory>(
+    rt: &impl Abort,
+    alloc: Global,
+    directory: &D,
+    key: &DnKey,
+    want: &str,
+) -> bool {
+    match directory.get(key) {
+        Some(_) => names(
+            rt,
+            alloc,
+            want,
+            &directory.spelled(key).expect(rt, "memory"),
+        ),
+        None => false,
+    }
 }
 
 /// Puts an entry of the second name in the place of the one at the first.
@@ -337,17 +330,30 @@ fn replaced<D: Directory>(rt: &impl Abort, alloc: Global, directory: &mut D, nam
 /// Moves the entry at the first key, with what is below it, to the key of the second name.
 fn moved<D: Directory>(rt: &impl Abort, alloc: Global, directory: &mut D, names: &str) -> Entry {
     let (old, new) = split(names, " to ");
-    let entry = made(rt, alloc, new);
-    let old = key_of(rt, alloc, old);
-    shift(rt, alloc, directory, &old, &key_of(rt, alloc, new), entry)
+    let key = key_of(rt, alloc, new);
+    shift(rt, alloc, directory, &key_of(rt, alloc, old), &key, new)
 }
 
 /// Puts an entry in the place of the one at a key.
-fn exchange<D: Directory>(rt: &impl Abort, directory: &mut D, key: &DnKey, entry: Entry) -> Entry {
+pub(crate) fn exchange<D: Directory>(
+    rt: &impl Abort,
+    directory: &mut D,
+    key: &DnKey,
+    entry: Entry,
+) -> Entry {
     let Some(_) = directory.get(key) else {
         panic!(rt; "not there");
     };
     directory.replace(key, entry)
+}
+
+/// Puts a clone of the entry at a key in its place.
+fn cloned<D: Directory>(rt: &impl Abort, alloc: Global, directory: &mut D, key: &DnKey) -> Entry {
+    let Some(entry) = directory.get(key) else {
+        panic!(rt; "not there");
+    };
+    let clone = clone_of(rt, alloc, entry);
+    directory.replace(key, clone)
 }
 
 /// Takes out the entry at a key.

@@ -1,15 +1,17 @@
 //! What an add makes of its lines, and each fault before the next; and entries that get the attributes of a part.
 //!
-//! A script begins with an entry: its name, and the lines of an add. Of an attribute the answer is its spelling and its values,
-//! in order. `part TYPES: LINES` puts what a part of these lines has in the place of the attributes of these types.
+//! A script begins with an entry: its name, and the lines of an add. Of an attribute the answer is its spelling, and then the
+//! key and the bytes of each value, in order. `part TYPES: LINES` puts what a part of these lines has in the place of the attributes of these types.
 
 use crate::alike::opened;
 use crate::exchanged_parts::{with_attribute, with_part};
-use crate::make::{check, description, made, make, name, refused_for, schema, value, view_count};
-use crate::script::{Step, begun, counts, names_own, says, split, step_of, tell};
-use crate::views::{has_lines, view_answers};
+use crate::make::{
+    check, clone_of, description, is_made, made, make, name, schema, value, view_count,
+};
+use crate::script::{Step, begun, counts, is_next, names_own, pieces, says, split, step_of};
+use crate::views::{has_lines, view_answers, view_of};
 use dir_names::{Bytes, Description, Lines};
-use dir_tree::{AttributeView, Entry, EntryFault, entries_hold_their_lines};
+use dir_tree::{AttributeView, Entry, entries_hold_their_lines};
 use std::alloc::Global;
 use std::process::Abort;
 
@@ -24,8 +26,8 @@ has description=none -> no
 const NAMED: &str = "
 entry cn=Kim
 own -> cn=Kim
-attribute commonName -> cn | Kim
-attribute sn -> none
+values commonName -> cn | kim | Kim
+values sn -> none
 make-again
 has-text cn=kim -> yes
 key -> 1
@@ -36,7 +38,7 @@ const ORDERED: &str = "
 entry cn=Kim | sn=Z | Description=b | description=A
 clone
 spellings -> cn | Description | sn
-attribute description -> Description | A | b
+values description -> Description | a | A | b | b
 ";
 
 /// A small entry gets the attributes of a part: a title, a description and no number.
@@ -78,59 +80,48 @@ exchange UIDNUMBER: UIDNUMBER=9
 exchange description: description=New  one
 ";
 
+static SCRIPTS: [&str; 7] = [
+    HELD, NAMED, ORDERED, PART_TAKEN, PART_LEFT, OPENED, EXCHANGED,
+];
+
 #[test]
-fn an_entry_has_its_lines(rt: HostRuntime) {
+fn an_entry_answers_each_step(rt: HostRuntime) {
     entries_hold_their_lines();
-    run(&rt, rt.alloc(), HELD);
-}
-
-#[test]
-fn an_entry_has_its_own_rdn_and_is_made_again_of_its_fields(rt: HostRuntime) {
-    run(&rt, rt.alloc(), NAMED);
-}
-
-#[test]
-fn values_come_in_order_of_their_keys(rt: HostRuntime) {
-    run(&rt, rt.alloc(), ORDERED);
-}
-
-#[test]
-fn a_small_entry_gets_the_attributes_of_a_part(rt: HostRuntime) {
-    run(&rt, rt.alloc(), PART_TAKEN);
-}
-
-#[test]
-fn what_a_part_has_under_other_keys_is_left_out(rt: HostRuntime) {
-    run(&rt, rt.alloc(), PART_LEFT);
-    run(&rt, rt.alloc(), OPENED);
-}
-
-#[test]
-fn one_attribute_takes_the_place_of_another(rt: HostRuntime) {
-    run(&rt, rt.alloc(), EXCHANGED);
+    for script in &SCRIPTS {
+        run(&rt, rt.alloc(), script);
+    }
 }
 
 fn run(rt: &impl Abort, alloc: Global, script: &str) {
     let (text, steps) = begun(script);
-    let mut entry = made(rt, alloc, text);
+    take_steps(rt, alloc, &mut made(rt, alloc, text), steps);
+}
+
+/// Takes the steps with this entry.
+fn take_steps(rt: &impl Abort, alloc: Global, entry: &mut Entry, steps: &str) {
     for line in steps.lines() {
-        entry = after(rt, alloc, entry, line);
+        take_step(rt, alloc, entry, line);
     }
 }
 
-/// The entry after a step. Each answer must be the one that is wanted.
-fn after(rt: &impl Abort, alloc: Global, entry: Entry, line: &str) -> Entry {
+/// Changes the entry, or asks it: the answer must be the one that is wanted.
+fn take_step(rt: &impl Abort, alloc: Global, entry: &mut Entry, line: &str) {
     let step = step_of(line);
+    match after(rt, alloc, entry, &step) {
+        Some(next) => *entry = next,
+        None => check(rt, answers(rt, alloc, entry, &step), line),
+    }
+}
+
+/// The entry after a step that makes another of it.
+fn after(rt: &impl Abort, alloc: Global, entry: &Entry, step: &Step<'_>) -> Option<Entry> {
     match step.verb {
-        "clone" => entry.try_clone(alloc).expect(rt, "memory"),
-        "make-again" => Entry::of(entry.into_parts()),
-        "open" => opened(rt, alloc, entry),
-        "part" => changed(rt, alloc, &entry, step.given),
-        "exchange" => with_attribute(rt, alloc, &entry, step.given),
-        _ => {
-            check(rt, answers(rt, alloc, &entry, &step), line);
-            entry
-        }
+        "clone" => Some(clone_of(rt, alloc, entry)),
+        "make-again" => Some(Entry::of(clone_of(rt, alloc, entry).into_parts())),
+        "open" => Some(opened(rt, alloc, clone_of(rt, alloc, entry))),
+        "part" => Some(changed(rt, alloc, entry, step.given)),
+        "exchange" => Some(with_attribute(rt, alloc, entry, step.given)),
+        _ => None,
     }
 }
 
@@ -140,7 +131,8 @@ fn answers(rt: &impl Abort, alloc: Global, entry: &Entry, step: &Step<'_>) -> bo
         "own" => names_own(rt, alloc, step.want, entry.own()),
         "key" => counts(rt, alloc, step.want, entry.key().pairs().len()),
         "count" => counts(rt, alloc, step.want, view_count(entry.attributes())),
-        "spellings" => are_spelled(rt, alloc, entry, step.want),
+        "spellings" => are_spelled(entry, step.want),
+        "notes" => says(step.want, has_notes(rt, alloc, entry)),
         "small" => says(step.want, entry.is_small()),
         "lines" => says(step.want, has_lines(rt, alloc, entry, step.given)),
         "takes-part" => says(step.want, with_part(rt, alloc, entry, step.given).is_some()),
@@ -148,33 +140,53 @@ fn answers(rt: &impl Abort, alloc: Global, entry: &Entry, step: &Step<'_>) -> bo
     }
 }
 
+/// Whether a question is answered so by an entry that is needed no more. To give an entry away here makes the proof of a
+/// function short.
+pub(crate) fn last_answers(rt: &impl Abort, alloc: Global, entry: Entry, step: &Step<'_>) -> bool {
+    answers(rt, alloc, &entry, step)
+}
+
+/// Whether an entry that was there or comes back has this own name.
+pub(crate) fn was(rt: &impl Abort, alloc: Global, own: &str, former: Entry) -> bool {
+    let step = Step {
+        verb: "own",
+        given: "",
+        want: own,
+    };
+    last_answers(rt, alloc, former, &step)
+}
+
 /// Whether a question about an attribute is answered so.
 fn attribute_answers(rt: &impl Abort, alloc: Global, entry: &Entry, step: &Step<'_>) -> bool {
     let (attr_type, text) = split(step.given, "=");
-    let description = description(rt, alloc, attr_type);
     match step.verb {
-        "has" => says(
-            step.want,
-            entry.has(description.key(), &value(rt, alloc, attr_type, text)),
-        ),
-        "has-text" => says(
-            step.want,
-            entry.has_text(description.key(), text.as_bytes()),
-        ),
-        _ => match entry.attribute(description.key()) {
+        "has" => says(step.want, has(rt, alloc, entry, attr_type, text)),
+        "has-text" => says(step.want, has_text(rt, alloc, entry, attr_type, text)),
+        _ => match view_of(rt, alloc, entry, attr_type) {
             Some(attribute) => view_answers(rt, alloc, &attribute, step),
             None => step.want == "none",
         },
     }
 }
 
+fn has(rt: &impl Abort, alloc: Global, entry: &Entry, attr_type: &str, text: &str) -> bool {
+    let description = description(rt, alloc, attr_type);
+    entry.has(description.key(), &value(rt, alloc, attr_type, text))
+}
+
+fn has_text(rt: &impl Abort, alloc: Global, entry: &Entry, attr_type: &str, text: &str) -> bool {
+    entry.has_text(description(rt, alloc, attr_type).key(), text.as_bytes())
+}
+
 /// Whether an entry's attributes are so spelled, in order.
-fn are_spelled(rt: &impl Abort, alloc: Global, entry: &Entry, want: &str) -> bool {
-    let mut told = Vec::new(alloc);
+fn are_spelled(entry: &Entry, want: &str) -> bool {
+    let mut pieces = pieces(want);
     for (_, attribute) in entry.attributes() {
-        tell(rt, &mut told, attribute.description().spelling());
+        if !is_next(&mut pieces, attribute.description().spelling()) {
+            return false;
+        }
     }
-    told.as_slice() == want.as_bytes()
+    pieces.is_none()
 }
 
 /// The entry with the attributes of a part, which leave its name.
@@ -205,11 +217,9 @@ fn note(rt: &impl Abort, alloc: Global, n: u8) -> (Description, Bytes) {
 /// The values are the bytes from 0 to 199.
 #[test]
 fn many_lines_make_the_entry_that_few_would(rt: HostRuntime) {
-    check(
-        &rt,
-        has_notes(&rt, rt.alloc(), &noted(&rt, rt.alloc())),
-        "notes",
-    );
+    let step = step_of("notes -> yes");
+    let answers = last_answers(&rt, rt.alloc(), noted(&rt, rt.alloc()), &step);
+    check(&rt, answers, "notes");
 }
 
 /// The entry with these notes.
@@ -220,7 +230,7 @@ fn noted(rt: &impl Abort, alloc: Global) -> Entry {
 }
 
 fn has_notes(rt: &impl Abort, alloc: Global, entry: &Entry) -> bool {
-    match entry.attribute(description(rt, alloc, "note").key()) {
+    match view_of(rt, alloc, entry, "note") {
         Some(notes) => are_notes(&notes),
         None => false,
     }
@@ -239,27 +249,23 @@ fn are_notes(notes: &AttributeView<'_>) -> bool {
 }
 
 /// Texts of entries, and what each is refused for; the last has no name.
-static FAULTS: [(&str, Option<EntryFault>); 5] = [
-    ("cn=Kim | note=", None),
-    (
-        "cn=Kim | uidNumber=1 | uidNumber=2",
-        Some(EntryFault::Single),
-    ),
-    (
-        "cn=Kim | uidNumber=1 | uidNumber=1",
-        Some(EntryFault::Twice),
-    ),
-    (
-        "cn=Kim | sn=a | surname=A | uidNumber=007",
-        Some(EntryFault::BadValue),
-    ),
-    ("", Some(EntryFault::NotNamed)),
+static FAULTS: [&str; 5] = [
+    "cn=Kim | note= -> made",
+    "cn=Kim | uidNumber=1 | uidNumber=2 -> E4 Single",
+    "cn=Kim | uidNumber=1 | uidNumber=1 -> E2 Twice",
+    "cn=Kim | sn=a | surname=A | uidNumber=007 -> E1 BadValue",
+    " -> E3 NotNamed",
 ];
 
 #[test]
 fn faults_of_values_come_in_their_order_and_an_entry_has_a_name(rt: HostRuntime) {
-    for (text, want) in &FAULTS {
-        let fault = refused_for(&rt, make(&rt, rt.alloc(), text, false));
-        check(&rt, fault == *want, text);
+    for row in &FAULTS {
+        check(&rt, makes(&rt, rt.alloc(), row), row);
     }
+}
+
+/// Whether an add makes the entry of a row, or refuses it for its fault.
+fn makes(rt: &impl Abort, alloc: Global, row: &str) -> bool {
+    let (text, want) = split(row, " -> ");
+    is_made(rt, alloc, make(rt, alloc, text, false), text, want)
 }

@@ -1,7 +1,6 @@
 //! The texts of the faults.
 
-use crate::make::check;
-use crate::script::is_shown;
+use crate::make::{check, is_fault};
 use dir_tree::EntryFault;
 
 static TEXTS: [(EntryFault, &str); 5] = [
@@ -16,9 +15,6 @@ static TEXTS: [(EntryFault, &str); 5] = [
 #[test]
 fn each_fault_shows_its_text(rt: HostRuntime) {
     for (fault, want) in &TEXTS {
-        let plain = format!(in rt.alloc(); "{fault}");
-        check(&rt, is_shown(&rt, plain, want), want);
-        let styled = format!(in rt.alloc(); "{fault:#}");
-        check(&rt, is_shown(&rt, styled, want), want);
+        check(&rt, is_fault(&rt, rt.alloc(), *fault, want), want);
     }
 }

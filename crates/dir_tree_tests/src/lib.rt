@@ -5,6 +5,8 @@
 #[cfg(test)]
 mod alike;
 #[cfg(test)]
+mod attributes;
+#[cfg(test)]
 mod directories;
 #[cfg(test)]
 mod entries;
@@ -13,15 +15,11 @@ mod exchanged_parts;
 #[cfg(test)]
 mod faults;
 #[cfg(test)]
-mod kept;
-#[cfg(test)]
 mod levels;
 #[cfg(test)]
 mod make;
 #[cfg(test)]
 mod makers;
-#[cfg(test)]
-mod many;
 #[cfg(test)]
 mod maps;
 #[cfg(test)]

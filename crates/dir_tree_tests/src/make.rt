@@ -1,6 +1,7 @@
 //! What the tests are made of: names, keys, lines, entries and directories, each read from its text.
 
-use crate::script::split;
+use crate::entries::last_answers;
+use crate::script::{Step, is_shown, split};
 use dir_names::{Bytes, Description, Dn, DnKey, Lines, Schema, ValueKey};
 use dir_tree::{AttributeMap, AttributeViews, Directory, Entry, EntryFault, may_stand, own_rdns};
 use std::alloc::Global;
@@ -21,7 +22,16 @@ pub(crate) fn key_of(rt: &impl Abort, alloc: Global, text: &str) -> DnKey {
 }
 
 pub(crate) fn description(rt: &impl Abort, alloc: Global, text: &str) -> Description {
-    Description::read(alloc, &schema(rt, alloc), text.as_bytes()).expect(rt, "a description")
+    described(rt, alloc, &schema(rt, alloc), text)
+}
+
+pub(crate) fn described(
+    rt: &impl Abort,
+    alloc: Global,
+    schema: &Schema,
+    text: &str,
+) -> Description {
+    Description::read(alloc, schema, text.as_bytes()).expect(rt, "a description")
 }
 
 pub(crate) fn bytes(rt: &impl Abort, alloc: Global, text: &str) -> Bytes {
@@ -30,8 +40,19 @@ pub(crate) fn bytes(rt: &impl Abort, alloc: Global, text: &str) -> Bytes {
 
 /// The key of a value of this type.
 pub(crate) fn value(rt: &impl Abort, alloc: Global, attr_type: &str, text: &str) -> ValueKey {
-    let description = description(rt, alloc, attr_type);
-    schema(rt, alloc)
+    keyed(rt, alloc, &schema(rt, alloc), attr_type, text)
+}
+
+/// The same, where there is a schema.
+pub(crate) fn keyed(
+    rt: &impl Abort,
+    alloc: Global,
+    schema: &Schema,
+    attr_type: &str,
+    text: &str,
+) -> ValueKey {
+    let description = described(rt, alloc, schema, attr_type);
+    schema
         .value_key(alloc, description.key(), text.as_bytes())
         .expect(rt, "a key")
 }
@@ -70,13 +91,14 @@ fn line_of(rt: &impl Abort, alloc: Global, line: &str) -> (Description, Bytes) {
     (description(rt, alloc, attr_type), bytes(rt, alloc, text))
 }
 
-/// Puts an entry at a key that may take it. Where memory runs out, the key must have no entry.
+/// Puts the entry of a text at a key that may take it. Where memory runs out, the key must have no entry.
 pub(crate) fn put<D: Directory>(
     rt: &impl Abort,
     alloc: Global,
     directory: &mut D,
     key: &DnKey,
-    entry: Entry,
+    text: &str,
+    is_suffix: bool,
 ) {
     if directory.get(key).is_some() {
         panic!(rt; "there already");
@@ -84,20 +106,25 @@ pub(crate) fn put<D: Directory>(
     if !may_stand(alloc, directory, key).expect(rt, "memory") {
         panic!(rt; "no parent");
     }
-    if directory.insert(key, entry).is_err() {
-        check(rt, directory.get(key).is_none(), "put in");
-        panic!(rt; "memory");
-    }
+    let entry = make(rt, alloc, text, is_suffix).expect(rt, "an entry");
+    let Err(_back) = directory.insert(key, entry) else {
+        return;
+    };
+    check(rt, directory.get(key).is_none(), "put in");
+    panic!(rt; "memory");
 }
 
 /// Puts in the entry of a text.
 pub(crate) fn fill<D: Directory>(rt: &impl Abort, alloc: Global, directory: &mut D, text: &str) {
     let key = key_of(rt, alloc, split(text, " | ").0);
-    let entry = make(rt, alloc, text, &key == directory.suffix());
-    put(rt, alloc, directory, &key, entry.expect(rt, "an entry"));
+    let is_suffix = &key == directory.suffix();
+    put(rt, alloc, directory, &key, text, is_suffix);
 }
 
-/// Ends the test with this text unless this holds. Each `assert!` makes the proof of its function longer; a call is cheaper.
+pub(crate) fn clone_of(rt: &impl Abort, alloc: Global, entry: &Entry) -> Entry {
+    entry.try_clone(alloc).expect(rt, "memory")
+}
+
 /// How many attributes a map has.
 pub(crate) fn map_count(attributes: &AttributeMap) -> usize {
     let mut count: usize = 0;
@@ -116,13 +143,34 @@ pub(crate) fn view_count(attributes: AttributeViews<'_>) -> usize {
     count
 }
 
+/// Ends the test with this text unless this holds. Each `assert!` makes the proof of its function longer; a call is cheaper.
 pub(crate) fn check(rt: &impl Abort, holds: bool, what: &str) {
     assert!(rt; holds, "{what}");
 }
 
-/// What an entry is refused for. Out of memory is no fault of an entry: it ends the test.
-pub(crate) fn refused_for(rt: &impl Abort, made: Result<Entry, EntryFault>) -> Option<EntryFault> {
-    let fault = made.err();
-    check(rt, fault != Some(EntryFault::Memory), "memory");
-    fault
+/// Whether a fault shows its text, and no other under `#`.
+pub(crate) fn is_fault(rt: &impl Abort, alloc: Global, fault: EntryFault, want: &str) -> bool {
+    is_shown(rt, format!(in alloc; "{fault}"), want)
+        && is_shown(rt, format!(in alloc; "{fault:#}"), want)
+}
+
+/// Whether an entry is made with the lines of this text, or refused for this fault.
+pub(crate) fn is_made(
+    rt: &impl Abort,
+    alloc: Global,
+    outcome: Result<Entry, EntryFault>,
+    text: &str,
+    want: &str,
+) -> bool {
+    match outcome {
+        Ok(entry) => {
+            let step = Step {
+                verb: "lines",
+                given: text,
+                want: "yes",
+            };
+            last_answers(rt, alloc, entry, &step) && want == "made"
+        }
+        Err(fault) => is_fault(rt, alloc, fault, want),
+    }
 }

@@ -1,74 +1,39 @@
 //! Entries that are made one after the other.
+//!
+//! A row has the text of an entry, and whether it is made or what it is refused for.
 
-use crate::make::{check, lines_of, name, schema};
+use crate::make::{check, is_made, lines_of, name, schema};
 use crate::script::split;
-use crate::views::has_lines;
 use dir_tree::{Entry, EntryFault, EntryMaker};
 use std::alloc::Global;
 use std::process::Abort;
 
-/// The text of an entry, and what it is refused for.
-type Row = (&'static str, Option<EntryFault>);
-
 /// Entries whose lines are arranged alike, or in another order.
-static ARRANGED: [Row; 8] = [
-    (
-        "cn=a | objectClass=top | objectClass=person | sn=A | cn=a | cn=Anna A | seeAlso=cn=x",
-        None,
-    ),
-    (
-        "cn=b | objectClass=top | objectClass=person | sn=B | cn=b | cn=Bernd B | seeAlso=cn=y",
-        None,
-    ),
-    (
-        "cn=c | objectClass=person | objectClass=top | sn=c | cn=Ξ C | cn=c | seeAlso=CN=Y",
-        None,
-    ),
-    (
-        "cn=d | sn=D | objectClass=top | objectClass=person | cn=d | cn=Dieter D | seeAlso=cn=y",
-        None,
-    ),
-    (
-        "cn=e | objectClass=top | objectClass=person | SN=E | cn=e | cn=Elena E | seeAlso=cn=y",
-        None,
-    ),
-    (
-        "cn=f | objectClass=top | objectClass=person | sn=F | cn=Frank | cn=Frank F | seeAlso=cn=y",
-        None,
-    ),
-    ("cn=g | sn=G", None),
-    (
-        "cn=h | objectClass=top | objectClass=person | sn=H | cn=h | cn=Hannes H | seeAlso=cn=x",
-        None,
-    ),
+static ARRANGED: [&str; 8] = [
+    "cn=a | objectClass=top | objectClass=person | sn=A | cn=a | cn=Anna A | seeAlso=cn=x -> made",
+    "cn=b | objectClass=top | objectClass=person | sn=B | cn=b | cn=Bernd B | seeAlso=cn=y -> made",
+    "cn=c | objectClass=person | objectClass=top | sn=c | cn=Ξ C | cn=c | seeAlso=CN=Y -> made",
+    "cn=d | sn=D | objectClass=top | objectClass=person | cn=d | cn=Dieter D | seeAlso=cn=y -> made",
+    "cn=e | objectClass=top | objectClass=person | SN=E | cn=e | cn=Elena E | seeAlso=cn=y -> made",
+    "cn=f | objectClass=top | objectClass=person | sn=F | cn=Frank | cn=Frank F | seeAlso=cn=y -> made",
+    "cn=g | sn=G -> made",
+    "cn=h | objectClass=top | objectClass=person | sn=H | cn=h | cn=Hannes H | seeAlso=cn=x -> made",
 ];
 
 /// An entry that is arranged as another is refused for its own faults.
-static FAULTY: [Row; 4] = [
-    ("cn=a | cn=a | sn=A | sn=B | title=t", None),
-    (
-        "cn=a | cn=a | sn=A | sn=a | title=t",
-        Some(EntryFault::Twice),
-    ),
-    (
-        "cn=a | cn=a | sn=A | sn=B | title=",
-        Some(EntryFault::BadValue),
-    ),
-    ("cn=a | cn=a | sn=A | sn=B | title=t", None),
+static FAULTY: [&str; 4] = [
+    "cn=a | cn=a | sn=A | sn=B | title=t -> made",
+    "cn=a | cn=a | sn=A | sn=a | title=t -> E2 Twice",
+    "cn=a | cn=a | sn=A | sn=B | title= -> E1 BadValue",
+    "cn=a | cn=a | sn=A | sn=B | title=t -> made",
 ];
 
 /// Names that were values before are refused for their own faults.
-static NAMES: [Row; 4] = [
-    ("cn=a | cn=a | seeAlso=cn=x | seeAlso=cn=y", None),
-    (
-        "cn=a | cn=a | seeAlso=cn=y | seeAlso=cn=y",
-        Some(EntryFault::Twice),
-    ),
-    (
-        "cn=a | cn=a | seeAlso=cn=x | seeAlso=cn:y",
-        Some(EntryFault::BadValue),
-    ),
-    ("cn=a | cn=a | seeAlso=cn=x | seeAlso=cn=y", None),
+static NAMES: [&str; 4] = [
+    "cn=a | cn=a | seeAlso=cn=x | seeAlso=cn=y -> made",
+    "cn=a | cn=a | seeAlso=cn=y | seeAlso=cn=y -> E2 Twice",
+    "cn=a | cn=a | seeAlso=cn=x | seeAlso=cn:y -> E1 BadValue",
+    "cn=a | cn=a | seeAlso=cn=x | seeAlso=cn=y -> made",
 ];
 
 #[test]
@@ -83,38 +48,30 @@ fn entries_of_one_maker_are_refused_for_their_own_faults(rt: HostRuntime) {
 }
 
 /// Asserts what one maker makes of the rows.
-fn check_rows(rt: &impl Abort, alloc: Global, rows: &[Row]) {
-    let mut maker = EntryMaker::new(alloc);
-    for (text, want) in rows {
-        check(rt, makes(rt, alloc, &mut maker, text, *want), text);
+fn check_rows(rt: &impl Abort, alloc: Global, rows: &[&str]) {
+    take_rows(rt, alloc, &mut EntryMaker::new(alloc), rows);
+}
+
+fn take_rows(rt: &impl Abort, alloc: Global, maker: &mut EntryMaker, rows: &[&str]) {
+    for row in rows {
+        check(rt, makes(rt, alloc, maker, row), row);
     }
 }
 
-/// Whether a maker makes an entry of this text with its lines, or refuses it for this fault.
-fn makes(
+/// Whether a maker makes the entry of a row with its lines, or refuses it for its fault.
+fn makes(rt: &impl Abort, alloc: Global, maker: &mut EntryMaker, row: &str) -> bool {
+    let (text, want) = split(row, " -> ");
+    is_made(rt, alloc, made_of(rt, alloc, maker, text), text, want)
+}
+
+fn made_of(
     rt: &impl Abort,
     alloc: Global,
     maker: &mut EntryMaker,
     text: &str,
-    want: Option<EntryFault>,
-) -> bool {
+) -> Result<Entry, EntryFault> {
     let (own, lines) = split(text, " | ");
     let own = name(rt, alloc, own).into_rdns();
     let lines = lines_of(rt, alloc, lines);
-    let outcome = maker.make(alloc, &schema(rt, alloc), own, lines);
-    is_outcome(rt, alloc, outcome, text, want)
-}
-
-fn is_outcome(
-    rt: &impl Abort,
-    alloc: Global,
-    outcome: Result<Entry, EntryFault>,
-    text: &str,
-    want: Option<EntryFault>,
-) -> bool {
-    match outcome {
-        Ok(entry) => want.is_none() && has_lines(rt, alloc, &entry, text),
-        Err(EntryFault::Memory) => panic!(rt; "memory"),
-        Err(fault) => want == Some(fault),
-    }
+    maker.make(alloc, &schema(rt, alloc), own, lines)
 }

@@ -1,20 +1,21 @@
 //! Moves of subtrees, and how high they are.
 
-use crate::make::check;
+use crate::make::{check, made};
 use crate::script::counts;
 use dir_names::DnKey;
 use dir_tree::{Directory, Entry};
 use std::alloc::Global;
 use std::process::Abort;
 
-/// Moves an entry and what is below it to a key that is free. Where memory runs out, it must be where it was.
+/// Moves an entry and what is below it to a key that is free, where the entry of a text takes its place. Where memory runs
+/// out, it must be where it was.
 pub(crate) fn shift<D: Directory>(
     rt: &impl Abort,
     alloc: Global,
     directory: &mut D,
     old: &DnKey,
     new: &DnKey,
-    entry: Entry,
+    text: &str,
 ) -> Entry {
     let Some(_) = directory.get(old) else {
         panic!(rt; "not there");
@@ -37,7 +38,7 @@ pub(crate) fn shift<D: Directory>(
     if directory.height_below(old) > 64 - new.depth() {
         panic!(rt; "too deep");
     }
-    match directory.move_subtree(old, new, entry) {
+    match directory.move_subtree(old, new, made(rt, alloc, text)) {
         Ok(former) => former,
         Err(_) => {
             check(rt, directory.get(old).is_some(), "taken away");

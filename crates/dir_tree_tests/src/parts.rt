@@ -1,11 +1,16 @@
-//! Fields that are closed to an entry, or refused.
+//! Fields of an entry: its attributes as they are lent, packed as it is made and open as it is changed; and fields that are
+//! closed to an entry, or refused.
 //!
-//! A script begins with the entry whose fields are changed. The fields of an entry that is closed are taken again.
+//! A script begins with the entry whose fields are asked and changed: its name, and the lines of an add. The fields of an entry
+//! that is closed are taken again. Of an attribute the answer is its spelling, and then the
+//! key and the bytes of each value, in order.
 
-use crate::make::{bytes, check, description, made, schema, value, view_count};
-use crate::script::{begun, counts, split, step_of};
-use dir_names::Rdn;
-use dir_tree::{Attribute, AttributeMap, EntryFault, KeptAttributes, Parts};
+use crate::alike::map_of_kept;
+use crate::make::{bytes, check, description, is_fault, made, schema, value, view_count};
+use crate::script::{Step, begun, counts, says, split, step_of};
+use crate::views::view_answers;
+use dir_names::{Rdn, RdnKey};
+use dir_tree::{Attribute, AttributeMap, KeptAttributes, Parts};
 use std::alloc::Global;
 use std::process::Abort;
 
@@ -30,19 +35,51 @@ close -> E4 Single
 count -> 2
 ";
 
+/// An entry with keys of each kind, the value itself, a text of its own, a name: values are found, come in order, and can
+/// be copied; and a map is asked for each.
+const LENT: &str = "
+entry cn=Kim Park | title=lead | title=Head  of Staff | telephoneNumber=+1 555-0100 | manager=CN=Lee,DC=Example | uidNumber=7
+count -> 5
+exceeds-single -> no
+stored title=HEAD OF STAFF -> Head  of Staff
+stored telephoneNumber=+15550100 -> +1 555-0100
+stored manager=cn=lee,dc=example -> CN=Lee,DC=Example
+stored cn=kim park -> Kim Park
+many title -> yes
+values title -> title | head of staff | Head  of Staff | lead | lead
+many uidNumber -> no
+named manager=cn=lee, dc=EXAMPLE -> yes
+named manager=cn=kim,dc=example -> no
+values manager -> manager | a name | CN=Lee,DC=Example
+copied manager -> yes
+copied title -> yes
+among title=Lead -> no | yes
+";
+
+static SCRIPTS: [&str; 3] = [CLOSED, REFUSED, LENT];
+
+/// The attributes are asked and changed as they are packed.
 #[test]
-fn fields_are_closed_to_an_entry(rt: HostRuntime) {
-    run(&rt, rt.alloc(), CLOSED);
+fn fields_of_a_packed_entry_are_lent_and_closed_or_refused(rt: HostRuntime) {
+    run_all(&rt, rt.alloc(), "own -> 1");
 }
 
+/// The attributes are asked and changed once they are open.
 #[test]
-fn an_entry_has_the_values_of_its_own_rdn(rt: HostRuntime) {
-    run(&rt, rt.alloc(), REFUSED);
+fn fields_of_an_open_entry_are_lent_and_closed_or_refused(rt: HostRuntime) {
+    run_all(&rt, rt.alloc(), "open");
 }
 
-fn run(rt: &impl Abort, alloc: Global, script: &str) {
-    let (text, steps) = begun(script);
-    let mut parts = made(rt, alloc, text).into_parts();
+/// Takes the steps of each script after this one.
+fn run_all(rt: &impl Abort, alloc: Global, first: &str) {
+    for script in &SCRIPTS {
+        let (text, steps) = begun(script);
+        let parts = made(rt, alloc, text).into_parts();
+        take_steps(rt, alloc, after(rt, alloc, parts, first), steps);
+    }
+}
+
+fn take_steps(rt: &impl Abort, alloc: Global, mut parts: Parts, steps: &str) {
     for line in steps.lines() {
         parts = after(rt, alloc, parts, line);
     }
@@ -55,22 +92,60 @@ fn after(rt: &impl Abort, alloc: Global, parts: Parts, line: &str) -> Parts {
         "key" => with_key(rt, alloc, parts, step.given),
         "add" => with_value(rt, alloc, parts, step.given),
         "close" => closed(rt, alloc, parts, step.want),
+        "open" => opened_parts(rt, alloc, parts),
         _ => {
-            let count = match step.verb {
-                "own" => parts.own.len(),
-                _ => view_count(parts.attributes.iter()),
-            };
-            check(rt, counts(rt, alloc, step.want, count), line);
+            check(rt, answers(rt, alloc, &parts, &step), line);
             parts
         }
     }
 }
 
+/// Whether a question is answered so.
+fn answers(rt: &impl Abort, alloc: Global, parts: &Parts, step: &Step<'_>) -> bool {
+    match step.verb {
+        "own" => counts(rt, alloc, step.want, parts.own.len()),
+        "count" => counts(rt, alloc, step.want, view_count(parts.attributes.iter())),
+        "exceeds-single" => says(
+            step.want,
+            parts.attributes.exceeds_single_value(&schema(rt, alloc)),
+        ),
+        _ => attribute_answers(rt, alloc, &parts.attributes, step),
+    }
+}
+
+fn attribute_answers(
+    rt: &impl Abort,
+    alloc: Global,
+    kept: &KeptAttributes,
+    step: &Step<'_>,
+) -> bool {
+    let description = description(rt, alloc, split(step.given, "=").0);
+    match kept.get(description.key()) {
+        Some(attribute) => view_answers(rt, alloc, &attribute, step),
+        None => false,
+    }
+}
+
+/// The fields with their attributes in memory of their own.
+fn opened_parts(rt: &impl Abort, alloc: Global, parts: Parts) -> Parts {
+    let map = parts.attributes.to_map(alloc).expect(rt, "memory");
+    Parts {
+        attributes: KeptAttributes::of(map),
+        ..parts
+    }
+}
+
 /// The fields with the key of another RDN.
 fn with_key(rt: &impl Abort, alloc: Global, parts: Parts, text: &str) -> Parts {
+    Parts {
+        key: rdn_key(rt, alloc, text),
+        ..parts
+    }
+}
+
+fn rdn_key(rt: &impl Abort, alloc: Global, text: &str) -> RdnKey {
     let rdn = Rdn::read(alloc, text.as_bytes()).expect(rt, "an RDN");
-    let key = rdn.key(alloc, &schema(rt, alloc)).expect(rt, "a key");
-    Parts { key, ..parts }
+    rdn.key(alloc, &schema(rt, alloc)).expect(rt, "a key")
 }
 
 /// The fields with one value more in the attribute of this type, or in a new attribute.
@@ -80,11 +155,10 @@ fn with_value(rt: &impl Abort, alloc: Global, parts: Parts, line: &str) -> Parts
         key,
         attributes,
     } = parts;
-    let attributes = with_line(rt, alloc, attributes, line);
     Parts {
         own,
         key,
-        attributes,
+        attributes: with_line(rt, alloc, attributes, line),
     }
 }
 
@@ -94,9 +168,7 @@ fn with_line(
     attributes: KeptAttributes,
     line: &str,
 ) -> KeptAttributes {
-    let Ok(mut map) = attributes.open(alloc) else {
-        panic!(rt; "memory");
-    };
+    let mut map = map_of_kept(rt, alloc, attributes);
     let attribute = grown(rt, alloc, &mut map, line);
     map.put(attribute).expect(rt, "memory");
     KeptAttributes::of(map)
@@ -135,16 +207,8 @@ fn closed(rt: &impl Abort, alloc: Global, parts: Parts, want: &str) -> Parts {
             entry.into_parts()
         }
         Err((back, fault)) => {
-            check(rt, is_fault(fault, want), want);
+            check(rt, is_fault(rt, alloc, fault, want), want);
             back
         }
-    }
-}
-
-fn is_fault(fault: EntryFault, want: &str) -> bool {
-    match fault {
-        EntryFault::NotNamed => want == "E3 NotNamed",
-        EntryFault::Single => want == "E4 Single",
-        _ => false,
     }
 }

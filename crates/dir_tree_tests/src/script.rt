@@ -30,6 +30,19 @@ pub(crate) fn split<'t>(text: &'t str, mark: &str) -> (&'t str, &'t str) {
     text.split_once(mark).unwrap_or((text, ""))
 }
 
+pub(crate) fn number_of(rt: &impl Abort, text: &str) -> usize {
+    text.parse::<usize>().expect(rt, "a number")
+}
+
+/// A text with a number in the place of `#`.
+pub(crate) fn numbered(rt: &impl Abort, alloc: Global, text: &str, number: usize) -> String {
+    let text = match text.split_once("#") {
+        Some((before, after)) => format!(in alloc; "{before}{number:05}{after}"),
+        None => String::from_str(alloc, text),
+    };
+    text.expect(rt, "memory")
+}
+
 /// Whether the answer that is wanted says so.
 pub(crate) fn says(want: &str, holds: bool) -> bool {
     want == (if holds { "yes" } else { "no" })
@@ -62,10 +75,20 @@ fn is_printed(rt: &impl Abort, printed: Result<Vec<u8>, NameFault>, want: &str) 
     printed.expect(rt, "memory").as_slice() == want.as_bytes()
 }
 
-/// Appends a piece to a text.
-pub(crate) fn tell(rt: &impl Abort, told: &mut Vec<u8>, piece: &[u8]) {
-    if !told.is_empty() {
-        told.extend_from_slice(b" | ").expect(rt, "memory");
-    }
-    told.extend_from_slice(piece).expect(rt, "memory");
+/// The pieces of an answer, as in `A | b`, from which `is_next` takes one after the other; none once all are taken.
+pub(crate) fn pieces(want: &str) -> Option<&str> {
+    if want.is_empty() { None } else { Some(want) }
+}
+
+/// Takes the next piece of an answer, if there is one. Whether it is this one.
+pub(crate) fn is_next<'w>(pieces: &mut Option<&'w str>, piece: &[u8]) -> bool {
+    let Some(text) = *pieces else {
+        return false;
+    };
+    let (next, rest) = match text.split_once(" | ") {
+        Some((next, rest)) => (next, Some(rest)),
+        None => (text, None),
+    };
+    *pieces = rest;
+    next.as_bytes() == piece
 }

@@ -1,7 +1,8 @@
 //! What an entry lends of an attribute, as steps of scripts ask for it.
 
-use crate::make::{bytes, description, key_of, value};
-use crate::script::{Step, counts, says, split, tell};
+use crate::make::{bytes, description, key_of, keyed, schema, value};
+use crate::script::{Step, counts, is_next, pieces, says, split};
+use dir_names::{Bytes, Schema};
 use dir_tree::{Attribute, AttributeView, Entry, KeyView, ValueMap};
 use std::alloc::Global;
 use std::process::Abort;
@@ -15,8 +16,7 @@ pub(crate) fn view_answers(
 ) -> bool {
     let (attr_type, text) = split(step.given, "=");
     match step.verb {
-        "attribute" => is_described(rt, alloc, attribute, step.want),
-        "values" => has_values(rt, alloc, attribute, step.want),
+        "values" => has_values(attribute, step.want),
         "stored" => stores(rt, alloc, attribute, step),
         "named" => says(step.want, attribute.has_name(&key_of(rt, alloc, text))),
         "many" => says(step.want, attribute.has_many()),
@@ -27,31 +27,47 @@ pub(crate) fn view_answers(
     }
 }
 
-/// Whether an attribute is so spelled, with these values in this order.
-fn is_described(rt: &impl Abort, alloc: Global, attribute: &AttributeView<'_>, want: &str) -> bool {
-    let mut told = Vec::new(alloc);
-    tell(rt, &mut told, attribute.description().spelling());
-    for (_, bytes) in attribute.values() {
-        tell(rt, &mut told, bytes);
+/// Whether an attribute is so spelled, and these are the keys of its values, and their bytes.
+fn has_values(attribute: &AttributeView<'_>, want: &str) -> bool {
+    let mut pieces = pieces(want);
+    if !is_next(&mut pieces, attribute.description().spelling()) {
+        return false;
     }
-    told.as_slice() == want.as_bytes()
-}
-
-/// Whether these are the keys of an attribute's values, and their bytes.
-fn has_values(rt: &impl Abort, alloc: Global, attribute: &AttributeView<'_>, want: &str) -> bool {
-    let mut told = Vec::new(alloc);
     for (key, bytes) in attribute.values() {
-        tell(rt, &mut told, key.text().unwrap_or(b"a name"));
-        tell(rt, &mut told, bytes);
+        let text = key.text().unwrap_or(b"a name");
+        if !is_next(&mut pieces, text) || !is_next(&mut pieces, bytes) {
+            return false;
+        }
     }
-    told.as_slice() == want.as_bytes()
+    pieces.is_none()
 }
 
 /// Whether the value with the key of a text is there, with these bytes.
 fn stores(rt: &impl Abort, alloc: Global, attribute: &AttributeView<'_>, step: &Step<'_>) -> bool {
     let (attr_type, text) = split(step.given, "=");
-    let key = value(rt, alloc, attr_type, text);
-    attribute.has(&key) && attribute.get(&key) == Some(step.want.as_bytes())
+    attribute.has(&value(rt, alloc, attr_type, text))
+        && has_stored(rt, alloc, attribute, attr_type, text, step.want)
+}
+
+/// Whether the value with the key of a text has these bytes.
+fn has_stored(
+    rt: &impl Abort,
+    alloc: Global,
+    attribute: &AttributeView<'_>,
+    attr_type: &str,
+    text: &str,
+    want: &str,
+) -> bool {
+    let stored = attribute.get(&value(rt, alloc, attr_type, text));
+    are_bytes(stored, want.as_bytes())
+}
+
+/// Whether there are bytes, and they are these.
+pub(crate) fn are_bytes(found: Option<&[u8]>, want: &[u8]) -> bool {
+    match found {
+        Some(found) => found == want,
+        None => false,
+    }
 }
 
 /// Whether a copy of an attribute has its values under their keys.
@@ -81,9 +97,13 @@ fn has_copy(
     key: KeyView<'_>,
     bytes: &[u8],
 ) -> bool {
-    let key = key.to_key(alloc).expect(rt, "memory");
-    match copy.get(&key) {
-        Some(found) => found.as_slice() == bytes,
+    is_stored(copy.get(&key.to_key(alloc).expect(rt, "memory")), bytes)
+}
+
+/// Whether there is a value, with these bytes.
+fn is_stored(found: Option<&Bytes>, want: &[u8]) -> bool {
+    match found {
+        Some(found) => found.as_slice() == want,
         None => false,
     }
 }
@@ -96,32 +116,31 @@ fn are_among(
     step: &Step<'_>,
 ) -> bool {
     let (attr_type, text) = split(step.given, "=");
-    let values = one_value(rt, alloc, attr_type, text);
-    has_lent(rt, alloc, &values, attribute, step.want)
+    let values = one_value(rt, alloc, &schema(rt, alloc), attr_type, text);
+    has_lent(&values, attribute, step.want)
 }
 
-fn has_lent(
-    rt: &impl Abort,
-    alloc: Global,
-    values: &ValueMap,
-    attribute: &AttributeView<'_>,
-    want: &str,
-) -> bool {
-    let mut told = Vec::new(alloc);
+fn has_lent(values: &ValueMap, attribute: &AttributeView<'_>, want: &str) -> bool {
+    let mut pieces = pieces(want);
     for (key, _) in attribute.values() {
-        tell(
-            rt,
-            &mut told,
-            if values.has_lent(key) { b"yes" } else { b"no" },
-        );
+        let told: &[u8] = if values.has_lent(key) { b"yes" } else { b"no" };
+        if !is_next(&mut pieces, told) {
+            return false;
+        }
     }
-    told.as_slice() == want.as_bytes()
+    pieces.is_none()
 }
 
 /// The map of one value of this type.
-pub(crate) fn one_value(rt: &impl Abort, alloc: Global, attr_type: &str, text: &str) -> ValueMap {
+pub(crate) fn one_value(
+    rt: &impl Abort,
+    alloc: Global,
+    schema: &Schema,
+    attr_type: &str,
+    text: &str,
+) -> ValueMap {
     let mut values = ValueMap::empty(alloc);
-    let key = value(rt, alloc, attr_type, text);
+    let key = keyed(rt, alloc, schema, attr_type, text);
     values
         .insert(alloc, key, bytes(rt, alloc, text))
         .expect(rt, "a value");
@@ -140,11 +159,20 @@ pub(crate) fn has_lines(rt: &impl Abort, alloc: Global, entry: &Entry, lines: &s
 
 fn has_line(rt: &impl Abort, alloc: Global, entry: &Entry, line: &str) -> bool {
     let (attr_type, text) = split(line, "=");
-    let description = description(rt, alloc, attr_type);
-    match entry.attribute(description.key()) {
+    match view_of(rt, alloc, entry, attr_type) {
         Some(attribute) => has_spelled(rt, alloc, &attribute, attr_type, text),
         None => false,
     }
+}
+
+/// The attribute of this type, as an entry lends it.
+pub(crate) fn view_of<'e>(
+    rt: &impl Abort,
+    alloc: Global,
+    entry: &'e Entry,
+    attr_type: &str,
+) -> Option<AttributeView<'e>> {
+    entry.attribute(description(rt, alloc, attr_type).key())
 }
 
 fn has_spelled(
@@ -154,6 +182,6 @@ fn has_spelled(
     attr_type: &str,
     text: &str,
 ) -> bool {
-    let stored = attribute.get(&value(rt, alloc, attr_type, text));
-    attribute.description().spelling() == attr_type.as_bytes() && stored == Some(text.as_bytes())
+    attribute.description().spelling() == attr_type.as_bytes()
+        && has_stored(rt, alloc, attribute, attr_type, text, text)
 }
