@@ -22,8 +22,8 @@ impl Draws {
     }
 
     /// A number from `least` on that is at most `more` above it.
-    pub fn from(&mut self, least: u32, more: u16) -> u64 {
-        u64::from(least) + u64::from(self.below(u32::from(more) + 1))
+    pub fn from(&mut self, least: u32, more: u16) -> u32 {
+        least.saturating_add(self.below(u32::from(more) + 1))
     }
 
     /// One of these texts.

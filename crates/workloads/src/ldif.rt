@@ -7,125 +7,213 @@ use std::alloc::{AllocError, Global};
 /// The length of a line.
 const LINE: usize = 76;
 
+static ZEROS: [u8; 8] = [b'0'; 8];
+
 /// A part of a value.
 #[derive(Clone, Copy)]
 pub enum Part<'a> {
     Text(&'a str),
-    Number(u64),
-    /// A number with zeros before it, to so many digits.
-    Digits(u64, u8),
+    Number(u32),
+    /// A number with zeros before it, to so many digits, at most eight.
+    Digits(u32, usize),
 }
 
 use Part::{Digits, Number, Text};
 
-/// A text that grows.
+/// A piece of a value that is alike in all records of a kind.
+pub enum Piece {
+    Same(&'static str),
+    /// The part of this number among those that are a record's own.
+    Own(usize),
+}
+
+use Piece::{Own, Same};
+
+/// A line that is alike in all records of a kind.
+pub enum Line {
+    /// A name, and the pieces of its value.
+    Put(&'static str, &'static [Piece]),
+    /// The end of a modification.
+    Dash,
+}
+
+use Line::{Dash, Put};
+
+/// Bytes that grow, and remember whether memory ran out.
+#[derive(Drop)]
+struct Growing {
+    bytes: Vec<u8>,
+    is_cut: bool,
+}
+
+impl Growing {
+    fn new(alloc: Global) -> Growing {
+        Growing {
+            bytes: Vec::new(alloc),
+            is_cut: false,
+        }
+    }
+
+    fn as_slice(&self) -> &[u8] {
+        self.bytes.as_slice()
+    }
+
+    /// Empties it. What it remembers of memory stays.
+    fn clear(&mut self) {
+        self.bytes.clear();
+    }
+
+    fn push(&mut self, bytes: &[u8]) {
+        if self.bytes.extend_from_slice(bytes).is_err() {
+            self.is_cut = true;
+        }
+    }
+
+    fn push_byte(&mut self, byte: u8) {
+        if self.bytes.push(byte).is_err() {
+            self.is_cut = true;
+        }
+    }
+
+    fn push_part(&mut self, part: Part<'_>) {
+        match part {
+            Text(text) => self.push(text.as_bytes()),
+            Number(number) => self.push_digits(number, 0),
+            Digits(number, least) => self.push_digits(number, least),
+        }
+    }
+
+    fn push_digits(&mut self, number: u32, least: usize) {
+        let mut buffer = Buffer::new();
+        let digits = buffer.format(number).as_bytes();
+        let missing = least.saturating_sub(digits.len());
+        let (zeros, _) = ZEROS.split_at(missing.min(ZEROS.len()));
+        self.push(zeros);
+        self.push(digits);
+    }
+
+    /// Pushes bytes in base64.
+    fn push_coded(&mut self, alloc: Global, bytes: &[u8]) {
+        match STANDARD.encode(alloc, bytes) {
+            Ok(coded) => self.push(coded.as_bytes()),
+            Err(_) => self.is_cut = true,
+        }
+    }
+
+    /// Pushes a line, folded.
+    fn push_folded(&mut self, line: &[u8]) {
+        let (first, rest) = line.split_at(line.len().min(LINE));
+        self.push(first);
+        for piece in rest.chunks(LINE - 1) {
+            self.push(b"\n ");
+            self.push(piece);
+        }
+        self.push_byte(b'\n');
+    }
+}
+
+/// A text that grows. If memory ran out, `text` and `into_value` say so.
 #[derive(Drop)]
 pub struct Ldif {
     alloc: Global,
-    text: Vec<u8>,
-    value: Vec<u8>,
-    line: Vec<u8>,
+    text: Growing,
+    value: Growing,
+    line: Growing,
 }
 
 impl Ldif {
     pub fn new(alloc: Global) -> Ldif {
         Ldif {
             alloc,
-            text: Vec::new(alloc),
-            value: Vec::new(alloc),
-            line: Vec::new(alloc),
+            text: Growing::new(alloc),
+            value: Growing::new(alloc),
+            line: Growing::new(alloc),
         }
     }
 
-    pub fn as_slice(&self) -> &[u8] {
-        self.text.as_slice()
+    fn is_cut(&self) -> bool {
+        self.text.is_cut || self.value.is_cut || self.line.is_cut
+    }
+
+    pub fn text(&self) -> Result<&[u8], AllocError> {
+        if self.is_cut() {
+            Err(AllocError)
+        } else {
+            Ok(self.text.as_slice())
+        }
     }
 
     /// The value that was added, and not put.
-    pub fn into_value(self) -> Vec<u8> {
-        self.value
-    }
-
-    /// Appends a part to the value that is put next.
-    pub fn add(&mut self, part: Part<'_>) -> Result<(), AllocError> {
-        push_part(&mut self.value, part)
-    }
-
-    pub fn add_all(&mut self, parts: &[Part<'_>]) -> Result<(), AllocError> {
-        for part in parts {
-            self.add(*part)?;
+    pub fn into_value(self) -> Result<Vec<u8>, AllocError> {
+        if self.is_cut() {
+            Err(AllocError)
+        } else {
+            Ok(self.value.bytes)
         }
-        Ok(())
     }
 
-    /// Appends a byte to the value that is put next.
-    pub fn add_byte(&mut self, byte: u8) -> Result<(), AllocError> {
-        self.value.push(byte)?;
-        Ok(())
+    /// Adds a part to the value that is put next.
+    pub fn add(&mut self, part: Part<'_>) {
+        self.value.push_part(part);
+    }
+
+    /// Adds pieces to the value that is put next.
+    pub fn add_all(&mut self, pieces: &[Piece], own: &[Part<'_>]) {
+        for piece in pieces {
+            self.add(part_of(piece, own));
+        }
+    }
+
+    /// Adds a byte to the value that is put next.
+    pub fn add_byte(&mut self, byte: u8) {
+        self.value.push_byte(byte);
     }
 
     /// Puts a line with the value that was added.
-    pub fn put(&mut self, name: &str) -> Result<(), AllocError> {
+    pub fn put(&mut self, name: &str) {
         self.line.clear();
-        self.line.extend_from_slice(name.as_bytes())?;
+        self.line.push(name.as_bytes());
         if is_plain(self.value.as_slice()) {
-            self.line.extend_from_slice(b": ")?;
-            self.line.extend_from_slice(self.value.as_slice())?;
+            self.line.push(b": ");
+            self.line.push(self.value.as_slice());
         } else {
-            self.line.extend_from_slice(b":: ")?;
-            let coded = STANDARD.encode(self.alloc, self.value.as_slice())?;
-            self.line.extend_from_slice(coded.as_bytes())?;
+            self.line.push(b":: ");
+            self.line.push_coded(self.alloc, self.value.as_slice());
         }
         self.value.clear();
-        push_folded(&mut self.text, self.line.as_slice())
-    }
-
-    /// Puts a line with a value of these parts.
-    pub fn line(&mut self, name: &str, parts: &[Part<'_>]) -> Result<(), AllocError> {
-        self.add_all(parts)?;
-        self.put(name)
+        self.text.push_folded(self.line.as_slice());
     }
 
     /// Puts a line with this text as its value.
-    pub fn word(&mut self, name: &str, text: &str) -> Result<(), AllocError> {
-        self.line(name, &[Text(text)])
+    pub fn word(&mut self, name: &str, text: &str) {
+        self.add(Text(text));
+        self.put(name);
     }
 
-    /// Ends a modification.
-    pub fn dash(&mut self) -> Result<(), AllocError> {
-        self.text.extend_from_slice(b"-\n")
+    /// Puts the lines of a record, or some of them.
+    pub fn lines(&mut self, lines: &[Line], own: &[Part<'_>]) {
+        for line in lines {
+            match line {
+                Put(name, pieces) => {
+                    self.add_all(pieces, own);
+                    self.put(name);
+                }
+                Dash => self.text.push(b"-\n"),
+            }
+        }
     }
 
     /// Ends a record.
-    pub fn end(&mut self) -> Result<(), AllocError> {
-        self.text.push(b'\n')?;
-        Ok(())
-    }
-
-    /// Appends parts as they are.
-    pub fn append(&mut self, parts: &[Part<'_>]) -> Result<(), AllocError> {
-        for part in parts {
-            push_part(&mut self.text, *part)?;
-        }
-        Ok(())
+    pub fn end(&mut self) {
+        self.text.push_byte(b'\n');
     }
 }
 
-fn push_part(out: &mut Vec<u8>, part: Part<'_>) -> Result<(), AllocError> {
-    match part {
-        Text(text) => out.extend_from_slice(text.as_bytes()),
-        Number(number) => push_digits(out, number, 0),
-        Digits(number, least) => push_digits(out, number, least),
+fn part_of<'a>(piece: &Piece, own: &[Part<'a>]) -> Part<'a> {
+    match piece {
+        Same(text) => Text(text),
+        Own(at) => own.get(*at).copied().unwrap_or(Text("")),
     }
-}
-
-fn push_digits(out: &mut Vec<u8>, number: u64, least: u8) -> Result<(), AllocError> {
-    let mut buffer = Buffer::new();
-    let digits = buffer.format(number).as_bytes();
-    for _ in digits.len()..usize::from(least) {
-        out.push(b'0')?;
-    }
-    out.extend_from_slice(digits)
 }
 
 /// Whether a value is written as it is (RFC 2849, `SAFE-STRING`, without a space at its end). No text of the workloads has a
@@ -133,15 +221,4 @@ fn push_digits(out: &mut Vec<u8>, number: u64, least: u8) -> Result<(), AllocErr
 fn is_plain(value: &[u8]) -> bool {
     let is_safe_first = !matches!(value.first(), Some(b' ' | b':' | b'<'));
     is_safe_first && value.last() != Some(&b' ') && value.is_ascii()
-}
-
-fn push_folded(text: &mut Vec<u8>, line: &[u8]) -> Result<(), AllocError> {
-    let (first, rest) = line.split_at(line.len().min(LINE));
-    text.extend_from_slice(first)?;
-    for piece in rest.chunks(LINE - 1) {
-        text.extend_from_slice(b"\n ")?;
-        text.extend_from_slice(piece)?;
-    }
-    text.push(b'\n')?;
-    Ok(())
 }

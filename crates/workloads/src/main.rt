@@ -20,7 +20,7 @@ use std::alloc::Global;
 type Workload<'a> = (&'a str, u8, u64);
 
 /// The names of the workloads.
-const NAMES: [&str; 5] = ["people", "groups", "names", "undo", "access"];
+static NAMES: [&str; 5] = ["people", "groups", "names", "undo", "access"];
 
 /// The scale of a whole workload.
 const WHOLE: u8 = 100;
@@ -28,14 +28,21 @@ const WHOLE: u8 = 100;
 fn main(rt: HostRuntime) -> anyhow::Result<()> {
     let words: Vec<String> = std::env::args(&rt)?.collect(rt.alloc())?;
     match (words.get(1), words.get(2)) {
-        (Some(name), Some(seed)) => {
-            let seed = seed.parse::<u64>().context("the seed")?;
-            run(&rt, rt.alloc(), (name.as_str(), WHOLE, seed))
-        }
-        _ => NAMES
-            .iter()
-            .try_for_each(|name| run(&rt, rt.alloc(), (name, 1, 1))),
+        (Some(name), Some(seed)) => run_whole(&rt, rt.alloc(), name.as_str(), seed.as_str()),
+        _ => run_all(&rt, rt.alloc()),
     }
+}
+
+fn run_whole(rt: &impl Print, alloc: Global, name: &str, seed: &str) -> anyhow::Result<()> {
+    let seed = seed.parse::<u64>().context("the seed")?;
+    run(rt, alloc, (name, WHOLE, seed))
+}
+
+fn run_all(rt: &impl Print, alloc: Global) -> anyhow::Result<()> {
+    for name in &NAMES {
+        run(rt, alloc, (name, 1, 1))?;
+    }
+    Ok(())
 }
 
 fn run(rt: &impl Print, alloc: Global, workload: Workload<'_>) -> anyhow::Result<()> {

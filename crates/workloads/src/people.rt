@@ -1,11 +1,104 @@
 //! A directory of people with changes of all four operations, a tenth as many as people.
 
-use crate::company::{Company, SUFFIX, add_group, department, department_of, ldif_dn, login};
+use crate::company::{
+    Company, SUFFIX, add_person_in, department_of, login, put_group_dn, put_person_dn, region_of,
+};
 use crate::draws::Draws;
 use crate::ldif::Ldif;
-use crate::ldif::Part::{Number, Text};
+use crate::ldif::Line::{self, Dash, Put};
+use crate::ldif::Part::Number;
+use crate::ldif::Piece::{Own, Same};
 use crate::runs;
-use std::alloc::{AllocError, Global};
+use std::alloc::Global;
+
+// The lines of a change below its name. Its own are the number in the login name of a person, the number of the person, a department, and
+// its region.
+
+static DELETE: [Line; 1] = [Put("changetype", &[Same("delete")])];
+
+static RENAME: [Line; 3] = [
+    Put("changetype", &[Same("modrdn")]),
+    Put("newrdn", &[Same("uid=r"), Own(0)]),
+    Put("deleteoldrdn", &[Same("1")]),
+];
+
+static MOVE: [Line; 4] = [
+    Put("changetype", &[Same("modrdn")]),
+    Put("newrdn", &[Same("uid=r"), Own(0)]),
+    Put("deleteoldrdn", &[Same("1")]),
+    Put(
+        "newsuperior",
+        &[
+            Same("ou=dept "),
+            Own(2),
+            Same(",ou=region "),
+            Own(3),
+            Same(",ou=people,dc=example,dc=com"),
+        ],
+    ),
+];
+
+/// Adds a member to a group, who is in no department.
+static MEMBER: [Line; 4] = [
+    Put("changetype", &[Same("modify")]),
+    Put("add", &[Same("member")]),
+    Put(
+        "member",
+        &[
+            Same("uid=v"),
+            Own(0),
+            Same(",ou=visitors,dc=example,dc=com"),
+        ],
+    ),
+    Dash,
+];
+
+static NOTE: [Line; 4] = [
+    Put("changetype", &[Same("modify")]),
+    Put("add", &[Same("description")]),
+    Put(
+        "description",
+        &[Same("note "), Own(0), Same(" of the changes")],
+    ),
+    Dash,
+];
+
+static OFFICE: [Line; 7] = [
+    Put("changetype", &[Same("modify")]),
+    Put("replace", &[Same("title")]),
+    Put("title", &[Same("Head of office "), Own(0)]),
+    Dash,
+    Put("replace", &[Same("telephoneNumber")]),
+    Put("telephoneNumber", &[Same("+49 30 "), Own(1)]),
+    Dash,
+];
+
+static MAIL: [Line; 7] = [
+    Put("changetype", &[Same("modify")]),
+    Put("replace", &[Same("mail")]),
+    Put("mail", &[Same("other"), Own(0), Same("@example.com")]),
+    Dash,
+    Put("add", &[Same("seeAlso")]),
+    Put(
+        "seeAlso",
+        &[Same("cn=ref "), Own(0), Same(",dc=example,dc=com")],
+    ),
+    Dash,
+];
+
+/// Before the description that is deleted.
+static DESCRIPTION: [Line; 2] = [
+    Put("changetype", &[Same("modify")]),
+    Put("delete", &[Same("description")]),
+];
+
+/// After it.
+static OTHER_DESCRIPTION: [Line; 4] = [
+    Dash,
+    Put("add", &[Same("description")]),
+    Put("description", &[Same("Größer als "), Own(0)]),
+    Dash,
+];
 
 /// Runs the workload on so many times 800 people.
 pub fn run(rt: &impl Print, alloc: Global, scale: u8, seed: u64) -> anyhow::Result<()> {
@@ -13,122 +106,66 @@ pub fn run(rt: &impl Print, alloc: Global, scale: u8, seed: u64) -> anyhow::Resu
         people: u32::from(scale) * 800,
         seed,
     };
-    let copy = company.copy(alloc)?;
-    let changes = changes(alloc, company)?;
-    runs::modify(rt, alloc, SUFFIX, copy.as_slice(), changes.as_slice())
+    let copy = company.copy(alloc);
+    let changes = changes(alloc, company);
+    runs::modify(rt, alloc, SUFFIX, copy, changes)
 }
 
 /// The changes, each of another person.
-fn changes(alloc: Global, company: Company) -> Result<Ldif, AllocError> {
+fn changes(alloc: Global, company: Company) -> Ldif {
     let mut ldif = Ldif::new(alloc);
     let mut draws = Draws::of(company.seed.wrapping_add(3), 0);
-    ldif.word("version", "1")?;
-    ldif.end()?;
-    let count = company.people / 10;
-    for number in 0..count {
+    ldif.word("version", "1");
+    ldif.end();
+    for number in 0..company.people / 10 {
         // One of the ten people from here on, so that no two changes are of one person.
         let person = number.saturating_mul(10).saturating_add(draws.below(10));
         match draws.below(15) {
-            0..=2 => put_add(&mut ldif, company, number)?,
-            3..=5 => put_delete(&mut ldif, person)?,
-            6 => put_rename(&mut ldif, person, None)?,
-            7 => put_rename(&mut ldif, person, Some(department_of(number)))?,
-            8 => put_member(&mut ldif, company, person)?,
-            kind => put_modify(&mut ldif, company, person, kind)?,
+            0..=2 => put_add(&mut ldif, company, number),
+            kind => put_change(&mut ldif, company, number, person, kind),
         }
-        ldif.end()?;
+        ldif.end();
     }
-    Ok(ldif)
+    ldif
 }
 
-fn put_add(ldif: &mut Ldif, company: Company, number: u32) -> Result<(), AllocError> {
+fn put_add(ldif: &mut Ldif, company: Company, number: u32) {
     let person = company.people.saturating_add(number);
-    ldif.add_all(&[Text("uid=u"), login(person), Text(",")])?;
-    ldif.line("dn", &department(department_of(number)))?;
-    ldif.word("changetype", "add")?;
-    company.put_person(ldif, person)
+    add_person_in(ldif, person, department_of(number));
+    ldif.put("dn");
+    ldif.word("changetype", "add");
+    company.put_person(ldif, person);
 }
 
-fn put_delete(ldif: &mut Ldif, person: u32) -> Result<(), AllocError> {
-    ldif_dn(ldif, person)?;
-    ldif.word("changetype", "delete")
-}
-
-fn put_rename(ldif: &mut Ldif, person: u32, superior: Option<u32>) -> Result<(), AllocError> {
-    ldif_dn(ldif, person)?;
-    ldif.word("changetype", "modrdn")?;
-    ldif.line("newrdn", &[Text("uid=r"), login(person)])?;
-    ldif.word("deleteoldrdn", "1")?;
-    match superior {
-        Some(number) => ldif.line("newsuperior", &department(number)),
-        None => Ok(()),
+/// Puts a change of a kind from 3 on.
+fn put_change(ldif: &mut Ldif, company: Company, number: u32, person: u32, kind: u32) {
+    match kind {
+        8 => put_group_dn(ldif, company.group_of(person)),
+        _ => put_person_dn(ldif, person),
     }
-}
-
-/// Adds a member to a group, who is in no department.
-fn put_member(ldif: &mut Ldif, company: Company, person: u32) -> Result<(), AllocError> {
-    add_group(
-        ldif,
-        person
-            .checked_rem(company.people.div_ceil(1000))
-            .unwrap_or(0),
-    )?;
-    ldif.put("dn")?;
-    ldif.word("changetype", "modify")?;
-    ldif.word("add", "member")?;
-    ldif.line(
-        "member",
-        &[
-            Text("uid=v"),
-            login(person),
-            Text(",ou=visitors,dc=example,dc=com"),
-        ],
-    )?;
-    ldif.dash()
-}
-
-fn put_modify(ldif: &mut Ldif, company: Company, person: u32, kind: u32) -> Result<(), AllocError> {
-    ldif_dn(ldif, person)?;
-    ldif.word("changetype", "modify")?;
-    match kind % 4 {
-        0 => {
-            ldif.word("add", "description")?;
-            ldif.line(
-                "description",
-                &[Text("note "), login(person), Text(" of the changes")],
-            )?;
-        }
-        1 => {
-            ldif.word("replace", "title")?;
-            ldif.line("title", &[Text("Head of office "), login(person)])?;
-            ldif.dash()?;
-            ldif.word("replace", "telephoneNumber")?;
-            ldif.line(
-                "telephoneNumber",
-                &[Text("+49 30 "), Number(u64::from(person))],
-            )?;
-        }
-        2 => {
-            ldif.word("replace", "mail")?;
-            ldif.line(
-                "mail",
-                &[Text("other"), login(person), Text("@example.com")],
-            )?;
-            ldif.dash()?;
-            ldif.word("add", "seeAlso")?;
-            ldif.line(
-                "seeAlso",
-                &[Text("cn=ref "), login(person), Text(",dc=example,dc=com")],
-            )?;
-        }
-        _ => {
-            ldif.word("delete", "description")?;
-            company.add_description_of(ldif, person)?;
-            ldif.put("description")?;
-            ldif.dash()?;
-            ldif.word("add", "description")?;
-            ldif.line("description", &[Text("Größer als "), login(person)])?;
-        }
+    if kind == 11 {
+        ldif.lines(&DESCRIPTION, &[]);
+        company.put_description(ldif, person);
     }
-    ldif.dash()
+    let department = department_of(number);
+    let own = [
+        login(person),
+        Number(person),
+        Number(department),
+        Number(region_of(department)),
+    ];
+    ldif.lines(lines_of(kind), &own);
+}
+
+fn lines_of(kind: u32) -> &'static [Line] {
+    match kind {
+        3..=5 => &DELETE,
+        6 => &RENAME,
+        7 => &MOVE,
+        8 => &MEMBER,
+        9 | 13 => &OFFICE,
+        10 | 14 => &MAIL,
+        11 => &OTHER_DESCRIPTION,
+        _ => &NOTE,
+    }
 }

@@ -1,10 +1,10 @@
 //! Runs of the tools in memory, and the digests of what they write.
 
-use anyhow::Context;
+use crate::ldif::Ldif;
 use dir_ldif::Reader;
-use dir_names::{Bytes, Schema, Texts};
+use dir_names::Schema;
 use dir_tools::{
-    Buffer, ModifyOptions, Question, Summary, run_acl, run_modify, run_there_and_back,
+    Buffer, ModifyOptions, Question, RoundTrip, Summary, run_acl, run_modify, run_there_and_back,
 };
 use std::alloc::{AllocError, Global};
 use std::hash::{DefaultHasher, Hasher};
@@ -38,7 +38,18 @@ fn show_summary(rt: &impl Print, summary: Summary) -> anyhow::Result<()> {
 }
 
 fn schema(alloc: Global) -> Result<Schema, AllocError> {
-    Schema::builtin(alloc).map_err(|_| AllocError)
+    match Schema::builtin(alloc) {
+        Ok(schema) => Ok(schema),
+        Err(_) => Err(AllocError),
+    }
+}
+
+/// What a run of changes writes.
+#[derive(Drop)]
+struct Outputs {
+    undo: Buffer,
+    copy: Buffer,
+    report: Buffer,
 }
 
 /// Runs changes on a copy.
@@ -46,13 +57,28 @@ pub fn modify(
     rt: &impl Print,
     alloc: Global,
     suffix: &str,
-    copy: &[u8],
-    changes: &[u8],
+    copy: Ldif,
+    changes: Ldif,
 ) -> anyhow::Result<()> {
+    let mut outputs = Outputs {
+        undo: Buffer::new(alloc),
+        copy: Buffer::new(alloc),
+        report: Buffer::new(alloc),
+    };
+    let summary = summary_of(alloc, suffix, &copy, &changes, &mut outputs)?;
+    show_outputs(rt, summary, &outputs)
+}
+
+fn summary_of(
+    alloc: Global,
+    suffix: &str,
+    copy: &Ldif,
+    changes: &Ldif,
+    outputs: &mut Outputs,
+) -> anyhow::Result<Summary> {
+    let copy = copy.text()?;
+    let changes = changes.text()?;
     let schema = schema(alloc)?;
-    let mut undo = Buffer::new(alloc);
-    let mut out = Buffer::new(alloc);
-    let mut report = Buffer::new(alloc);
     let summary = run_modify(
         alloc,
         &schema,
@@ -60,14 +86,18 @@ pub fn modify(
         OPTIONS,
         &mut Reader::new(copy),
         &mut Reader::new(changes),
-        &mut undo,
-        &mut out,
-        &mut report,
+        &mut outputs.undo,
+        &mut outputs.copy,
+        &mut outputs.report,
     )?;
+    Ok(summary)
+}
+
+fn show_outputs(rt: &impl Print, summary: Summary, outputs: &Outputs) -> anyhow::Result<()> {
     show_summary(rt, summary)?;
-    show(rt, "copy", out.as_slice())?;
-    show(rt, "undo", undo.as_slice())?;
-    show(rt, "report", report.as_slice())
+    show(rt, "copy", outputs.copy.as_slice())?;
+    show(rt, "undo", outputs.undo.as_slice())?;
+    show(rt, "report", outputs.report.as_slice())
 }
 
 /// Runs changes on a copy, and takes them back.
@@ -75,27 +105,31 @@ pub fn there_and_back(
     rt: &impl Print,
     alloc: Global,
     suffix: &str,
-    copy: &[u8],
-    changes: &[u8],
+    copy: Ldif,
+    changes: Ldif,
 ) -> anyhow::Result<()> {
+    let trip = round_trip(alloc, suffix, &copy, &changes)?;
+    show_trip(rt, &trip)
+}
+
+fn round_trip(
+    alloc: Global,
+    suffix: &str,
+    copy: &Ldif,
+    changes: &Ldif,
+) -> anyhow::Result<RoundTrip> {
+    let copy = copy.text()?;
+    let changes = changes.text()?;
     let schema = schema(alloc)?;
     let trip = run_there_and_back(alloc, &schema, suffix.as_bytes(), OPTIONS, copy, changes)?;
+    Ok(trip)
+}
+
+fn show_trip(rt: &impl Print, trip: &RoundTrip) -> anyhow::Result<()> {
     show_summary(rt, trip.there)?;
     show_summary(rt, trip.back)?;
     show(rt, "copy", trip.copy.as_slice())
 }
-
-/// Who asks, for which entry.
-#[derive(Clone, Copy)]
-pub struct Asking<'a> {
-    pub base: &'a [u8],
-    pub requester: Option<&'a [u8]>,
-    /// The attributes that each level of access is asked for.
-    pub attributes: &'a [&'a str],
-}
-
-/// The levels of access that are asked for.
-const LEVELS: [&str; 5] = ["auth", "compare", "search", "read", "write"];
 
 /// The texts that the questions are about.
 #[derive(Clone, Copy)]
@@ -108,39 +142,17 @@ pub struct Rules<'a> {
 pub fn ask(
     alloc: Global,
     rules: Rules<'_>,
-    asking: Asking<'_>,
+    question: &Question,
     report: &mut Buffer,
 ) -> anyhow::Result<()> {
     let schema = schema(alloc)?;
-    let question = question(alloc, asking)?;
     run_acl(
         alloc,
         &schema,
-        &question,
+        question,
         &mut Reader::new(rules.config),
         &mut Reader::new(rules.copy),
         report,
     )?;
     Ok(())
-}
-
-fn question(alloc: Global, asking: Asking<'_>) -> Result<Question, AllocError> {
-    let requester = match asking.requester {
-        Some(name) => Some(Bytes::new(name.to_vec(alloc)?)),
-        None => None,
-    };
-    let mut words = Vec::new(alloc);
-    for attribute in asking.attributes {
-        for level in &LEVELS {
-            let word = format!(in alloc; "{attribute}/{level}")?;
-            words.push(Bytes::new(word.into_bytes()))?;
-        }
-    }
-    Ok(Question {
-        base: Bytes::new(asking.base.to_vec(alloc)?),
-        authc: requester,
-        words: Texts::new(words),
-        fake: false,
-        verbose: true,
-    })
 }
