@@ -39,18 +39,18 @@ pub enum Line {
 
 use Line::{Dash, Put};
 
-/// Bytes that grow, and remember whether memory ran out.
+/// Bytes that grow, and remember it if memory ran out.
 #[derive(Drop)]
 struct Growing {
     bytes: Vec<u8>,
-    is_cut: bool,
+    fault: Option<AllocError>,
 }
 
 impl Growing {
     fn new(alloc: Global) -> Growing {
         Growing {
             bytes: Vec::new(alloc),
-            is_cut: false,
+            fault: None,
         }
     }
 
@@ -64,15 +64,13 @@ impl Growing {
     }
 
     fn push(&mut self, bytes: &[u8]) {
-        if self.bytes.extend_from_slice(bytes).is_err() {
-            self.is_cut = true;
+        if let Err(fault) = self.bytes.extend_from_slice(bytes) {
+            self.fault = Some(fault);
         }
     }
 
     fn push_byte(&mut self, byte: u8) {
-        if self.bytes.push(byte).is_err() {
-            self.is_cut = true;
-        }
+        self.push(&[byte]);
     }
 
     fn push_part(&mut self, part: Part<'_>) {
@@ -96,7 +94,7 @@ impl Growing {
     fn push_coded(&mut self, alloc: Global, bytes: &[u8]) {
         match STANDARD.encode(alloc, bytes) {
             Ok(coded) => self.push(coded.as_bytes()),
-            Err(_) => self.is_cut = true,
+            Err(fault) => self.fault = Some(fault),
         }
     }
 
@@ -131,24 +129,22 @@ impl Ldif {
         }
     }
 
-    fn is_cut(&self) -> bool {
-        self.text.is_cut || self.value.is_cut || self.line.is_cut
+    fn fault(&self) -> Option<AllocError> {
+        self.text.fault.or(self.value.fault).or(self.line.fault)
     }
 
     pub fn text(&self) -> Result<&[u8], AllocError> {
-        if self.is_cut() {
-            Err(AllocError)
-        } else {
-            Ok(self.text.as_slice())
+        match self.fault() {
+            Some(fault) => Err(fault),
+            None => Ok(self.text.as_slice()),
         }
     }
 
     /// The value that was added, and not put.
     pub fn into_value(self) -> Result<Vec<u8>, AllocError> {
-        if self.is_cut() {
-            Err(AllocError)
-        } else {
-            Ok(self.value.bytes)
+        match self.fault() {
+            Some(fault) => Err(fault),
+            None => Ok(self.value.bytes),
         }
     }
 
