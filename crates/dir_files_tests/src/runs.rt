@@ -64,18 +64,21 @@ const STOP: ModifyOptions = ModifyOptions {
     go_on: false,
     dry: false,
     verbose: false,
+    last: None,
 };
 
 const DRY: ModifyOptions = ModifyOptions {
     go_on: false,
     dry: true,
     verbose: false,
+    last: None,
 };
 
 const DRY_ON: ModifyOptions = ModifyOptions {
     go_on: true,
     dry: true,
     verbose: false,
+    last: None,
 };
 
 /// A folder whose calls are all done.

@@ -13,6 +13,7 @@ const STOP: ModifyOptions = ModifyOptions {
     go_on: false,
     dry: false,
     verbose: false,
+    last: None,
 };
 
 /// The paths of the configuration, the copy, the new copy, the undo file and the changes, and the first that is the same as one

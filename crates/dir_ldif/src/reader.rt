@@ -8,6 +8,7 @@ ghost use Rattle.dir_ldif.specs.SoundRecords.{IsLegalFound, IsSoundFound};
 
 mod attrval;
 mod bytes;
+mod marks;
 mod parser;
 mod spare;
 mod unfolder;
@@ -15,6 +16,7 @@ mod version;
 
 use crate::device::Source;
 use crate::faults::{RecordFault, Refusal, StreamFault};
+use crate::reader::marks::Marks;
 use crate::reader::parser::record_of;
 use crate::reader::spare::Spare;
 use crate::reader::unfolder::{Line, Unfolder};
@@ -101,8 +103,32 @@ impl<'s, R: Source + Drop> RecordReader<'s, R> {
         Ok(RecordReader {
             schema,
             source,
-            core: Core::new(alloc, turns)?,
+            core: Core::new(alloc, turns, Marks::Ignored)?,
         })
+    }
+
+    /// A reader of the first groups of an undo text, so many: for it the text ends before the mark after them. It is allowed
+    /// as many read calls as that of `new`.
+    ///
+    /// # Errors
+    ///
+    /// `Memory` alone.
+    pub fn up_to(
+        alloc: Global,
+        schema: &'s Schema,
+        source: R,
+        groups: u64,
+    ) -> Result<RecordReader<'s, R>, StreamFault> {
+        Ok(RecordReader {
+            schema,
+            source,
+            core: Core::new(alloc, MAX_TURNS, Marks::up_to(groups))?,
+        })
+    }
+
+    /// The marks of groups that were passed; 0 where they are not counted.
+    pub fn marks(&self) -> u64 {
+        self.core.unfolder.marks()
     }
 
     /// The next record or its fault, or none at the end. After a stream fault each call answers `Ended`, and
@@ -110,7 +136,7 @@ impl<'s, R: Source + Drop> RecordReader<'s, R> {
     ///
     /// # Errors
     ///
-    /// `LineTooLong` and `BadVersion` where the text is at fault and no record is left; `Read` where the source
+    /// `LineTooLong`, `BadVersion` and `BadMark` where the text is at fault and no record is left; `Read` where the source
     /// failed in this call; `TooManyTurns` where the source gave at least as many bytes as read calls were
     /// left; `Memory`; `Ended`.
     pub fn next(&mut self) -> Result<Option<Answer>, StreamFault>
@@ -176,7 +202,7 @@ impl Core {
     ghost use Rattle.dir_ldif.specs.Inside.Reader.{Finds, Stops, StopsSoon, Uses};
     ghost use Rattle.dir_ldif.specs.Reader.Answers.{IsInPieces, blocks_left, bytes_ahead, hand};
 
-    fn new(alloc: Global, turns: u64) -> Result<Core, StreamFault>
+    fn new(alloc: Global, turns: u64, marks: Marks) -> Result<Core, StreamFault>
         requires { turns ≤ most_read_calls }
         ensures text { IfOk result (λ c. (text : List ℕ) → blocks_to_come c.unfolder text ≡ blocks_of text) }
         ensures fresh { IfOk result (λ c. hand c ≡ []) }
@@ -185,7 +211,7 @@ impl Core {
         ensures err { IfErr result (λ fault. fault ≡ StreamFault.Memory) }
     {
         Ok(Core {
-            unfolder: Unfolder::new(alloc),
+            unfolder: Unfolder::new(alloc, marks),
             spare: Spare::new(alloc),
             names: NameReader::new(alloc),
             buffer: vec![in alloc; 0; PIECE]?,
@@ -286,6 +312,10 @@ impl Core {
         loop {
             if let Some(block) = self.use_buffer()? {
                 return Ok(block);
+            }
+            if self.unfolder.is_over() {
+                self.place = Place::AtEnd;
+                return Ok(Vec::new(self.alloc));
             }
             if !self.read_more(source)? {
                 return self.finish();
@@ -403,7 +433,7 @@ pub fn read_all(alloc: Global, schema: &Schema, text: &[u8]) -> Result<Vec<Answe
     if text.len() > MAX_TEXT {
         return Err(StreamFault::TooManyTurns);
     }
-    let mut unfolder = Unfolder::new(alloc);
+    let mut unfolder = Unfolder::new(alloc, Marks::Ignored);
     let mut spare = Spare::new(alloc);
     let mut names = NameReader::new(alloc);
     let mut answers = Vec::new(alloc);

@@ -15,6 +15,7 @@ use crate::records::{Change, ChangeKind, Mod, ModOp, Record};
 use crate::scan::all_usual;
 use base64::engine::general_purpose::STANDARD;
 use dir_names::{Bytes, Description, Dn, Lines, Memory, Rdn};
+use itoa::Buffer;
 use std::alloc::Global;
 
 /// The greatest length of a written line without its LF, in bytes.
@@ -50,6 +51,13 @@ fn push_content(out: &mut Vec<u8>, dn: &Dn, lines: &Lines) -> Result<(), Memory>
     push_name(out, b"dn", dn)?;
     push_values(out, lines.as_slice())?;
     push_end(out)
+}
+
+/// Appends the mark of a group: the comment line `# undo N`.
+pub fn push_mark(out: &mut Vec<u8>, number: u64) -> Result<(), Memory> {
+    out.extend_from_slice(b"# undo ")?;
+    out.extend_from_slice(Buffer::new().format(number).as_bytes())?;
+    Ok(out.push(b'\n')?)
 }
 
 /// Appends the text of a change record.

@@ -11,24 +11,28 @@ pub(crate) const STOP: ModifyOptions = ModifyOptions {
     go_on: false,
     dry: false,
     verbose: false,
+    last: None,
 };
 
 pub(crate) const GO_ON: ModifyOptions = ModifyOptions {
     go_on: true,
     dry: false,
     verbose: false,
+    last: None,
 };
 
 pub(crate) const VERBOSE: ModifyOptions = ModifyOptions {
     go_on: false,
     dry: false,
     verbose: true,
+    last: None,
 };
 
 pub(crate) const DRY: ModifyOptions = ModifyOptions {
     go_on: false,
     dry: true,
     verbose: false,
+    last: None,
 };
 
 /// The text of a copy that has the suffix's entry alone.

@@ -10,6 +10,7 @@ ghost use Rattle.dir_names.specs.Ascii.{carriage_return, line_feed, space};
 
 use crate::faults::StreamFault;
 use crate::reader::bytes::{begins_with_space, cut_at, parts_without_cr, without_cr};
+use crate::reader::marks::Marks;
 use crate::reader::spare::Spare;
 use crate::reader::version::{Version, version_of};
 use std::alloc::Global;
@@ -95,6 +96,8 @@ pub(crate) struct Unfolder {
     // the physical line that has not ended. If it continues the last line, its text is there already, and
     // here are its space and a CR that may be its final one
     partial: Vec<u8>,
+    // which marks of groups end the text
+    marks: Marks,
     alloc: Global,
     ghost continuable: { may_be_continued last ≡ true },
     ghost unended: { list_any is_lf partial.items ≡ false },
@@ -110,7 +113,7 @@ impl Unfolder {
     ghost use Rattle.dir_ldif.specs.LogicalLines.{Line, cut, is_lf, is_long, logical_lines, physical_lines};
     ghost use Rattle.dir_ldif.specs.Blocks.{EndsAtOnce, block_then, blocks_from, blocks_of};
 
-    pub(crate) fn new(alloc: Global) -> Unfolder
+    pub(crate) fn new(alloc: Global, marks: Marks) -> Unfolder
         ensures number { result.number ≡ 1 }
         ensures text { (text : List ℕ) → blocks_to_come result text ≡ blocks_of text }
     {
@@ -120,8 +123,19 @@ impl Unfolder {
             last: None,
             number: 1,
             partial: Vec::new(alloc),
+            marks,
             alloc,
         }
+    }
+
+    /// Whether a mark has ended the text. What follows it belongs to no block.
+    pub(crate) fn is_over(&self) -> bool {
+        self.marks.is_over()
+    }
+
+    /// The marks that were passed.
+    pub(crate) fn marks(&self) -> u64 {
+        self.marks.passed()
     }
 
     /// Takes the next chunk of the text, up to the end of a block if one ends in it. Answers that block and the
@@ -149,6 +163,9 @@ impl Unfolder {
             rest = after;
             if let Some(block) = self.finish_line(spare, text)? {
                 return Ok(Some((block, rest)));
+            }
+            if self.is_over() {
+                return Ok(None);
             }
         }
         self.push_partial_line(rest)?;
@@ -251,6 +268,9 @@ impl Unfolder {
             return self.continue_partly(last, begin, end, has_cr);
         }
         self.push_to_block(last)?;
+        if self.is_over() {
+            return Ok(());
+        }
         self.push_partial_alone(front, back)
     }
 
@@ -371,6 +391,9 @@ impl Unfolder {
                 return self.continue_line(last, begin, end);
             }
             self.push_to_block(last)?;
+            if self.is_over() {
+                return Ok(false);
+            }
         }
         let mut text = spare.text(front);
         text.extend_from_slice(back)?;
@@ -435,7 +458,10 @@ impl Unfolder {
             → EndsAtOnce fault (blocks_from self.old.begun self.old.block.items (line ∷ more))) }
     {
         if is_comment(&line) {
-            return Ok(());
+            return match self.block.is_empty() {
+                true => self.marks.pass(line.text()),
+                false => Ok(()),
+            };
         }
         if !self.begun {
             self.begun = true;
@@ -444,6 +470,9 @@ impl Unfolder {
                 Version::One => return Ok(()),
                 Version::Other => return Err(StreamFault::BadVersion),
             }
+        }
+        if !self.marks.may_have_records() {
+            return Err(StreamFault::BadMark);
         }
         self.block.push(line)?;
         Ok(())
