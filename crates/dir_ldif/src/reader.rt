@@ -103,7 +103,7 @@ impl<'s, R: Source + Drop> RecordReader<'s, R> {
         Ok(RecordReader {
             schema,
             source,
-            core: Core::new(alloc, turns, Marks::Ignored)?,
+            core: Core::new(alloc, turns, Marks::ignored())?,
         })
     }
 
@@ -433,7 +433,7 @@ pub fn read_all(alloc: Global, schema: &Schema, text: &[u8]) -> Result<Vec<Answe
     if text.len() > MAX_TEXT {
         return Err(StreamFault::TooManyTurns);
     }
-    let mut unfolder = Unfolder::new(alloc, Marks::Ignored);
+    let mut unfolder = Unfolder::new(alloc, Marks::ignored());
     let mut spare = Spare::new(alloc);
     let mut names = NameReader::new(alloc);
     let mut answers = Vec::new(alloc);
