@@ -100,6 +100,7 @@ pub(crate) struct Unfolder {
     marks: Marks,
     alloc: Global,
     ghost continuable: { may_be_continued last ≡ true },
+    ghost ended: { marks.is_over ≡ true → block.items ≡ [] },
     ghost unended: { list_any is_lf partial.items ≡ false },
     ghost short: { has_room last partial.items ≡ true },
 }
@@ -107,15 +108,16 @@ pub(crate) struct Unfolder {
 impl Unfolder {
     ghost use Rattle.std.specs.Prelude.{◌≡◌, ◌+◌, ◌∷◌, ◌++◌, ◌<◌, ◌≤◌, ◌^◌, [], IfErr, IfOk, IfSome, List, MatchOption, None, OnOk, Some, drop, false, if◌then◌else◌, true, length, ℕ};
     ghost use Rattle.dir_ldif.specs.Bytes.{begins_with, is_empty, without_last};
-    ghost use Rattle.dir_ldif.specs.Reader.Unfolding.{blocks_to_come, blocks_to_come_with};
-    ghost use Rattle.dir_ldif.specs.Inside.Unfolder.{TakesLine, blocks_after_block};
+    ghost use Rattle.dir_ldif.specs.Reader.Unfolding.{to_come, to_come_with};
+    ghost use Rattle.dir_ldif.specs.Inside.Unfolder.{TakesLine, after_block};
     ghost use Rattle.dir_ldif.specs.Inside.Bounds.{has_room, may_be_continued};
-    ghost use Rattle.dir_ldif.specs.LogicalLines.{Line, cut, is_lf, is_long, logical_lines, physical_lines};
-    ghost use Rattle.dir_ldif.specs.Blocks.{EndsAtOnce, block_then, blocks_from, blocks_of};
+    ghost use Rattle.dir_ldif.specs.LogicalLines.{Line, cut, is_lf, is_long, lines_of, logical_lines, physical_lines};
+    ghost use Rattle.dir_ldif.specs.Remainder.{FailsAtOnce, Remainder, done, remainder_from, then_rest};
 
     pub(crate) fn new(alloc: Global, marks: Marks) -> Unfolder
         ensures number { result.number ≡ 1 }
-        ensures text { (text : List ℕ) → blocks_to_come result text ≡ blocks_of text }
+        ensures text { (text : List ℕ) → to_come result text ≡ remainder_from marks false [] (lines_of text) }
+        ensures going { marks.is_over ≡ false → result.marks.is_over ≡ false }
     {
         Unfolder {
             block: Vec::new(alloc),
@@ -129,12 +131,16 @@ impl Unfolder {
     }
 
     /// Whether a mark has ended the text. What follows it belongs to no block.
-    pub(crate) fn is_over(&self) -> bool {
+    pub(crate) fn is_over(&self) -> bool
+        ensures { result ≡ self.now.marks.is_over }
+    {
         self.marks.is_over()
     }
 
     /// The marks that were passed.
-    pub(crate) fn marks(&self) -> u64 {
+    pub(crate) fn marks(&self) -> u64
+        ensures { result ≡ self.now.marks.passed }
+    {
         self.marks.passed()
     }
 
@@ -145,18 +151,19 @@ impl Unfolder {
         spare: &mut Spare,
         chunk: &'a [u8],
     ) -> Result<Option<(Vec<Line>, &'a [u8])>, StreamFault>
-        requires { self.old.number + length chunk.now < 2 ^ 63 }
+        requires going { self.old.marks.is_over ≡ false }
+        requires given { self.old.number + length chunk.now < 2 ^ 63 }
         ensures number { self.new.number ≤ self.old.number + length chunk.now }
         ensures left { IfOk result (λ o. IfSome o
             (λ p. self.new.number + length p.1.now ≤ self.old.number + length chunk.now)) }
         ensures shorter { IfOk result (λ o. IfSome o (λ p. length p.1.now < length chunk.now)) }
         ensures used { IfOk result (λ o. IfSome o (λ p. (used : List ℕ) × (chunk.now ≡ used ++ p.1.now)
-            × ((text : List ℕ) → blocks_to_come self.old (used ++ text) ≡ block_then p.0.items (blocks_to_come self.new text)))) }
+            × ((text : List ℕ) → to_come self.old (used ++ text) ≡ then_rest p.0.items (to_come self.new text)))) }
         ensures ok { IfOk result (λ o. MatchOption o
-            ((text : List ℕ) → blocks_to_come self.old (chunk.now ++ text) ≡ blocks_to_come self.new text)
-            (λ p. (text : List ℕ) → blocks_to_come self.old (chunk.now ++ text) ≡ block_then p.0.items (blocks_to_come self.new (p.1.now ++ text)))) }
+            ((text : List ℕ) → to_come self.old (chunk.now ++ text) ≡ to_come self.new text)
+            (λ p. (text : List ℕ) → to_come self.old (chunk.now ++ text) ≡ then_rest p.0.items (to_come self.new (p.1.now ++ text)))) }
         ensures some { IfOk result (λ o. IfSome o (λ p. is_empty p.0.items ≡ false)) }
-        ensures err { IfErr result (λ fault. (text : List ℕ) → EndsAtOnce fault (blocks_to_come self.old (chunk.now ++ text))) }
+        ensures err { IfErr result (λ fault. (text : List ℕ) → FailsAtOnce fault (to_come self.old (chunk.now ++ text))) }
     {
         let mut rest = chunk;
         while let Some((text, after)) = cut_at(b'\n', rest) {
@@ -179,14 +186,15 @@ impl Unfolder {
         spare: &mut Spare,
         text: &[u8],
     ) -> Result<Option<Vec<Line>>, StreamFault>
+        requires going { self.old.marks.is_over ≡ false }
         requires room { self.old.number < 2 ^ 63 }
         requires line { list_any is_lf text.now ≡ false }
         ensures number { self.new.number ≡ self.old.number + 1 }
         ensures ok { IfOk result (λ o. MatchOption o
-            ((rest : List ℕ) → blocks_to_come self.old (text.now ++ line_feed ∷ rest) ≡ blocks_to_come self.new rest)
-            (λ block. (rest : List ℕ) → blocks_to_come self.old (text.now ++ line_feed ∷ rest) ≡ block_then block.items (blocks_to_come self.new rest))) }
+            ((rest : List ℕ) → to_come self.old (text.now ++ line_feed ∷ rest) ≡ to_come self.new rest)
+            (λ block. (rest : List ℕ) → to_come self.old (text.now ++ line_feed ∷ rest) ≡ then_rest block.items (to_come self.new rest))) }
         ensures some { IfOk result (λ o. IfSome o (λ block. is_empty block.items ≡ false)) }
-        ensures err { IfErr result (λ fault. (rest : List ℕ) → EndsAtOnce fault (blocks_to_come self.old (text.now ++ line_feed ∷ rest))) }
+        ensures err { IfErr result (λ fault. (rest : List ℕ) → FailsAtOnce fault (to_come self.old (text.now ++ line_feed ∷ rest))) }
     {
         if self.finish_physical_line(spare, text)? {
             Ok(self.finish_block())
@@ -201,8 +209,8 @@ impl Unfolder {
         ensures number { self.new.number ≡ self.old.number }
         ensures partial { self.new.partial ≡ self.old.partial }
         ensures blocks { (more : List Line) → MatchOption result
-            (blocks_after_block self.old more ≡ blocks_to_come_with self.new more)
-            (λ block. blocks_after_block self.old more ≡ block_then block.items (blocks_to_come_with self.new more)) }
+            (after_block self.old more ≡ to_come_with self.new more)
+            (λ block. after_block self.old more ≡ then_rest block.items (to_come_with self.new more)) }
         ensures some { IfSome result (λ block. is_empty block.items ≡ false) }
     {
         if self.block.is_empty() {
@@ -230,10 +238,11 @@ impl Unfolder {
 
     /// Takes bytes in which no line ends.
     fn push_partial_line(&mut self, chunk: &[u8]) -> Result<(), StreamFault>
-        requires { list_any is_lf chunk.now ≡ false }
+        requires going { self.old.marks.is_over ≡ false }
+        requires given { list_any is_lf chunk.now ≡ false }
         ensures number { self.new.number ≡ self.old.number }
-        ensures ok { OnOk result ((text : List ℕ) → blocks_to_come self.old (chunk.now ++ text) ≡ blocks_to_come self.new text) }
-        ensures err { IfErr result (λ fault. (text : List ℕ) → EndsAtOnce fault (blocks_to_come self.old (chunk.now ++ text))) }
+        ensures ok { OnOk result ((text : List ℕ) → to_come self.old (chunk.now ++ text) ≡ to_come self.new text) }
+        ensures err { IfErr result (λ fault. (text : List ℕ) → FailsAtOnce fault (to_come self.old (chunk.now ++ text))) }
     {
         if chunk.is_empty() {
             return Ok(());
@@ -252,14 +261,15 @@ impl Unfolder {
         front: Vec<u8>,
         back: &[u8],
     ) -> Result<(), StreamFault>
+        requires going { self.old.marks.is_over ≡ false }
         requires none { (self.old.partial.items ≡ []) × (self.old.last ≡ None) }
         requires continuable { may_be_continued (Some last) ≡ true }
         requires line { list_any is_lf (front.items ++ back.now) ≡ false }
         requires some { is_empty (front.items ++ back.now) ≡ false }
         ensures number { self.new.number ≡ self.old.number }
-        ensures ok { OnOk result ((text : List ℕ) → blocks_from self.old.begun self.old.block.items
-            (logical_lines (last ∷ physical_lines self.old.number (cut is_lf ((front.items ++ back.now) ++ text)))) ≡ blocks_to_come self.new text) }
-        ensures err { IfErr result (λ fault. (text : List ℕ) → EndsAtOnce fault (blocks_from self.old.begun self.old.block.items
+        ensures ok { OnOk result ((text : List ℕ) → remainder_from self.old.marks self.old.begun self.old.block.items
+            (logical_lines (last ∷ physical_lines self.old.number (cut is_lf ((front.items ++ back.now) ++ text)))) ≡ to_come self.new text) }
+        ensures err { IfErr result (λ fault. (text : List ℕ) → FailsAtOnce fault (remainder_from self.old.marks self.old.begun self.old.block.items
             (logical_lines (last ∷ physical_lines self.old.number (cut is_lf ((front.items ++ back.now) ++ text)))))) }
     {
         let (begin, end) = parts_without_cr(front.as_slice(), back);
@@ -283,15 +293,16 @@ impl Unfolder {
         back: &[u8],
         has_cr: bool,
     ) -> Result<(), StreamFault>
+        requires going { self.old.marks.is_over ≡ false }
         requires none { (self.old.partial.items ≡ []) × (self.old.last ≡ None) }
         requires continuable { may_be_continued (Some last) ≡ true }
         requires space { begins_with space front.now ≡ true }
         ensures number { self.new.number ≡ self.old.number }
-        ensures block { (self.new.begun ≡ self.old.begun) × (self.new.block ≡ self.old.block) }
+        ensures block { (self.new.begun ≡ self.old.begun) × (self.new.block ≡ self.old.block) × (self.new.marks ≡ self.old.marks) }
         ensures ok { OnOk result ((self.new.last ≡ Some (last.0, last.1 ++ drop 1 (front.now ++ back.now)))
             × (self.new.partial.items ≡ (if has_cr then space ∷ carriage_return ∷ [] else space ∷ []))) }
         ensures err { IfErr result (λ fault. (text : List ℕ) → (n : ℕ) → (more : List Line)
-            → EndsAtOnce fault (blocks_from self.old.begun self.old.block.items (logical_lines (last ∷ (n, (front.now ++ back.now) ++ text) ∷ more)))) }
+            → FailsAtOnce fault (remainder_from self.old.marks self.old.begun self.old.block.items (logical_lines (last ∷ (n, (front.now ++ back.now) ++ text) ∷ more)))) }
     {
         let longer = last.with_continuation(front, back)?;
         if longer.is_long() {
@@ -305,12 +316,13 @@ impl Unfolder {
 
     /// Takes a physical line that has not ended, in two parts, where it continues no line.
     fn push_partial_alone(&mut self, front: Vec<u8>, back: &[u8]) -> Result<(), StreamFault>
+        requires going { self.old.marks.is_over ≡ false }
         requires none { self.old.last ≡ None }
         requires line { list_any is_lf (front.items ++ back.now) ≡ false }
         ensures number { self.new.number ≡ self.old.number }
-        ensures ok { OnOk result ((text : List ℕ) → blocks_from self.old.begun self.old.block.items
-            (logical_lines (physical_lines self.old.number (cut is_lf ((front.items ++ back.now) ++ text)))) ≡ blocks_to_come self.new text) }
-        ensures err { IfErr result (λ fault. (text : List ℕ) → EndsAtOnce fault (blocks_from self.old.begun self.old.block.items
+        ensures ok { OnOk result ((text : List ℕ) → remainder_from self.old.marks self.old.begun self.old.block.items
+            (logical_lines (physical_lines self.old.number (cut is_lf ((front.items ++ back.now) ++ text)))) ≡ to_come self.new text) }
+        ensures err { IfErr result (λ fault. (text : List ℕ) → FailsAtOnce fault (remainder_from self.old.marks self.old.begun self.old.block.items
             (logical_lines (physical_lines self.old.number (cut is_lf ((front.items ++ back.now) ++ text)))))) }
     {
         let mut partial = front;
@@ -326,11 +338,12 @@ impl Unfolder {
     /// the block has ended.
     #[inline(always)]
     fn finish_physical_line(&mut self, spare: &mut Spare, text: &[u8]) -> Result<bool, StreamFault>
+        requires going { self.old.marks.is_over ≡ false }
         requires room { self.old.number < 2 ^ 63 }
         ensures number { self.new.number ≡ self.old.number + 1 }
         ensures partial { self.new.partial.items ≡ [] }
         ensures last { IfOk result (λ ends. ends ≡ true → self.new.last ≡ None) }
-        ensures takes { TakesLine (λ more. blocks_to_come_with self.old ((self.old.number, without_last carriage_return (self.old.partial.items ++ text.now)) ∷ more)) result self.new }
+        ensures takes { TakesLine (λ more. to_come_with self.old ((self.old.number, without_last carriage_return (self.old.partial.items ++ text.now)) ∷ more)) result self.new }
     {
         let number = self.number;
         self.number = number + 1;
@@ -352,6 +365,7 @@ impl Unfolder {
         text: &[u8],
         spare: &mut Spare,
     ) -> Result<bool, StreamFault>
+        requires going { self.old.marks.is_over ≡ false }
         requires none { self.old.partial.items ≡ [] }
         requires some { is_empty text.now ≡ false }
         requires short { length text.now ≤ 2097152 }
@@ -359,7 +373,7 @@ impl Unfolder {
         ensures number { self.new.number ≡ self.old.number }
         ensures partial { self.new.partial ≡ self.old.partial }
         ensures last { IfOk result (λ ends. ends ≡ false) }
-        ensures takes { TakesLine (λ more. blocks_to_come_with self.old ((number, text.now) ∷ more)) result self.new }
+        ensures takes { TakesLine (λ more. to_come_with self.old ((number, text.now) ∷ more)) result self.new }
     {
         let mut copy = spare.text(Vec::new(self.alloc));
         copy.extend_from_slice(text)?;
@@ -379,11 +393,12 @@ impl Unfolder {
         back: &[u8],
         spare: &mut Spare,
     ) -> Result<bool, StreamFault>
-        requires { self.old.partial.items ≡ [] }
+        requires going { self.old.marks.is_over ≡ false }
+        requires given { self.old.partial.items ≡ [] }
         ensures number { self.new.number ≡ self.old.number }
         ensures partial { self.new.partial ≡ self.old.partial }
         ensures last { IfOk result (λ ends. ends ≡ true → self.new.last ≡ None) }
-        ensures takes { TakesLine (λ more. blocks_to_come_with self.old ((number, without_last carriage_return (front.items ++ back.now)) ∷ more)) result self.new }
+        ensures takes { TakesLine (λ more. to_come_with self.old ((number, without_last carriage_return (front.items ++ back.now)) ∷ more)) result self.new }
     {
         if let Some(last) = self.last.take() {
             let (begin, end) = parts_without_cr(front.as_slice(), back);
@@ -403,25 +418,27 @@ impl Unfolder {
 
     /// Continues a line by one that begins with a space, in two parts.
     fn continue_line(&mut self, last: Line, front: &[u8], back: &[u8]) -> Result<bool, StreamFault>
+        requires going { self.old.marks.is_over ≡ false }
         requires none { self.old.partial.items ≡ [] }
         requires continuable { may_be_continued (Some last) ≡ true }
         requires space { begins_with space front.now ≡ true }
         ensures number { self.new.number ≡ self.old.number }
         ensures partial { self.new.partial ≡ self.old.partial }
         ensures last { IfOk result (λ ends. ends ≡ true → self.new.last ≡ None) }
-        ensures takes { (n : ℕ) → TakesLine (λ more. blocks_from self.old.begun self.old.block.items (logical_lines (last ∷ (n, front.now ++ back.now) ∷ more))) result self.new }
+        ensures takes { (n : ℕ) → TakesLine (λ more. remainder_from self.old.marks self.old.begun self.old.block.items (logical_lines (last ∷ (n, front.now ++ back.now) ∷ more))) result self.new }
     {
         self.set_last(last.with_continuation(front, back)?)
     }
 
     /// Begins a logical line. Answers whether it is empty, so that the block has ended.
     fn begin_line(&mut self, line: Line) -> Result<bool, StreamFault>
+        requires going { self.old.marks.is_over ≡ false }
         requires none { self.old.partial.items ≡ [] }
         requires last { self.old.last ≡ None }
         ensures number { self.new.number ≡ self.old.number }
         ensures partial { self.new.partial ≡ self.old.partial }
         ensures last { IfOk result (λ ends. ends ≡ true → self.new.last ≡ None) }
-        ensures takes { TakesLine (λ more. blocks_from self.old.begun self.old.block.items (logical_lines (line ∷ more))) result self.new }
+        ensures takes { TakesLine (λ more. remainder_from self.old.marks self.old.begun self.old.block.items (logical_lines (line ∷ more))) result self.new }
     {
         if line.text().is_empty() {
             return Ok(true);
@@ -431,12 +448,13 @@ impl Unfolder {
 
     /// Makes a line the last one, unless it is too long.
     fn set_last(&mut self, line: Line) -> Result<bool, StreamFault>
+        requires going { self.old.marks.is_over ≡ false }
         requires none { self.old.partial.items ≡ [] }
         requires some { is_empty line.1 ≡ false }
         ensures number { self.new.number ≡ self.old.number }
         ensures partial { self.new.partial ≡ self.old.partial }
         ensures last { IfOk result (λ ends. ends ≡ false) }
-        ensures takes { TakesLine (λ more. blocks_from self.old.begun self.old.block.items (logical_lines (line ∷ more))) result self.new }
+        ensures takes { TakesLine (λ more. remainder_from self.old.marks self.old.begun self.old.block.items (logical_lines (line ∷ more))) result self.new }
     {
         if line.is_long() {
             return Err(StreamFault::LineTooLong);
@@ -448,14 +466,15 @@ impl Unfolder {
     /// Adds a line that is complete to the block. Comments and the version line belong to no block.
     #[inline(always)]
     fn push_to_block(&mut self, line: Line) -> Result<(), StreamFault>
-        requires { may_be_continued (Some line) ≡ true }
+        requires going { self.old.marks.is_over ≡ false }
+        requires given { may_be_continued (Some line) ≡ true }
         ensures number { self.new.number ≡ self.old.number }
         ensures last { self.new.last ≡ self.old.last }
         ensures partial { self.new.partial ≡ self.old.partial }
-        ensures ok { OnOk result ((more : List Line) → blocks_from self.old.begun self.old.block.items (line ∷ more)
-            ≡ blocks_from self.new.begun self.new.block.items more) }
+        ensures ok { OnOk result ((more : List Line) → remainder_from self.old.marks self.old.begun self.old.block.items (line ∷ more)
+            ≡ remainder_from self.new.marks self.new.begun self.new.block.items more) }
         ensures err { IfErr result (λ fault. (more : List Line)
-            → EndsAtOnce fault (blocks_from self.old.begun self.old.block.items (line ∷ more))) }
+            → FailsAtOnce fault (remainder_from self.old.marks self.old.begun self.old.block.items (line ∷ more))) }
     {
         if is_comment(&line) {
             return match self.block.is_empty() {
@@ -480,10 +499,11 @@ impl Unfolder {
 
     /// Ends the text: what is in hand is its last line. Answers the last block.
     pub(crate) fn finish(&mut self, spare: &mut Spare) -> Result<Vec<Line>, StreamFault>
-        requires { self.old.number < 2 ^ 63 }
+        requires going { self.old.marks.is_over ≡ false }
+        requires given { self.old.number < 2 ^ 63 }
         ensures number { self.new.number ≤ self.old.number + 1 }
-        ensures ok { IfOk result (λ block. blocks_to_come self.old [] ≡ block_then block.items []) }
-        ensures err { IfErr result (λ fault. EndsAtOnce fault (blocks_to_come self.old [])) }
+        ensures ok { IfOk result (λ block. to_come self.old [] ≡ then_rest block.items (done self.new.marks.passed)) }
+        ensures err { IfErr result (λ fault. FailsAtOnce fault (to_come self.old [])) }
     {
         self.finish_partial_line(spare)?;
         self.finish_last_line()?;
@@ -492,10 +512,11 @@ impl Unfolder {
 
     /// Finishes the physical line in hand, if there is one: the text has ended.
     fn finish_partial_line(&mut self, spare: &mut Spare) -> Result<(), StreamFault>
-        requires { self.old.number < 2 ^ 63 }
+        requires going { self.old.marks.is_over ≡ false }
+        requires given { self.old.number < 2 ^ 63 }
         ensures number { self.new.number ≤ self.old.number + 1 }
-        ensures ok { OnOk result (blocks_to_come self.old [] ≡ blocks_to_come_with self.new []) }
-        ensures err { IfErr result (λ fault. EndsAtOnce fault (blocks_to_come self.old [])) }
+        ensures ok { OnOk result (to_come self.old [] ≡ to_come_with self.new []) }
+        ensures err { IfErr result (λ fault. FailsAtOnce fault (to_come self.old [])) }
     {
         if self.partial.is_empty() {
             return Ok(());
@@ -507,9 +528,12 @@ impl Unfolder {
     /// Adds the last line, if there is one, to the block: no line follows.
     fn finish_last_line(&mut self) -> Result<(), StreamFault>
         ensures number { self.new.number ≡ self.old.number }
-        ensures ok { OnOk result (blocks_to_come_with self.old [] ≡ block_then self.new.block.items []) }
-        ensures err { IfErr result (λ fault. EndsAtOnce fault (blocks_to_come_with self.old [])) }
+        ensures ok { OnOk result (to_come_with self.old [] ≡ then_rest self.new.block.items (done self.new.marks.passed)) }
+        ensures err { IfErr result (λ fault. FailsAtOnce fault (to_come_with self.old [])) }
     {
+        if self.is_over() {
+            return Ok(());
+        }
         match self.last.take() {
             Some(last) => self.push_to_block(last),
             None => Ok(()),

@@ -1,7 +1,7 @@
 use Rattle.std.proofs.lemmas.Result.{err_from_is_err_and}
 use Rattle.std.proofs.Common.{◌++◌, ap, sym, subst, ◌∙◌, arith}
-use Rattle.dir_ldif.specs.Reader.Unfolding.{blocks_to_come}
-use Rattle.dir_ldif.specs.Blocks.{EndsAtOnce}
+use Rattle.dir_ldif.specs.Reader.Unfolding.{to_come}
+use Rattle.dir_ldif.specs.Remainder.{FailsAtOnce}
 use Rattle.dir_ldif.proofs.BytesLemmas.{cut_at-text, cut_at-lacks}
 use Rattle.dir_ldif.proofs.UnfolderLemmas.{piece_first, length-piece, front_more}
 use Rattle.dir_ldif.proofs.reader.unfolder.Unfolder.push_chunk.Goals as goal
@@ -17,10 +17,10 @@ loop-text-preserved c =
     let shorter = length-piece c.loop-text.rest.now c.in-Some.text.now c.in-Some.after.now c.in-Some.ensures in (
       omega (arith, shorter),
       omega (arith, shorter),
-      front_more c.args.self.now c.loop-text.self c.args.chunk.now c.loop-text.rest.now c.in-Some.text.now c.in-Some.after.now c.in-Some.ensures c.loop-text.invariant.2 (blocks_to_come c.finish_line.new.self) (rw c.in_default-2.is at c.in_ok-block.ensures.ok),
+      front_more c.args.self.now c.loop-text.self c.args.chunk.now c.loop-text.rest.now c.in-Some.text.now c.in-Some.after.now c.in-Some.ensures c.loop-text.invariant.2 (to_come c.finish_line.new.self) (rw c.in_default-2.is at c.in_ok-block.ensures.ok),
       λ text.
           let first = piece_first c.loop-text.rest.now c.in-Some.text.now c.in-Some.after.now c.in-Some.ensures text in
-          c.loop-text.invariant.3 text ∙ ap (blocks_to_come c.loop-text.self) first ∙ (rw c.in_default-2.is at c.in_ok-block.ensures.ok) (c.in-Some.after.now ++ text),
+          c.loop-text.invariant.3 text ∙ ap (to_come c.loop-text.self) first ∙ (rw c.in_default-2.is at c.in_ok-block.ensures.ok) (c.in-Some.after.now ++ text),
     )
 
 pub returns-in-Some-2-clause-left : goal.returns-in-Some-2-clause-left
@@ -37,7 +37,7 @@ pub returns-in-Some-2-clause-ok : goal.returns-in-Some-2-clause-ok
 returns-in-Some-2-clause-ok c =
     λ text.
     let first = piece_first c.loop-text.rest.now c.in-Some.text.now c.in-Some.after.now c.in-Some.ensures text in
-    c.loop-text.invariant.3 text ∙ ap (blocks_to_come c.loop-text.self) first ∙ (rw c.in-Some-2.is at c.in_ok-block.ensures.ok) (c.in-Some.after.now ++ text)
+    c.loop-text.invariant.3 text ∙ ap (to_come c.loop-text.self) first ∙ (rw c.in-Some-2.is at c.in_ok-block.ensures.ok) (c.in-Some.after.now ++ text)
 
 pub returns-in_err-block-clause-err : goal.returns-in_err-block-clause-err
 returns-in_err-block-clause-err c =
@@ -45,7 +45,7 @@ returns-in_err-block-clause-err c =
     rw (e.1, e.2) (
     λ text.
     let first = piece_first c.loop-text.rest.now c.in-Some.text.now c.in-Some.after.now c.in-Some.ensures text in
-    subst (EndsAtOnce c.in_err-block.field-0.0) (sym (c.loop-text.invariant.3 text ∙ ap (blocks_to_come c.loop-text.self) first)) (c.in_err-block.ensures.err (c.in-Some.after.now ++ text))
+    subst (FailsAtOnce c.in_err-block.field-0.0) (sym (c.loop-text.invariant.3 text ∙ ap (to_come c.loop-text.self) first)) (c.in_err-block.ensures.err (c.in-Some.after.now ++ text))
     )
 
 pub push_partial_line-requires : goal.push_partial_line-requires
