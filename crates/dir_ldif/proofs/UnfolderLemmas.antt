@@ -3,19 +3,44 @@ use Rattle.std.proofs.Common.{◌≡◌, ℕ, ◌+◌, Bool, true, false, eqb, �
 use Rattle.std.specs.List.{list_any}
 use Rattle.dir_ldif.specs.declared.faults.StreamFault.{StreamFault}
 use Rattle.dir_ldif.specs.declared.reader.unfolder.Unfolder.{Unfolder}
-use Rattle.dir_ldif.specs.Bytes.{is_empty, without_last, cut_at}
-use Rattle.dir_ldif.specs.LogicalLines.{Line, cut, is_lf, physical_lines}
+use Rattle.dir_ldif.specs.Bytes.{begins_with, is_empty, without_last, cut_at}
+use Rattle.dir_ldif.specs.LogicalLines.{Line, cut, is_lf, logical_lines, physical_lines}
 use Rattle.dir_ldif.specs.Remainder.{FailsAtOnce, Remainder, done, remainder_from, then_rest}
 use Rattle.dir_ldif.specs.declared.reader.marks.Marks.{Marks}
 use Rattle.dir_ldif.specs.Reader.Unfolding.{to_come, to_come_with, lines_after}
 use Rattle.dir_ldif.specs.Inside.Unfolder.{TakesLine, after_block}
 use Rattle.dir_ldif.proofs.BytesLemmas.{cut_at-text}
-use Rattle.dir_ldif.proofs.LogicalLineLemmas.{line_first, line_alone}
+use Rattle.dir_ldif.proofs.LogicalLineLemmas.{line_first, line_alone, logical_lines-apart}
 
 -- the last line is complete, and none follows
 pub closed_end : (m m' : Marks) (begun begun' : Bool) (block block' : List Line) (o : Option Line) (last : Line) → o ≡ Some last
     → ((more : List Line) → remainder_from m begun block (last ∷ more) ≡ remainder_from m' begun' block' more) → remainder_from m begun block (lines_after o []) ≡ then_rest block' (done m'.passed)
 closed_end m m' begun begun' block block' o last is h = rw is (h [])
+
+pub closed_end_fails : (m : Marks) (begun : Bool) (block : List Line) (fault : StreamFault) (o : Option Line) (last : Line) → o ≡ Some last
+    → ((more : List Line) → FailsAtOnce fault (remainder_from m begun block (last ∷ more))) → FailsAtOnce fault (remainder_from m begun block (lines_after o []))
+closed_end_fails m begun block fault o last is h = rw is (h [])
+
+-- ---- a text that a mark has ended
+
+over_done : (m : Marks) (begun : Bool) (lines : List Line) → m.is_over ≡ true → remainder_from m begun [] lines ≡ done m.passed
+over_done m begun [] e = refl
+over_done m begun (line ∷ rest) e = rw e refl
+
+-- nothing is left, whatever lines follow
+pub over_any : (u : Unfolder) (lines : List Line) → u.marks.is_over ≡ true → remainder_from u.marks u.begun u.block.items lines ≡ done u.marks.passed
+over_any u lines e = rw (u.ended e) (over_done u.marks u.begun lines e)
+
+-- so what follows makes no difference
+pub over_same : (u : Unfolder) (lines more : List Line) → u.marks.is_over ≡ true → remainder_from u.marks u.begun u.block.items lines ≡ remainder_from u.marks u.begun u.block.items more
+over_same u lines more e = over_any u lines e ∙ sym (over_any u more e)
+
+-- the last line was complete, and was the mark
+pub over_apart : (m : Marks) (begun : Bool) (block : List Line) (o : Option Line) (last : Line) (n : ℕ) (text : List ℕ) (k : Unfolder) → o ≡ Some last → begins_with 32 text ≡ false
+    → ((after : List Line) → remainder_from m begun block (last ∷ after) ≡ remainder_from k.marks k.begun k.block.items after) → k.marks.is_over ≡ true
+    → (more : List Line) → remainder_from m begun block (lines_after o ((n, text) ∷ more)) ≡ to_come_with k more
+over_apart m begun block o last n text k is space closed over more =
+    rw is (ap (remainder_from m begun block) (logical_lines-apart last n text more space) ∙ closed (logical_lines ((n, text) ∷ more)) ∙ over_same k (logical_lines ((n, text) ∷ more)) (lines_after k.last more) over)
 
 pub some_of_count : (xs : List ℕ) (n : ℕ) → n ≡ length xs → eqb n 0 ≡ false → is_empty xs ≡ false
 some_of_count [] n e h = let never : true ≡ false = rw e at h in cc

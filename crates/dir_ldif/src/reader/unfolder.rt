@@ -223,6 +223,7 @@ impl Unfolder {
     fn take_block(&mut self) -> Vec<Line>
         ensures block { result.items ≡ self.old.block.items }
         ensures empty { self.new.block.items ≡ [] }
+        ensures marks { self.new.marks ≡ self.old.marks }
         ensures begun { self.new.begun ≡ self.old.begun }
         ensures last { self.new.last ≡ self.old.last }
         ensures number { self.new.number ≡ self.old.number }

@@ -3,8 +3,11 @@ use Rattle.std.proofs.Common.{◌++◌, ap, sym, subst, ◌∙◌, arith}
 use Rattle.dir_ldif.specs.Reader.Unfolding.{to_come}
 use Rattle.dir_ldif.specs.Remainder.{FailsAtOnce}
 use Rattle.dir_ldif.proofs.BytesLemmas.{cut_at-text, cut_at-lacks}
-use Rattle.dir_ldif.proofs.UnfolderLemmas.{piece_first, length-piece, front_more}
+use Rattle.dir_ldif.proofs.UnfolderLemmas.{piece_first, length-piece, front_more, over_same}
 use Rattle.dir_ldif.proofs.reader.unfolder.Unfolder.push_chunk.Goals as goal
+
+pub finish_line-requires-clause-going : goal.finish_line-requires-clause-going
+finish_line-requires-clause-going c = c.loop-text.invariant.4
 
 pub finish_line-requires-clause-line : goal.finish_line-requires-clause-line
 finish_line-requires-clause-line c = (cut_at-text 10 c.loop-text.rest.now c.in-Some.text.now c.in-Some.after.now c.in-Some.ensures).1
@@ -21,6 +24,7 @@ loop-text-preserved c =
       λ text.
           let first = piece_first c.loop-text.rest.now c.in-Some.text.now c.in-Some.after.now c.in-Some.ensures text in
           c.loop-text.invariant.3 text ∙ ap (to_come c.loop-text.self) first ∙ (rw c.in_default-2.is at c.in_ok-block.ensures.ok) (c.in-Some.after.now ++ text),
+      cc,
     )
 
 pub returns-in-Some-2-clause-left : goal.returns-in-Some-2-clause-left
@@ -48,5 +52,14 @@ returns-in_err-block-clause-err c =
     subst (FailsAtOnce c.in_err-block.field-0.0) (sym (c.loop-text.invariant.3 text ∙ ap (to_come c.loop-text.self) first)) (c.in_err-block.ensures.err (c.in-Some.after.now ++ text))
     )
 
-pub push_partial_line-requires : goal.push_partial_line-requires
-push_partial_line-requires c = cut_at-lacks 10 c.loop-text.rest.now c.in_default.ensures
+pub push_partial_line-requires-clause-going : goal.push_partial_line-requires-clause-going
+push_partial_line-requires-clause-going c = c.loop-text.invariant.4
+
+pub push_partial_line-requires-clause-given : goal.push_partial_line-requires-clause-given
+push_partial_line-requires-clause-given c = cut_at-lacks 10 c.loop-text.rest.now c.in_default.ensures
+
+pub returns-then-is_over-clause-ok : goal.returns-then-is_over-clause-ok
+returns-then-is_over-clause-ok c =
+    λ text.
+    let first = piece_first c.loop-text.rest.now c.in-Some.text.now c.in-Some.after.now c.in-Some.ensures text in
+    c.loop-text.invariant.3 text ∙ ap (to_come c.loop-text.self) first ∙ (rw c.in_default-2.is at c.in_ok-block.ensures.ok) (c.in-Some.after.now ++ text) ∙ over_same c.finish_line.new.self _ _ (cc)

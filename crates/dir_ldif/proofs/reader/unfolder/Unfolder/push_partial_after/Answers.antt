@@ -5,6 +5,7 @@ use Rattle.dir_ldif.specs.Remainder.{FailsAtOnce}
 use Rattle.dir_ldif.proofs.BytesLemmas.{begins_with-append}
 use Rattle.dir_ldif.proofs.LogicalLineLemmas.{some_of_begins}
 use Rattle.dir_ldif.proofs.PartialLines.{apart_Ends, closed_before, grown_Ends, grown_to_come}
+use Rattle.dir_ldif.proofs.UnfolderLemmas.{over_same}
 use Rattle.dir_ldif.proofs.reader.unfolder.Unfolder.push_partial_after.Goals as goal
 
 pub returns-then-begins_with_space-clause-ok : goal.returns-then-begins_with_space-clause-ok
@@ -57,3 +58,12 @@ returns-in_err-push_to_block-clause-err c =
     rw (e.1, e.2) (
     apart_Ends c.in_err-push_to_block.field-0.0 j.marks j.begun j.block.items c.args.last j.number line c.requires.line c.requires.some apart c.in_err-push_to_block.ensures.err
     )
+
+pub returns-then-is_over-clause-ok : goal.returns-then-is_over-clause-ok
+returns-then-is_over-clause-ok c =
+    let j = c.args.self.now in
+    let k = c.push_to_block.new.self in
+    let line = c.args.front.items ++ c.args.back.now in
+    let first : begins_with 32 c.parts_without_cr.result.0.now ≡ begins_with 32 (without_last 13 line) = c.parts_without_cr.ensures.first ∙ ap (λ t. begins_with 32 (without_last 13 (t ++ c.args.back.now))) c.as_slice.ensures.value in
+    let apart : begins_with 32 (without_last 13 line) ≡ false = cc in
+    λ text. closed_before j.marks k.marks j.begun k.begun j.block.items k.block.items c.args.last j.number k.number line c.requires.line c.requires.some apart c.in_ok-push_to_block.ensures.ok c.push_to_block.ensures.number text ∙ over_same k _ _ (cc)
