@@ -19,6 +19,7 @@ pub mod PhysicalLines
 pub mod ReadIsLegal
 pub mod ReadIsSound
 pub mod RecordsLemmas
+mod RemainderLemmas
 pub mod Rfc
 pub mod RoundTrip
 pub mod ScanLemmas

@@ -26,6 +26,12 @@ marks_in (holds b rest) = marks_in rest
 marks_in (fails f) = None
 marks_in (done n) = Some n
 
+-- no block is left
+abbrev pub NoBlock : Remainder → Type 0
+NoBlock (holds b rest) = ⊥
+NoBlock (fails f) = Unit {0}
+NoBlock (done n) = Unit {0}
+
 -- a block before what follows it, if it has a line
 abbrev pub then_rest : List Line → Remainder → Remainder
 then_rest [] rest = rest

@@ -1,7 +1,8 @@
 //! The reader: it takes the bytes of a source in pieces, unfolds their lines (`unfolder`), and reads each block of
 //! lines as a record (`parser`).
 
-ghost use Rattle.std.specs.Prelude.{◌≡◌, ◌+◌, ◌-◌, ◌*◌, ◌++◌, ◌∷◌, ◌^◌, ◌<◌, ◌≤◌, [], All, Err, IfErr, IfOk, OnOk, length, vec_len};
+ghost use Rattle.std.specs.Prelude.{◌≡◌, ◌+◌, ◌-◌, ◌*◌, ◌++◌, ◌∷◌, ◌^◌, ◌<◌, ◌≤◌, [], All, Err, IfErr, IfOk, OnOk, false, length, vec_len};
+ghost use Rattle.dir_ldif.specs.declared.reader.Place.TheVariants.{Reading};
 ghost use Rattle.dir_ldif.specs.Limits.{most_read_calls};
 ghost use Rattle.dir_ldif.specs.Records.{EndsIn, all_found, found_of, records_of};
 ghost use Rattle.dir_ldif.specs.SoundRecords.{IsLegalFound, IsSoundFound};
@@ -186,25 +187,28 @@ struct Core {
     ghost in_range: { at ≤ end },
     ghost in_buffer: { end ≤ vec_len buffer },
     ghost piece: { vec_len buffer ≡ 8192 },
+    ghost going: { place ≡ Reading → unfolder.marks.is_over ≡ false },
     ghost room: { unfolder.number + (end - at) + 8192 * turns < 2 ^ 62 },
 }
 
 impl Core {
-    ghost use Rattle.std.specs.Prelude.{◌≡◌, ◌+◌, ◌++◌, ◌*◌, ◌^◌, ◌<◌, ◌≤◌, ℕ, List, [], None, Ok, Err, true, false, IfErr, IfNone, IfOk, IfSome, MatchOption, OnOk, length};
+    ghost use Rattle.std.specs.Prelude.{◌≡◌, ◌⊎◌, ◌+◌, ◌++◌, ◌*◌, ◌^◌, ◌<◌, ◌≤◌, ℕ, List, [], None, Ok, Err, true, false, IfErr, IfNone, IfOk, IfSome, MatchOption, OnOk, length};
     ghost use Rattle.std.specs.Io.KnownBytes.{Consumes, IsAtEnd};
     ghost use Rattle.dir_ldif.specs.declared.reader.Place.TheVariants.{AtEnd, Ended, Reading};
     ghost use Rattle.dir_ldif.specs.Reader.Answers.{EndsSoon, ExplainsFault, GivesFirst, GivesNone, GoesOn, answers_left};
     ghost use Rattle.dir_ldif.specs.SoundRecords.{IsLegalFound, IsSoundFound};
     ghost use Rattle.dir_ldif.specs.Bytes.{is_empty};
     ghost use Rattle.dir_ldif.specs.Inside.Reader.{FailsToRead};
-    ghost use Rattle.dir_ldif.specs.Reader.Unfolding.{blocks_to_come};
-    ghost use Rattle.dir_ldif.specs.Blocks.{EndsAtOnce, block_then, blocks_of};
+    ghost use Rattle.dir_ldif.specs.Reader.Unfolding.{to_come};
+    ghost use Rattle.dir_ldif.specs.LogicalLines.{lines_of};
+    ghost use Rattle.dir_ldif.specs.Remainder.{FailsAtOnce, done, remainder_from, then_rest};
     ghost use Rattle.dir_ldif.specs.Inside.Reader.{Finds, Stops, StopsSoon, Uses};
-    ghost use Rattle.dir_ldif.specs.Reader.Answers.{IsInPieces, blocks_left, bytes_ahead, hand};
+    ghost use Rattle.dir_ldif.specs.Reader.Answers.{IsInPieces, to_read, bytes_ahead, hand};
 
     fn new(alloc: Global, turns: u64, marks: Marks) -> Result<Core, StreamFault>
-        requires { turns ≤ most_read_calls }
-        ensures text { IfOk result (λ c. (text : List ℕ) → blocks_to_come c.unfolder text ≡ blocks_of text) }
+        requires turns { turns ≤ most_read_calls }
+        requires going { marks.is_over ≡ false }
+        ensures text { IfOk result (λ c. (text : List ℕ) → to_come c.unfolder text ≡ remainder_from marks false [] (lines_of text)) }
         ensures fresh { IfOk result (λ c. hand c ≡ []) }
         ensures place { IfOk result (λ c. c.place ≡ Reading) }
         ensures turns { IfOk result (λ c. c.turns ≡ turns) }
@@ -297,7 +301,7 @@ impl Core {
         requires { self.old.place ≡ Reading }
         ensures ok { IfOk result (λ block. (bytes : List ℕ)
             × Consumes (S.left source.old) (S.left source.new) bytes
-            × Finds self.new.place (blocks_left self.old) block.items (blocks_left self.new) bytes (S.left source.new)
+            × Finds self.new.place (to_read self.old) block.items (to_read self.new) self.new.unfolder.marks.passed bytes (S.left source.new)
             × (self.new.place ≡ Reading → (self.old.turns ≤ self.new.turns + length bytes) × (is_empty block.items ≡ false))) }
         ensures used { IfOk result (λ block. self.new.place ≡ Reading → Uses self.old self.new block.items (S.left source.old) (S.left source.new)) }
         ensures shrinks { IfOk result (λ _. bytes_ahead self.new < bytes_ahead self.old) }
@@ -313,8 +317,7 @@ impl Core {
             if let Some(block) = self.use_buffer()? {
                 return Ok(block);
             }
-            if self.unfolder.is_over() {
-                self.place = Place::AtEnd;
+            if self.place == Place::AtEnd {
                 return Ok(Vec::new(self.alloc));
             }
             if !self.read_more(source)? {
@@ -325,17 +328,18 @@ impl Core {
 
     /// Uses up the bytes in hand, to the end of a block if one ends in them. Answers that block, if there is one.
     fn use_buffer(&mut self) -> Result<Option<Vec<Line>>, StreamFault>
+        requires { self.old.place ≡ Reading }
         ensures turns { self.new.turns ≡ self.old.turns }
-        ensures place { self.new.place ≡ self.old.place }
+        ensures place { IfOk result (λ o. MatchOption o ((self.new.place ≡ Reading) ⊎ ((self.new.place ≡ AtEnd) × (self.new.unfolder.marks.is_over ≡ true))) (λ _. self.new.place ≡ Reading)) }
         ensures ok { IfOk result (λ o. MatchOption o
-            ((text : List ℕ) → blocks_left self.old text ≡ blocks_to_come self.new.unfolder text)
-            (λ block. (text : List ℕ) → blocks_left self.old text ≡ block_then block.items (blocks_left self.new text))) }
+            ((text : List ℕ) → to_read self.old text ≡ to_come self.new.unfolder text)
+            (λ block. (text : List ℕ) → to_read self.old text ≡ then_rest block.items (to_read self.new text))) }
         ensures used { IfOk result (λ o. IfSome o (λ block. (used : List ℕ) × (hand self.old ≡ used ++ hand self.new)
-            × ((text : List ℕ) → blocks_to_come self.old.unfolder (used ++ text) ≡ block_then block.items (blocks_to_come self.new.unfolder text)))) }
+            × ((text : List ℕ) → to_come self.old.unfolder (used ++ text) ≡ then_rest block.items (to_come self.new.unfolder text)))) }
         ensures shorter { IfOk result (λ o. IfSome o (λ _. length (hand self.new) < length (hand self.old))) }
         ensures none { IfOk result (λ o. IfNone o (self.new.at ≡ self.new.end)) }
         ensures some { IfOk result (λ o. IfSome o (λ block. is_empty block.items ≡ false)) }
-        ensures err { IfErr result (λ fault. (text : List ℕ) → EndsAtOnce fault (blocks_left self.old text)) }
+        ensures err { IfErr result (λ fault. (text : List ℕ) → FailsAtOnce fault (to_read self.old text)) }
     {
         let piece = &self.buffer[self.at..self.end];
         match self.unfolder.push_chunk(&mut self.spare, piece) {
@@ -345,10 +349,14 @@ impl Core {
             }
             Ok(None) => {
                 self.at = self.end;
+                if self.unfolder.is_over() {
+                    self.place = Place::AtEnd;
+                }
                 Ok(None)
             }
             Err(fault) => {
                 self.at = self.end;
+                self.place = Place::Ended;
                 Err(fault)
             }
         }
@@ -386,12 +394,13 @@ impl Core {
     /// Ends the text, and answers the last block.
     fn finish(&mut self) -> Result<Vec<Line>, StreamFault>
         requires empty { hand self.old ≡ [] }
+        requires going { self.old.unfolder.marks.is_over ≡ false }
         requires room { self.old.unfolder.number + 8192 * self.old.turns + 1 < 2 ^ 62 }
         ensures place { self.new.place ≡ AtEnd }
         ensures empty { hand self.new ≡ [] }
         ensures turns { self.new.turns ≡ self.old.turns }
-        ensures ok { IfOk result (λ block. blocks_left self.old [] ≡ block_then block.items []) }
-        ensures err { IfErr result (λ fault. EndsAtOnce fault (blocks_left self.old [])) }
+        ensures ok { IfOk result (λ block. to_read self.old [] ≡ then_rest block.items (done self.new.unfolder.marks.passed)) }
+        ensures err { IfErr result (λ fault. FailsAtOnce fault (to_read self.old [])) }
     {
         self.place = Place::AtEnd;
         self.at = 0;

@@ -1,7 +1,7 @@
 use Rattle.std.proofs.lemmas.Result.{err_from_is_err_and}
 use Rattle.std.proofs.Common.{◌≡◌, ℕ, ◌<◌, List, ◌++◌, length, sym, ap, subst, ◌∙◌, length-append, arith}
-use Rattle.dir_ldif.specs.Reader.Unfolding.{blocks_to_come}
-use Rattle.dir_ldif.specs.Reader.Answers.{blocks_left, hand}
+use Rattle.dir_ldif.specs.Reader.Unfolding.{to_come}
+use Rattle.dir_ldif.specs.Reader.Answers.{to_read, hand}
 use Rattle.dir_ldif.specs.Inside.Reader.{FailsToRead}
 use Rattle.dir_ldif.proofs.HandLemmas.{more_read}
 use Rattle.dir_ldif.proofs.WhyStopped.{Consumes-none, hand_stops, read_stops}
@@ -22,8 +22,8 @@ returns-in_err-read_more-clause-err g c =
     let so_far = c.loop-block.invariant.3 in
     let old = c.args.self.now in
     let new = c.read_more.new.self in
-    let taken : (text : List ℕ) → blocks_left c.loop-block.self text ≡ blocks_to_come c.use_buffer.new.self.unfolder text = rw c.in_default.is at c.in_ok-block.ensures.ok in
-    let same : (text : List ℕ) → blocks_left old (so_far.0 ++ text) ≡ blocks_to_come new.unfolder text = λ text. so_far.2 text ∙ taken text ∙ ap (λ j. blocks_to_come j text) (sym c.read_more.ensures.unfolder) in
+    let taken : (text : List ℕ) → to_read c.loop-block.self text ≡ to_come c.use_buffer.new.self.unfolder text = rw c.in_default.is at c.in_ok-block.ensures.ok in
+    let same : (text : List ℕ) → to_read old (so_far.0 ++ text) ≡ to_come new.unfolder text = λ text. so_far.2 text ∙ taken text ∙ ap (λ j. to_come j text) (sym c.read_more.ensures.unfolder) in
     rw (e.1, e.2) (
     let failed = c.in_err-read_more.ensures.err in (
       so_far.0,
@@ -37,9 +37,9 @@ loop-block-preserved g c =
     let so_far = c.loop-block.invariant.3 in
     let old = c.args.self.now in
     let new = c.read_more.new.self in
-    let taken : (text : List ℕ) → blocks_left c.loop-block.self text ≡ blocks_to_come c.use_buffer.new.self.unfolder text = rw c.in_default.is at c.in_ok-block.ensures.ok in
-    let same : (text : List ℕ) → blocks_left c.loop-block.self (hand new ++ text) ≡ blocks_left new text = λ text. taken (hand new ++ text) ∙ ap (λ j. blocks_to_come j (hand new ++ text)) (sym c.read_more.ensures.unfolder) in
-    let more = more_read (blocks_left old) (blocks_left c.loop-block.self) (blocks_left new) _ _ _ so_far.0 (hand new) so_far.1 so_far.2 c.read_more.ensures.bytes same in
+    let taken : (text : List ℕ) → to_read c.loop-block.self text ≡ to_come c.use_buffer.new.self.unfolder text = rw c.in_default.is at c.in_ok-block.ensures.ok in
+    let same : (text : List ℕ) → to_read c.loop-block.self (hand new ++ text) ≡ to_read new text = λ text. taken (hand new ++ text) ∙ ap (λ j. to_come j (hand new ++ text)) (sym c.read_more.ensures.unfolder) in
+    let more = more_read (to_read old) (to_read c.loop-block.self) (to_read new) _ _ _ so_far.0 (hand new) so_far.1 so_far.2 c.read_more.ensures.bytes same in
     let some : 0 < length (hand new) = c.in_ok-read_more.ensures.some (cc) in (
       c.read_more.ensures.place ∙ c.use_buffer.ensures.place ∙ c.loop-block.invariant.0,
       g.met.S.Source.same_trans _ _ _ c.loop-block.invariant.1 c.read_more.ensures.same,
@@ -67,7 +67,7 @@ pub returns-then-not-branch-clause-soon : goal.returns-then-not-branch-clause-so
 returns-then-not-branch-clause-soon g c =
     let so_far = c.loop-block.invariant.3 in
     let mid = c.use_buffer.new.self.unfolder in
-    let taken : (text : List ℕ) → blocks_left c.loop-block.self text ≡ blocks_to_come mid text = rw c.in_default.is at c.in_ok-block.ensures.ok in
+    let taken : (text : List ℕ) → to_read c.loop-block.self text ≡ to_come mid text = rw c.in_default.is at c.in_ok-block.ensures.ok in
     let empty = c.in_ok-read_more.ensures.none (cc) in
     let took = Consumes-none _ _ _ so_far.0 (hand c.read_more.new.self) so_far.1 c.read_more.ensures.bytes empty.0 in
     any_err c.finish.result _ (λ fault. end_soon fault c.args.self.now c.loop-block.self mid _ _ so_far.0 took so_far.2 taken)
