@@ -1,14 +1,15 @@
 -- Lemmas on the bytes in hand and the blocks to come.
-use Rattle.std.proofs.Common.{◌≡◌, ℕ, ◌+◌, ◌-◌, ◌≤◌, List, ◌++◌, length, take, drop, sym, ap, ◌∙◌, append_assoc, length-append, Option, arith}
+use Rattle.std.proofs.Common.{◌≡◌, ℕ, ◌+◌, ◌-◌, ◌≤◌, List, ◌++◌, length, take, drop, sym, ap, ◌∙◌, append_assoc, length-append, [], true, Option, None, Some, IfSome, arith}
 use Rattle.std.proofs.lemmas.List.{drop-drop, drop-take, length-take, length-drop}
 use Rattle.std.proofs.Math.Seq.{drop-append_seam}
 use Rattle.std.specs.Io.KnownBytes.{Consumes}
-use Rattle.dir_ldif.specs.Remainder.{Remainder, then_rest}
+use Rattle.dir_ldif.specs.Remainder.{Remainder, done, then_rest}
 use Rattle.dir_ldif.specs.declared.reader.marks.Marks.{Marks}
 use Rattle.dir_ldif.specs.declared.reader.unfolder.Unfolder.{Unfolder}
 use Rattle.dir_ldif.specs.LogicalLines.{Line}
 use Rattle.dir_ldif.specs.Reader.Unfolding.{to_come}
 use Rattle.std.proofs.KnownBytes.{Consumes-trans}
+use Rattle.dir_ldif.proofs.UnfolderLemmas.{over_any}
 
 -- what is left of the hand
 pub hand_left : (buffer front rest : List ℕ) (at end : ℕ) → at ≤ end → end ≤ length buffer → take (end - at) (drop at buffer) ≡ front ++ rest
@@ -45,3 +46,9 @@ pub more_read : (old mid new : List ℕ → Remainder) (left left' left'' : Opti
     → Consumes left' left'' piece → ((text : List ℕ) → mid (piece ++ text) ≡ new text) → Consumes left left'' (bytes ++ piece) × ((text : List ℕ) → old ((bytes ++ piece) ++ text) ≡ new text)
 more_read old mid new left left' left'' bytes piece took h more e =
     (Consumes-trans left left' left'' bytes piece took more, λ text. ap old (append_assoc bytes piece text) ∙ h (piece ++ text) ∙ e text)
+
+-- a mark ended the text: nothing is left, whatever the source still gives
+pub over_found : (old : List ℕ → Remainder) (u : Unfolder) (block : List Line) (bytes : List ℕ) (left : Option (List ℕ)) → block ≡ [] → u.marks.is_over ≡ true → ((text : List ℕ) → old (bytes ++ text) ≡ to_come u text)
+    → IfSome left (λ text. old (bytes ++ text) ≡ then_rest block (done u.marks.passed))
+over_found old u block bytes None none over same = tt
+over_found old u block bytes (Some text) none over same = rw none (same text ∙ over_any u _ over)

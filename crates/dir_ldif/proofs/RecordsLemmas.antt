@@ -15,6 +15,8 @@ ends_in LineTooLong rows text found parts inv e =
     (found, ap (records_of rows) (sym (append-nil text)) ∙ inv ∙ ap (λ p. all_found found ++ answers_on rows p) e)
 ends_in BadVersion rows text found parts inv e =
     (found, ap (records_of rows) (sym (append-nil text)) ∙ inv ∙ ap (λ p. all_found found ++ answers_on rows p) e)
+ends_in BadMark rows text found parts inv e =
+    (found, ap (records_of rows) (sym (append-nil text)) ∙ inv ∙ ap (λ p. all_found found ++ answers_on rows p) e)
 ends_in Memory rows text found parts inv e = tt
 ends_in Read rows text found parts inv e = absurd e
 ends_in Ended rows text found parts inv e = absurd e

@@ -47,7 +47,7 @@ all_found found = map (λ (f : Found). Ok f) found
 abbrev pub EndsIn : StreamFault → List TypeRow → List ℕ → Type 0
 EndsIn LineTooLong rows text = (found : List Found) × (records_of rows text ≡ all_found found ++ Err LineTooLong ∷ [])
 EndsIn BadVersion rows text = (found : List Found) × (records_of rows text ≡ all_found found ++ Err BadVersion ∷ [])
-EndsIn BadMark rows text = ⊥
+EndsIn BadMark rows text = (found : List Found) × (records_of rows text ≡ all_found found ++ Err BadMark ∷ [])
 EndsIn TooManyTurns rows text = 9007199254732800 < length text
 EndsIn Memory rows text = Unit {0}
 EndsIn Read rows text = ⊥

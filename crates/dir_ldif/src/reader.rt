@@ -274,7 +274,7 @@ impl Core {
         ensures some { IfOk result (λ o. IfSome o (λ found. GivesFirst (Ok found)
             (answers_left schema.now self.old (S.left source.old)) (answers_left schema.now self.new (S.left source.new)))) }
         ensures used { IfOk result (λ o. IfSome o (λ found. self.new.place ≡ Reading → GoesOn found schema.now self.old self.new (S.left source.old) (S.left source.new))) }
-        ensures shrinks { IfOk result (λ _. bytes_ahead self.new < bytes_ahead self.old) }
+        ensures shrinks { IfOk result (λ o. IfSome o (λ _. bytes_ahead self.new < bytes_ahead self.old)) }
         ensures none { IfOk result (λ o. IfNone o (GivesNone (answers_left schema.now self.old (S.left source.old)) × (self.new.place ≡ AtEnd))) }
         ensures err { IfErr result (λ fault. ExplainsFault fault schema.now self.old (S.left source.old) (S.left source.new) (S.failures source.old) (S.failures source.new)) }
         ensures soon { IfErr result (λ fault. EndsSoon fault schema.now self.old (S.left source.old) (S.left source.new)) }
@@ -304,7 +304,7 @@ impl Core {
             × Finds self.new.place (to_read self.old) block.items (to_read self.new) self.new.unfolder.marks.passed bytes (S.left source.new)
             × (self.new.place ≡ Reading → (self.old.turns ≤ self.new.turns + length bytes) × (is_empty block.items ≡ false))) }
         ensures used { IfOk result (λ block. self.new.place ≡ Reading → Uses self.old self.new block.items (S.left source.old) (S.left source.new)) }
-        ensures shrinks { IfOk result (λ _. bytes_ahead self.new < bytes_ahead self.old) }
+        ensures shrinks { IfOk result (λ block. is_empty block.items ≡ false → bytes_ahead self.new < bytes_ahead self.old) }
         ensures err { IfErr result (λ fault. (bytes : List ℕ)
             × Consumes (S.left source.old) (S.left source.new) bytes
             × Stops fault self.old self.new bytes (S.left source.new) (S.failures source.old) (S.failures source.new)) }

@@ -163,6 +163,7 @@ impl Unfolder {
             ((text : List ℕ) → to_come self.old (chunk.now ++ text) ≡ to_come self.new text)
             (λ p. (text : List ℕ) → to_come self.old (chunk.now ++ text) ≡ then_rest p.0.items (to_come self.new (p.1.now ++ text)))) }
         ensures some { IfOk result (λ o. IfSome o (λ p. is_empty p.0.items ≡ false)) }
+        ensures going { IfOk result (λ o. IfSome o (λ _. self.new.marks.is_over ≡ false)) }
         ensures err { IfErr result (λ fault. (text : List ℕ) → FailsAtOnce fault (to_come self.old (chunk.now ++ text))) }
     {
         let mut rest = chunk;
@@ -194,6 +195,7 @@ impl Unfolder {
             ((rest : List ℕ) → to_come self.old (text.now ++ line_feed ∷ rest) ≡ to_come self.new rest)
             (λ block. (rest : List ℕ) → to_come self.old (text.now ++ line_feed ∷ rest) ≡ then_rest block.items (to_come self.new rest))) }
         ensures some { IfOk result (λ o. IfSome o (λ block. is_empty block.items ≡ false)) }
+        ensures going { IfOk result (λ o. IfSome o (λ _. self.new.marks.is_over ≡ false)) }
         ensures err { IfErr result (λ fault. (rest : List ℕ) → FailsAtOnce fault (to_come self.old (text.now ++ line_feed ∷ rest))) }
     {
         if self.finish_physical_line(spare, text)? {
@@ -212,6 +214,7 @@ impl Unfolder {
             (after_block self.old more ≡ to_come_with self.new more)
             (λ block. after_block self.old more ≡ then_rest block.items (to_come_with self.new more)) }
         ensures some { IfSome result (λ block. is_empty block.items ≡ false) }
+        ensures going { IfSome result (λ _. self.new.marks.is_over ≡ false) }
     {
         if self.block.is_empty() {
             return None;
