@@ -1,10 +1,17 @@
 -- What a reader that counts the groups of an undo text makes of a comment line.
-use Rattle.std.specs.Prelude.{ℕ, ◌+◌, Bool, true, not, ◌||◌, if◌then◌else◌, nat_lt, List, Option, None, Some, Result, Ok, Err, is_none}
+use Rattle.std.specs.Prelude.{ℕ, ◌+◌, Bool, false, true, not, ◌||◌, if◌then◌else◌, nat_lt, List, Option, None, Some, Result, Ok, Err, is_none}
 use Rattle.std.specs.Str.{bytes_eq}
 use Rattle.dir_ldif.specs.MarkText.{is_mark, mark_of}
 use Rattle.dir_ldif.specs.declared.faults.StreamFault.{StreamFault}
 use Rattle.dir_ldif.specs.declared.faults.StreamFault.TheVariants.{BadMark}
 use Rattle.dir_ldif.specs.declared.reader.marks.Marks.{Marks}
+
+-- the marks of a reader that has passed none: one for which a mark is a comment, and one of so many groups
+abbrev pub ignored : Marks
+ignored = record { groups = None; passed = 0; is_over = false }
+
+abbrev pub up_to : ℕ → Marks
+up_to groups = record { groups = Some groups; passed = 0; is_over = false }
 
 -- the marks once the one that is due was met: the text is over where it comes after the last wanted group
 abbrev pub after_due : ℕ → Marks → Marks

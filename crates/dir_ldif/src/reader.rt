@@ -62,7 +62,7 @@ impl<'s, R: Source + Drop> RecordReader<'s, R> {
     ghost use Rattle.std.specs.Option.{option_map};
     ghost use Rattle.dir_ldif.specs.Reader.Answers.{GivesFirst, GivesNone};
     ghost use Rattle.dir_ldif.specs.Reader.{GivesLegal, GivesSound, IsAtEnd, IsEnded, IsReading, ReadsPieces, SpendsTurns, StopsFor, StopsSoonFor, UsesUp, answers_to_come, answers_to_come_with, budget, in_hand, schema_of, source_of, turns_left};
-    ghost use Rattle.dir_ldif.specs.Records.{records_of};
+    ghost use Rattle.dir_ldif.specs.Records.{records_of, records_up_to};
 
     /// A reader that is allowed 1,099,511,627,776 read calls.
     ///
@@ -119,7 +119,13 @@ impl<'s, R: Source + Drop> RecordReader<'s, R> {
         schema: &'s Schema,
         source: R,
         groups: u64,
-    ) -> Result<RecordReader<'s, R>, StreamFault> {
+    ) -> Result<RecordReader<'s, R>, StreamFault>
+        ensures answers { IfOk result (λ r. answers_to_come R.left r ≡ option_map (records_up_to schema.now groups) (R.left source)) }
+        ensures ahead { IfOk result (λ r. (in_hand r ≡ []) × ((text : List ℕ) → answers_to_come_with r text ≡ records_up_to schema.now groups text)) }
+        ensures turns { IfOk result (λ r. turns_left r ≡ most_read_calls) }
+        ensures source { IfOk result (λ r. (source_of r ≡ source) × (schema_of r ≡ schema.now) × IsReading r) }
+        ensures err { IfErr result (λ fault. fault ≡ StreamFault.Memory) }
+    {
         Ok(RecordReader {
             schema,
             source,

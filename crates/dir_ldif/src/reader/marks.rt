@@ -23,11 +23,11 @@ pub(crate) struct Marks {
 
 impl Marks {
     ghost use Rattle.std.specs.Prelude.{◌≡◌, IfErr, None, Ok, OnOk, Some, false, true};
-    ghost use Rattle.dir_ldif.specs.Marks.{after_comment, may_have_records};
+    ghost use Rattle.dir_ldif.specs.Marks.{after_comment, ignored, may_have_records, up_to};
 
     /// A mark is a comment.
     pub(crate) fn ignored() -> Marks
-        ensures { (result.groups ≡ None) × (result.passed ≡ 0) × (result.is_over ≡ false) }
+        ensures { result ≡ ignored }
     {
         Marks {
             groups: None,
@@ -38,7 +38,7 @@ impl Marks {
 
     /// The text ends before the mark after so many.
     pub(crate) fn up_to(groups: u64) -> Marks
-        ensures { (result.groups ≡ Some groups) × (result.passed ≡ 0) × (result.is_over ≡ false) }
+        ensures { result ≡ up_to groups }
     {
         Marks {
             groups: Some(groups),

@@ -112,12 +112,13 @@ impl Unfolder {
     ghost use Rattle.dir_ldif.specs.Inside.Unfolder.{TakesLine, after_block};
     ghost use Rattle.dir_ldif.specs.Inside.Bounds.{has_room, may_be_continued};
     ghost use Rattle.dir_ldif.specs.LogicalLines.{Line, cut, is_lf, is_long, lines_of, logical_lines, physical_lines};
+    ghost use Rattle.dir_ldif.specs.Marks.{ignored};
     ghost use Rattle.dir_ldif.specs.Remainder.{FailsAtOnce, Remainder, done, remainder_from, then_rest};
 
     pub(crate) fn new(alloc: Global, marks: Marks) -> Unfolder
         ensures number { result.number ≡ 1 }
         ensures text { (text : List ℕ) → to_come result text ≡ remainder_from marks false [] (lines_of text) }
-        ensures going { marks.is_over ≡ false → result.marks.is_over ≡ false }
+        ensures marks { result.marks ≡ marks }
     {
         Unfolder {
             block: Vec::new(alloc),
@@ -153,6 +154,7 @@ impl Unfolder {
     ) -> Result<Option<(Vec<Line>, &'a [u8])>, StreamFault>
         requires going { self.old.marks.is_over ≡ false }
         requires given { self.old.number + length chunk.now < 2 ^ 63 }
+        ensures ignored { self.old.marks ≡ ignored → self.new.marks ≡ ignored }
         ensures number { self.new.number ≤ self.old.number + length chunk.now }
         ensures left { IfOk result (λ o. IfSome o
             (λ p. self.new.number + length p.1.now ≤ self.old.number + length chunk.now)) }
@@ -190,6 +192,7 @@ impl Unfolder {
         requires going { self.old.marks.is_over ≡ false }
         requires room { self.old.number < 2 ^ 63 }
         requires line { list_any is_lf text.now ≡ false }
+        ensures ignored { self.old.marks ≡ ignored → self.new.marks ≡ ignored }
         ensures number { self.new.number ≡ self.old.number + 1 }
         ensures ok { IfOk result (λ o. MatchOption o
             ((rest : List ℕ) → to_come self.old (text.now ++ line_feed ∷ rest) ≡ to_come self.new rest)
@@ -208,6 +211,7 @@ impl Unfolder {
     /// Finishes the block in hand: moves it out, if it has a line.
     fn finish_block(&mut self) -> Option<Vec<Line>>
         requires { self.old.last ≡ None }
+        ensures ignored { self.old.marks ≡ ignored → self.new.marks ≡ ignored }
         ensures number { self.new.number ≡ self.old.number }
         ensures partial { self.new.partial ≡ self.old.partial }
         ensures blocks { (more : List Line) → MatchOption result
@@ -224,6 +228,7 @@ impl Unfolder {
 
     /// Moves the block out.
     fn take_block(&mut self) -> Vec<Line>
+        ensures ignored { self.old.marks ≡ ignored → self.new.marks ≡ ignored }
         ensures block { result.items ≡ self.old.block.items }
         ensures empty { self.new.block.items ≡ [] }
         ensures marks { self.new.marks ≡ self.old.marks }
@@ -244,6 +249,7 @@ impl Unfolder {
     fn push_partial_line(&mut self, chunk: &[u8]) -> Result<(), StreamFault>
         requires going { self.old.marks.is_over ≡ false }
         requires given { list_any is_lf chunk.now ≡ false }
+        ensures ignored { self.old.marks ≡ ignored → self.new.marks ≡ ignored }
         ensures number { self.new.number ≡ self.old.number }
         ensures ok { OnOk result ((text : List ℕ) → to_come self.old (chunk.now ++ text) ≡ to_come self.new text) }
         ensures err { IfErr result (λ fault. (text : List ℕ) → FailsAtOnce fault (to_come self.old (chunk.now ++ text))) }
@@ -270,6 +276,7 @@ impl Unfolder {
         requires continuable { may_be_continued (Some last) ≡ true }
         requires line { list_any is_lf (front.items ++ back.now) ≡ false }
         requires some { is_empty (front.items ++ back.now) ≡ false }
+        ensures ignored { self.old.marks ≡ ignored → self.new.marks ≡ ignored }
         ensures number { self.new.number ≡ self.old.number }
         ensures ok { OnOk result ((text : List ℕ) → remainder_from self.old.marks self.old.begun self.old.block.items
             (logical_lines (last ∷ physical_lines self.old.number (cut is_lf ((front.items ++ back.now) ++ text)))) ≡ to_come self.new text) }
@@ -301,6 +308,7 @@ impl Unfolder {
         requires none { (self.old.partial.items ≡ []) × (self.old.last ≡ None) }
         requires continuable { may_be_continued (Some last) ≡ true }
         requires space { begins_with space front.now ≡ true }
+        ensures ignored { self.old.marks ≡ ignored → self.new.marks ≡ ignored }
         ensures number { self.new.number ≡ self.old.number }
         ensures block { (self.new.begun ≡ self.old.begun) × (self.new.block ≡ self.old.block) × (self.new.marks ≡ self.old.marks) }
         ensures ok { OnOk result ((self.new.last ≡ Some (last.0, last.1 ++ drop 1 (front.now ++ back.now)))
@@ -323,6 +331,7 @@ impl Unfolder {
         requires going { self.old.marks.is_over ≡ false }
         requires none { self.old.last ≡ None }
         requires line { list_any is_lf (front.items ++ back.now) ≡ false }
+        ensures ignored { self.old.marks ≡ ignored → self.new.marks ≡ ignored }
         ensures number { self.new.number ≡ self.old.number }
         ensures ok { OnOk result ((text : List ℕ) → remainder_from self.old.marks self.old.begun self.old.block.items
             (logical_lines (physical_lines self.old.number (cut is_lf ((front.items ++ back.now) ++ text)))) ≡ to_come self.new text) }
@@ -344,6 +353,7 @@ impl Unfolder {
     fn finish_physical_line(&mut self, spare: &mut Spare, text: &[u8]) -> Result<bool, StreamFault>
         requires going { self.old.marks.is_over ≡ false }
         requires room { self.old.number < 2 ^ 63 }
+        ensures ignored { self.old.marks ≡ ignored → self.new.marks ≡ ignored }
         ensures number { self.new.number ≡ self.old.number + 1 }
         ensures partial { self.new.partial.items ≡ [] }
         ensures last { IfOk result (λ ends. ends ≡ true → self.new.last ≡ None) }
@@ -374,6 +384,7 @@ impl Unfolder {
         requires some { is_empty text.now ≡ false }
         requires short { length text.now ≤ 2097152 }
         requires begins { begins_with space text.now ≡ false }
+        ensures ignored { self.old.marks ≡ ignored → self.new.marks ≡ ignored }
         ensures number { self.new.number ≡ self.old.number }
         ensures partial { self.new.partial ≡ self.old.partial }
         ensures last { IfOk result (λ ends. ends ≡ false) }
@@ -399,6 +410,7 @@ impl Unfolder {
     ) -> Result<bool, StreamFault>
         requires going { self.old.marks.is_over ≡ false }
         requires given { self.old.partial.items ≡ [] }
+        ensures ignored { self.old.marks ≡ ignored → self.new.marks ≡ ignored }
         ensures number { self.new.number ≡ self.old.number }
         ensures partial { self.new.partial ≡ self.old.partial }
         ensures last { IfOk result (λ ends. ends ≡ true → self.new.last ≡ None) }
@@ -426,6 +438,7 @@ impl Unfolder {
         requires none { self.old.partial.items ≡ [] }
         requires continuable { may_be_continued (Some last) ≡ true }
         requires space { begins_with space front.now ≡ true }
+        ensures ignored { self.old.marks ≡ ignored → self.new.marks ≡ ignored }
         ensures number { self.new.number ≡ self.old.number }
         ensures partial { self.new.partial ≡ self.old.partial }
         ensures last { IfOk result (λ ends. ends ≡ true → self.new.last ≡ None) }
@@ -439,6 +452,7 @@ impl Unfolder {
         requires going { self.old.marks.is_over ≡ false }
         requires none { self.old.partial.items ≡ [] }
         requires last { self.old.last ≡ None }
+        ensures ignored { self.old.marks ≡ ignored → self.new.marks ≡ ignored }
         ensures number { self.new.number ≡ self.old.number }
         ensures partial { self.new.partial ≡ self.old.partial }
         ensures last { IfOk result (λ ends. ends ≡ true → self.new.last ≡ None) }
@@ -455,6 +469,7 @@ impl Unfolder {
         requires going { self.old.marks.is_over ≡ false }
         requires none { self.old.partial.items ≡ [] }
         requires some { is_empty line.1 ≡ false }
+        ensures ignored { self.old.marks ≡ ignored → self.new.marks ≡ ignored }
         ensures number { self.new.number ≡ self.old.number }
         ensures partial { self.new.partial ≡ self.old.partial }
         ensures last { IfOk result (λ ends. ends ≡ false) }
@@ -472,6 +487,7 @@ impl Unfolder {
     fn push_to_block(&mut self, line: Line) -> Result<(), StreamFault>
         requires going { self.old.marks.is_over ≡ false }
         requires given { may_be_continued (Some line) ≡ true }
+        ensures ignored { self.old.marks ≡ ignored → self.new.marks ≡ ignored }
         ensures number { self.new.number ≡ self.old.number }
         ensures last { self.new.last ≡ self.old.last }
         ensures partial { self.new.partial ≡ self.old.partial }

@@ -25,6 +25,7 @@ loop-text-preserved c =
           let first = piece_first c.loop-text.rest.now c.in-Some.text.now c.in-Some.after.now c.in-Some.ensures text in
           c.loop-text.invariant.3 text ∙ ap (to_come c.loop-text.self) first ∙ (rw c.in_default-2.is at c.in_ok-block.ensures.ok) (c.in-Some.after.now ++ text),
       cc,
+      λ h. c.finish_line.ensures.ignored (c.loop-text.invariant.5 h),
     )
 
 pub returns-in-Some-2-clause-left : goal.returns-in-Some-2-clause-left
@@ -63,3 +64,18 @@ returns-then-is_over-clause-ok c =
     λ text.
     let first = piece_first c.loop-text.rest.now c.in-Some.text.now c.in-Some.after.now c.in-Some.ensures text in
     c.loop-text.invariant.3 text ∙ ap (to_come c.loop-text.self) first ∙ (rw c.in_default-2.is at c.in_ok-block.ensures.ok) (c.in-Some.after.now ++ text) ∙ over_same c.finish_line.new.self _ _ (cc)
+
+pub returns-in_err-block-clause-ignored : goal.returns-in_err-block-clause-ignored
+returns-in_err-block-clause-ignored c = λ h. c.finish_line.ensures.ignored (c.loop-text.invariant.5 h)
+
+pub returns-in-Some-2-clause-ignored : goal.returns-in-Some-2-clause-ignored
+returns-in-Some-2-clause-ignored c = λ h. c.finish_line.ensures.ignored (c.loop-text.invariant.5 h)
+
+pub returns-then-is_over-clause-ignored : goal.returns-then-is_over-clause-ignored
+returns-then-is_over-clause-ignored c = λ h. c.finish_line.ensures.ignored (c.loop-text.invariant.5 h)
+
+pub returns-in_err-push_partial_line-clause-ignored : goal.returns-in_err-push_partial_line-clause-ignored
+returns-in_err-push_partial_line-clause-ignored c = λ h. c.push_partial_line.ensures.ignored (c.loop-text.invariant.5 h)
+
+pub returns-clause-ignored : goal.returns-clause-ignored
+returns-clause-ignored c = λ h. c.push_partial_line.ensures.ignored (c.loop-text.invariant.5 h)

@@ -1,4 +1,5 @@
 use Rattle.std.proofs.Common.{◌≡◌, ◌+◌, ◌++◌, ◌≤◌, ℕ, List, false, length}
+use Rattle.dir_ldif.specs.Marks.{ignored}
 use Rattle.dir_ldif.specs.Reader.Unfolding.{to_come}
 use Rattle.dir_ldif.proofs.reader.unfolder.Unfolder.push_chunk.Given as goal
 
@@ -9,6 +10,7 @@ invariant-loop-text l =
     × ((front : List ℕ) × (l.chunk ≡ front ++ l.rest) × ((text : List ℕ) → to_come l.fn.self (front ++ text) ≡ to_come l.self text))
     × ((text : List ℕ) → to_come l.fn.self (l.chunk ++ text) ≡ to_come l.self (l.rest ++ text))
     × (l.self.marks.is_over ≡ false)
+    × (l.fn.self.marks ≡ ignored → l.self.marks ≡ ignored)
 
 abbrev pub decreases-loop-text : goal.decreases-loop-text
 decreases-loop-text l = length l.rest
