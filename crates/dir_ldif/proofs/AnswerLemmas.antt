@@ -1,21 +1,23 @@
 -- Lemmas on the answers that a reader has still to give.
 use Rattle.std.proofs.Common.{◌≡◌, ℕ, true, false, List, [], ◌∷◌, ◌++◌, refl, sym, ap, subst, ◌∙◌, append-nil, Option, None, Some, IfSome, Ok, Err}
-use Rattle.std.specs.Option.{option_map}
+use Rattle.std.specs.Option.{option_and_then, option_map}
 use Rattle.std.specs.Io.KnownBytes.{Consumes, IsAtEnd}
 use Rattle.dir_names.specs.declared.schema.TypeRow.{TypeRow}
 use Rattle.dir_ldif.specs.declared.faults.StreamFault.{StreamFault}
 use Rattle.dir_ldif.specs.declared.faults.StreamFault.TheVariants.{LineTooLong, Read, Memory, TooManyTurns, BadVersion, BadMark}
 use Rattle.dir_ldif.specs.declared.faults.StreamFault.TheVariants.{Ended as AfterFault}
 use Rattle.dir_ldif.specs.declared.reader.Core.{Core}
+use Rattle.dir_ldif.specs.declared.reader.unfolder.Unfolder.{Unfolder}
+use Rattle.dir_ldif.specs.Reader.Unfolding.{to_come}
 use Rattle.dir_ldif.specs.declared.reader.Place.{Place}
 use Rattle.dir_ldif.specs.declared.reader.Place.TheVariants.{Reading, AtEnd, Ended}
 use Rattle.dir_ldif.specs.Bytes.{is_empty}
 use Rattle.dir_ldif.specs.LogicalLines.{Line}
-use Rattle.dir_ldif.specs.Remainder.{NoBlock, Remainder, blocks_in, done, fails, holds, then_rest}
+use Rattle.dir_ldif.specs.Remainder.{NoBlock, Remainder, blocks_in, done, fails, holds, marks_in, then_rest}
 use Rattle.dir_ldif.specs.Inside.Reader.{Finds, Stops, MayFail}
-use Rattle.dir_ldif.specs.Reader.Answers.{to_read, ExplainsFault, FirstIsComplete, GivesFirst, GivesNone, answers_at, answers_left}
+use Rattle.dir_ldif.specs.Reader.Answers.{ExplainsFault, FirstIsComplete, GivesFirst, GivesNone, KeepsMarks, answers_at, answers_left, hand, marks_at, marks_left, to_read}
 use Rattle.dir_ldif.specs.Records.{Answer, Found, found_of, answers_on}
-use Rattle.dir_ldif.proofs.RemainderLemmas.{answers_in-then, answers_in-none}
+use Rattle.dir_ldif.proofs.RemainderLemmas.{answers_in-then, answers_in-none, marks_in-then}
 
 -- ---- a block was found
 
@@ -92,3 +94,52 @@ next_faults Read rows old new left left' bytes f f' reading took h = (h.0, (byte
 next_faults TooManyTurns rows old new left left' bytes f f' reading took h = (bytes, took, h.0, none_complete rows old bytes h.2)
 next_faults Memory rows old new left left' bytes f f' reading took h = tt
 next_faults AfterFault rows old new left left' bytes f f' reading took h = absurd h
+
+-- ---- marks
+
+same : (old new : Option ℕ) → old ≡ new → KeepsMarks old new
+same None new e = tt
+same (Some n) new e = sym e
+
+keeps_at : (place : Place) (old new : Core) (block : List Line) (left left' : Option (List ℕ)) (bytes : List ℕ) → Consumes left left' bytes
+    → Finds place (to_read old) block (to_read new) new.unfolder.marks.passed bytes left' → KeepsMarks (option_and_then (marks_at Reading old) left) (option_and_then (marks_at place new) left')
+keeps_at place old new block None left' bytes took found = tt
+keeps_at place old new block (Some known) None bytes took found = absurd took
+keeps_at Reading old new block (Some known) (Some rest) bytes took found =
+    same (marks_in (to_read old known)) (marks_in (to_read new rest)) (ap (λ t. marks_in (to_read old t)) took ∙ ap marks_in (found rest) ∙ marks_in-then block (to_read new rest))
+keeps_at AtEnd old new block (Some known) (Some rest) bytes took found =
+    same (marks_in (to_read old known)) (Some new.unfolder.marks.passed) (ap (λ t. marks_in (to_read old t)) took ∙ ap marks_in found ∙ marks_in-then block (done new.unfolder.marks.passed))
+keeps_at Ended old new block (Some known) (Some rest) bytes took found = absurd found
+
+-- the marks at the end stay the same
+pub next_keeps : (old new : Core) (block : List Line) (left left' : Option (List ℕ)) (bytes : List ℕ) → old.place ≡ Reading → Consumes left left' bytes
+    → Finds new.place (to_read old) block (to_read new) new.unfolder.marks.passed bytes left' → KeepsMarks (marks_left old left) (marks_left new left')
+next_keeps old new block left left' bytes reading took found =
+    subst (λ p. KeepsMarks (option_and_then (marks_at p old) left) (marks_left new left')) (sym reading) (keeps_at new.place old new block left left' bytes took found)
+
+-- and at the end they are those that were passed
+counted_at : (m : ℕ) (old : Option ℕ) (left : Option (List ℕ)) → KeepsMarks old (option_and_then (λ (t : List ℕ). Some m) left) → IfSome old (λ n. m ≡ n)
+counted_at m None left h = tt
+counted_at m (Some n) None h = cc
+counted_at m (Some n) (Some t) h = cc
+
+pub next_counted : (new : Core) (old : Option ℕ) (left : Option (List ℕ)) → new.place ≡ AtEnd → KeepsMarks old (marks_left new left) → IfSome old (λ n. new.unfolder.marks.passed ≡ n)
+next_counted new old left end h = counted_at new.unfolder.marks.passed old left (subst (λ p. KeepsMarks old (option_and_then (marks_at p new) left)) end h)
+
+counted_now : (m : ℕ) (left : Option (List ℕ)) → IfSome (option_and_then (λ (t : List ℕ). Some m) left) (λ n. m ≡ n)
+counted_now m None = tt
+counted_now m (Some t) = refl
+
+pub end_counted : (c : Core) (left : Option (List ℕ)) → c.place ≡ AtEnd → IfSome (marks_left c left) (λ n. c.unfolder.marks.passed ≡ n)
+end_counted c left end = subst (λ p. IfSome (option_and_then (marks_at p c) left) (λ n. c.unfolder.marks.passed ≡ n)) (sym end) (counted_now c.unfolder.marks.passed left)
+
+-- only the unfolder, the bytes in hand and the place tell the marks
+at_same : (p : Place) (c d : Core) → d.unfolder ≡ c.unfolder → hand d ≡ hand c → (left : Option (List ℕ)) → option_and_then (marks_at p d) left ≡ option_and_then (marks_at p c) left
+at_same p c d u h None = refl
+at_same Reading c d u h (Some t) = λ i. marks_in (to_come (u i) (h i ++ t))
+at_same AtEnd c d u h (Some t) = ap (λ (j : Unfolder). Some j.marks.passed) u
+at_same Ended c d u h (Some t) = refl
+
+pub marks_same : (old : Option ℕ) (c d : Core) (left : Option (List ℕ)) → d.unfolder ≡ c.unfolder → hand d ≡ hand c → d.place ≡ c.place → KeepsMarks old (marks_left c left) → KeepsMarks old (marks_left d left)
+marks_same old c d left u h place keeps =
+    subst (KeepsMarks old) (sym (ap (λ p. option_and_then (marks_at p d) left) place ∙ at_same c.place c d u h left)) keeps

@@ -9,13 +9,17 @@ use Rattle.dir_ldif.specs.Marks.{after_comment, ignored}
 use Rattle.dir_ldif.specs.declared.reader.version.Version.{Version}
 use Rattle.dir_ldif.specs.declared.reader.version.Version.TheVariants.{Absent, One, Other}
 use Rattle.dir_ldif.specs.Blocks.{BlockResult, EndsAtOnce, block_then, blocks_from, by_version, version_of}
-use Rattle.dir_ldif.specs.Remainder.{FailsAtOnce, Remainder, after_marks, blocks_in, done, fails, holds, remainder_from, then_rest}
+use Rattle.dir_ldif.specs.Remainder.{FailsAtOnce, Remainder, after_marks, blocks_in, done, fails, holds, marks_in, remainder_from, then_rest}
 use Rattle.dir_ldif.specs.Records.{answers_on, found_of}
 use Rattle.dir_ldif.proofs.RecordsLemmas.{answers_on-block_then, answers_on-give-none}
 
 pub blocks_in-then : (block : List Line) (left : Remainder) → blocks_in (then_rest block left) ≡ block_then block (blocks_in left)
 blocks_in-then [] left = refl
 blocks_in-then (line ∷ lines) left = refl
+
+pub marks_in-then : (block : List Line) (left : Remainder) → marks_in (then_rest block left) ≡ marks_in left
+marks_in-then [] left = refl
+marks_in-then (line ∷ lines) left = refl
 
 pub answers_in-then : (rows : List TypeRow) (block : List Line) (left : Remainder) → is_empty block ≡ false → answers_on rows (blocks_in (then_rest block left)) ≡ Ok (found_of rows block) ∷ answers_on rows (blocks_in left)
 answers_in-then rows block left some = ap (answers_on rows) (blocks_in-then block left) ∙ answers_on-block_then rows block (blocks_in left) some

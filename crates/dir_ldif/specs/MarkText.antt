@@ -3,6 +3,7 @@ use Rattle.std.specs.Prelude.{ℕ, Bool, false, not, ◌&&◌, ◌==◌, List, [
 use Rattle.std.specs.Char.{is_ascii_digit}
 use Rattle.std.specs.List.{list_all}
 use Rattle.std.specs.Str.{bytes_eq}
+use Rattle.dir_names.specs.Ascii.{line_feed}
 
 -- what stands in a mark before its number
 abbrev pub mark_words : List ℕ
@@ -20,3 +21,7 @@ is_mark text = bytes_eq (take 7 text) mark_words && is_positive (drop 7 text)
 -- the mark of a group, by its number
 abbrev pub mark_of : ℕ → List ℕ
 mark_of n = mark_words ++ decimal n
+
+-- its line
+abbrev pub mark_line : ℕ → List ℕ
+mark_line n = mark_of n ++ line_feed ∷ []

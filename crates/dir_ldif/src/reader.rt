@@ -59,10 +59,10 @@ pub struct RecordReader<'s, R> {
 
 impl<'s, R: Source + Drop> RecordReader<'s, R> {
     ghost use Rattle.std.specs.Prelude.{◌≡◌, ◌<◌, ℕ, List, [], None, Ok, Err, IfErr, IfNone, IfOk, IfSome, OnOk};
-    ghost use Rattle.std.specs.Option.{option_map};
-    ghost use Rattle.dir_ldif.specs.Reader.Answers.{GivesFirst, GivesNone};
-    ghost use Rattle.dir_ldif.specs.Reader.{GivesLegal, GivesSound, IsAtEnd, IsEnded, IsReading, ReadsPieces, SpendsTurns, StopsFor, StopsSoonFor, UsesUp, answers_to_come, answers_to_come_with, budget, in_hand, schema_of, source_of, turns_left};
-    ghost use Rattle.dir_ldif.specs.Records.{records_of, records_up_to};
+    ghost use Rattle.std.specs.Option.{option_and_then, option_map};
+    ghost use Rattle.dir_ldif.specs.Reader.Answers.{GivesFirst, GivesNone, KeepsMarks};
+    ghost use Rattle.dir_ldif.specs.Reader.{GivesLegal, GivesSound, IsAtEnd, IsEnded, IsReading, ReadsPieces, SpendsTurns, StopsFor, StopsSoonFor, UsesUp, answers_to_come, answers_to_come_with, budget, in_hand, marks_at_end, marks_passed, schema_of, source_of, turns_left};
+    ghost use Rattle.dir_ldif.specs.Records.{marks_up_to, records_of, records_up_to};
 
     /// A reader that is allowed 1,099,511,627,776 read calls.
     ///
@@ -122,6 +122,7 @@ impl<'s, R: Source + Drop> RecordReader<'s, R> {
     ) -> Result<RecordReader<'s, R>, StreamFault>
         ensures answers { IfOk result (λ r. answers_to_come R.left r ≡ option_map (records_up_to schema.now groups) (R.left source)) }
         ensures ahead { IfOk result (λ r. (in_hand r ≡ []) × ((text : List ℕ) → answers_to_come_with r text ≡ records_up_to schema.now groups text)) }
+        ensures marks { IfOk result (λ r. marks_at_end R.left r ≡ option_and_then (marks_up_to groups) (R.left source)) }
         ensures turns { IfOk result (λ r. turns_left r ≡ most_read_calls) }
         ensures source { IfOk result (λ r. (source_of r ≡ source) × (schema_of r ≡ schema.now) × IsReading r) }
         ensures err { IfErr result (λ fault. fault ≡ StreamFault.Memory) }
@@ -134,7 +135,9 @@ impl<'s, R: Source + Drop> RecordReader<'s, R> {
     }
 
     /// The marks of groups that were passed; 0 where they are not counted.
-    pub fn marks(&self) -> u64 {
+    pub fn marks(&self) -> u64
+        ensures { result ≡ marks_passed self.now }
+    {
         self.core.unfolder.marks()
     }
 
@@ -162,6 +165,8 @@ impl<'s, R: Source + Drop> RecordReader<'s, R> {
         ensures going { OnOk result (¬ (IsEnded self.new)) }
         ensures count { OnOk result (R.failures (source_of self.new) ≡ R.failures (source_of self.old)) }
         ensures turns { IfOk result (λ _. IsReading self.new → SpendsTurns R.left self.old self.new) }
+        ensures marks { IfOk result (λ _. KeepsMarks (marks_at_end R.left self.old) (marks_at_end R.left self.new)) }
+        ensures counted { IfOk result (λ o. IfNone o (IfSome (marks_at_end R.left self.old) (λ n. marks_passed self.new ≡ n))) }
         ensures same { R.is_same (source_of self.old) (source_of self.new) }
     {
         self.core.next(self.schema, &mut self.source)
@@ -201,7 +206,7 @@ impl Core {
     ghost use Rattle.std.specs.Prelude.{◌≡◌, ◌⊎◌, ◌+◌, ◌++◌, ◌*◌, ◌^◌, ◌<◌, ◌≤◌, ℕ, List, [], None, Ok, Err, true, false, IfErr, IfNone, IfOk, IfSome, MatchOption, OnOk, length};
     ghost use Rattle.std.specs.Io.KnownBytes.{Consumes, IsAtEnd};
     ghost use Rattle.dir_ldif.specs.declared.reader.Place.TheVariants.{AtEnd, Ended, Reading};
-    ghost use Rattle.dir_ldif.specs.Reader.Answers.{EndsSoon, ExplainsFault, GivesFirst, GivesNone, GoesOn, answers_left};
+    ghost use Rattle.dir_ldif.specs.Reader.Answers.{EndsSoon, ExplainsFault, GivesFirst, GivesNone, GoesOn, KeepsMarks, answers_left, marks_left};
     ghost use Rattle.dir_ldif.specs.SoundRecords.{IsLegalFound, IsSoundFound};
     ghost use Rattle.dir_ldif.specs.Bytes.{is_empty};
     ghost use Rattle.dir_ldif.specs.Inside.Reader.{FailsToRead};
@@ -255,6 +260,8 @@ impl Core {
         ensures turns { IfOk result (λ _. self.new.place ≡ Reading → (bytes : List ℕ)
             × Consumes (S.left source.old) (S.left source.new) bytes × (self.old.turns ≤ self.new.turns + length bytes)) }
         ensures count { OnOk result (S.failures source.new ≡ S.failures source.old) }
+        ensures marks { IfOk result (λ _. KeepsMarks (marks_left self.old (S.left source.old)) (marks_left self.new (S.left source.new))) }
+        ensures counted { IfOk result (λ o. IfNone o (IfSome (marks_left self.old (S.left source.old)) (λ n. self.new.unfolder.marks.passed ≡ n))) }
         ensures same { S.is_same source.old source.new }
     {
         match self.place {
@@ -291,6 +298,8 @@ impl Core {
         ensures turns { IfOk result (λ _. self.new.place ≡ Reading → (bytes : List ℕ)
             × Consumes (S.left source.old) (S.left source.new) bytes × (self.old.turns ≤ self.new.turns + length bytes)) }
         ensures count { OnOk result (S.failures source.new ≡ S.failures source.old) }
+        ensures marks { IfOk result (λ _. KeepsMarks (marks_left self.old (S.left source.old)) (marks_left self.new (S.left source.new))) }
+        ensures counted { IfOk result (λ o. IfNone o (IfSome (marks_left self.old (S.left source.old)) (λ n. self.new.unfolder.marks.passed ≡ n))) }
         ensures same { S.is_same source.old source.new }
     {
         let block = self.next_block(source)?;

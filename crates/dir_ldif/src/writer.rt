@@ -6,6 +6,7 @@ ghost use Rattle.std.specs.List.{flat_map, list_all};
 ghost use Rattle.dir_names.specs.Names.Printing.{printed_rdn};
 ghost use Rattle.dir_ldif.specs.Bytes.{ends_in};
 ghost use Rattle.dir_ldif.specs.RecordText.{change_text, change_word, flag_text, kind_text, mod_text, name_line, op_word, record_text_of, superior_text, value_text};
+ghost use Rattle.dir_ldif.specs.MarkText.{mark_line};
 ghost use Rattle.dir_ldif.specs.RoundTrip.{ReadsBackAs};
 ghost use Rattle.dir_ldif.specs.SoundRecords.{AreBytes, IsBytes, IsSoundKind, IsSoundName, IsSoundRdn, IsSoundRecord, IsSoundSuperior, ModsAreBytes, ValuesAreBytes};
 ghost use Rattle.dir_ldif.specs.LineText.{base64_of, fold_from, is_plain, is_safe, is_safe_first, value_spec, written_line};
@@ -54,7 +55,9 @@ fn push_content(out: &mut Vec<u8>, dn: &Dn, lines: &Lines) -> Result<(), Memory>
 }
 
 /// Appends the mark of a group: the comment line `# undo N`.
-pub fn push_mark(out: &mut Vec<u8>, number: u64) -> Result<(), Memory> {
+pub fn push_mark(out: &mut Vec<u8>, number: u64) -> Result<(), Memory>
+    ensures { OnOk result (out.new.items ≡ out.old.items ++ mark_line number) }
+{
     out.extend_from_slice(b"# undo ")?;
     out.extend_from_slice(Buffer::new().format(number).as_bytes())?;
     Ok(out.push(b'\n')?)

@@ -1,6 +1,6 @@
 -- The answers that a reader has still to give, and what one call does to them. The words of Reader say the same of a `RecordReader`.
 use Rattle.std.specs.Prelude.{◌≡◌, ℕ, ◌+◌, ◌-◌, ◌*◌, ◌≤◌, List, [], ◌∷◌, ◌++◌, take, drop, length, Option, None, Some, IfSome, ⊤, Ok, Err}
-use Rattle.std.specs.Option.{option_map}
+use Rattle.std.specs.Option.{option_and_then, option_map}
 use Rattle.std.specs.Io.KnownBytes.{Consumes}
 use Rattle.dir_names.specs.declared.schema.TypeRow.{TypeRow}
 use Rattle.dir_ldif.specs.declared.faults.StreamFault.{StreamFault}
@@ -12,7 +12,7 @@ use Rattle.dir_ldif.specs.declared.reader.Place.TheVariants.{Reading, AtEnd, End
 use Rattle.dir_ldif.specs.Device.{HasFailed}
 use Rattle.dir_ldif.specs.Blocks.{BlockResult}
 use Rattle.dir_ldif.specs.Reader.Unfolding.{blocks_to_come, to_come}
-use Rattle.dir_ldif.specs.Remainder.{Remainder, blocks_in}
+use Rattle.dir_ldif.specs.Remainder.{Remainder, blocks_in, marks_in}
 use Rattle.dir_ldif.specs.Records.{Found, Answer, answers_on}
 
 -- ---- the bytes that were read
@@ -53,6 +53,22 @@ answers_ahead rows c text = answers_on rows (blocks_to_come c.unfolder text)
 -- the answers to come, where the bytes that the source has left are known
 abbrev pub answers_left : List TypeRow → Core → Option (List ℕ) → Option (List Answer)
 answers_left rows c left = option_map (answers_at c.place rows c) left
+
+-- ---- the marks to come
+
+-- the marks that are passed at the end, where the source still gives this text, if that is no fault
+abbrev pub marks_at : Place → Core → List ℕ → Option ℕ
+marks_at Reading c text = marks_in (to_read c text)
+marks_at AtEnd c text = Some c.unfolder.marks.passed
+marks_at Ended c text = None
+
+-- the same, where the bytes that the source has left are known
+abbrev pub marks_left : Core → Option (List ℕ) → Option ℕ
+marks_left c left = option_and_then (marks_at c.place c) left
+
+-- marks that were known to be passed at the end still are
+abbrev pub KeepsMarks : Option ℕ → Option ℕ → Type 0
+KeepsMarks old new = IfSome old (λ n. new ≡ Some n)
 
 -- ---- what a call answers
 
