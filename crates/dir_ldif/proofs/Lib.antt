@@ -13,6 +13,8 @@ pub mod LogicalLineLemmas
 pub mod LongLineSoon
 pub mod LongLinesStay
 pub mod ManyCallsLemmas
+pub mod MarkLines
+pub mod MarkedBlocks
 pub mod NoLongLine
 pub mod PartialLines
 pub mod PhysicalLines
