@@ -145,7 +145,7 @@ groups_left passed (suc left) (group ∷ groups) i g fits =
     let next : Marks = up_at (passed + 1) left in
     let lines = logical_lines (physical_lines (i + 1) (cut is_lf rest)) in
     let one_more : (passed + 1) + left ≡ passed + suc left = omega arith in
-    let passes : after_due (passed + suc left) m ≡ next = if_true _ _ _ (grind (arith, nat_tests)) ∙ ap (λ k. record { groups = Some k; passed = passed + 1; is_over = false }) (sym one_more) in
+    let passes : after_due (passed + suc left) m ≡ next = if_true (nat_lt passed (passed + suc left)) _ _ (grind (arith, nat_tests)) ∙ ap (λ k. record { groups = Some k; passed = passed + 1; is_over = false }) (sym one_more) in
     let here = group_left next refl (grind (arith, nat_tests)) group (marked_lines (n + 1) groups) (i + 1) g.0 in
     let later = groups_left (passed + 1) left groups here.1 g.1 (omega (arith, fits)) in (
       here.0 ++ later.0,
