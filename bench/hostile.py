@@ -230,6 +230,21 @@ def pieces_of_a_long_value(n):
     return {"copy": [ROOT, block(b"cn=a,dc=com", [b"description: " + b"a" * n + b"\n"])], "conf": [HEAD, rule, rule]}
 
 
+def definitions(n, definition_of):
+    """A configuration of about n bytes that defines types."""
+    length = len(definition_of(1_000_000))
+    return {"copy": [ROOT, block(b"cn=a,dc=com")], "conf": [HEAD, b"access to * by * read\n", *(definition_of(1_000_000 + i) for i in shuffled(list(range((n - len(HEAD) - 22) // length))))]}
+
+
+def attribute_types(n):
+    return definitions(n, lambda i: b"attributetype ( 1.3.6.1.4.1.32473.%d NAME ( 'type%d' 'alias%d' ) EQUALITY caseIgnoreMatch )\n" % (i, i, i))
+
+
+def names_of_one_type(n):
+    """The names of a known type, each in a definition of its own."""
+    return definitions(n, lambda i: b"attributetype ( 2.5.4.3 NAME 'name%d' )\n" % i)
+
+
 @dataclasses.dataclass
 class Family:
     """Texts of a kind: what the size counts, and the largest size."""
@@ -280,6 +295,8 @@ FAMILIES = [
     Family(plain_rules, "bytes", MOST_OF_A_CONFIGURATION),
     Family(one_rule, "bytes", MOST_OF_A_CONFIGURATION),
     Family(pieces_of_a_long_value, "bytes", 1_000_000),
+    Family(attribute_types, "bytes", MOST_OF_A_CONFIGURATION),
+    Family(names_of_one_type, "bytes", MOST_OF_A_CONFIGURATION),
 ]
 
 
