@@ -2,7 +2,7 @@
 use Rattle.std.proofs.Common.{◌≡◌, ℕ, Bool, true, cond, nat_le, List, [], ◌∷◌, ◌++◌, map, length, get_or, IfErr, OnOk, Option, Some, None, Result, Ok, Err, ok_or, slice_get, option_map, option_and_then, set, sym, ap, subst, ◌∙◌}
 use Rattle.std.specs.List.{list_any, list_all, position}
 use Rattle.std.specs.Str.{str_to_ascii_lowercase}
-use Rattle.std.proofs.lemmas.Option.{same_Some, slice_get-get_or}
+use Rattle.std.proofs.lemmas.Option.{slice_get-get_or}
 use Rattle.dir_names.specs.declared.fault.NameFault.{NameFault}
 use Rattle.dir_names.specs.declared.fault.NameFault.TheVariants.{BadType, Memory}
 use Rattle.dir_names.specs.declared.schema.definition.TypeDefinition.{TypeDefinition}
@@ -75,9 +75,6 @@ module _ (rows : List TypeRow) (names : List (List ℕ × ℕ)) (kept : IsKept r
   with_known at other e =
       ap (λ b. cond b (with_names rows d (row_named rows d.number)) None) added
       ∙ ap (with_names rows d) (named_at at other e)
-
-  pub same_row : (at : ℕ) (one other : TypeRow) → position (is_named d.number) rows ≡ Some at → get_or rows at one ≡ get_or rows at other
-  same_row at one other e = same_Some (get_or rows at one) (get_or rows at other) (sym (named_at at one e) ∙ named_at at other e)
 
   -- the row at the place of the number, with the names that it gains
   pub rows_grown : (at : ℕ) (other : TypeRow) → position (is_named d.number) rows ≡ Some at → set rows at (wider d (new_names rows d) (get_or rows at other)) ≡ map (gaining d (new_names rows d)) rows

@@ -3,7 +3,8 @@
 
 ghost use Rattle.std.specs.Cmp.{partial_order_from_agreeing_total};
 ghost use Rattle.std.specs.Ordering.{as_partial_cmp};
-ghost use Rattle.std.specs.Prelude.{◌≡◌, ◌++◌, ◌∷◌, [], Ok, refl};
+ghost use Rattle.std.specs.Prelude.{◌≡◌, ◌++◌, ◌∷◌, [], IfErr, Ok, OnOk, refl};
+ghost use Rattle.dir_names.specs.declared.fault.NameFault.TheVariants.{Memory};
 ghost use Rattle.dir_names.specs.Orders.{bytes_cmp, bytes_eq, bytes_cmp_total, bytes_cmp_ties, texts_cmp, texts_eq, texts_cmp_total, texts_cmp_ties, tied_equiv, tied_per};
 ghost use Rattle.dir_names.specs.Outcome.{Gives};
 
@@ -132,6 +133,16 @@ impl Texts {
         let Texts { mut items } = self;
         items.push(text)?;
         Ok(Texts { items })
+    }
+
+    /// Puts texts behind those of the list. The one fault is `Memory`; then the list is as it was.
+    pub(crate) fn append(&mut self, more: Vec<Bytes>) -> Result<(), NameFault>
+        ensures ok { OnOk result (self.new ≡ self.old ++ more.items) }
+        ensures err { IfErr result (λ e. (e ≡ Memory) × (self.new ≡ self.old)) }
+    {
+        let mut more = more;
+        self.items.append(&mut more)?;
+        Ok(())
     }
 
     /// A copy whose list and texts have memory of their own. The one fault is `Memory`.

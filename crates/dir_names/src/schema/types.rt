@@ -209,9 +209,8 @@ impl TypeTable {
     {
         let gained = self.new_names(alloc, &definition)?;
         let lowered = lowercase_names(alloc, gained.as_slice())?;
-        let names = with_names(self.rows[at].names.try_clone(alloc)?, gained)?;
         self.names.reserve(lowered.len())?;
-        self.rows[at].names = names;
+        self.rows[at].names.append(gained)?;
         insert_each(&mut self.names, lowered, at)
     }
 
@@ -284,17 +283,6 @@ fn lowercase_names(alloc: Global, names: &[Bytes]) -> Result<Vec<Bytes>, NameFau
         lowered.push(lowercase_bytes(alloc, name.as_slice())?)?;
     }
     Ok(lowered)
-}
-
-/// The names with these behind them.
-fn with_names(names: Texts, more: Vec<Bytes>) -> Result<Texts, NameFault>
-    ensures { Gives (λ all. all) result (Ok (names ++ more.items)) }
-{
-    let mut names = names;
-    for name in more {
-        names = names.with(name)?;
-    }
-    Ok(names)
 }
 
 /// Inserts names in lower case, for which there is room, into an index.

@@ -4,11 +4,11 @@ use Rattle.std.specs.Str.{str_to_ascii_lowercase}
 use Rattle.dir_names.specs.declared.schema.TypeRow.{TypeRow}
 use Rattle.dir_names.specs.Inside.TypeNames.{Gains, is_named}
 use Rattle.dir_names.specs.Types.Adding.{gaining, may_be_added, new_names}
-use Rattle.dir_names.proofs.GrownTables.{IsKept, gains_in, row_grown, rows_grown, same_row}
+use Rattle.dir_names.proofs.GrownTables.{IsKept, gains_in, row_grown, rows_grown}
 use Rattle.dir_names.proofs.schema.types.TypeTable.add_names.Goals as goal
 
 -- the rows that are left
-grown : (c : goal.Joined-definition-12) → set c.self.inside.rows.items c.args.at (record { key = c.index_mut.result.now.key; names = c.in_ok-names.names; rule = c.index_mut.result.now.rule; single = c.index_mut.result.now.single }) ≡ map (gaining c.args.definition (new_names c.self.inside.rows.items c.args.definition)) c.self.inside.rows.items
+grown : (c : goal.Joined-definition-10) → set c.self.inside.rows.items c.args.at (record { key = c.index_mut.result.now.key; names = c.append.new.self; rule = c.index_mut.result.now.rule; single = c.index_mut.result.now.single }) ≡ map (gaining c.args.definition (new_names c.self.inside.rows.items c.args.definition)) c.self.inside.rows.items
 grown c =
     let rows = c.self.inside.rows.items in
     let index = c.self.inside.names.items in
@@ -20,10 +20,8 @@ grown c =
     let gained : c.in_ok-gained.gained.items ≡ new_names c.args.self.now d = search rules in
     let gained_here : c.in_ok-gained.gained.items ≡ new_names rows d = gained ∙ ap (λ r. new_names r d) (sym c.self.view_is) in
     let is : row ≡ get_or rows at row = search rules in
-    let first : c.index.result.now ≡ get_or rows at c.index.result.now = search rules in
-    let old : c.index.result.now ≡ row = first ∙ same_row rows index c.self.invariant d added at c.index.result.now row known ∙ sym is in
-    let names : c.in_ok-names.names ≡ c.index.result.now.names ++ c.in_ok-gained.gained.items = search rules in
-    let names_here : c.in_ok-names.names ≡ (get_or rows at row).names ++ new_names rows d = names ∙ (λ i. (old i).names ++ gained_here i) ∙ ap (λ (r : TypeRow). r.names ++ new_names rows d) is in
+    let names : c.append.new.self ≡ row.names ++ c.in_ok-gained.gained.items = search rules in
+    let names_here : c.append.new.self ≡ (get_or rows at row).names ++ new_names rows d = names ∙ (λ i. row.names ++ gained_here i) ∙ ap (λ (r : TypeRow). r.names ++ new_names rows d) is in
     (λ i. set rows at (record { key = (is i).key; names = names_here i; rule = (is i).rule; single = (is i).single })) ∙ rows_grown rows index c.self.invariant d added at row known
 
 pub invariant_of-self-2 : goal.invariant_of-self-2
