@@ -1,17 +1,20 @@
 #!/usr/bin/env python3
 """Plants wrong bodies, one at a time: the prover must refuse each.
 
-usage: bugs.py [--listed] [--quick] [--tenth SEED] [CRATE[/PATTERN] ...]
+usage: bugs.py [--listed [--proved]] [--quick] [--tenth SEED] [CRATE[/PATTERN] ...]
 
-They are those of bugs/, which the gate leaves out (docs/CONTRIBUTING.md says which), or with --listed those of the crates' must-fail/, which the gate
-tries by `rt ci`. Try those of a crate when it has changed; with a pattern, as in 'dir_change/*rename*', only those whose names it
+They are those of bugs/, which the gate leaves out (docs/CONTRIBUTING.md says which), or with --listed those of must-fail/, which the gate
+tries. Try those of a crate when it has changed; with a pattern, as in 'dir_change/*rename*', only those whose names it
 fits.
 
 Each is a file with a line `file:`, pairs of lines `old:` (once in that file) and `new:`, and where the function that the prover must refuse
 isn't the one whose line changes first, a line `fn:` with its path. One wrong body after the other is planted in a copy of the crates, and its
 function tried by `rt check --only`, with all that it calls in its crate: it is refused where the edited crate compiles, and the prover ends and does not accept
 the function, but all others. That it accepts the functions as they stand is seen before. The libraries below are taken as `rt lib` or `rt check` have built them in
-this checkout, and those that are lacking are built (`rt ci` leaves none that `rt check` takes).
+this checkout, and those that are lacking are built.
+
+--proved is for the gate, right after `rt ci` has proved all crates of this checkout as they stand: that is not seen once more, and the libraries are
+taken as `rt ci` left them. `rt check` would build these anew, so the prover is called as `rt` calls it.
 
 --quick proves nothing: it looks whether each of bugs/ and must-fail/ still finds the line that it changes, changes code, and compiles. It
 also names those that take away a name which a proof of the changed function may cite: where the prover refuses one of these, that need not show
@@ -21,14 +24,18 @@ drawn by the seed, and says which.
 import argparse
 import collections
 import concurrent.futures
+import functools
 import os
 import pathlib
 import random
 import re
 import shutil
+import signal
 import subprocess
 import sys
 import tempfile
+
+from machine import proofs_at_once
 
 ROOT = pathlib.Path(__file__).resolve().parent.parent
 
@@ -36,19 +43,32 @@ ROOT = pathlib.Path(__file__).resolve().parent.parent
 APART = 4
 
 
+def libraries():
+    """The folders of the libraries that were built in this checkout."""
+    return (ROOT / "crates").glob("*/out/rlib")
+
+
+def link_or_copy(one, other):
+    """Gives a file of a library a second name: such a file is replaced, and never written into."""
+    try:
+        os.link(one, other)
+    except OSError:
+        shutil.copy2(one, other)
+
+
 def copy_of_crates(folder):
     """A copy of the sources, and of the libraries that rt has built of them: of what it made no more is needed."""
     copy = pathlib.Path(folder)
     shutil.copytree(ROOT / "crates", copy / "crates", ignore=shutil.ignore_patterns("out"))
-    for library in (ROOT / "crates").glob("*/out/rlib"):
-        shutil.copytree(library, copy / library.relative_to(ROOT))
+    for library in libraries():
+        shutil.copytree(library, copy / library.relative_to(ROOT), copy_function=link_or_copy)
     for name in ("crates.txt", "HANDLES"):
         shutil.copy(ROOT / name, copy)
     return copy
 
 
 def folder_of(crate, is_listed):
-    return ROOT / "crates" / crate / "must-fail" if is_listed else ROOT / "bugs" / crate
+    return ROOT / ("must-fail" if is_listed else "bugs") / crate
 
 
 def edits_of(wanted, is_listed):
@@ -98,10 +118,32 @@ def function_of(edit, crate, changes, texts):
     return named[1] if named else path_of(first.file.relative_to(folder), texts[first.file].split("\n"), first.line)
 
 
-def check(home, functions):
+@functools.cache
+def toolchain():
+    """What `rt` is made of: how it calls the prover stands there alone."""
+    sys.path.insert(0, str(pathlib.Path(shutil.which("rt")).resolve().parent))
+    import rtlib
+
+    return rtlib
+
+
+def are_left_by_ci():
+    """Whether the libraries here are those that `rt ci` left. Those that `rt check` built have a stamp, and where there were some, `rt ci` put them back."""
+    return not any((library / "stamp").exists() for library in libraries())
+
+
+def prover(home, is_proved):
+    """The command that checks the crate of a copy."""
+    if is_proved and are_left_by_ci():
+        crate = next(it for it in toolchain().crates_below(str(home.parent)) if it.name == home.name)
+        return [toolchain().RATTLE, "check", *crate.words(["--jobs", "1"], keeps=False)]
+    return ["rt", "check", "--jobs", "1"]
+
+
+def check(home, functions, is_proved=False):
     """Has the prover try these functions of a crate, with what they call there, or else all of it, and returns the status and what it said."""
     words = [] if None in functions else [word for function in sorted(functions) for word in ("--only", function)]
-    ran = subprocess.run(["rt", "check", "--jobs", "1", *words], cwd=home, stdout=subprocess.PIPE, stderr=subprocess.STDOUT, text=True, errors="replace")
+    ran = subprocess.run([*prover(home, is_proved), *words], cwd=home, stdin=subprocess.DEVNULL, stdout=subprocess.PIPE, stderr=subprocess.STDOUT, text=True, errors="replace")
     return ran.returncode, ran.stdout
 
 
@@ -132,38 +174,56 @@ def refused_for(status, said, edited):
     return refused[0] + (", but only since a proof names what was taken away" if is_of_names else ""), None
 
 
-def refused_of(crate, edits):
-    """How many of these edits of the crate the prover refuses, each planted in a copy of the repository."""
-    texts, found, count = {}, {}, 0
-    for edit in edits:
-        changes, fault = changes_of(edit, crate, texts)
-        if fault:
-            print(f"{crate}/{edit.stem}: BAD EDIT: {fault}", flush=True)
-        else:
-            found[edit] = function_of(edit, crate, changes, texts), changes
+def are_proved(crate, functions):
+    """Whether the prover accepts these functions of a crate as they stand."""
     with tempfile.TemporaryDirectory() as folder:
-        copy = copy_of_crates(folder)
-        home = copy / "crates" / crate
-        status, said = check(home, {function for function, _ in found.values()})
-        if status:
-            print(f"{crate}: what the wrong bodies change is not proved as it stands:\n{said[-2000:]}", flush=True)
-            return 0
-        for edit, (function, changes) in found.items():
+        status, said = check(copy_of_crates(folder) / "crates" / crate, functions)
+    if status:
+        print(f"{crate}: what the wrong bodies change is not proved as it stands:\n{said[-2000:]}", flush=True)
+    return status == 0
+
+
+def is_refused(crate, edit, is_proved):
+    """Whether the prover refuses this edit of the crate, planted in a copy of the repository."""
+    texts = {}
+    changes, fault = changes_of(edit, crate, texts)
+    refused = None
+    if fault:
+        fault = f"BAD EDIT: {fault}"
+    else:
+        with tempfile.TemporaryDirectory() as folder:
+            copy = copy_of_crates(folder)
             plant(copy, texts, changes)
-            refused, fault = refused_for(*check(home, {function}), names_of(changes, texts))
-            unplant(copy, texts, changes)
-            count += refused is not None
-            print(f"{crate}/{edit.stem}: {fault or 'refused, as it must be: ' + refused}", flush=True)
-    return count
+            home, function = copy / "crates" / crate, function_of(edit, crate, changes, texts)
+            status, said = check(home, {function}, is_proved)
+            if status == -signal.SIGKILL:
+                # most likely for memory
+                status, said = check(home, {function}, is_proved)
+            refused, fault = refused_for(status, said, names_of(changes, texts))
+    print(f"{crate}/{edit.stem}: {fault or 'refused, as it must be: ' + refused}", flush=True)
+    return refused is not None
 
 
-def are_refused(wanted):
-    """Whether the prover refuses each of these edits, by their crates. As many crates are tried at a time as there are processors."""
-    with concurrent.futures.ThreadPoolExecutor(len(os.sched_getaffinity(0))) as pool:
-        counts = dict(zip(wanted, pool.map(refused_of, wanted, wanted.values())))
-    for crate, count in counts.items():
-        print(f"{crate}: {count} of {len(wanted[crate])} wrong bodies refused", flush=True)
-    return all(count == len(wanted[crate]) for crate, count in counts.items())
+def functions_of(crate, edits):
+    """The functions that the prover must refuse with these edits, of those that can be planted."""
+    texts = {}
+    found = [(edit, *changes_of(edit, crate, texts)) for edit in edits]
+    return {function_of(edit, crate, changes, texts) for edit, changes, fault in found if not fault}
+
+
+def are_refused(wanted, is_proved):
+    """Whether the prover refuses each of these edits, by their crates. As many are tried at a time as there are processors, and as memory holds."""
+    with concurrent.futures.ThreadPoolExecutor(proofs_at_once()) as pool:
+        if not is_proved:
+            stand = dict(zip(wanted, pool.map(are_proved, wanted, [functions_of(*it) for it in wanted.items()])))
+            if not all(stand.values()):
+                return False
+        edits = [(crate, edit) for crate in wanted for edit in wanted[crate]]
+        answers = list(pool.map(is_refused, *zip(*edits), [is_proved] * len(edits)))
+    for crate in wanted:
+        of_crate = [answer for (of, _), answer in zip(edits, answers) if of == crate]
+        print(f"{crate}: {sum(of_crate)} of {len(of_crate)} wrong bodies refused", flush=True)
+    return all(answers)
 
 
 # ---- without proofs
@@ -329,6 +389,7 @@ def quick(crates):
 def main():
     parser = argparse.ArgumentParser(description=__doc__, formatter_class=argparse.RawDescriptionHelpFormatter)
     parser.add_argument("--listed", action="store_true")
+    parser.add_argument("--proved", action="store_true")
     parser.add_argument("--quick", action="store_true")
     parser.add_argument("--tenth", metavar="SEED")
     parser.add_argument("wanted", metavar="CRATE[/PATTERN]", nargs="*")
@@ -345,7 +406,7 @@ def main():
         for crate, found in edits.items():
             edits[crate] = set(random.Random(f"{args.tenth} {crate}").sample(sorted(found), (len(found) + 9) // 10))
             print(crate, *(edit.stem for edit in sorted(edits[crate])), flush=True)
-    sys.exit(0 if are_refused({crate: sorted(found) for crate, found in edits.items()}) else 1)
+    sys.exit(0 if are_refused({crate: sorted(found) for crate, found in edits.items()}, args.proved) else 1)
 
 
 main()

@@ -1,14 +1,16 @@
 #!/usr/bin/env python3
-"""The gate: `rt ci`, and then the trial of the program that it has proved and built.
+"""The gate: `rt ci`, then the wrong bodies of must-fail/, and then the trial of the program that it has built.
 
 usage: gate.py
 
-The last line is that of `rt ci`. It is held back until the trial has passed; where the trial fails, the last line tells so. The
-line before it has the time that all took, and what was left of memory and disk. Where something failed, the ends of what was said
-of it come once more before these, since of a long log often only the end is kept.
+The last line is that of `rt ci`, with the wrong bodies that were refused counted among what passed. It is held back until all has passed; where
+something fails, the last line tells so. The line before it has the time that all took, and what was left of memory and disk. Where something
+failed, the ends of what was said of it come once more before these, since of a long log often only the end is kept.
 
 Each proof has one processor. Where some are idle, `rt ci` would give one proof several, which ends sooner and takes half as much
-processor time again. RT_JOBS says otherwise.
+processor time again. RT_JOBS says otherwise. `rt ci` tries wrong bodies too, those of crates/*/must-fail/, each by a check of the whole crate, after it
+has proved that crate a second time: a third of the gate's time. So there are none there: tests/bugs.py has each tried by a check of the function
+that must be refused, over the libraries that `rt ci` has just built.
 """
 import collections
 import os
@@ -20,17 +22,9 @@ import subprocess
 import sys
 import time
 
+from machine import proofs_at_once
+
 ROOT = pathlib.Path(__file__).resolve().parent.parent
-
-
-# What a proof may take of memory.
-PROOF = 5 << 30
-
-
-def proofs_at_once():
-    """As many as there are processors, and as memory holds."""
-    memory = os.sysconf("SC_PHYS_PAGES") * os.sysconf("SC_PAGE_SIZE")
-    return max(1, min(len(os.sched_getaffinity(0)), memory // PROOF))
 
 
 # How many lines of what failed are printed again.
@@ -45,7 +39,7 @@ def is_failure(line):
 def prove():
     """Runs `rt ci`, and returns its exit status, its last line, which is not printed yet, and the ends of what failed."""
     last, ends, failures = "", collections.deque(maxlen=LINES), []
-    jobs = {"RT_JOBS": str(proofs_at_once()), **os.environ}
+    jobs = {**os.environ, "RT_JOBS": str(proofs_at_once())}
     with subprocess.Popen(["rt", "ci"], cwd=ROOT, env=jobs, stdout=subprocess.PIPE, text=True, errors="replace") as running:
         for line in running.stdout:
             print(last, end="", flush=True)
@@ -57,6 +51,23 @@ def prove():
                 failures.append("".join(ends))
                 ends.clear()
     return running.returncode, last, failures
+
+
+def try_wrong_bodies():
+    """Has the prover try the wrong bodies of must-fail/, and returns the exit status and how many were refused."""
+    refused = 0
+    print("== wrong bodies (must-fail/)", flush=True)
+    with subprocess.Popen([sys.executable, ROOT / "tests/bugs.py", "--listed", "--proved"], stdout=subprocess.PIPE, text=True, errors="replace") as running:
+        for line in running.stdout:
+            print(line, end="", flush=True)
+            refused += ": refused, as it must be: " in line
+    return running.returncode, refused
+
+
+def passed_in(line):
+    """How many crates passed, by the last line of `rt ci`."""
+    count = re.match(r"\d+(?= passed)", line)
+    return int(count[0]) if count else 0
 
 
 def minutes(seconds):
@@ -74,16 +85,19 @@ def tell_time(begin):
 def main():
     begin = time.monotonic()
     status, last, failures = prove()
+    failed = []
     if status == 0:
-        status = subprocess.run([sys.executable, ROOT / "tests/trial.py", ROOT / "crates/slapkit/out/slapkit"]).returncode
-        if status:
-            passed = re.match(r"\d+ passed", last)
-            last = f"{passed[0] if passed else '0 passed'}, 1 failed (tests/trial.py)\n"
+        ended, refused = try_wrong_bodies()
+        failed += ["must-fail/"] * (ended != 0)
+        trial = subprocess.run([sys.executable, ROOT / "tests/trial.py", ROOT / "crates/slapkit/out/slapkit"])
+        failed += ["tests/trial.py"] * (trial.returncode != 0)
+        of_what = f" ({' '.join(failed)})" if failed else ""
+        last = f"{passed_in(last) + refused} passed, {len(failed)} failed{of_what}\n"
     for failure in failures:
         print(f"gate: what failed:\n{failure}", end="", flush=True)
     tell_time(begin)
     print(last, end="", flush=True)
-    sys.exit(1 if status else 0)
+    sys.exit(1 if status or failed else 0)
 
 
 main()
