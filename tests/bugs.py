@@ -1,7 +1,7 @@
 #!/usr/bin/env python3
 """Plants wrong bodies, one at a time: the prover must refuse each.
 
-usage: bugs.py [--listed [--proved]] [--quick] [--tenth SEED] [CRATE[/PATTERN] ...]
+usage: bugs.py [--listed] [--after-ci] [--quick] [--tenth SEED] [CRATE[/PATTERN] ...]
 
 They are those of bugs/, which the gate leaves out (docs/CONTRIBUTING.md says which), or with --listed those of must-fail/, which the gate
 tries. Try those of a crate when it has changed; with a pattern, as in 'dir_change/*rename*', only those whose names it
@@ -10,11 +10,11 @@ fits.
 Each is a file with a line `file:`, pairs of lines `old:` (once in that file) and `new:`, and where the function that the prover must refuse
 isn't the one whose line changes first, a line `fn:` with its path. One wrong body after the other is planted in a copy of the crates, and its
 function tried by `rt check --only`, with all that it calls in its crate: it is refused where the edited crate compiles, and the prover ends and does not accept
-the function, but all others. That it accepts the functions as they stand is seen before. The libraries below are taken as `rt lib` or `rt check` have built them in
-this checkout, and those that are lacking are built.
+the function, but all others. That it accepts the functions as they stand is seen before, and what it then checked is kept for the wrong bodies. The libraries below are
+taken as `rt lib` or `rt check` have built them in this checkout, and those that are lacking are built.
 
---proved is for the gate, right after `rt ci` has proved all crates of this checkout as they stand: that is not seen once more, and the libraries are
-taken as `rt ci` left them. `rt check` would build these anew, so the prover is called as `rt` calls it.
+--after-ci is for the gate, right after `rt ci` has proved all crates of this checkout: the libraries are taken as `rt ci` left them. `rt check` would build
+these anew, so the prover is called as `rt` calls it.
 
 --quick proves nothing: it looks whether each of bugs/ and must-fail/ still finds the line that it changes, changes code, and compiles. It
 also names those that take away a name which a proof of the changed function may cite: where the prover refuses one of these, that need not show
@@ -38,6 +38,9 @@ import tempfile
 from machine import proofs_at_once
 
 ROOT = pathlib.Path(__file__).resolve().parent.parent
+
+# Where the prover keeps what it has checked of a crate.
+KEPT = "out/incremental"
 
 # Edits that are planted together are as many lines apart, so that none stands in the code of another.
 APART = 4
@@ -132,18 +135,20 @@ def are_left_by_ci():
     return not any((library / "stamp").exists() for library in libraries())
 
 
-def prover(home, is_proved):
+def prover(home, after_ci):
     """The command that checks the crate of a copy."""
-    if is_proved and are_left_by_ci():
+    if after_ci and are_left_by_ci():
         crate = next(it for it in toolchain().crates_below(str(home.parent)) if it.name == home.name)
-        return [toolchain().RATTLE, "check", *crate.words(["--jobs", "1"], keeps=False)]
+        return [toolchain().RATTLE, "check", *crate.words(["--jobs", "1"], keeps=False), "--incremental", KEPT]
     return ["rt", "check", "--jobs", "1"]
 
 
-def check(home, functions, is_proved=False):
+def check(home, functions, after_ci):
     """Has the prover try these functions of a crate, with what they call there, or else all of it, and returns the status and what it said."""
     words = [] if None in functions else [word for function in sorted(functions) for word in ("--only", function)]
-    ran = subprocess.run([*prover(home, is_proved), *words], cwd=home, stdin=subprocess.DEVNULL, stdout=subprocess.PIPE, stderr=subprocess.STDOUT, text=True, errors="replace")
+    (home / "out").mkdir(exist_ok=True)
+    how = {"cwd": home, "stdin": subprocess.DEVNULL, "stdout": subprocess.PIPE, "stderr": subprocess.STDOUT, "text": True, "errors": "replace"}
+    ran = subprocess.run([*prover(home, after_ci), *words], **how)
     return ran.returncode, ran.stdout
 
 
@@ -174,36 +179,6 @@ def refused_for(status, said, edited):
     return refused[0] + (", but only since a proof names what was taken away" if is_of_names else ""), None
 
 
-def are_proved(crate, functions):
-    """Whether the prover accepts these functions of a crate as they stand."""
-    with tempfile.TemporaryDirectory() as folder:
-        status, said = check(copy_of_crates(folder) / "crates" / crate, functions)
-    if status:
-        print(f"{crate}: what the wrong bodies change is not proved as it stands:\n{said[-2000:]}", flush=True)
-    return status == 0
-
-
-def is_refused(crate, edit, is_proved):
-    """Whether the prover refuses this edit of the crate, planted in a copy of the repository."""
-    texts = {}
-    changes, fault = changes_of(edit, crate, texts)
-    refused = None
-    if fault:
-        fault = f"BAD EDIT: {fault}"
-    else:
-        with tempfile.TemporaryDirectory() as folder:
-            copy = copy_of_crates(folder)
-            plant(copy, texts, changes)
-            home, function = copy / "crates" / crate, function_of(edit, crate, changes, texts)
-            status, said = check(home, {function}, is_proved)
-            if status == -signal.SIGKILL:
-                # most likely for memory
-                status, said = check(home, {function}, is_proved)
-            refused, fault = refused_for(status, said, names_of(changes, texts))
-    print(f"{crate}/{edit.stem}: {fault or 'refused, as it must be: ' + refused}", flush=True)
-    return refused is not None
-
-
 def functions_of(crate, edits):
     """The functions that the prover must refuse with these edits, of those that can be planted."""
     texts = {}
@@ -211,19 +186,52 @@ def functions_of(crate, edits):
     return {function_of(edit, crate, changes, texts) for edit, changes, fault in found if not fault}
 
 
-def are_refused(wanted, is_proved):
+def are_proved(crate, edits, folder, after_ci):
+    """Whether the prover accepts the functions of these edits as they stand, in a copy in this folder, where it keeps what it has checked."""
+    status, said = check(copy_of_crates(folder / crate) / "crates" / crate, functions_of(crate, edits), after_ci)
+    if status:
+        print(f"{crate}: what the wrong bodies change is not proved as it stands:\n{said[-2000:]}", flush=True)
+    return status == 0
+
+
+def is_refused(crate, edit, folder, after_ci):
+    """Whether the prover refuses this edit of the crate, planted in a copy of the repository, over what it has checked of the crate as that stands."""
+    texts, refused = {}, None
+    changes, fault = changes_of(edit, crate, texts)
+    if fault:
+        fault = f"BAD EDIT: {fault}"
+    else:
+        with tempfile.TemporaryDirectory() as own:
+            copy = copy_of_crates(pathlib.Path(own) / crate)
+            home, function = copy / "crates" / crate, function_of(edit, crate, changes, texts)
+            shutil.copytree(folder / crate / "crates" / crate / KEPT, home / KEPT, copy_function=link_or_copy)
+            plant(copy, texts, changes)
+            status, said = check(home, {function}, after_ci)
+            if status == -signal.SIGKILL:
+                # most likely for memory
+                status, said = check(home, {function}, after_ci)
+            refused, fault = refused_for(status, said, names_of(changes, texts))
+    print(f"{crate}/{edit.stem}: {fault or 'refused, as it must be: ' + refused}", flush=True)
+    return refused is not None
+
+
+def count_refused(crate, edits, folder, after_ci, pool):
+    """How many of these edits of the crate the prover refuses."""
+    if not pool.submit(are_proved, crate, edits, folder, after_ci).result():
+        return 0
+    tried = [pool.submit(is_refused, crate, edit, folder, after_ci) for edit in edits]
+    count = sum(it.result() for it in tried)
+    print(f"{crate}: {count} of {len(edits)} wrong bodies refused", flush=True)
+    return count
+
+
+def are_refused(wanted, after_ci):
     """Whether the prover refuses each of these edits, by their crates. As many are tried at a time as there are processors, and as memory holds."""
-    with concurrent.futures.ThreadPoolExecutor(proofs_at_once()) as pool:
-        if not is_proved:
-            stand = dict(zip(wanted, pool.map(are_proved, wanted, [functions_of(*it) for it in wanted.items()])))
-            if not all(stand.values()):
-                return False
-        edits = [(crate, edit) for crate in wanted for edit in wanted[crate]]
-        answers = list(pool.map(is_refused, *zip(*edits), [is_proved] * len(edits)))
-    for crate in wanted:
-        of_crate = [answer for (of, _), answer in zip(edits, answers) if of == crate]
-        print(f"{crate}: {sum(of_crate)} of {len(of_crate)} wrong bodies refused", flush=True)
-    return all(answers)
+    threads = concurrent.futures.ThreadPoolExecutor
+    with tempfile.TemporaryDirectory() as folder, threads(proofs_at_once()) as pool, threads(len(wanted)) as crates:
+        tried = [crates.submit(count_refused, crate, edits, pathlib.Path(folder), after_ci, pool) for crate, edits in wanted.items()]
+        counts = [it.result() for it in tried]
+    return counts == [len(edits) for edits in wanted.values()]
 
 
 # ---- without proofs
@@ -389,7 +397,7 @@ def quick(crates):
 def main():
     parser = argparse.ArgumentParser(description=__doc__, formatter_class=argparse.RawDescriptionHelpFormatter)
     parser.add_argument("--listed", action="store_true")
-    parser.add_argument("--proved", action="store_true")
+    parser.add_argument("--after-ci", action="store_true")
     parser.add_argument("--quick", action="store_true")
     parser.add_argument("--tenth", metavar="SEED")
     parser.add_argument("wanted", metavar="CRATE[/PATTERN]", nargs="*")
@@ -406,7 +414,7 @@ def main():
         for crate, found in edits.items():
             edits[crate] = set(random.Random(f"{args.tenth} {crate}").sample(sorted(found), (len(found) + 9) // 10))
             print(crate, *(edit.stem for edit in sorted(edits[crate])), flush=True)
-    sys.exit(0 if are_refused({crate: sorted(found) for crate, found in edits.items()}, args.proved) else 1)
+    sys.exit(0 if are_refused({crate: sorted(found) for crate, found in edits.items()}, args.after_ci) else 1)
 
 
 main()
