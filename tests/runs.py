@@ -14,10 +14,10 @@ REPORT, MESSAGE = ".report", ".message"
 
 
 class Place:
-    """A folder of texts, in which the program runs. The process works in that folder while it is open."""
+    """A folder of texts, in which the program runs, each time for so many seconds at most. The process works in that folder while it is open."""
 
-    def __init__(self, program):
-        self.program = str(pathlib.Path(program).resolve())
+    def __init__(self, program, seconds=SECONDS):
+        self.program, self.seconds = str(pathlib.Path(program).resolve()), seconds
 
     def __enter__(self):
         self.folder = tempfile.TemporaryDirectory(dir=IN_MEMORY)
@@ -59,13 +59,13 @@ class Place:
         streams = [(os.POSIX_SPAWN_OPEN, 0, "/dev/null", os.O_RDONLY, 0)]
         streams += [(os.POSIX_SPAWN_OPEN, stream, name, flags, 0o600) for stream, name in ((1, REPORT), (2, MESSAGE))]
         child = os.posix_spawn(self.program, [self.program, *words], os.environ, file_actions=streams)
-        signal.setitimer(signal.ITIMER_REAL, SECONDS)
+        signal.setitimer(signal.ITIMER_REAL, self.seconds)
         try:
             _, status = os.waitpid(child, 0)
         except TimeoutError:
             os.kill(child, signal.SIGKILL)
             os.waitpid(child, 0)
-            raise Wrong(f"no end within {SECONDS} s: {words}") from None
+            raise Wrong(f"no end within {self.seconds} s: {words}") from None
         finally:
             signal.setitimer(signal.ITIMER_REAL, 0)
         status, report, message = os.waitstatus_to_exitcode(status), self.read(REPORT), self.read(MESSAGE)

@@ -103,38 +103,20 @@ fn scripts_give_their_texts(rt: HostRuntime) {
     }
 }
 
-/// A device that fails in every call.
-#[derive(Drop)]
-struct Broken;
-
-impl Read for Broken {
-    fn read(&mut self, _buf: &mut [u8]) -> io::Result<usize> {
-        Err(io::Error::from(ErrorKind::Other))
-    }
-}
-
-impl Write for Broken {
-    fn write(&mut self, _buf: &[u8]) -> io::Result<usize> {
-        Err(io::Error::from(ErrorKind::Other))
-    }
-
-    fn flush(&mut self) -> io::Result<()> {
-        Err(io::Error::from(ErrorKind::Other))
-    }
-}
-
-/// A device that counts its calls, and fails in one of them. It gives or takes one byte in a call.
+/// A device that counts its calls, and fails in those from one to another. It gives or takes one byte in a call.
 #[derive(Drop)]
 struct Counting<'a> {
     calls: &'a mut usize,
-    failing: usize,
+    failing: (usize, usize),
+    kind: ErrorKind,
 }
 
 impl Counting<'_> {
     fn call(&mut self) -> io::Result<()> {
         *self.calls = self.calls.saturating_add(1);
-        if *self.calls == self.failing {
-            return Err(io::Error::from(ErrorKind::Interrupted));
+        let (first, last) = self.failing;
+        if first <= *self.calls && *self.calls <= last {
+            return Err(io::Error::from(self.kind));
         }
         Ok(())
     }
@@ -164,16 +146,23 @@ impl Write for Counting<'_> {
     }
 }
 
-/// The call of three that fails, and what they give.
-static READ_CALLS: [(usize, &str); 4] = [(1, "!|x|x"), (2, "|x!|x"), (3, "|x|x!"), (4, "|x|x|x")];
+/// The calls of three that fail, and what they give.
+static READ_CALLS: [((usize, usize), ErrorKind, &str); 5] = [
+    ((1, 1), ErrorKind::Interrupted, "!|x|x"),
+    ((2, 2), ErrorKind::Interrupted, "|x!|x"),
+    ((3, 3), ErrorKind::Interrupted, "|x|x!"),
+    ((4, 4), ErrorKind::Interrupted, "|x|x|x"),
+    ((1, 3), ErrorKind::Other, "!!!"),
+];
 
 #[test]
 fn each_read_is_passed_on_once(rt: HostRuntime) {
-    for (failing, want) in &READ_CALLS {
+    for (failing, kind, want) in &READ_CALLS {
         let mut calls = 0usize;
         let reader = Reader::new(Counting {
             calls: &mut calls,
             failing: *failing,
+            kind: *kind,
         });
         assert_gives(&rt, rt.alloc(), reader, 3, want);
         assert!(rt; calls == 3);
@@ -183,21 +172,46 @@ fn each_read_is_passed_on_once(rt: HostRuntime) {
 /// What a write and a flush answer, twice.
 type FourCalls = [(Result<usize, DeviceFault>, Result<(), DeviceFault>); 2];
 
-/// The call of four that fails, and what they answer.
-const WRITE_CALLS: [(usize, FourCalls); 4] = [
-    (1, [(Err(DeviceFault), Ok(())), (Ok(1), Ok(()))]),
-    (2, [(Ok(1), Err(DeviceFault)), (Ok(1), Ok(()))]),
-    (3, [(Ok(1), Ok(())), (Err(DeviceFault), Ok(()))]),
-    (4, [(Ok(1), Ok(())), (Ok(1), Err(DeviceFault))]),
+/// The calls of four that fail, and what they answer.
+const WRITE_CALLS: [((usize, usize), ErrorKind, FourCalls); 5] = [
+    (
+        (1, 1),
+        ErrorKind::Interrupted,
+        [(Err(DeviceFault), Ok(())), (Ok(1), Ok(()))],
+    ),
+    (
+        (2, 2),
+        ErrorKind::Interrupted,
+        [(Ok(1), Err(DeviceFault)), (Ok(1), Ok(()))],
+    ),
+    (
+        (3, 3),
+        ErrorKind::Interrupted,
+        [(Ok(1), Ok(())), (Err(DeviceFault), Ok(()))],
+    ),
+    (
+        (4, 4),
+        ErrorKind::Interrupted,
+        [(Ok(1), Ok(())), (Ok(1), Err(DeviceFault))],
+    ),
+    (
+        (1, 4),
+        ErrorKind::Other,
+        [
+            (Err(DeviceFault), Err(DeviceFault)),
+            (Err(DeviceFault), Err(DeviceFault)),
+        ],
+    ),
 ];
 
 #[test]
 fn each_write_and_flush_is_passed_on_once(rt: HostRuntime) {
-    for (failing, want) in &WRITE_CALLS {
+    for (failing, kind, want) in &WRITE_CALLS {
         let mut calls = 0usize;
         let writer = Writer::new(Counting {
             calls: &mut calls,
             failing: *failing,
+            kind: *kind,
         });
         assert_four_calls(&rt, writer, want);
         assert!(rt; calls == 4);
@@ -229,12 +243,11 @@ fn readers_and_writers_of_the_standard_library_are_devices(rt: HostRuntime) {
     let mut taken = Vec::new(rt.alloc());
     assert!(rt; written(Writer::new(&mut taken), b"abc") == Ok(()));
     assert!(rt; taken.as_slice() == b"abc".as_slice());
-}
-
-#[test]
-fn readers_and_writers_that_fail_are_devices_that_fail(rt: HostRuntime) {
-    assert_gives(&rt, rt.alloc(), Reader::new(Broken), 2, "!!");
-    let mut broken = Writer::new(Broken);
-    assert!(rt; write_whole(&mut broken, b"abc") == Err(DeviceFault));
-    assert!(rt; broken.flush() == Err(DeviceFault));
+    let mut calls = 0usize;
+    let failing = Counting {
+        calls: &mut calls,
+        failing: (1, 1),
+        kind: ErrorKind::Other,
+    };
+    assert!(rt; written(Writer::new(failing), b"abc") == Err(DeviceFault));
 }

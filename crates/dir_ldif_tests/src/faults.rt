@@ -2,7 +2,7 @@
 
 use dir_ldif::{DeviceFault, RecordFault, StreamFault};
 use dir_names::NameFault;
-use std::alloc::{AllocError, Global};
+use std::alloc::Global;
 use std::fmt::Display;
 use std::process::Abort;
 
@@ -53,11 +53,7 @@ fn each_fault_shows_its_text(rt: HostRuntime) {
 
 /// Asserts that a fault shows this text, and no other under `#`.
 fn assert_shows<F: Display>(rt: &impl Abort, alloc: Global, fault: &F, want: &str) {
-    assert_text(rt, format!(in alloc; "{fault}"), want);
-    assert_text(rt, format!(in alloc; "{fault:#}"), want);
-}
-
-fn assert_text(rt: &impl Abort, text: Result<String, AllocError>, want: &str) {
-    let text = text.expect(rt, "memory");
-    assert!(rt; text.as_str() == want, "{text}");
+    let text = format!(in alloc; "{fault}; {fault:#}").expect(rt, "memory");
+    let want = format!(in alloc; "{want}; {want}").expect(rt, "memory");
+    assert!(rt; text.as_str() == want.as_str(), "{text}");
 }

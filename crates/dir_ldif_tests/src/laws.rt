@@ -1,13 +1,16 @@
-//! The laws.
+//! The laws and the limits.
 
 use dir_ldif::{
-    legal_changes_have_no_fault, long_lines_stay, read_calls_are_used, reading_ends_soon,
-    reading_stops_there, records_are_sound, texts_are_blocks, written_lines_are_folded,
-    written_lines_read_back, written_records_read_back,
+    MAX_LINE, MAX_TURNS, MAX_VALUE, legal_changes_have_no_fault, long_lines_stay,
+    read_calls_are_used, reading_ends_soon, reading_stops_there, records_are_sound,
+    texts_are_blocks, written_lines_are_folded, written_lines_read_back, written_records_read_back,
 };
 
 #[test]
-fn laws_are_called() {
+fn limits_are_as_documented_and_laws_are_called(rt: HostRuntime) {
+    assert!(rt; MAX_TURNS == 1_099_511_627_776);
+    assert!(rt; MAX_LINE == 2_097_152);
+    assert!(rt; MAX_VALUE == 1_048_576);
     legal_changes_have_no_fault();
     long_lines_stay();
     read_calls_are_used();

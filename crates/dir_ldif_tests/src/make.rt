@@ -1,12 +1,23 @@
-//! What the tests are made of: names, lines, texts, and the answers on a text.
+//! What the tests are made of: names, changes, and the answers on a text.
 
-use dir_ldif::{Record, RecordFault, read_all};
-use dir_names::{Bytes, Description, Dn, Lines, Schema};
+use dir_ldif::{Change, ChangeKind, Mod, ModOp, Mods, Record, RecordFault, StreamFault, read_all};
+use dir_names::{Bytes, Description, Dn, Lines, Rdn, Schema, Texts};
 use std::alloc::Global;
 use std::process::Abort;
 
 /// The answer on one record: the number of its first line, and the record or its fault.
 pub(crate) type Answer = (u64, Result<Record, RecordFault>);
+
+/// What a change does. Each of its values is one byte, so many times.
+pub(crate) enum Does {
+    /// The add of an entry that has one value.
+    Add(&'static str, u8, usize),
+    Delete,
+    /// The modify that adds one value of `sn`.
+    Modify(u8, usize),
+    /// The rename to an RDN that deletes the old values; below another entry, if there is its name.
+    Rename(&'static str, Option<&'static str>),
+}
 
 pub(crate) fn schema(rt: &impl Abort, alloc: Global) -> Schema {
     Schema::builtin(alloc).expect(rt, "a schema")
@@ -16,13 +27,31 @@ pub(crate) fn name(rt: &impl Abort, alloc: Global, text: &str) -> Dn {
     Dn::read(alloc, text.as_bytes()).expect(rt, "a name")
 }
 
-pub(crate) fn description(rt: &impl Abort, alloc: Global, text: &str) -> Description {
+fn description(rt: &impl Abort, alloc: Global, text: &str) -> Description {
     Description::read(alloc, &schema(rt, alloc), text.as_bytes()).expect(rt, "a description")
 }
 
+/// A value of so many of this byte.
+fn value(rt: &impl Abort, alloc: Global, byte: u8, length: usize) -> Bytes {
+    Bytes::new(vec![in alloc; byte; length].expect(rt, "memory"))
+}
+
+pub(crate) fn change(rt: &impl Abort, alloc: Global, dn: &str, does: &Does) -> Change {
+    let dn = name(rt, alloc, dn);
+    let kind = match does {
+        Does::Add(attr_type, byte, length) => {
+            ChangeKind::Add(one_line(rt, alloc, attr_type, *byte, *length))
+        }
+        Does::Delete => ChangeKind::Delete,
+        Does::Modify(byte, length) => ChangeKind::Modify(added_mods(rt, alloc, *byte, *length)),
+        Does::Rename(newrdn, superior) => rename(rt, alloc, newrdn, superior),
+    };
+    Change { dn, kind }
+}
+
 /// The lines of an entry that has one value.
-pub(crate) fn one_line(rt: &impl Abort, alloc: Global, attr_type: &str, value: &[u8]) -> Lines {
-    let value = Bytes::copy_of(alloc, value).expect(rt, "memory");
+fn one_line(rt: &impl Abort, alloc: Global, attr_type: &str, byte: u8, length: usize) -> Lines {
+    let value = value(rt, alloc, byte, length);
     let mut items = Vec::new(alloc);
     items
         .push((description(rt, alloc, attr_type), value))
@@ -30,45 +59,43 @@ pub(crate) fn one_line(rt: &impl Abort, alloc: Global, attr_type: &str, value: &
     Lines::new(items)
 }
 
-/// So many `a`.
-pub(crate) fn signs(rt: &impl Abort, alloc: Global, length: usize) -> Vec<u8> {
-    vec![in alloc; b'a'; length].expect(rt, "memory")
+/// The modifications that add one value of `sn`.
+pub(crate) fn added_mods(rt: &impl Abort, alloc: Global, byte: u8, length: usize) -> Mods {
+    let mut mods = Vec::new(alloc);
+    mods.push(added_value(rt, alloc, byte, length))
+        .expect(rt, "memory");
+    Mods::new(mods)
 }
 
-/// The bytes of both, one after the other.
-pub(crate) fn joined(rt: &impl Abort, alloc: Global, start: &[u8], end: &[u8]) -> Vec<u8> {
-    let mut out = start.to_vec(alloc).expect(rt, "memory");
-    out.extend_from_slice(end).expect(rt, "memory");
-    out
+/// The add of one value of `sn`.
+fn added_value(rt: &impl Abort, alloc: Global, byte: u8, length: usize) -> Mod {
+    let mut values = Vec::new(alloc);
+    values
+        .push(value(rt, alloc, byte, length))
+        .expect(rt, "memory");
+    Mod {
+        op: ModOp::Add,
+        description: description(rt, alloc, "sn"),
+        values: Texts::new(values),
+    }
+}
+
+fn rename(rt: &impl Abort, alloc: Global, newrdn: &str, superior: &Option<&str>) -> ChangeKind {
+    ChangeKind::Rename {
+        newrdn: Rdn::read(alloc, newrdn.as_bytes()).expect(rt, "an RDN"),
+        delete_old: true,
+        newsuperior: match superior {
+            Some(text) => Some(name(rt, alloc, text)),
+            None => None,
+        },
+    }
 }
 
 /// The answers on a text that is read at once.
-pub(crate) fn answers(rt: &impl Abort, alloc: Global, text: &[u8]) -> Vec<Answer> {
-    read_all(alloc, &schema(rt, alloc), text).expect(rt, "answers")
-}
-
-/// The record of the only answer, on a block from this line on.
-pub(crate) fn only_record<'a>(rt: &impl Abort, answers: &'a [Answer], line: u64) -> &'a Record {
-    let [(first, Ok(record))] = answers else {
-        panic!(rt; "not one record");
-    };
-    assert!(rt; *first == line);
-    record
-}
-
-/// The lines of an entry.
-pub(crate) fn lines_of<'a>(rt: &impl Abort, record: &'a Record) -> &'a [(Description, Bytes)] {
-    let Record::Content { dn: _, lines } = record else {
-        panic!(rt; "no entry");
-    };
-    lines.as_slice()
-}
-
-/// Asserts that a text is an entry from its first line on, with one line of this value.
-pub(crate) fn assert_only_value(rt: &impl Abort, alloc: Global, text: &[u8], want: &[u8]) {
-    let answers = answers(rt, alloc, text);
-    let [(_, value)] = lines_of(rt, only_record(rt, answers.as_slice(), 1)) else {
-        panic!(rt; "not one line");
-    };
-    assert!(rt; value.as_slice() == want);
+pub(crate) fn answers(
+    rt: &impl Abort,
+    alloc: Global,
+    text: &[u8],
+) -> Result<Vec<Answer>, StreamFault> {
+    read_all(alloc, &schema(rt, alloc), text)
 }

@@ -1,100 +1,10 @@
 //! Texts and what they read as, in whatever pieces they come.
 
-use crate::make::{assert_only_value, name, one_line};
-use crate::shown::{assert_read_at_once, assert_source};
-use crate::writing::assert_written;
-use dir_ldif::{Record, Script};
+use crate::devices::{Way, script};
+use crate::make::{Answer, answers, schema};
+use dir_ldif::{Record, RecordFault, RecordReader, Script, Source, StreamFault, record_text};
 use std::alloc::Global;
 use std::process::Abort;
-
-/// Texts, and what they read as: records, and faults with the lines of their records.
-static TEXTS: [(&str, &str); 36] = [
-    ("", ""),
-    ("\n\n# only\n \n", ""),
-    (
-        "version: 1\ndn: cn=B,dc=a\nobjectclass: top\ncn: B\n\n# c\ndn: cn=C,dc=a\ncn: C\n",
-        "2 dn: cn=B,dc=a|objectclass: top|cn: B||;7 dn: cn=C,dc=a|cn: C||;",
-    ),
-    (
-        "dn: cn=a\ncn:: QQ\n  ==\n\ndn: cn=a\ncn:: QQ\n ==\n",
-        "1 L2 BadBase64;5 dn: cn=a|cn: A||;",
-    ),
-    (
-        "dn: cn=P,dc=a\nchangetype: modify\nadd: cn\ncn: 1\n-\ndelete: l\nl: x\n",
-        "1 dn: cn=P,dc=a|changetype: modify|add: cn|cn: 1|-|delete: l|l: x|-||;",
-    ),
-    ("dn: cn=a\njpegphoto:< file:///x\n", "1 L3 UrlValue;"),
-    (
-        "dn: cn=a\ncontrol: 1.2 true\nchangetype: delete\n",
-        "1 L4 Control;",
-    ),
-    ("version: 2\n", "L15 BadVersion;L13 Ended;"),
-    ("VERSION:1\n\n", ""),
-    ("version:: MQ==\n", "L15 BadVersion;L13 Ended;"),
-    ("dn: cn=a\nnote:: A\n", "1 L2 BadBase64;"),
-    ("dn: cn=a\nnote:: AA=\n", "1 L2 BadBase64;"),
-    ("dn: cn=a\nnote:: AAF=\n", "1 L2 BadBase64;"),
-    ("dn: cn=a\nnote:: AA== \n", "1 L2 BadBase64;"),
-    ("dn: cn=a\nnote:: AA==\n", "1 dn: cn=a|note:: AA==||;"),
-    ("dn: cn=a\nnote::\n", "1 dn: cn=a|note:||;"),
-    ("dn: cn=a\nnote: \rx\n", "1 L1 BadLine;"),
-    ("dn: cn=a\nnote:   x \n", "1 dn: cn=a|note:: eCA=||;"),
-    ("dn: cn=a\n:x\n", "1 L1 BadLine;"),
-    ("cn: a\n\ndn: cn=b\n", "1 L1 BadLine;3 dn: cn=b||;"),
-    ("# c\n  c\n\n\n # d\n", "5 L1 BadLine;"),
-    ("dn: cn=a\nchangetype: move\n", "1 L5 BadChangetype;"),
-    ("dn: cn=a\nchangetype: delete\ncn: a\n", "1 L1 BadLine;"),
-    (
-        "dn: cn=a\nchangetype: modify\nmultiply: a\n",
-        "1 L6 BadModify;",
-    ),
-    ("dn: cn=a\nchangetype: modify\n-\n", "1 L1 BadLine;"),
-    (
-        "dn: cn=a\nchangetype: modify\nadd: cn\nsn: x\n",
-        "1 L6 BadModify;",
-    ),
-    (
-        "dn: cn=a\nchangetype:: bW9kcmRu\nnewrdn: cn=b\n",
-        "1 L7 BadRename;",
-    ),
-    (
-        "dn: cn=a\nchangetype: modrdn\nnewrdn: cn=b\ndeleteoldrdn: 2\n",
-        "1 L7 BadRename;",
-    ),
-    (
-        "dn: cn=a\nchangetype: modrdn\nnewrdn: cn\ndeleteoldrdn: 2\n",
-        "1 L9 N4 BadDn;",
-    ),
-    ("dn: x\n", "1 L9 N4 BadDn;"),
-    (
-        "dn: cn=e,dc=com\nchangetype: add\nnote: x\n\ndn: cn=f,dc=com\nchangetype: add\nnote:: AAE",
-        "1 dn: cn=e,dc=com|changetype: add|note: x||;5 L2 BadBase64;",
-    ),
-    // The first faulty line decides: its own fault comes before that of its place, and a missing line last.
-    ("dn: cn=a\nnote:: A\nother:< x\n", "1 L2 BadBase64;"),
-    (
-        "dn: cn=a\nchangetype: delete\nnote:: A\n",
-        "1 L2 BadBase64;",
-    ),
-    (
-        "dn: cn=a\nchangetype: modrdn\nnewrdn: cn\n",
-        "1 L9 N4 BadDn;",
-    ),
-    ("dn: cn=a\n1cn: b\n", "1 L9 N1 BadDescription;"),
-    ("dn: cn=a\nchangetype;x: b\n", "1 L9 N2 ReservedName;"),
-];
-
-#[test]
-fn texts_are_read(rt: HostRuntime) {
-    for (text, want) in &TEXTS {
-        assert_read(&rt, rt.alloc(), text, want);
-    }
-}
-
-/// Asserts what a text reads as.
-fn assert_read(rt: &impl Abort, alloc: Global, text: &str, want: &str) {
-    assert_source(rt, alloc, Script::new(text.as_bytes()), want);
-}
 
 /// CR LF ends, a folded comment, folded values and base64, with a final line without its end.
 const FOLDED: &str =
@@ -103,39 +13,200 @@ const FOLDED: &str =
 const FOLDED_SHOWN: &str =
     "3 dn: cn=e,dc=com|changetype: modify|add: description|description:: dHdvIHdvcmRzIA==|-||;10 dn: cn=f,dc=com|note:: AP8=|note: x||;";
 
-/// The bytes whose base64 text is the whole alphabet in its order (RFC 4648, section 4).
-const ALL_SIGNS: &[u8] = b"\x00\x10\x83\x10\x51\x87\x20\x92\x8b\x30\xd3\x8f\x41\x14\x93\x51\
-    \x55\x97\x61\x96\x9b\x71\xd7\x9f\x82\x18\xa3\x92\x59\xa7\xa2\x9a\
-    \xab\xb2\xdb\xaf\xc3\x1c\xb3\xd3\x5d\xb7\xe3\x9e\xbb\xf3\xdf\xbf";
+const TOO_MANY: &str = "L14 TooManyTurns;L13 Ended;";
 
-/// Folded after 76 bytes.
-const ALL_SIGNS_TEXT: &str =
-    "dn: cn=a\ndescription:: ABCDEFGHIJKLMNOPQRSTUVWXYZabcdefghijklmnopqrstuvwxyz0123456789\n +/\n\n";
+/// A text whose second record is cut.
+pub(crate) const CUT: &str = "dn: dc=com\n\ndn: cn=a,";
+
+/// Texts, how a script gives them, how many read calls are allowed where they are fewer than usual, and what is read:
+/// records, and faults with the lines of their records; then what ends the text. Each LF is a `|`.
+static TEXTS: [(&str, &[Way], Option<u8>, &str); 24] = [
+    (FOLDED, &[], None, FOLDED_SHOWN),
+    (FOLDED, &[Way::Pieces(1)], None, FOLDED_SHOWN),
+    (
+        "version: 1\ndn: cn=B,dc=a\nobjectclass: top\ncn: B\n\n# c\ndn: cn=C,dc=a\ncn: C\n",
+        &[],
+        None,
+        "2 dn: cn=B,dc=a|objectclass: top|cn: B||;7 dn: cn=C,dc=a|cn: C||;",
+    ),
+    (
+        "cn: a\n\ndn: cn=b\n",
+        &[],
+        None,
+        "1 L1 BadLine;3 dn: cn=b||;",
+    ),
+    ("version: 2\n", &[], None, "L15 BadVersion;L13 Ended;"),
+    // Records of each kind, which are written as they were read.
+    (
+        "dn: DC=Example,dc=com\nDC: Example\nobjectClass: domain\n\n",
+        &[],
+        None,
+        "1 dn: DC=Example,dc=com|DC: Example|objectClass: domain||;",
+    ),
+    (
+        "dn: DC=Example,dc=com\nchangetype: delete\n\n",
+        &[],
+        None,
+        "1 dn: DC=Example,dc=com|changetype: delete||;",
+    ),
+    (
+        "dn: cn=a,dc=com\nchangetype: add\ncn: a\ndescription:: IGxlYWQ=\nnote:\nuserPassword:: AP8=\n\n",
+        &[],
+        None,
+        "1 dn: cn=a,dc=com|changetype: add|cn: a|description:: IGxlYWQ=|note:|userPassword:: AP8=||;",
+    ),
+    (
+        "dn: cn=e,dc=com\nchangetype: modify\ndelete: description\ndescription: Foo\n-\nadd: description\ndescription: foo\n-\n\n",
+        &[],
+        None,
+        "1 dn: cn=e,dc=com|changetype: modify|delete: description|description: Foo|-|add: description|description: foo|-||;",
+    ),
+    (
+        "dn: cn=max-uidNumber,dc=example,dc=com\nchangetype: modify\nincrement: uidNumber\nuidNumber: 1\n-\n\n",
+        &[],
+        None,
+        "1 dn: cn=max-uidNumber,dc=example,dc=com|changetype: modify|increment: uidNumber|uidNumber: 1|-||;",
+    ),
+    (
+        "dn: dc=b,dc=com\nchangetype: modrdn\nnewrdn: dc=a\ndeleteoldrdn: 1\n\n",
+        &[],
+        None,
+        "1 dn: dc=b,dc=com|changetype: modrdn|newrdn: dc=a|deleteoldrdn: 1||;",
+    ),
+    (
+        "dn: ou=Team,ou=B,dc=com\nchangetype: modrdn\nnewrdn: ou=Team\ndeleteoldrdn: 1\nnewsuperior: ou=A,dc=com\n\n",
+        &[],
+        None,
+        "1 dn: ou=Team,ou=B,dc=com|changetype: modrdn|newrdn: ou=Team|deleteoldrdn: 1|newsuperior: ou=A,dc=com||;",
+    ),
+    // Sources end or fail, or use up the read calls.
+    ("dn: dc=com\n", &[Way::Pieces(1)], Some(3), TOO_MANY),
+    ("", &[Way::FailingFrom(1)], None, "L11 Read;L13 Ended;"),
+    (
+        "dn: dc=com\n\n",
+        &[Way::FailingFrom(2)],
+        None,
+        "1 dn: dc=com||;L11 Read;L13 Ended;",
+    ),
+    (
+        CUT,
+        &[Way::FailingFrom(2)],
+        None,
+        "1 dn: dc=com||;L11 Read;L13 Ended;",
+    ),
+    // Eleven pieces of a byte, and the end, which takes one more.
+    (
+        "dn: dc=com\n",
+        &[Way::Pieces(1)],
+        Some(12),
+        "1 dn: dc=com||;",
+    ),
+    ("dn: dc=com\n", &[Way::Pieces(1)], Some(11), TOO_MANY),
+    // Texts that have no record, however often they come.
+    ("\n", &[Way::Endless], Some(100), TOO_MANY),
+    ("\r\n", &[Way::Endless], Some(100), TOO_MANY),
+    ("#\n", &[Way::Endless], Some(100), TOO_MANY),
+    ("# a comment\n", &[Way::Endless], Some(100), TOO_MANY),
+    (" \n", &[Way::Endless], Some(100), TOO_MANY),
+    (" \r\n", &[Way::Endless], Some(100), TOO_MANY),
+];
 
 #[test]
-fn pieces_change_nothing(rt: HostRuntime) {
-    let alloc = rt.alloc();
-    assert_read(&rt, alloc, FOLDED, FOLDED_SHOWN);
-    assert_read_at_once(&rt, alloc, FOLDED, FOLDED_SHOWN);
-    let single = Script::new(FOLDED.as_bytes()).pieces(1);
-    assert_source(&rt, alloc, single, FOLDED_SHOWN);
+fn texts_are_read(rt: HostRuntime) {
+    for (text, ways, turns, want) in &TEXTS {
+        assert_read(&rt, rt.alloc(), script(text, ways), *turns, want);
+    }
     for at in 1..FOLDED.len() {
         let cut = Script::new(FOLDED.as_bytes()).first_piece(at);
-        assert_source(&rt, alloc, cut, FOLDED_SHOWN);
+        assert_read(&rt, rt.alloc(), cut, None, FOLDED_SHOWN);
+    }
+    let piece = vec![in rt.alloc(); b'a'; 8192].expect(&rt, "memory");
+    let endless = Script::new(piece.as_slice()).endless();
+    let want = "L10 LineTooLong;L13 Ended;";
+    assert_read(&rt, rt.alloc(), endless, None, want);
+}
+
+#[test]
+fn texts_are_read_at_once(rt: HostRuntime) {
+    let mut out = String::new(rt.alloc());
+    let found = answers(&rt, rt.alloc(), FOLDED.as_bytes()).expect(&rt, "answers");
+    for (line, answer) in &found {
+        push_answer(&rt, rt.alloc(), &mut out, *line, answer);
+    }
+    assert_shown(&rt, rt.alloc(), &out, FOLDED_SHOWN);
+    let line = vec![in rt.alloc(); b'a'; 2_097_153].expect(&rt, "memory");
+    let fault = answers(&rt, rt.alloc(), line.as_slice()).err();
+    assert!(rt; fault == Some(StreamFault::LineTooLong));
+}
+
+/// Asserts what a source's text reads as, of at most so many read calls, if there is such a number.
+fn assert_read(rt: &impl Abort, alloc: Global, source: Script, turns: Option<u8>, want: &str) {
+    let schema = schema(rt, alloc);
+    let reader = match turns {
+        Some(turns) => RecordReader::with_turns(alloc, &schema, source, turns.into()),
+        None => RecordReader::new(alloc, &schema, source),
+    };
+    let reader = reader.expect(rt, "a reader");
+    assert_shown(rt, alloc, &shown(rt, alloc, reader), want);
+}
+
+fn assert_shown(rt: &impl Abort, alloc: Global, shown: &String, want: &str) {
+    let shown = shown.replace(alloc, "\n", "|").expect(rt, "memory");
+    assert!(rt; shown.as_str() == want, "{shown}");
+}
+
+/// What a reader answers.
+fn shown(rt: &impl Abort, alloc: Global, mut reader: RecordReader<Script>) -> String {
+    let mut out = String::new(alloc);
+    for _ in 0..100 {
+        if !push_next(rt, alloc, &mut out, next(&mut reader)) {
+            break;
+        }
+    }
+    out
+}
+
+/// What a reader answers next.
+pub(crate) fn next<R: Source + Drop>(
+    reader: &mut RecordReader<R>,
+) -> Result<Option<Answer>, StreamFault> {
+    reader.next()
+}
+
+/// Appends what a reader answered, and tells whether it can answer more.
+fn push_next(
+    rt: &impl Abort,
+    alloc: Global,
+    out: &mut String,
+    next: Result<Option<Answer>, StreamFault>,
+) -> bool {
+    match next {
+        Ok(Some((line, answer))) => {
+            push_answer(rt, alloc, out, line, &answer);
+            true
+        }
+        Ok(None) => false,
+        Err(fault) => {
+            write!(out, "{fault};").expect(rt, "memory");
+            fault != StreamFault::Ended
+        }
     }
 }
 
-#[test]
-fn all_base64_signs_are_read_and_written(rt: HostRuntime) {
-    assert_only_value(&rt, rt.alloc(), ALL_SIGNS_TEXT.as_bytes(), ALL_SIGNS);
-    assert_entry_written(&rt, rt.alloc(), ALL_SIGNS, ALL_SIGNS_TEXT);
-}
-
-/// Asserts what the entry `cn=a` with one value of `description` is written as.
-fn assert_entry_written(rt: &impl Abort, alloc: Global, value: &[u8], want: &str) {
-    let record = Record::Content {
-        dn: name(rt, alloc, "cn=a"),
-        lines: one_line(rt, alloc, "description", value),
-    };
-    assert_written(rt, alloc, &record, want);
+/// Appends the line of a record, and its text or its fault.
+fn push_answer(
+    rt: &impl Abort,
+    alloc: Global,
+    out: &mut String,
+    line: u64,
+    answer: &Result<Record, RecordFault>,
+) {
+    match answer {
+        Ok(record) => {
+            let text = record_text(alloc, record).expect(rt, "memory");
+            let text = String::from_utf8(text).expect(rt, "ASCII");
+            write!(out, "{line} {text};").expect(rt, "memory");
+        }
+        Err(fault) => write!(out, "{line} {fault};").expect(rt, "memory"),
+    }
 }
