@@ -1,4 +1,4 @@
-//! Configurations: their notes, and the argument of a fault. The program reads the types of a configuration first, so its length is looked at once more here.
+//! Configurations: their notes, and the argument of a fault. The program looks at a configuration's length as it reads its types; `Config::read` looks at it too.
 
 use crate::acl::make::schema;
 use dir_acl::{Config, ConfigCause, FaultArgument, Note, NoteCause, fault_argument};

@@ -1,4 +1,4 @@
-//! What rules grant: by a configuration, by the rules for a target, and by a list of rules without a configuration.
+//! What rules grant: by a configuration, by the rules for a target, and without a configuration.
 
 use crate::acl::make::{key, schema};
 use dir_acl::{
@@ -9,19 +9,47 @@ use std::alloc::Global;
 use std::process::Abort;
 
 /// A configuration with definitions of types that can't be added: a definition says nothing to the rest, whatever it holds.
-const CONFIG: &str = "attributetype ( 1.2.3 NAME 'a1' DESC 'a \" and a \\' SUP nothing )\n\
+const CONTINUE: &str = "attributetype ( 1.2.3 NAME 'a1' DESC 'a \" and a \\' SUP nothing )\n\
     database mdb\nattributetype access to \"\nsuffix dc=com\n\
     access to *\n  by * =cs continue\n  by users +r\nattributetype \\\n";
 
+/// Rules that are for the entry of the suffix, each followed by one that isn't.
+const EACH_WHAT: &str = "database mdb\nsuffix dc=com\n\
+    access to attrs=sn,entry filter=(&) by * +r break\naccess to attrs=sn,children by * =m\n\
+    access to filter=(!(|)) attrs=entry by * +s break\naccess to filter=(|) by * =m\n\
+    access to dn.sub=dc=com by * +c break\naccess to dn.one=dc=com by * =m\n\
+    access to dn=dc=com attrs=entry filter=(&) by * +d continue by self =m by dn.one=dc=com +x\n";
+
+/// Configurations, and what `cn=u,dc=com` may do by each with the entry of the suffix, which is made up.
+static GRANTS: [(&str, &str); 5] = [
+    (CONTINUE, "=rsc"),
+    (EACH_WHAT, "=rscxd"),
+    (
+        "database mdb\nsuffix dc=com\naccess to * by * read break\n",
+        "=0",
+    ),
+    ("database mdb\nsuffix dc=com\n", "=rscxd"),
+    (
+        "database mdb\nsuffix dc=com\nrootdn cn=U,dc=com\naccess to * by * none\n",
+        "=mwrscxd",
+    ),
+];
+
 #[test]
 fn a_configuration_grants_what_its_rules_say(rt: HostRuntime) {
-    let config = Config::read(rt.alloc(), &schema(&rt, rt.alloc()), CONFIG.as_bytes());
-    let config = config.expect(&rt, "a configuration");
-    assert!(&rt; *config.suffix() == key(&rt, rt.alloc(), "DC=Com"));
-    assert_text(&rt, rt.alloc(), granted(&rt, rt.alloc(), &config), "=rsc");
+    for (text, want) in &GRANTS {
+        assert_granted(&rt, rt.alloc(), text, want);
+    }
 }
 
-/// What a configuration grants, and the rules for the target too.
+fn assert_granted(rt: &impl Abort, alloc: Global, text: &str, want: &str) {
+    let config = Config::read(alloc, &schema(rt, alloc), text.as_bytes());
+    let config = config.expect(rt, "a configuration");
+    assert!(rt; *config.suffix() == key(rt, alloc, "DC=Com"));
+    assert_text(rt, alloc, granted(rt, alloc, &config), want);
+}
+
+/// What a configuration grants, and the rules for the target too. No rule at all grants what a configuration without rules does.
 fn granted(rt: &impl Abort, alloc: Global, config: &Config) -> Privileges {
     let directory = FlatDirectory::new(alloc, key(rt, alloc, "dc=com"));
     let target = key(rt, alloc, "dc=com");
@@ -34,28 +62,18 @@ fn granted(rt: &impl Abort, alloc: Global, config: &Config) -> Privileges {
     let held = config.privileges(&directory, &request);
     let mut rules = config.rules_for(alloc, &target, request.entry);
     assert!(rt; rules.privileges(&directory, &request) == held);
+    assert_text(
+        rt,
+        alloc,
+        privileges_under(None, &[], &directory, &request),
+        "=rscxd",
+    );
     held
 }
 
 pub(crate) fn assert_text(rt: &impl Abort, alloc: Global, privileges: Privileges, want: &str) {
     let text = privileges.text(alloc).expect(rt, "memory");
     assert!(rt; text.as_slice() == want.as_bytes(), "{want}");
-}
-
-#[test]
-fn a_list_of_rules_grants_without_a_configuration(rt: HostRuntime) {
-    let directory = FlatDirectory::new(rt.alloc(), key(&rt, rt.alloc(), "dc=com"));
-    let root = key(&rt, rt.alloc(), "cn=u,dc=com");
-    let request = Request {
-        requester: Some(key(&rt, rt.alloc(), "CN=U,dc=com")),
-        target: key(&rt, rt.alloc(), "dc=com"),
-        entry: None,
-        asked: Asked::Children,
-    };
-    let none = privileges_under(None, &[], &directory, &request);
-    assert_text(&rt, rt.alloc(), none, "=rscxd");
-    let root = privileges_under(Some(&root), &[], &directory, &request);
-    assert_text(&rt, rt.alloc(), root, "=mwrscxd");
 }
 
 #[test]
