@@ -53,7 +53,7 @@ def said(notes=(), *others):
 
 def asked(place, conf, *words, base="dc=com", options=()):
     """The answer to these words under a configuration."""
-    place.write("conf", conf if isinstance(conf, bytes) else conf.encode())
+    place.write("conf", conf.encode())
     return place.run("slapacl", "-b", base, "-f", "conf", "--data", "copy", *options, "--", *words)
 
 

@@ -1,7 +1,7 @@
 //! Questions of access over a folder in memory: its calls, the notes that are told before the report, and the argument of a fault.
 
 use crate::files::folder::Folder;
-use crate::files::runs::{ALL, push_call};
+use crate::files::runs::{ALL, push_calls};
 use dir_acl::{FaultArgument, Note};
 use dir_files::slapacl::run;
 use dir_files::{AccessWords, Fault, NoteTeller, Refusal, ShownArgument, ShownNote};
@@ -199,11 +199,8 @@ fn assert_asked(rt: &impl Abort, alloc: Global, question: &Question) {
     };
     let answer = ask(rt, alloc, &mut folder, &mut notes, question);
     assert!(rt; !notes.lacks_memory, "memory");
-    let text = &mut notes.text;
-    for call in folder.calls().expect(rt, "memory") {
-        push_call(rt, text, call);
-    }
-    push_end(rt, text, &answer, notes.argument.as_ref());
+    push_calls(rt, &mut notes.text, &folder);
+    push_end(rt, &mut notes.text, &answer, notes.argument.as_ref());
     assert!(rt;
         notes.text.as_str() == question.told,
         "{}: {}",

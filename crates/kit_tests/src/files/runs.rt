@@ -297,9 +297,7 @@ fn assert_run(rt: &impl Abort, alloc: Global, one: &Run) {
     let mut folder = Folder::new(alloc, one.copy, ADD, one.typed, one.good).with_config(one.types);
     let answer = answer_over(alloc, &mut folder, one);
     let mut text = String::new(alloc);
-    for call in folder.calls().expect(rt, "memory") {
-        push_call(rt, &mut text, call);
-    }
+    push_calls(rt, &mut text, &folder);
     push_answer(rt, &mut text, &answer);
     let shows = one.shows;
     assert!(rt; text.as_str() == one.told, "{shows}: {text}");
@@ -332,16 +330,18 @@ fn push_answer(rt: &impl Abort, text: &mut String, answer: &Result<Summary, Faul
     .expect(rt, "memory");
 }
 
-/// Appends a call, and whether it was refused.
-pub(super) fn push_call(rt: &impl Abort, text: &mut String, call: &Asked) {
-    let (what, path, with, why) = parts_of(call);
-    let end = match why {
-        None => "",
-        Some(Refusal::Exists) => ", which exists",
-        Some(Refusal::Memory) => ", no memory",
-        Some(Refusal::Other) => ", refused",
-    };
-    write!(text, "{what}{path}{with}{end};").expect(rt, "memory");
+/// Appends the calls of a folder, and whether each was refused.
+pub(super) fn push_calls(rt: &impl Abort, text: &mut String, folder: &Folder<'_>) {
+    for call in folder.calls().expect(rt, "memory") {
+        let (what, path, with, why) = parts_of(call);
+        let end = match why {
+            None => "",
+            Some(Refusal::Exists) => ", which exists",
+            Some(Refusal::Memory) => ", no memory",
+            Some(Refusal::Other) => ", refused",
+        };
+        write!(text, "{what}{path}{with}{end};").expect(rt, "memory");
+    }
 }
 
 /// What was asked, of which path, with what text or mode, and why it was refused.

@@ -24,17 +24,30 @@ fn the_first_path_that_is_repeated_is_found(rt: HostRuntime) {
     assert!(&rt; first_repeated(&words) == Some("f"));
 }
 
+/// Faults, and the text of each.
+static FAULTS: [(Fault<'static>, &str); 6] = [
+    (Fault::SamePath("a"), "same path twice: a"),
+    (Fault::CannotOpen("a"), "cannot open a"),
+    (
+        Fault::CannotOpen("\tM\u{fc}ller\u{9b}\n\x7f"),
+        "cannot open \\x09M\u{fc}ller\\x9b\\x0a\\x7f",
+    ),
+    (Fault::Exists("a"), "exists already: a"),
+    (Fault::NotesUntold, "cannot write notes"),
+    (
+        Fault::Tool(ToolFault::BadCopy(7, Cause::Fault(RecordFault::Name(NameFault::BadDn)))),
+        "copy, line 7: L9 N4 BadDn",
+    ),
+];
+
 #[test]
 fn each_fault_has_its_text(rt: HostRuntime) {
+    for (fault, want) in &FAULTS {
+        assert_shows(&rt, rt.alloc(), fault, want);
+    }
     let no_words = Fault::NoWords(io::Error::from(io::ErrorKind::InvalidData));
     let want = "cannot read the command line: invalid data";
     assert_shows(&rt, rt.alloc(), &no_words, want);
-    let controls = Fault::CannotOpen("\tM\u{fc}ller\u{9b}\n\x7f");
-    let want = "cannot open \\x09M\u{fc}ller\\x9b\\x0a\\x7f";
-    assert_shows(&rt, rt.alloc(), &controls, want);
-    let bad_name = Cause::Fault(RecordFault::Name(NameFault::BadDn));
-    let bad_copy = Fault::Tool(ToolFault::BadCopy(7, bad_name));
-    assert_shows(&rt, rt.alloc(), &bad_copy, "copy, line 7: L9 N4 BadDn");
 }
 
 /// What is done with a text, its path, how much of it is done, its size, and what is told.
