@@ -358,6 +358,34 @@ def the_configuration_has_a_path_of_its_own(trial):
             trial.expect_no_files()
 
 
+# the paths of the configuration, the copy, the new copy, the undo file and the changes, a letter each, and the first that is the same as one before it
+PATHS = [
+    ("faabc", "a"),
+    ("fabac", "a"),
+    ("fabbc", "b"),
+    ("fabca", "a"),
+    ("fabcb", "b"),
+    ("fabcc", "c"),
+    ("fabcd", None),
+    ("ffbcd", "f"),
+    ("fafcd", "f"),
+    ("fabfd", "f"),
+    ("fabcf", "f"),
+    ("faaff", "a"),
+    ("fafaa", "f"),
+]
+
+
+def the_first_path_that_is_repeated_is_told(trial):
+    for paths, named in PATHS:
+        config, data, out, undo, changes = paths
+        words = ["slapmodify", "-b", "dc=com", "-f", config, "--data", data, "--out", out, "--undo", undo, "-l", changes]
+        told = f"same path twice: {named}" if named else f"cannot open {config}"
+        for dry in ([], ["-u"]):
+            expect(trial.run([*words, *dry]), (1, "", f"slapkit: {told}\n"), paths)
+            trial.expect_no_files()
+
+
 ROOM = "attributetype ( 1.3.6.1.4.1.32473.1 NAME ( 'room' 'roomName' )\n  EQUALITY caseIgnoreMatch SINGLE-VALUE )\n"
 LEVEL = "attributetype ( 1.3.6.1.4.1.32473.2 NAME 'level' SUP uidNumber )\n"
 IN_A_ROOM = COPY + "dn: cn=e,dc=com\ncn: e\nroom: A 1\n\n"
@@ -904,6 +932,7 @@ RUNS = [
 OTHERS = [
     one_option_alone_is_refused,
     the_configuration_has_a_path_of_its_own,
+    the_first_path_that_is_repeated_is_told,
     values_are_compared_by_the_types_of_the_configuration,
     a_run_under_the_types_of_a_configuration_is_taken_back,
     the_types_are_read_before_the_copy_is_opened,

@@ -19,6 +19,7 @@ SCRIPTS = (
     "operations.py",
     "cut.py",
     "forms.py",
+    "questions.py",
     "terminal.py",
     "memory_answers.py",
     "frequent_types.py",

@@ -1,10 +1,9 @@
-//! Tests of `dir_acl`: examples of filters and of slapd.access(5), what rules grant, and faults with their lines.
+//! Tests of `dir_acl`: a call of each of its functions, types for which memory ran out, and what the program doesn't show. What rules grant, faults and notes
+//! are tried through the program, by `tests/questions.py`.
 
-mod config_faults;
 mod config_types;
-mod fault_arguments;
+mod configs;
 mod filters;
 mod grants;
 mod make;
-mod notes;
-mod words;
+pub(crate) mod words;
