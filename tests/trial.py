@@ -10,6 +10,7 @@ import sys
 HERE = pathlib.Path(__file__).resolve().parent
 SCRIPTS = (
     "program.py",
+    "rows.py",
     "refusals.py",
     "crashes.py",
     "power.py",
