@@ -538,7 +538,7 @@ REFUSALS = [
     modify_refused("a delete of a value that is not there", "delete: description\ndescription: bar\n-\n", "16 noSuchAttribute"),
     modify_refused("a delete of a value twice", "delete: description\ndescription: foo\ndescription: FOO\n-\n", "16 noSuchAttribute"),
     modify_refused("an add of a value that is there", "add: description\ndescription: FOO\n-\n", "20 attributeOrValueExists"),
-    modify_refused("an add of a value twice", "add: sn\nsn: a\nsn: A\n-\n", "20 attributeOrValueExists"),
+    modify_refused("a modify that adds a value twice", "add: sn\nsn: a\nsn: A\n-\n", "20 attributeOrValueExists"),
     modify_refused("a replace by a value twice", "replace: sn\nsn: a\nsn: A\n-\n", "20 attributeOrValueExists"),
     modify_refused("an add of a value of bad syntax", "add: uidNumber\nuidNumber: 007\n-\n", "21 invalidAttributeSyntax"),
     modify_refused("a delete of a value of bad syntax", "delete: uidNumber\nuidNumber: 007\n-\n", "21 invalidAttributeSyntax"),
