@@ -685,6 +685,7 @@ UNDER_TYPES = [
     ),
 ]
 
+
 def thousand():
     """A thousand entries, which are deleted in order."""
     names = [f"e{number:03}" for number in range(1000)]
@@ -1120,6 +1121,7 @@ def check_run(program, row):
             streams = left_by(place, row, "--data", "new", "-l", "undo", "--out", "back", "--undo", "redo")
             count = wanted.undo.count("\nchangetype: ")
             checks.expect(streams, (0, f"accepted {count}, refused 0\n", ""), "the undo run")
+            checks.expect(place.names(), {*texts, "new", "undo", "back", "redo"}, "files after the undo run")
             same(text_of(place, "back"), row.copy if row.back is None else row.back, "the copy that the undo run gives")
 
 
@@ -1147,7 +1149,7 @@ def check_ask(program, row):
     with Place(program) as place:
         place.write("conf", row.config.encode())
         place.write("copy", row.copy.encode())
-        checks.expect(place.run("slapacl", "-f", "conf", "--data", "copy", *row.question.options()), row.answer())
+        checks.expect(place.run("slapacl", "-f", "conf", "--data", "copy", *row.question.options()), row.answer(), "answered")
         checks.expect(access_answer(row.config.encode(), row.copy.encode(), row.question), row.answer(), "by the definitions")
         checks.expect(place.names(), {"conf", "copy"}, "files")
 

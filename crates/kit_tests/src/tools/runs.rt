@@ -26,9 +26,62 @@ const TOLD: Run<'static> = Run {
     ..ACCEPTED
 };
 
-/// A copy with something to refuse changes for.
+/// A run that refuses one record of a copy with something to refuse changes for.
+const REFUSING: Run<'static> = Run {
+    copy: COPY,
+    out: COPY,
+    answer: "accepted 0, refused 1",
+    back: Some(COPY),
+    ..ACCEPTED
+};
+
 const COPY: &str = "dn: dc=com\ndc: com\n\ndn: cn=e,dc=com\ncn: e\ndescription: foo\n\n\
     dn: cn=p,dc=com\ncn: p\n\ndn: cn=q,cn=p,dc=com\ncn: q\n\ndn: cn=r,dc=com\ncn: r\n\ndn: dc=a,dc=com\ndc: a\n\n";
+
+/// A run of one record, which is refused with this code or fault.
+macro_rules! refused {
+    ($shows:literal, $record:literal, $cause:literal) => {
+        Run {
+            shows: $shows,
+            changes: $record,
+            report: concat!("line 1: refused, ", $cause, "\naccepted 0, refused 1\n"),
+            ..REFUSING
+        }
+    };
+}
+
+/// The text of a copy with an entry of this RDN and these lines below `dc=com`.
+macro_rules! copy {
+    ($rdn:literal, $lines:literal) => {
+        concat!("dn: dc=com\ndc: com\n\ndn: ", $rdn, ",dc=com\n", $lines, "\n")
+    };
+}
+
+/// The undo text of a modify of this entry that is taken back by these modifications, or by none.
+macro_rules! undo {
+    ($rdn:literal, none) => {
+        NO_UNDO
+    };
+    ($rdn:literal, $mods:literal) => {
+        concat!("version: 1\n\ndn: ", $rdn, ",dc=com\nchangetype: modify\n", $mods, "\n")
+    };
+}
+
+/// A run of one modify: what it shows, the RDN of the entry, its lines, the modifications, the lines after them, and the
+/// modifications that take them back.
+macro_rules! modify {
+    ($shows:literal, $rdn:literal, before: $before:literal, mods: $mods:literal, after: $after:literal, undo: $undo:tt) => {
+        Run {
+            shows: $shows,
+            copy: copy!($rdn, $before),
+            changes: concat!("dn: ", $rdn, ",dc=com\nchangetype: modify\n", $mods, "\n"),
+            undo: undo!($rdn, $undo),
+            out: copy!($rdn, $after),
+            back: Some(copy!($rdn, $before)),
+            ..ACCEPTED
+        }
+    };
+}
 
 const ROOM: &str =
     "attributetype ( 1.3.6.1.4.1.32473.1 NAME ( 'room' 'roomName' )\n  EQUALITY caseIgnoreMatch SINGLE-VALUE )\n";
@@ -54,7 +107,7 @@ const UNDER_TYPES: Run<'static> = Run {
 };
 
 /// Devices, and what comes of a run over them.
-static RUNS: [(Devices, Run<'static>); 33] = [
+static RUNS: [(Devices, Run<'static>); 44] = [
     (
         IN_EIGHTS,
         Run {
@@ -336,60 +389,150 @@ static RUNS: [(Devices, Run<'static>); 33] = [
     ),
     (
         IN_EIGHTS,
-        Run {
-            shows: "the undo of a modify says only what it changes",
-            copy: "dn: dc=com\ndc: com\n\ndn: cn=e,dc=com\ncn: e\ndescription: foo\n\n",
-            changes: "dn: cn=e,dc=com\nchangetype: modify\ndelete: description\ndescription: FOO\n-\n\
-                add: description\ndescription: Foo\n-\n\n",
-            undo: "version: 1\n\ndn: cn=e,dc=com\nchangetype: modify\ndelete: description\ndescription: Foo\n-\n\
-                add: description\ndescription: foo\n-\n\n",
-            out: "dn: dc=com\ndc: com\n\ndn: cn=e,dc=com\ncn: e\ndescription: Foo\n\n",
-            back: Some("dn: dc=com\ndc: com\n\ndn: cn=e,dc=com\ncn: e\ndescription: foo\n\n"),
-            ..ACCEPTED
-        },
+        modify!(
+        "the undo says only what the modify changes",
+        "cn=e",
+        before: "cn: e\ndescription: foo\n",
+        mods: "delete: description\ndescription: FOO\n-\nadd: description\ndescription: Foo\n-\n",
+        after: "cn: e\ndescription: Foo\n",
+        undo: "delete: description\ndescription: Foo\n-\nadd: description\ndescription: foo\n-\n"
+    ),
+    ),
+    (
+        IN_EIGHTS,
+        modify!(
+        "a type comes back under the name that it had",
+        "cn=a",
+        before: "cn: a\n",
+        mods: "replace: commonName\ncommonName: a\ncommonName: b\n-\n",
+        after: "commonName: a\ncommonName: b\n",
+        undo: "replace: cn\ncn: a\n-\n"
+    ),
+    ),
+    (
+        IN_EIGHTS,
+        modify!(
+        "values come back by themselves",
+        "cn=g",
+        before: "cn: g\nmember: cn=a\nmember: cn=b\nmember: cn=c\n",
+        mods: "add: member\nmember: cn=d\n-\ndelete: member\nmember: CN=B\n-\n",
+        after: "cn: g\nmember: cn=a\nmember: cn=c\nmember: cn=d\n",
+        undo: "delete: member\nmember: cn=d\n-\nadd: member\nmember: cn=b\n-\n"
+    ),
+    ),
+    (
+        IN_EIGHTS,
+        modify!(
+        "a type comes back whole",
+        "cn=e",
+        before: "cn: e\nsn: S\nsn: T\n",
+        mods: "delete: surname\n-\nadd: title\ntitle: Chief\n-\n",
+        after: "cn: e\ntitle: Chief\n",
+        undo: "add: sn\nsn: S\nsn: T\n-\ndelete: title\n-\n"
+    ),
+    ),
+    (
+        IN_EIGHTS,
+        modify!(
+        "a modify of nothing has an empty group",
+        "cn=e",
+        before: "cn: e\n",
+        mods: "",
+        after: "cn: e\n",
+        undo: none
+    ),
+    ),
+    (
+        IN_EIGHTS,
+        modify!(
+        "an option has one key in all spellings",
+        "cn=e",
+        before: "cn: e\nCN;Lang-EN: F\nCN;Lang-EN: g\n",
+        mods: "replace: cn;lang-en\ncn;lang-en: f\ncn;lang-en: g\n-\n",
+        after: "cn: e\ncn;lang-en: f\ncn;lang-en: g\n",
+        undo: "replace: CN;Lang-EN\nCN;Lang-EN: F\nCN;Lang-EN: g\n-\n"
+    ),
+    ),
+    (
+        IN_EIGHTS,
+        modify!(
+        "an increment is taken back by the values",
+        "cn=u",
+        before: "cn: u\nuidNumber: 1000\n",
+        mods: "increment: uidNumber\nuidNumber: -1\n-\n",
+        after: "cn: u\nuidNumber: 999\n",
+        undo: "delete: uidNumber\nuidNumber: 999\n-\nadd: uidNumber\nuidNumber: 1000\n-\n"
+    ),
+    ),
+    (
+        IN_EIGHTS,
+        refused!(
+            "a delete of an entry with children",
+            "dn: dc=com\nchangetype: delete\n",
+            "66 notAllowedOnNonLeaf"
+        ),
+    ),
+    (
+        IN_EIGHTS,
+        refused!(
+            "an add of a name that is taken",
+            "dn: CN=E,dc=com\nchangetype: add\n",
+            "68 entryAlreadyExists"
+        ),
+    ),
+    (
+        IN_EIGHTS,
+        refused!(
+            "an add outside the suffix",
+            "dn: cn=f,dc=org\nchangetype: add\n",
+            "32 noSuchObject"
+        ),
+    ),
+    (
+        IN_EIGHTS,
+        refused!(
+            "an add of a value twice",
+            "dn: cn=f,dc=com\nchangetype: add\nsn: A\nsurname: a\n",
+            "20 attributeOrValueExists"
+        ),
+    ),
+    (
+        IN_EIGHTS,
+        refused!(
+            "a content record",
+            "dn: dc=com\ndc: com\n\n",
+            "L5 BadChangetype"
+        ),
+    ),
+    (
+        IN_EIGHTS,
+        refused!(
+            "a rename that leaves two values where one is allowed",
+            "dn: dc=a,dc=com\nchangetype: modrdn\nnewrdn: dc=b\ndeleteoldrdn: 0\n",
+            "19 constraintViolation"
+        ),
+    ),
+    (
+        IN_EIGHTS,
+        refused!(
+            "an increment past the greatest number",
+            "dn: cn=e,dc=com\nchangetype: modify\nadd: gidNumber\ngidNumber: 170141183460469231731687303715884105727\n-\n\
+                increment: gidNumber\ngidNumber: 1\n-\n\n",
+            "19 constraintViolation"
+        ),
     ),
     (
         IN_EIGHTS,
         Run {
             shows: "refusals of renames come in order",
             options: GO_ON,
-            copy: COPY,
             changes: "dn: cn=p,dc=com\nchangetype: modrdn\nnewrdn: cn=r\ndeleteoldrdn: 1\nnewsuperior: cn=q,cn=p,dc=com\n\n\
                 dn: cn=p,dc=com\nchangetype: modrdn\nnewrdn: cn=r\ndeleteoldrdn: 1\nnewsuperior: cn=none,dc=com\n\n\
                 dn: cn=p,dc=com\nchangetype: modrdn\nnewrdn: cn=r\ndeleteoldrdn: 1\n",
-            out: COPY,
             report: "line 1: refused, 53 unwillingToPerform\nline 7: refused, 32 noSuchObject\n\
                 line 13: refused, 68 entryAlreadyExists\naccepted 0, refused 3\n",
             answer: "accepted 0, refused 3",
-            back: Some(COPY),
-            ..ACCEPTED
-        },
-    ),
-    (
-        IN_EIGHTS,
-        Run {
-            shows: "a delete of an entry with children",
-            copy: COPY,
-            changes: "dn: dc=com\nchangetype: delete\n",
-            out: COPY,
-            report: "line 1: refused, 66 notAllowedOnNonLeaf\naccepted 0, refused 1\n",
-            answer: "accepted 0, refused 1",
-            back: Some(COPY),
-            ..ACCEPTED
-        },
-    ),
-    (
-        IN_EIGHTS,
-        Run {
-            shows: "an increment past the greatest number",
-            copy: COPY,
-            changes: "dn: cn=e,dc=com\nchangetype: modify\nadd: gidNumber\ngidNumber: 170141183460469231731687303715884105727\n-\n\
-                increment: gidNumber\ngidNumber: 1\n-\n\n",
-            out: COPY,
-            report: "line 1: refused, 19 constraintViolation\naccepted 0, refused 1\n",
-            answer: "accepted 0, refused 1",
-            back: Some(COPY),
-            ..ACCEPTED
+            ..REFUSING
         },
     ),
     (
