@@ -10,7 +10,7 @@ the definitions say of the texts as they are then: a run of slapmodify by answer
 (the report, both files, or the fault with its line), a question by access.py, which reads rules in another language (the notes, and the report or
 the fault with its line). The attribute types of a configuration are those of definitions.py.
 
-Last, a line without end comes through a pipe: slapkit may take no more than 8,192 bytes after the limit of a line.
+Last, a line without end comes through a pipe, and a configuration without end: slapkit may take no more than 8,192 bytes after the limit of each.
 """
 import dataclasses
 import fcntl
@@ -22,7 +22,7 @@ import termios
 import time
 
 import checks
-from access import access_answer
+from access import MOST_BYTES_OF_A_CONFIGURATION, access_answer
 from answers import Answer, answer
 from cases import ROOT, RULES, TEXTS, lines
 from checks import Wrong, expect
@@ -95,16 +95,16 @@ def question_cut_after_each_byte(program, rules):
     return f"{len(rules.config)} and {len(rules.copy)} bytes"
 
 
-# ---- a line without end
+# ---- texts without end
 
 
-def taken_of(program, begin):
-    """How much of these changes the program takes, whose last line never ends, and what it says."""
+def taken_of(program, words, begin):
+    """How much the program takes of a text on its standard input, whose last line never ends, and what it says."""
     with Place(program) as place:
         place.write("copy", lines(ROOT))
         reading, writing = os.pipe()
         os.set_blocking(writing, False)
-        words = [place.program, "slapmodify", "-b", "dc=com", "--data", "copy", "-u"]
+        words = [place.program, *words, "-b", "dc=com", "--data", "copy"]
         with subprocess.Popen(words, stdin=reading, stdout=subprocess.PIPE, stderr=subprocess.PIPE) as run:
             given, left = 0, begin
             ends_by = time.monotonic() + SECONDS
@@ -127,7 +127,7 @@ def a_line_without_end(program):
     told = []
     for before in (b"", b"dn: dc=a,dc=com\nchangetype: add\n\n"):
         for begin in (b"description: ", b"#"):
-            taken, ended = taken_of(program, before + begin)
+            taken, ended = taken_of(program, ["slapmodify", "-u"], before + begin)
             expect(ended, (1, b"", b"slapkit: changes: L10 LineTooLong\n"))
             after = taken - len(before) - MOST_BYTES_OF_A_LINE
             if not 0 < after <= PIECE:
@@ -136,11 +136,21 @@ def a_line_without_end(program):
     return f"{max(told)} bytes taken after the limit"
 
 
+def a_configuration_without_end(program):
+    taken, ended = taken_of(program, ["slapacl", "-f", "/dev/stdin"], b"#")
+    expect(ended, (1, b"", b"slapkit: config, line 0: C11 ConfigTooLong\n"))
+    after = taken - MOST_BYTES_OF_A_CONFIGURATION
+    if not 0 < after <= PIECE:
+        raise Wrong(f"{after} bytes taken after the limit of a configuration")
+    return f"{after} bytes taken after the limit"
+
+
 def main():
     program = str(pathlib.Path(sys.argv[1]).resolve())
     pairs = [(name, lambda texts=texts: cut_after_each_byte(program, texts)) for name, texts in TEXTS.items()]
     pairs += [(name, lambda rules=rules: question_cut_after_each_byte(program, rules)) for name, rules in RULES.items()]
     pairs.append(("a line without end", lambda: a_line_without_end(program)))
+    pairs.append(("a configuration without end", lambda: a_configuration_without_end(program)))
     wanted = sys.argv[2] if len(sys.argv) > 2 else ""
     sys.exit(checks.run("cut", [pair for pair in pairs if wanted in pair[0]]))
 

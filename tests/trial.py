@@ -11,6 +11,7 @@ HERE = pathlib.Path(__file__).resolve().parent
 SCRIPTS = (
     "program.py",
     "records.py",
+    "rows.py",
     "refusals.py",
     "crashes.py",
     "power.py",

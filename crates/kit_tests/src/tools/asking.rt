@@ -1,7 +1,7 @@
 //! Questions of access over devices in memory, and what they are to report.
 
 use crate::tools::running::{COM, Devices, assert_text, fault_text, script, taken, tape, zeros};
-use dir_ldif::{Source, Tape};
+use dir_ldif::{Script, Tape};
 use dir_names::{Bytes, Schema, Texts};
 use dir_tools::{HeldMemory, Question, ToolFault, read_config_with_notes, run_acl, run_acl_under};
 use std::alloc::Global;
@@ -87,24 +87,24 @@ fn question(rt: &impl Abort, alloc: Global, ask: &Ask<'_>) -> Question {
     }
 }
 
-/// Asks over these devices, with the configuration that a reader gives.
-fn answer_onto<R: Source>(
+/// Asks over these devices, in one call or in two.
+fn answer_onto(
     rt: &impl Abort,
     alloc: Global,
     devices: &Devices,
     ask: &Ask<'_>,
-    config: &mut R,
+    in_two: bool,
     report: &mut Tape<'_>,
 ) -> Result<(), ToolFault> {
     let schema = Schema::builtin(alloc).expect(rt, "memory");
-    let answer = run_acl(
-        alloc,
-        &schema,
-        &question(rt, alloc, ask),
-        config,
-        &mut script(devices, ask.copy.as_bytes(), devices.copy),
-        report,
-    );
+    let question = question(rt, alloc, ask);
+    let mut config = script(devices, ask.config.as_bytes(), devices.config);
+    let mut copy = script(devices, ask.copy.as_bytes(), devices.copy);
+    let answer = if in_two {
+        answer_in_two(alloc, &schema, &question, &mut config, &mut copy, report)
+    } else {
+        run_acl(alloc, &schema, &question, &mut config, &mut copy, report)
+    };
     if let Err(ToolFault::Memory) = answer {
         panic!(rt; "memory");
     }
@@ -112,17 +112,15 @@ fn answer_onto<R: Source>(
 }
 
 /// Asks in two calls, between which the notes on the configuration could be told.
-fn answer_in_two<R: Source, R2: Source>(
-    rt: &impl Abort,
+fn answer_in_two(
     alloc: Global,
-    ask: &Ask<'_>,
-    config: &mut R,
-    copy: &mut R2,
+    schema: &Schema,
+    question: &Question,
+    config: &mut Script<'_>,
+    copy: &mut Script<'_>,
     report: &mut Tape<'_>,
 ) -> Result<(), ToolFault> {
-    let schema = Schema::builtin(alloc).expect(rt, "memory");
-    let question = question(rt, alloc, ask);
-    let read = match read_config_with_notes(alloc, &schema, config) {
+    let read = match read_config_with_notes(alloc, schema, config) {
         Ok(noted) => noted,
         Err(fault) => return Err(fault),
     };
@@ -130,39 +128,18 @@ fn answer_in_two<R: Source, R2: Source>(
         alloc,
         HeldMemory::Left,
         &read.types,
-        &question,
+        question,
         &read.config,
         copy,
         report,
     )
 }
 
-/// Asserts that the same comes of a question in two calls.
-fn assert_ask_in_two(rt: &impl Abort, alloc: Global, devices: &Devices, ask: &Ask<'_>) {
-    let mut config = script(devices, ask.config.as_bytes(), devices.config);
-    let mut copy = script(devices, ask.copy.as_bytes(), devices.copy);
+/// Asserts what comes of a question over these devices, in one call or in two.
+fn assert_asked(rt: &impl Abort, alloc: Global, devices: &Devices, ask: &Ask<'_>, in_two: bool) {
     let mut room = zeros(rt, alloc, devices.room);
     let mut report = tape(devices, &mut room, devices.report);
-    let answer = answer_in_two(rt, alloc, ask, &mut config, &mut copy, &mut report);
-    if let Err(ToolFault::Memory) = answer {
-        panic!(rt; "memory");
-    }
-    let report = taken(rt, alloc, &report, answer.is_ok());
-    assert_text(rt, ask.shows, report.as_str(), ask.report);
-    assert_answer(rt, alloc, ask, answer);
-}
-
-/// Asserts what comes of a question over these devices, with the configuration that a reader gives.
-pub(crate) fn assert_ask_over<R: Source>(
-    rt: &impl Abort,
-    alloc: Global,
-    devices: &Devices,
-    ask: &Ask<'_>,
-    config: &mut R,
-) {
-    let mut room = zeros(rt, alloc, devices.room);
-    let mut report = tape(devices, &mut room, devices.report);
-    let answer = answer_onto(rt, alloc, devices, ask, config, &mut report);
+    let answer = answer_onto(rt, alloc, devices, ask, in_two, &mut report);
     let report = taken(rt, alloc, &report, answer.is_ok());
     assert_text(rt, ask.shows, report.as_str(), ask.report);
     assert_answer(rt, alloc, ask, answer);
@@ -176,9 +153,8 @@ fn assert_answer(rt: &impl Abort, alloc: Global, ask: &Ask<'_>, answer: Result<(
     assert_text(rt, ask.shows, fault.as_str(), ask.fault);
 }
 
-/// Asserts what comes of a question over these devices.
+/// Asserts that the same comes of a question over these devices in one call and in two.
 pub(crate) fn assert_ask(rt: &impl Abort, alloc: Global, devices: &Devices, ask: &Ask<'_>) {
-    let mut config = script(devices, ask.config.as_bytes(), devices.config);
-    assert_ask_over(rt, alloc, devices, ask, &mut config);
-    assert_ask_in_two(rt, alloc, devices, ask);
+    assert_asked(rt, alloc, devices, ask, false);
+    assert_asked(rt, alloc, devices, ask, true);
 }

@@ -19,7 +19,7 @@ struct Row {
     argument: &'static str,
 }
 
-static ROWS: [Row; 7] = [
+static ROWS: [Row; 5] = [
     Row {
         devices: WHOLE,
         config: READ,
@@ -41,20 +41,6 @@ static ROWS: [Row; 7] = [
         fault: "config, line 2: C1 BadDirective",
         line: 3,
         argument: "",
-    },
-    Row {
-        devices: WHOLE,
-        config: "database mdb\nsuffix dc=com\n  dc=org\n",
-        fault: "config, line 2: C6 SecondSuffix",
-        line: 3,
-        argument: "dc=org",
-    },
-    Row {
-        devices: WHOLE,
-        config: "suffix dc=com\n",
-        fault: "config, line 1: C1 BadDirective",
-        line: 1,
-        argument: "suffix",
     },
     Row {
         devices: WHOLE,

@@ -1,6 +1,6 @@
 //! The same records over a flat directory, one map of whole names: what the tree of a run is compared with.
 
-use crate::tools::running::{Ran, Run, assert_text, text_of, types_of, zeros};
+use crate::tools::running::{Ran, Run, WHOLE, assert_text, text_of, types_of, zeros};
 use dir_change::{History, Refusal, apply};
 use dir_ldif::{Record, RecordFault, RecordReader, Script, Tape};
 use dir_names::{Dn, Schema};
@@ -118,7 +118,7 @@ fn assert_undo(
 /// Asserts that the records of a run give the same texts over a flat directory as those that it wrote, or the copy the same
 /// fault.
 pub(crate) fn assert_flat(rt: &impl Abort, alloc: Global, piece: usize, one: &Run<'_>, ran: &Ran) {
-    let schema = types_of(rt, alloc, one);
+    let schema = types_of(rt, alloc, &WHOLE, one).expect(rt, "types");
     match directory_of(rt, alloc, &schema, piece, one) {
         Ok(mut directory) => {
             assert_undo(rt, alloc, &schema, &mut directory, one, ran);

@@ -198,38 +198,36 @@ fn answer_onto(
     out: &mut Tape<'_>,
     report: &mut Tape<'_>,
 ) -> Result<Summary, ToolFault> {
-    let schema = types_of(rt, alloc, one);
-    let answer = run_modify(
-        alloc,
-        &schema,
-        one.suffix.as_bytes(),
-        one.options,
-        &mut script(devices, one.copy.as_bytes(), devices.copy),
-        &mut script(devices, one.changes.as_bytes(), devices.changes),
-        undo,
-        out,
-        report,
-    );
+    let answer = match types_of(rt, alloc, devices, one) {
+        Ok(schema) => run_modify(
+            alloc,
+            &schema,
+            one.suffix.as_bytes(),
+            one.options,
+            &mut script(devices, one.copy.as_bytes(), devices.copy),
+            &mut script(devices, one.changes.as_bytes(), devices.changes),
+            undo,
+            out,
+            report,
+        ),
+        Err(fault) => Err(fault),
+    };
     if let Err(ToolFault::Memory) = answer {
         panic!(rt; "memory");
     }
     answer
 }
 
-/// The types that a run knows.
-pub(crate) fn types_of(rt: &impl Abort, alloc: Global, one: &Run<'_>) -> Schema {
+/// The types that a run over these devices knows, or the fault of their configuration.
+pub(crate) fn types_of(
+    rt: &impl Abort,
+    alloc: Global,
+    devices: &Devices,
+    one: &Run<'_>,
+) -> Result<Schema, ToolFault> {
     let schema = Schema::builtin(alloc).expect(rt, "memory");
-    let mut config = script(&WHOLE, one.types.as_bytes(), u64::MAX);
-    run_schema(alloc, &schema, &mut config).expect(rt, "types")
-}
-
-/// The same run on another copy, with other changes.
-pub(crate) fn with_texts<'a>(one: &Run<'a>, copy: &'a str, changes: &'a str) -> Run<'a> {
-    Run {
-        copy,
-        changes,
-        ..*one
-    }
+    let mut config = script(devices, one.types.as_bytes(), devices.config);
+    run_schema(alloc, &schema, &mut config)
 }
 
 /// A run over these devices. Asserts that the same records over a flat directory give the same texts, or that the copy has
