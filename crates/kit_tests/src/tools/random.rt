@@ -1,6 +1,8 @@
 //! Runs of changes drawn at random, there and back, over a tree and over a flat directory.
 
-use crate::tools::running::{ACCEPTED, COM, GO_ON, Run, WHOLE, assert_text, run_back, run_both};
+use crate::tools::running::{
+    ACCEPTED, COM, GO_ON, Run, WHOLE, assert_text, run_back, run_both, with_texts,
+};
 use std::alloc::Global;
 use std::process::Abort;
 
@@ -105,10 +107,7 @@ static DRAWN: Run<'static> = Run {
 /// Asserts that a hundred changes drawn from this seed are taken back.
 fn assert_taken_back(rt: &impl Abort, alloc: Global, seed: u64) {
     let changes = changes_of(rt, alloc, &mut Draws { state: seed }, 100);
-    let one = Run {
-        changes: changes.as_str(),
-        ..DRAWN
-    };
+    let one = with_texts(&DRAWN, COM, changes.as_str());
     let there = run_both(rt, alloc, &WHOLE, &one);
     let back = run_back(rt, alloc, &one, &there);
     assert_text(rt, changes.as_str(), back.out.as_str(), COM);

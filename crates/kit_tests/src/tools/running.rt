@@ -244,6 +244,15 @@ pub(crate) fn run_both(rt: &impl Abort, alloc: Global, devices: &Devices, one: &
     ran
 }
 
+/// The same run on another copy, with other changes.
+pub(crate) fn with_texts<'a>(one: &Run<'a>, copy: &'a str, changes: &'a str) -> Run<'a> {
+    Run {
+        copy,
+        changes,
+        ..*one
+    }
+}
+
 /// The run of the undo text on the copy that was written. Asserts that nothing is refused.
 pub(crate) fn run_back(rt: &impl Abort, alloc: Global, one: &Run<'_>, ran: &Ran) -> Ran {
     let undo = Run {
