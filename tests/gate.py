@@ -36,9 +36,17 @@ def is_failure(line):
     return line.startswith("rt: ") and re.search(r"NOT PROVED|NOT REFUSED|BAD EDIT|FAILED|stopped by signal|no verdict", line)
 
 
+def forget_libraries():
+    """Removes the libraries that earlier runs left here. `rt ci` would put them back in the place of those that it builds, and wrong bodies are tried over these."""
+    for kept in ("crates/*/out/rlib", ".git/rt-aside/*/rlib"):
+        for library in ROOT.glob(kept):
+            shutil.rmtree(library)
+
+
 def prove():
     """Runs `rt ci`, and returns its exit status, its last line, which is not printed yet, and the ends of what failed."""
     last, ends, failures = "", collections.deque(maxlen=LINES), []
+    forget_libraries()
     jobs = {**os.environ, "RT_JOBS": str(proofs_at_once())}
     with subprocess.Popen(["rt", "ci"], cwd=ROOT, env=jobs, stdout=subprocess.PIPE, text=True, errors="replace") as running:
         for line in running.stdout:
