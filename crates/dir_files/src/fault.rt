@@ -24,6 +24,8 @@ pub enum Fault<'a> {
     HasNotes,
     /// The notes can't be written.
     NotesUntold,
+    /// The undo file has fewer groups than are to be taken back.
+    TooFewGroups { wanted: u64, groups: u64 },
     /// The tool's own fault.
     Tool(ToolFault),
 }
@@ -41,6 +43,9 @@ impl fmt::Display for Fault<'_> {
             Fault::Exists(path) => show_path(f, "exists already: ", path),
             Fault::HasNotes => f.write_str("not answered, because there are notes"),
             Fault::NotesUntold => f.write_str("cannot write notes"),
+            Fault::TooFewGroups { wanted, groups } => {
+                write!(f, "cannot go back {wanted}, only {groups} groups")
+            }
             Fault::Tool(fault) => fault.fmt(f),
         }
     }

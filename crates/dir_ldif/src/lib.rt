@@ -18,4 +18,6 @@ pub use laws::{
 };
 pub use reader::{MAX_LINE, MAX_TURNS, MAX_VALUE, RecordReader, read_all};
 pub use records::{Change, ChangeKind, Mod, ModOp, Mods, Record};
-pub use writer::{push_change, push_end, push_line, push_name, push_record, record_text};
+pub use writer::{
+    push_change, push_end, push_line, push_mark, push_name, push_record, record_text,
+};

@@ -23,6 +23,8 @@ pub struct ModifyOptions {
     pub dry: bool,
     /// Report accepted records too.
     pub verbose: bool,
+    /// Run the first so many groups of an undo text, and no more: that takes back the last so many accepted records.
+    pub last: Option<u64>,
 }
 
 /// How many records a run accepted and how many it refused.
@@ -101,7 +103,11 @@ impl<D: Directory + Drop> Run<D> {
         ensures long { result ≡ Err (ToolFault.BadChanges StreamFault.TooManyTurns) → IfSome (R.left changes.old) FillsReadCalls }
         ensures options { self.new.options ≡ self.old.options }
     {
-        let mut records = match RecordReader::new(alloc, schema, changes) {
+        let records = match self.options.last {
+            None => RecordReader::new(alloc, schema, changes),
+            Some(groups) => RecordReader::up_to(alloc, schema, changes, groups),
+        };
+        let mut records = match records {
             Ok(records) => records,
             Err(fault) => return Err(ended(fault)),
         };
@@ -128,9 +134,18 @@ impl<D: Directory + Drop> Run<D> {
         ensures options { self.new.options ≡ self.old.options }
     {
         match take_records(self, alloc, schema, records) {
-            End::AtEnd | End::Enough => Ok(()),
+            End::AtEnd => self.has_groups(records.marks()),
+            End::Enough => Ok(()),
             End::TextFault(fault) => Err(ended(fault)),
             End::TakeFault(fault) => Err(fault),
+        }
+    }
+
+    /// Whether a text that has ended after so many marks had the groups that are wanted.
+    fn has_groups(&self, marks: u64) -> Result<(), ToolFault> {
+        match self.options.last {
+            Some(groups) if marks < groups => Err(ToolFault::TooFewGroups(marks)),
+            _ => Ok(()),
         }
     }
 

@@ -4,7 +4,7 @@ ghost use Rattle.std.specs.Prelude.{IfOk};
 ghost use Rattle.slapkit.specs.Words.{AreAccessWordsOf, AreWordsOf};
 
 use clap::error::ErrorKind;
-use clap::{Arg, ArgAction, ArgMatches, Command, Error};
+use clap::{Arg, ArgAction, ArgMatches, Command, Error, value_parser};
 use dir_files::{AccessWords, ModifyWords};
 use dir_tools::ModifyOptions;
 use std::alloc::{AllocError, Global};
@@ -48,6 +48,7 @@ fn modify_words<'a>(matches: &ArgMatches<'a>) -> ModifyWords<'a>
             go_on: matches.get_flag("go_on"),
             dry: matches.get_flag("dry"),
             verbose: matches.get_flag("verbose"),
+            last: matches.get_one::<u64>("last"),
         },
     }
 }
@@ -148,7 +149,17 @@ fn slapmodify<'a>(alloc: Global) -> Result<Command<'a>, AllocError> {
             'u',
             "Dry run: report what would be done, and write no file",
         ))?
-        .arg(flag(alloc, "verbose", 'v', "Report accepted records too"))
+        .arg(flag(alloc, "verbose", 'v', "Report accepted records too"))?
+        .arg(
+            path(
+                alloc,
+                "last",
+                "K",
+                "CHANGES is an undo file: take the last K records back, and no more",
+            )
+            .long("last")
+            .value_parser(value_parser!(u64)),
+        )
 }
 
 fn slapacl<'a>(alloc: Global) -> Result<Command<'a>, AllocError> {

@@ -14,6 +14,7 @@ const OPTIONS: ModifyOptions = ModifyOptions {
     go_on: true,
     dry: false,
     verbose: false,
+    last: None,
 };
 
 /// A number that tells texts apart.
