@@ -1,8 +1,7 @@
 //! The groups of changes that take a run back, and the undo text.
 
 ghost use Rattle.std.specs.Prelude.{◌≡◌, [], ◌∷◌, ◌++◌, IfErr, IfOk, OnErr, OnOk, reverse};
-ghost use Rattle.std.specs.List.{flat_map};
-ghost use Rattle.dir_change.specs.UndoText.{group_text, undo_text_of};
+ghost use Rattle.dir_change.specs.UndoText.{group_text, marked_text, undo_text_of};
 
 use crate::Undo;
 use dir_ldif::{push_change, push_mark};
@@ -62,9 +61,9 @@ impl History {
     }
 }
 
-/// Appends the texts of groups, the last one first.
+/// Appends the texts of groups, the last one first, each after its mark.
 fn push_groups(out: &mut Vec<u8>, groups: &[Undo]) -> Result<(), Memory>
-    ensures { OnOk result (out.new.items ≡ out.old.items ++ flat_map group_text (reverse groups.now)) }
+    ensures { OnOk result (out.new.items ≡ out.old.items ++ marked_text 1 (reverse groups.now)) }
 {
     let mut at = groups.len();
     let mut number: u64 = 0;

@@ -15,6 +15,7 @@ pub mod LongLinesStay
 pub mod ManyCallsLemmas
 pub mod MarkLines
 pub mod MarkedBlocks
+pub mod MarkedGroups
 pub mod NoLongLine
 pub mod PartialLines
 pub mod PhysicalLines

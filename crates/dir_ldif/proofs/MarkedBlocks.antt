@@ -1,12 +1,12 @@
 -- What a reader that counts groups has left of a text of marked groups.
-use Rattle.std.proofs.Common.{◌≡◌, ℕ, zero, suc, ◌+◌, ◌<◌, ◌^◌, Bool, true, false, not, eqb, nat_lt, drop, List, [], ◌∷◌, ◌++◌, length, map, min, take, codes, refl, sym, ap, subst, ◌∙◌, append_assoc, append-nil, if◌then◌else◌, Option, None, Some, Ok, arith}
+use Rattle.std.proofs.Common.{◌≡◌, ℕ, zero, suc, ◌+◌, ◌<◌, ◌≤◌, ◌^◌, Bool, true, false, not, eqb, nat_lt, drop, List, [], ◌∷◌, ◌++◌, length, map, min, take, codes, refl, sym, ap, subst, ◌∙◌, append_assoc, append-nil, if◌then◌else◌, Option, None, Some, Ok, arith}
 use Rattle.std.specs.List.{flat_map}
 use Rattle.std.proofs.lemmas.Bool.Decides.{nat_tests}
 use Rattle.dir_ldif.specs.declared.reader.marks.Marks.{Marks}
 use Rattle.dir_ldif.specs.Bytes.{is_empty}
 use Rattle.dir_ldif.specs.LineText.{folded_line}
 use Rattle.dir_ldif.specs.LogicalLines.{Line, cut, is_lf, logical_lines, physical_lines}
-use Rattle.dir_ldif.specs.Marks.{after_comment, after_due, after_mark, may_have_records}
+use Rattle.dir_ldif.specs.Marks.{after_comment, after_due, after_mark, ignored, may_have_records}
 use Rattle.dir_ldif.specs.MarkText.{mark_line, mark_of}
 use Rattle.dir_ldif.specs.Remainder.{Remainder, after_marks, done, holds, remainder_from, then_rest}
 use Rattle.std.specs.Bool.{⊤}
@@ -86,10 +86,10 @@ abbrev pub up_at : ℕ → ℕ → Marks
 up_at passed left = record { groups = Some (passed + left); passed = passed; is_over = false }
 
 -- a mark stands where a block may begin
-mark_left : (m : Marks) (n i : ℕ) (lines : List Line) → m.is_over ≡ false → 0 < n → n < 2 ^ 64 → remainder_from m true [] ((i, mark_of n) ∷ lines) ≡ after_marks (λ m'. remainder_from m' true [] lines) (after_comment m (mark_of n))
-mark_left m n i lines going some fits = if_false m.is_over _ _ going ∙ if_false _ _ _ (mark_short n some fits i)
+mark_left : (m : Marks) (n i : ℕ) (lines : List Line) → m.is_over ≡ false → remainder_from m true [] ((i, mark_of n) ∷ lines) ≡ after_marks (λ m'. remainder_from m' true [] lines) (after_comment m (mark_of n))
+mark_left m n i lines going = if_false m.is_over _ _ going ∙ if_false _ _ _ (mark_short n i)
 
-due : (m : Marks) (groups n : ℕ) → n ≡ m.passed + 1 → 0 < n → n < 2 ^ 64 → after_mark (Some groups) m (mark_of n) ≡ Ok (after_due groups m)
+due : (m : Marks) (groups n : ℕ) → n ≡ m.passed + 1 → 0 < n → n ≤ 2 ^ 64 → after_mark (Some groups) m (mark_of n) ≡ Ok (after_due groups m)
 due m groups n is some fits =
     if_false _ _ _ (ap not (mark_is_mark n some fits)) ∙ if_true _ _ _ (subst (λ k. bytes_eq (mark_of n) (mark_of k) ≡ true) is (bytes_same (mark_of n)))
 
@@ -114,27 +114,27 @@ map_append : (one other : List (List Line)) → map texts (one ++ other) ≡ map
 map_append [] other = refl
 map_append (b ∷ bs) other = ap (λ t. texts b ∷ t) (map_append bs other)
 
-count_none : (p : ℕ) → p ≡ p + 0
-count_none p = omega arith
+count_none : (p l : ℕ) → p ≡ p + min l 0
+count_none p l = omega arith
 
 count_zero : (p n : ℕ) → p ≡ p + min 0 n
 count_zero p n = omega arith
 
-pub groups_left : (passed left : ℕ) (groups : List (List (List (List ℕ)))) (i : ℕ) → AllGroups groups → passed + length groups < 2 ^ 64
+pub groups_left : (passed left : ℕ) (groups : List (List (List (List ℕ)))) (i : ℕ) → AllGroups groups → passed + left < 2 ^ 64
     → (found : List (List Line)) × (map texts found ≡ flat_map (λ g. g) (take left groups))
     × (remainder_from (up_at passed left) true [] (logical_lines (physical_lines i (cut is_lf (marked_lines (passed + 1) groups)))) ≡ blocks_before found (done (passed + min left (length groups))))
-groups_left passed zero [] i g fits = ([], refl, ap done (count_none passed))
-groups_left passed (suc left) [] i g fits = ([], refl, ap done (count_none passed))
+groups_left passed zero [] i g fits = ([], refl, ap done (count_none passed zero))
+groups_left passed (suc left) [] i g fits = ([], refl, ap done (count_none passed (suc left)))
 groups_left passed zero (group ∷ groups) i g fits =
     let n = passed + 1 in
     let rest = blocks_text group ++ marked_lines (n + 1) groups in
     let m = up_at passed zero in
     let lines = logical_lines (physical_lines (i + 1) (cut is_lf rest)) in
-    let last : after_due (passed + zero) m ≡ record m { is_over = true } = if_false _ _ _ (grind (arith, nat_tests)) in (
+    let last : after_due (passed + zero) m ≡ record m { is_over = true } = if_false (nat_lt passed (passed + zero)) _ _ (grind (arith, nat_tests)) in (
       [],
       refl,
-      ap (remainder_from m true []) (mark_reads n (omega arith) (omega (arith, fits)) i rest (apart-blocks group (marked_lines (n + 1) groups) g.0 (apart-marked (n + 1) groups)))
-      ∙ mark_left m n i lines refl (omega arith) (omega (arith, fits))
+      ap (remainder_from m true []) (mark_reads n i rest (apart-blocks group (marked_lines (n + 1) groups) g.0 (apart-marked (n + 1) groups)))
+      ∙ mark_left m n i lines refl
       ∙ ap (after_marks (λ m'. remainder_from m' true [] lines)) (due m (passed + zero) n refl (omega arith) (omega (arith, fits)) ∙ ap Ok last)
       ∙ over_lines (record m { is_over = true }) lines refl ∙ ap done (count_zero passed (suc (length groups))),
     )
@@ -150,11 +150,27 @@ groups_left passed (suc left) (group ∷ groups) i g fits =
     let later = groups_left (passed + 1) left groups here.1 g.1 (omega (arith, fits)) in (
       here.0 ++ later.0,
       map_append here.0 later.0 ∙ ap (λ t. t ++ map texts later.0) here.2 ∙ ap (λ t. group ++ t) later.1,
-      ap (remainder_from m true []) (mark_reads n (omega arith) (omega (arith, fits)) i rest (apart-blocks group (marked_lines (n + 1) groups) g.0 (apart-marked (n + 1) groups)))
-      ∙ mark_left m n i lines refl (omega arith) (omega (arith, fits))
+      ap (remainder_from m true []) (mark_reads n i rest (apart-blocks group (marked_lines (n + 1) groups) g.0 (apart-marked (n + 1) groups)))
+      ∙ mark_left m n i lines refl
       ∙ ap (after_marks (λ m'. remainder_from m' true [] lines)) (due m (passed + suc left) n refl (omega arith) (omega (arith, fits)) ∙ ap Ok passes)
       ∙ here.3 ∙ ap (blocks_before here.0) later.2 ∙ blocks_append here.0 later.0 _ ∙ ap (λ k. blocks_before (here.0 ++ later.0) (done k)) (count passed left (length groups)),
     )
   where
     count : (p l n : ℕ) → (p + 1) + min l n ≡ p + min (suc l) (suc n)
     count p l n = omega arith
+
+-- where marks are comments, the blocks of all groups are left
+pub groups_passed_over : (n : ℕ) (groups : List (List (List (List ℕ)))) (i : ℕ) → AllGroups groups
+    → (found : List (List Line)) × (map texts found ≡ flat_map (λ g. g) groups)
+    × (remainder_from ignored true [] (logical_lines (physical_lines i (cut is_lf (marked_lines n groups)))) ≡ blocks_before found (done 0))
+groups_passed_over n [] i g = ([], refl, refl)
+groups_passed_over n (group ∷ groups) i g =
+    let rest = blocks_text group ++ marked_lines (n + 1) groups in
+    let lines = logical_lines (physical_lines (i + 1) (cut is_lf rest)) in
+    let here = group_left ignored refl refl group (marked_lines (n + 1) groups) (i + 1) g.0 in
+    let later = groups_passed_over (n + 1) groups here.1 g.1 in (
+      here.0 ++ later.0,
+      map_append here.0 later.0 ∙ ap (λ t. t ++ map texts later.0) here.2 ∙ ap (λ t. group ++ t) later.1,
+      ap (remainder_from ignored true []) (mark_reads n i rest (apart-blocks group (marked_lines (n + 1) groups) g.0 (apart-marked (n + 1) groups)))
+      ∙ mark_left ignored n i lines refl ∙ here.3 ∙ ap (blocks_before here.0) later.2 ∙ blocks_append here.0 later.0 _,
+    )
