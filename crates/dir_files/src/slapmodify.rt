@@ -8,7 +8,7 @@ ghost use Rattle.dir_tools.specs.Headline.{RunOutput};
 ghost use Rattle.dir_tools.specs.RunAnswers.{AnswersRun, IsWholeRun, sources};
 ghost use Rattle.dir_tools.specs.StoppedReading.{HeldBefore};
 ghost use Rattle.dir_tools.specs.Writing.{FlushedInOrder, WroteInOrder};
-ghost use Rattle.dir_files.specs.Faults.{IsNotCreated, IsNotOpened, IsNotReported, IsNotWritten, IsRunFault};
+ghost use Rattle.dir_files.specs.Faults.{IsModifyFault, IsNotCreated, IsNotOpened, IsNotReported, IsNotWritten, IsRunFault, NamesNoPath};
 ghost use Rattle.dir_files.specs.Paths.{IsWriteFaultOf, NamesItsPath, RefusesSamePath, first_repeated, outputs_of};
 ghost use Rattle.dir_files.specs.Runs.{AllCalls, AreTypesOf, CallsUnder, Made, Publishes, RunsOver, Syncs, WritesAll, WritesOutputs, WritesReport, changes_text, terms_of, sources_of};
 
@@ -344,7 +344,10 @@ fn with_files<R: Source, R2: Source, W: Sink, W2: Sink, W3: Sink>(
 }
 
 /// The fault of a run that is to take so many records back, if it is, as the program's.
-fn modify_fault<'a>(last: Option<u64>, fault: ToolFault) -> Fault<'a> {
+fn modify_fault<'a>(last: Option<u64>, fault: ToolFault) -> Fault<'a>
+    ensures told { IsModifyFault last fault result }
+    ensures named { NamesNoPath result }
+{
     match (last, fault) {
         (Some(wanted), ToolFault::TooFewGroups(groups)) => Fault::TooFewGroups { wanted, groups },
         (_, fault) => run_fault(fault),

@@ -62,6 +62,7 @@ copy_blamed_so q copy left empty failures failures' (tool.BadQuestion item) key 
 copy_blamed_so q copy left empty failures failures' (tool.BadChanges fault) key bare h = absurd (h)
 copy_blamed_so q copy left empty failures failures' (tool.Config fault) key bare h = absurd (h)
 copy_blamed_so q copy left empty failures failures' tool.NoEntry key bare h = absurd (h)
+copy_blamed_so q copy left empty failures failures' (tool.TooFewGroups groups) key bare h = absurd (h)
 
 -- the complete records before the fault of a copy's reader
 pub copy_first : (q : RunTerms) (copy copy' : Option (List ℕ)) (changes : KnownBytes) (empty : Dir) (failures failures' : ℕ) (fault : ToolFault)
@@ -79,12 +80,14 @@ copy_first q copy copy' changes empty failures failures' (tool.BadCopy line (cau
 copy_first q copy copy' changes empty failures failures' (tool.BadCopy line (cause.Ended stream.Memory)) key h settled = tt
 copy_first q copy copy' changes empty failures failures' (tool.BadCopy line (cause.Ended stream.Ended)) key h settled = tt
 copy_first q copy copy' changes empty failures failures' (tool.BadCopy line (cause.Ended stream.BadVersion)) key h settled = tt
+copy_first q copy copy' changes empty failures failures' (tool.BadCopy line (cause.Ended stream.BadMark)) key h settled = tt
 copy_first q copy copy' changes empty failures failures' tool.Memory key h settled = tt
 copy_first q copy copy' changes empty failures failures' (tool.Write output) key h settled = absurd (h)
 copy_first q copy copy' changes empty failures failures' (tool.BadQuestion item) key h settled = absurd (h)
 copy_first q copy copy' changes empty failures failures' (tool.BadChanges fault) key h settled = absurd (h)
 copy_first q copy copy' changes empty failures failures' (tool.Config fault) key h settled = absurd (h)
 copy_first q copy copy' changes empty failures failures' tool.NoEntry key h settled = absurd (h)
+copy_first q copy copy' changes empty failures failures' (tool.TooFewGroups groups) key h settled = absurd (h)
 
 module _ {D : Type 0} (state : D → Dir) (q : RunTerms) (copy left : Option (List ℕ)) (begun : Run D)
     (reads : IfSome copy (λ text. copy_of q.rows (state begun.directory).suffix text ≡ Ok (state begun.directory))) where
@@ -105,12 +108,14 @@ module _ {D : Type 0} (state : D → Dir) (q : RunTerms) (copy left : Option (Li
       → IsChangesFaultCause state q.rows (option_map (records_of q.rows) left) failures failures' begun fault → IsCausedBy q (sources copy left) fault
   blamed_so failures failures' (tool.BadChanges stream.LineTooLong) same key long h = bad stream.LineTooLong (λ text e. e) same key h
   blamed_so failures failures' (tool.BadChanges stream.BadVersion) same key long h = bad stream.BadVersion (λ text e. e) same key h
+  blamed_so failures failures' (tool.BadChanges stream.BadMark) same key long h = bad stream.BadMark (λ text e. e) same key h
   blamed_so failures failures' (tool.BadChanges stream.TooManyTurns) same key long h = record { first = state begun.directory; suffix = key; copy = reads; changes = long refl }
   blamed_so failures failures' (tool.BadChanges stream.Read) same key long h = absurd (h)
   blamed_so failures failures' (tool.BadChanges stream.Memory) same key long h = absurd (h)
   blamed_so failures failures' (tool.BadChanges stream.Ended) same key long h = absurd (h)
   blamed_so failures failures' (tool.Config fault) same key long h = absurd (h)
   blamed_so failures failures' tool.NoEntry same key long h = absurd (h)
+  blamed_so failures failures' (tool.TooFewGroups groups) same key long h = absurd (h)
   blamed_so failures failures' (tool.Read input.Changes) same key long h = tt
   blamed_so failures failures' (tool.Read input.Copy) same key long h = absurd (h)
   blamed_so failures failures' (tool.Read input.Config) same key long h = absurd (h)
@@ -130,11 +135,13 @@ module _ {D : Type 0} (state : D → Dir) (q : RunTerms) (copy left : Option (Li
   changes_first copy' left' failures failures' (tool.BadChanges stream.TooManyTurns) key h settled = record { first = state begun.directory; suffix = key; reads = reads; accepted = settled tt }
   changes_first copy' left' failures failures' (tool.BadChanges stream.LineTooLong) key h settled = tt
   changes_first copy' left' failures failures' (tool.BadChanges stream.BadVersion) key h settled = tt
+  changes_first copy' left' failures failures' (tool.BadChanges stream.BadMark) key h settled = tt
   changes_first copy' left' failures failures' (tool.BadChanges stream.Read) key h settled = absurd (h)
   changes_first copy' left' failures failures' (tool.BadChanges stream.Memory) key h settled = absurd (h)
   changes_first copy' left' failures failures' (tool.BadChanges stream.Ended) key h settled = absurd (h)
   changes_first copy' left' failures failures' (tool.Config fault) key h settled = absurd (h)
   changes_first copy' left' failures failures' tool.NoEntry key h settled = absurd (h)
+  changes_first copy' left' failures failures' (tool.TooFewGroups groups) key h settled = absurd (h)
   changes_first copy' left' failures failures' tool.Memory key h settled = tt
   changes_first copy' left' failures failures' (tool.BadCopy line why) key h settled = absurd (h)
   changes_first copy' left' failures failures' (tool.Write output) key h settled = absurd (h)
@@ -217,6 +224,7 @@ module _ {A : Type 0} (s : Texts) (t : RunTexts) (undo out report : TakenBytes) 
   dry_written (Err (tool.BadChanges fault)) h = h
   dry_written (Err (tool.Config fault)) h = h
   dry_written (Err tool.NoEntry) h = h
+  dry_written (Err (tool.TooFewGroups groups)) h = h
 
   -- what was written of the texts as they were made, was written of the stated ones
   pub written_so : (dry : Bool) (r : Result A ToolFault) → AreTexts dry s t → is_dry t ≡ dry → WroteInOrder (is_dry t) r (texts_of t) undo out report → WroteInOrder dry r s undo out report
@@ -243,6 +251,7 @@ answers_write q known output (tool.BadQuestion item) h run = absurd (h)
 answers_write q known output (tool.BadChanges fault) h run = absurd (h)
 answers_write q known output (tool.Config fault) h run = absurd (h)
 answers_write q known output tool.NoEntry h run = absurd (h)
+answers_write q known output (tool.TooFewGroups groups) h run = absurd (h)
 
 -- a fault before the writing
 pub unwritten : (A : Type 0) (q : RunTerms) (known : Sources) (output : RunOutput) (fault : ToolFault) (u o w : TakenBytes)
@@ -258,6 +267,7 @@ unwritten A q known output (tool.BadQuestion item) u o w h a b c = ((a, b, c), h
 unwritten A q known output (tool.BadChanges fault) u o w h a b c = ((a, b, c), h)
 unwritten A q known output (tool.Config fault) u o w h a b c = ((a, b, c), h)
 unwritten A q known output tool.NoEntry u o w h a b c = ((a, b, c), h)
+unwritten A q known output (tool.TooFewGroups groups) u o w h a b c = ((a, b, c), h)
 
 -- ---- over sources that tell their texts
 
@@ -311,14 +321,17 @@ module _ (q : RunTerms) (known : Sources) where
   fault_whole output (tool.BadCopy line (cause.Ended stream.Memory)) h = copy_fails line (cause.Ended stream.Memory) h.0 h.1 h.2
   fault_whole output (tool.BadCopy line (cause.Ended stream.Ended)) h = copy_fails line (cause.Ended stream.Ended) h.0 h.1 h.2
   fault_whole output (tool.BadCopy line (cause.Ended stream.BadVersion)) h = copy_fails line (cause.Ended stream.BadVersion) h.0 h.1 h.2
+  fault_whole output (tool.BadCopy line (cause.Ended stream.BadMark)) h = copy_fails line (cause.Ended stream.BadMark) h.0 h.1 h.2
   fault_whole output (tool.BadChanges stream.TooManyTurns) h = if_any known.copy known.changes _ (λ copy changes. tt)
   fault_whole output (tool.BadChanges stream.LineTooLong) h = changes_fail stream.LineTooLong h.first h.suffix h.copy h.changes
   fault_whole output (tool.BadChanges stream.Read) h = changes_fail stream.Read h.first h.suffix h.copy h.changes
   fault_whole output (tool.BadChanges stream.Memory) h = changes_fail stream.Memory h.first h.suffix h.copy h.changes
   fault_whole output (tool.BadChanges stream.Ended) h = changes_fail stream.Ended h.first h.suffix h.copy h.changes
   fault_whole output (tool.BadChanges stream.BadVersion) h = changes_fail stream.BadVersion h.first h.suffix h.copy h.changes
+  fault_whole output (tool.BadChanges stream.BadMark) h = changes_fail stream.BadMark h.first h.suffix h.copy h.changes
   fault_whole output (tool.Config fault) h = absurd (h)
   fault_whole output tool.NoEntry h = absurd (h)
+  fault_whole output (tool.TooFewGroups groups) h = absurd (h)
   fault_whole output (tool.Read from) h = if_any known.copy known.changes _ (λ copy changes. tt)
   fault_whole output tool.Memory h = if_any known.copy known.changes _ (λ copy changes. tt)
   fault_whole output (tool.Write writer) h = absurd (h)
@@ -332,3 +345,4 @@ module _ (q : RunTerms) (known : Sources) where
   write_whole output (tool.BadChanges fault) h run = absurd (h)
   write_whole output (tool.Config fault) h run = absurd (h)
   write_whole output tool.NoEntry h run = absurd (h)
+  write_whole output (tool.TooFewGroups groups) h run = absurd (h)
