@@ -14,6 +14,9 @@ use Rattle.dir_ldif.specs.Reader.{answers_to_come, marks_at_end, marks_passed, s
 use Rattle.dir_ldif.specs.Records.{Answer, Found, all_found}
 use Rattle.dir_tree.specs.Dir.{Dir}
 use Rattle.dir_tools.specs.declared.fault.Cause.{Cause}
+use Rattle.dir_tools.specs.declared.fault.Input.TheVariants as input
+use Rattle.dir_tools.specs.declared.fault.ToolFault.{ToolFault}
+use Rattle.dir_tools.specs.declared.fault.ToolFault.TheVariants as tool
 use Rattle.dir_tools.specs.declared.run.Run.{Run}
 use Rattle.dir_tools.specs.RunOf.{Outcome, RecordStep, RunEnd, cause_in, causes_in, change_step, ended_run, group_in, groups_in, looked_at_all, record_step, run_after, run_of, too_few_groups, with_outcomes_before, HasAccepted}
 use Rattle.dir_tools.specs.Report.{outcome_line}
@@ -319,3 +322,44 @@ module _ {D : Type 0} {S : Type 0} (state : D → Dir) (rows : List TypeRow) (le
         gave.1,
         λ settled settles. let taken = gave.2 settled settles in (state taken.0.directory, accepts_all state rows settled begun taken.0 off taken.1),
       )
+
+-- ---- where the answers and the marks are told in other words
+
+few_as : (last marks marks' : Option ℕ) (at_end : Bool) → ((wanted : ℕ) → last ≡ Some wanted → marks ≡ marks') → too_few_groups last marks at_end ≡ None → too_few_groups last marks' at_end ≡ None
+few_as None marks marks' at_end same h = refl
+few_as (Some wanted) marks marks' at_end same h = subst (λ m. too_few_groups (Some wanted) m at_end ≡ None) (same wanted refl) h
+
+module _ {D : Type 0} (state : D → Dir) (rows : List TypeRow) (given given' : Option (List Answer)) (marks marks' : Option ℕ) (begun : Run D) (same : given ≡ given')
+    (marked : (wanted : ℕ) → begun.options.last ≡ Some wanted → marks ≡ marks') where
+  pub runs_over_as : (run : Run D) → RunsOver state rows given marks begun run → RunsOver state rows given' marks' begun run
+  runs_over_as run over = (
+    over.0,
+    over.1,
+    over.2,
+    over.3,
+    over.4,
+    subst (λ (o : Option (List Answer)). IfSome o (λ answers. (rest : List Answer) × (answers ≡ all_found over.1 ++ rest) × GoesTo state rows begun answers (end_at state run over.0))) same over.5,
+    few_as begun.options.last marks marks' (looked_at_all begun.options.go_on (end_at state run over.0)) marked over.6,
+  )
+
+  marks_as : (failures failures' : ℕ) (fault : ToolFault) → IsChangesFaultCause state rows given' marks failures failures' begun fault → IsChangesFaultCause state rows given' marks' failures failures' begun fault
+  marks_as failures failures' (tool.TooFewGroups groups) h = (h.0, h.1, h.2, subst (λ (o : Option ℕ). IfSome o (λ n. groups ≡ n)) (marked h.0 h.1) h.3, h.4)
+  marks_as failures failures' (tool.BadChanges stream.LineTooLong) h = h
+  marks_as failures failures' (tool.BadChanges stream.BadVersion) h = h
+  marks_as failures failures' (tool.BadChanges stream.BadMark) h = h
+  marks_as failures failures' (tool.BadChanges stream.TooManyTurns) h = h
+  marks_as failures failures' (tool.BadChanges stream.Read) h = h
+  marks_as failures failures' (tool.BadChanges stream.Memory) h = h
+  marks_as failures failures' (tool.BadChanges stream.Ended) h = h
+  marks_as failures failures' (tool.Read input.Changes) h = h
+  marks_as failures failures' (tool.Read input.Copy) h = h
+  marks_as failures failures' (tool.Read input.Config) h = h
+  marks_as failures failures' tool.Memory h = h
+  marks_as failures failures' (tool.BadCopy line why) h = h
+  marks_as failures failures' (tool.Write output) h = h
+  marks_as failures failures' (tool.BadQuestion item) h = h
+  marks_as failures failures' (tool.Config fault) h = h
+  marks_as failures failures' tool.NoEntry h = h
+
+  pub blamed_as : (failures failures' : ℕ) (fault : ToolFault) → IsChangesFaultCause state rows given marks failures failures' begun fault → IsChangesFaultCause state rows given' marks' failures failures' begun fault
+  blamed_as failures failures' fault h = marks_as failures failures' fault (subst (λ (o : Option (List Answer)). IsChangesFaultCause state rows o marks failures failures' begun fault) same h)

@@ -19,7 +19,7 @@ use crate::laws::{groups_are_undos, written_runs_are_taken_back, written_runs_go
 use crate::run::{ModifyOptions, Run, RunTexts, Summary};
 use crate::write::write_text;
 use crate::{Item, Output, ToolFault};
-use dir_ldif::{Sink, Source};
+use dir_ldif::{Sink, Source, marks_are_known};
 use dir_names::{Dn, DnKey, NameFault, Schema};
 use dir_tree::TreeDirectory;
 use std::alloc::Global;
@@ -172,6 +172,7 @@ fn make_texts<R: Source, R2: Source>(
         Err(fault) => return Err(fault),
     };
     let mut run = Run::new(alloc, directory, options);
+    marks_are_known();
     if let Err(fault) = run.take_all(alloc, schema, changes) {
         held.let_go(run);
         return Err(fault);
