@@ -53,7 +53,7 @@ module _ (m : Marks) (going : m.is_over ≡ false) (may : may_have_records m ≡
         later.1,
         ap (λ t. t ∷ map texts later.0) here.2 ∙ ap (λ t. lines ∷ t) later.2,
         ap (λ t. remainder_from m true [] (logical_lines (physical_lines i (cut is_lf t)))) (append_assoc (block_text lines) (blocks_text others) rest)
-        ∙ ap (remainder_from m true []) here.3 ∙ block_left here.0 [] here.1 after good ∙ then_rest-some here.0 lines (remainder_from m true [] after) here.2 g.1 ∙ ap (holds here.0) later.3,
+            ∙ ap (remainder_from m true []) here.3 ∙ block_left here.0 [] here.1 after good ∙ then_rest-some here.0 lines (remainder_from m true [] after) here.2 g.1 ∙ ap (holds here.0) later.3,
       )
 
 -- blocks continue nothing
@@ -134,9 +134,9 @@ groups_left passed zero (group ∷ groups) i g fits =
       [],
       refl,
       ap (remainder_from m true []) (mark_reads n i rest (apart-blocks group (marked_lines (n + 1) groups) g.0 (apart-marked (n + 1) groups)))
-      ∙ mark_left m n i lines refl
-      ∙ ap (after_marks (λ m'. remainder_from m' true [] lines)) (due m (passed + zero) n refl (omega arith) (omega (arith, fits)) ∙ ap Ok last)
-      ∙ over_lines (record m { is_over = true }) lines refl ∙ ap done (count_zero passed (suc (length groups))),
+          ∙ mark_left m n i lines refl
+          ∙ ap (after_marks (λ m'. remainder_from m' true [] lines)) (due m (passed + zero) n refl (omega arith) (omega (arith, fits)) ∙ ap Ok last)
+          ∙ over_lines (record m { is_over = true }) lines refl ∙ ap done (count_zero passed (suc (length groups))),
     )
 groups_left passed (suc left) (group ∷ groups) i g fits =
     let n = passed + 1 in
@@ -151,9 +151,9 @@ groups_left passed (suc left) (group ∷ groups) i g fits =
       here.0 ++ later.0,
       map_append here.0 later.0 ∙ ap (λ t. t ++ map texts later.0) here.2 ∙ ap (λ t. group ++ t) later.1,
       ap (remainder_from m true []) (mark_reads n i rest (apart-blocks group (marked_lines (n + 1) groups) g.0 (apart-marked (n + 1) groups)))
-      ∙ mark_left m n i lines refl
-      ∙ ap (after_marks (λ m'. remainder_from m' true [] lines)) (due m (passed + suc left) n refl (omega arith) (omega (arith, fits)) ∙ ap Ok passes)
-      ∙ here.3 ∙ ap (blocks_before here.0) later.2 ∙ blocks_append here.0 later.0 _ ∙ ap (λ k. blocks_before (here.0 ++ later.0) (done k)) (count passed left (length groups)),
+          ∙ mark_left m n i lines refl
+          ∙ ap (after_marks (λ m'. remainder_from m' true [] lines)) (due m (passed + suc left) n refl (omega arith) (omega (arith, fits)) ∙ ap Ok passes)
+          ∙ here.3 ∙ ap (blocks_before here.0) later.2 ∙ blocks_append here.0 later.0 _ ∙ ap (λ k. blocks_before (here.0 ++ later.0) (done k)) (count passed left (length groups)),
     )
   where
     count : (p l n : ℕ) → (p + 1) + min l n ≡ p + min (suc l) (suc n)
@@ -172,5 +172,5 @@ groups_passed_over n (group ∷ groups) i g =
       here.0 ++ later.0,
       map_append here.0 later.0 ∙ ap (λ t. t ++ map texts later.0) here.2 ∙ ap (λ t. group ++ t) later.1,
       ap (remainder_from ignored true []) (mark_reads n i rest (apart-blocks group (marked_lines (n + 1) groups) g.0 (apart-marked (n + 1) groups)))
-      ∙ mark_left ignored n i lines refl ∙ here.3 ∙ ap (blocks_before here.0) later.2 ∙ blocks_append here.0 later.0 _,
+          ∙ mark_left ignored n i lines refl ∙ here.3 ∙ ap (blocks_before here.0) later.2 ∙ blocks_append here.0 later.0 _,
     )

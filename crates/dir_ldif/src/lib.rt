@@ -13,8 +13,9 @@ pub use device::{DeviceFault, Reader, Script, Sink, Source, Tape, Writer, write_
 pub use faults::{RecordFault, StreamFault};
 pub use laws::{
     first_records_are_sound, legal_changes_have_no_fault, long_lines_stay, marked_groups_read_back,
-    marks_are_known, read_calls_are_used, reading_ends_soon, reading_stops_there, records_are_sound,
-    texts_are_blocks, written_lines_are_folded, written_lines_read_back, written_records_read_back,
+    marks_are_known, read_calls_are_used, reading_ends_soon, reading_stops_there,
+    records_are_sound, texts_are_blocks, written_lines_are_folded, written_lines_read_back,
+    written_records_read_back,
 };
 pub use reader::{MAX_LINE, MAX_TURNS, MAX_VALUE, RecordReader, read_all};
 pub use records::{Change, ChangeKind, Mod, ModOp, Mods, Record};
