@@ -1,8 +1,9 @@
 //! Runs of changes drawn at random, there and back, over a tree and over a flat directory.
 
 use crate::tools::running::{
-    ACCEPTED, COM, GO_ON, Run, WHOLE, assert_text, run_back, run_both, with_texts,
+    ACCEPTED, COM, GO_ON, Ran, Run, STOP, WHOLE, assert_text, run_back, run_both, with_texts,
 };
+use dir_tools::ModifyOptions;
 use std::alloc::Global;
 use std::process::Abort;
 
@@ -111,4 +112,42 @@ fn assert_taken_back(rt: &impl Abort, alloc: Global, seed: u64) {
     let there = run_both(rt, alloc, &WHOLE, &one);
     let back = run_back(rt, alloc, &one, &there);
     assert_text(rt, changes.as_str(), back.out.as_str(), COM);
+}
+
+#[test]
+fn random_changes_go_back_to_their_middle(rt: HostRuntime) {
+    for seed in 0..20u64 {
+        assert_goes_back(&rt, rt.alloc(), seed);
+    }
+}
+
+fn accepted(ran: &Ran) -> u64 {
+    match ran.answer {
+        Ok(summary) => summary.accepted,
+        Err(_) => 0,
+    }
+}
+
+/// Asserts that after a hundred changes drawn from this seed what was accepted of the last fifty is taken back.
+fn assert_goes_back(rt: &impl Abort, alloc: Global, seed: u64) {
+    let changes = changes_of(rt, alloc, &mut Draws { state: seed }, 100);
+    let there = run_both(
+        rt,
+        alloc,
+        &WHOLE,
+        &with_texts(&DRAWN, COM, changes.as_str()),
+    );
+    let first = changes_of(rt, alloc, &mut Draws { state: seed }, 50);
+    let middle = run_both(rt, alloc, &WHOLE, &with_texts(&DRAWN, COM, first.as_str()));
+    let one = Run {
+        options: ModifyOptions {
+            last: Some(accepted(&there).saturating_sub(accepted(&middle))),
+            ..STOP
+        },
+        ..with_texts(&DRAWN, there.out.as_str(), there.undo.as_str())
+    };
+    let back = run_both(rt, alloc, &WHOLE, &one);
+    assert_text(rt, first.as_str(), back.out.as_str(), middle.out.as_str());
+    let forth = run_back(rt, alloc, &one, &back);
+    assert_text(rt, changes.as_str(), forth.out.as_str(), there.out.as_str());
 }
