@@ -41,7 +41,7 @@ def cuts(text, step=1):
 
 def left_by(place, texts, *options):
     """What a run leaves, with all files."""
-    words = ["slapmodify", "-b", texts.suffix, "--data", "copy", "-l", "changes", "--out", "new", "--undo", "undo", *options]
+    words = ["slapmodify", "-b", texts.suffix, "--data", "copy", "-l", "changes", "--out", "new", "--undo", "undo", *texts.options(), *options]
     if texts.config is not None:
         words += ["-f", "conf"]
     ended = place.run(*words)
@@ -56,6 +56,7 @@ def check_run(place, texts, what):
     place.write("changes", texts.changes)
     place.write("conf", texts.config or b"")
     text = {"suffix": texts.suffix.encode(), "copy": texts.copy, "changes": texts.changes, "config": texts.config or b"", "is_verbose": True}
+    text["last"] = texts.last
     wanted = answer(goes_on=True, **text)
     expect(left_by(place, texts, "-v", "-c"), wanted, f"{what}, -c")
     if wanted.status and (other := answer(goes_on=False, **text)) != wanted:
