@@ -463,7 +463,7 @@ class Trial:
         """Counts what a run of changes came to."""
         status, report, message = ended
         if message:
-            self.told[f"run: {re.sub('[0-9]+:', 'N:', message[9:-1])}"] += 1
+            self.told[f"run: {re.sub('[0-9]+(?=[:,]| groups)', 'N', message[9:-1])}"] += 1
             return
         self.told["run: files written"] += 1
         for line in report.splitlines()[:-1]:

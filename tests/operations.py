@@ -400,8 +400,8 @@ def a_run(program, seed, count=CHANGES, goes_to_each_point=False):
 
 
 def run_beside_model(program, rng, seed, config, count, goes_to_each_point):
-    # in each third run names are so long that a rename can make them too long
-    directory = random_directory(rng, 55 if seed % 3 == 0 else 0)
+    # in each third run names are so long that a rename can make them too long, but not where many runs follow
+    directory = random_directory(rng, 55 if seed % 3 == 0 and not goes_to_each_point else 0)
     copy = directory.text()
     planned = Planned()
     printed = freely_printed(rng)
