@@ -10,7 +10,8 @@ the definitions say of the texts as they are then: a run of slapmodify by answer
 (the report, both files, or the fault with its line), a question by access.py, which reads rules in another language (the notes, and the report or
 the fault with its line). The attribute types of a configuration are those of definitions.py.
 
-Last, a line without end comes through a pipe, and a configuration without end: slapkit may take no more than 8,192 bytes after the limit of each.
+Last, a line without end comes through a pipe, and a configuration without end: slapkit may take no more than 8,192 bytes after the limit of each. Nor
+may it take more after the groups of an undo file that are wanted.
 """
 import dataclasses
 import fcntl
@@ -137,6 +138,17 @@ def a_line_without_end(program):
     return f"{max(told)} bytes taken after the limit"
 
 
+def groups_without_end(program):
+    begin = b"# undo 1\ndn: dc=a,dc=com\nchangetype: add\n\n# undo 2\n"
+    for last, count in ((0, 0), (1, 1)):
+        taken, ended = taken_of(program, ["slapmodify", "-u", "--last", str(last)], begin + b"#")
+        expect(ended, (0, b"accepted %d, refused 0\n" % count, b""), f"the first {last} groups")
+        if taken > len(begin) + PIECE:
+            raise Wrong(f"{taken} bytes taken for the first {last} groups")
+    taken, ended = taken_of(program, ["slapmodify", "-u", "--last", "2"], begin + b"#")
+    expect(ended, (1, b"", b"slapkit: changes: L10 LineTooLong\n"))
+
+
 def a_configuration_without_end(program):
     taken, ended = taken_of(program, ["slapacl", "-f", "/dev/stdin"], b"#")
     expect(ended, (1, b"", b"slapkit: config, line 0: C11 ConfigTooLong\n"))
@@ -151,6 +163,7 @@ def main():
     pairs = [(name, lambda texts=texts: cut_after_each_byte(program, texts)) for name, texts in TEXTS.items()]
     pairs += [(name, lambda rules=rules: question_cut_after_each_byte(program, rules)) for name, rules in RULES.items()]
     pairs.append(("a line without end", lambda: a_line_without_end(program)))
+    pairs.append(("groups without end", lambda: groups_without_end(program)))
     pairs.append(("a configuration without end", lambda: a_configuration_without_end(program)))
     wanted = sys.argv[2] if len(sys.argv) > 2 else ""
     sys.exit(checks.run("cut", [pair for pair in pairs if wanted in pair[0]]))
