@@ -831,6 +831,12 @@ FIRST_GROUPS = [
         last=3,
         report="line 4: refused, 32 noSuchObject\naccepted 0, refused 1\n",
     ),
+    Run(
+        "also where that is the last record of the text",
+        "# undo 1\n" + NO_ENTRY,
+        last=2,
+        report="line 2: refused, 32 noSuchObject\naccepted 0, refused 1\n",
+    ),
     Run("one that goes on comes to it", UNDO_TWO, options=("-c",), last=3, fault="cannot go back 3, only 2 groups"),
     Run(
         "one that goes on and has its groups",
@@ -876,6 +882,24 @@ FIRST_GROUPS = [
     Run("unless its group is wanted", "# undo 1\n" + ADD_A + "# undo 2\n" + TOO_LONG, last=2, fault="changes: L10 LineTooLong"),
     Run("or it belongs to what begins as a mark", "# undo 1\n" + ADD_A + "# undo 2\n " + "1" * 2_097_145, last=1, fault="changes: L10 LineTooLong"),
     bad_mark("the same of a number that is not too long", "# undo 1\n" + ADD_A + "# undo 2\n " + "1" * 2_097_144),
+    Run(
+        "marks in a copy are comments",
+        NOTHING,
+        copy=f"# undo 2\n{COM}# undo 7\n",
+        last=0,
+        report="accepted 0, refused 0\n",
+        new=COM,
+        back=COM,
+    ),
+    Run(
+        "a group under types",
+        undone("dn: cn=e,dc=com\nchangetype: modify\ndelete: roomName\nroomName: a  1\n-\nadd: room\nroom: b\n-\n\n", "x\n"),
+        types=ROOM,
+        copy=IN_A_ROOM,
+        last=1,
+        undo=undone("dn: cn=e,dc=com\nchangetype: modify\ndelete: room\nroom: b\n-\nadd: room\nroom: A 1\n-\n\n"),
+        new=COM + "dn: cn=e,dc=com\ncn: e\nroom: b\n\n",
+    ),
     Run("an unknown version in a wanted group", "# undo 1\nversion: 2\n", last=1, fault="changes: L15 BadVersion"),
 ]
 
