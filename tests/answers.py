@@ -98,7 +98,8 @@ class Run:
 
 
 def answer(suffix, copy, changes, goes_on=False, is_verbose=False, config=b"", last=None):
-    """What a run on these texts must answer, with the types that a configuration defines; with a number, of the first groups of the changes, so many."""
+    """What a run on these texts must answer, with the types that a configuration defines. With a number the run is of the first groups
+    of the changes, so many."""
     try:
         table = definitions.table_of(config)
     except definitions.ConfigFault as fault:

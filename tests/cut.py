@@ -10,8 +10,8 @@ the definitions say of the texts as they are then: a run of slapmodify by answer
 (the report, both files, or the fault with its line), a question by access.py, which reads rules in another language (the notes, and the report or
 the fault with its line). The attribute types of a configuration are those of definitions.py.
 
-Last, a line without end comes through a pipe, and a configuration without end: slapkit may take no more than 8,192 bytes after the limit of each. Nor
-may it take more after the groups of an undo file that are wanted.
+Last, a line without end comes through a pipe, and a configuration without end: slapkit may take no more than 8,192 bytes after the limit of each,
+nor after the wanted groups of an undo file.
 """
 import dataclasses
 import fcntl

@@ -257,7 +257,9 @@ def with_records(rng, data, others):
     return b"\n\n".join(records)
 
 
-MARKS = ["# undo {}\n"] * 30 + ["# un\n do {}\n", "# undo {}\r\n", "# undo {}\n\n", "# undo 0{}\n", "#undo {}\n", "# undo {} \n", "# undo  {}\n", "# undo {}0\n", "\n# undo {}"]
+# most often as slapkit writes them, else in another form, or as comments that are none
+MARKS = ["# undo {}\n"] * 30 + ["# un\n do {}\n", "# undo {}\r\n", "# undo {}\n\n", "\n# undo {}"]
+MARKS += ["# undo 0{}\n", "#undo {}\n", "# undo {} \n", "# undo  {}\n", "# undo {}0\n"]
 
 
 def with_marks(rng, data):

@@ -80,7 +80,7 @@ class Groups:
 
 
 def blocks(text, groups=None):
-    """Yields the blocks of lines, one after the other; a text may end in a fault after some of them. Where groups are wanted, only those of these."""
+    """Yields the blocks of lines, one after the other, or only those of some groups; a text may end in a fault after some of them."""
     block, is_first = [], True
     for line in logical_lines(text):
         if len(line.data) > MOST_BYTES_OF_A_LINE:
@@ -255,7 +255,8 @@ CHANGES = {b"add": add_of, b"delete": delete_of, b"modify": modify_of, b"modrdn"
 
 
 def records(text, groups=None):
-    """Yields the records of a text, or of these groups of it, each with the number of its first line, a fault in the place of one that has one."""
+    """Yields the records of a text, or of some groups of it, each with the number of its first line, a fault in the place of one that
+    has one."""
     for block in blocks(text, groups):
         try:
             record = record_of(block)

@@ -307,7 +307,8 @@ def run(program, folder, copy, changes, new, undo, *options):
 
 
 class Planned:
-    """The changes of a run, as the model makes them: their text, the report on them, the groups that take them back, and the directory before each of those."""
+    """The changes of a run, as the model makes them: their text, the report on them, the groups that take the accepted ones back, and the directory
+    before each of these."""
 
     def __init__(self):
         self.text, self.report, self.groups, self.before, self.refused = "", "", [], [], []
