@@ -128,26 +128,45 @@ fn accepted(ran: &Ran) -> u64 {
     }
 }
 
-/// Asserts that after a hundred changes drawn from this seed what was accepted of the last fifty is taken back.
+/// Asserts that after a hundred changes drawn from this seed what was accepted of the last fifty is taken back, and made again.
 fn assert_goes_back(rt: &impl Abort, alloc: Global, seed: u64) {
-    let changes = changes_of(rt, alloc, &mut Draws { state: seed }, 100);
-    let there = run_both(
+    let there = ran_of(rt, alloc, seed, 100);
+    let middle = ran_of(rt, alloc, seed, 50);
+    assert_goes_back_to(rt, alloc, &there, &middle);
+}
+
+/// The run of as many changes drawn from this seed.
+fn ran_of(rt: &impl Abort, alloc: Global, seed: u64, count: usize) -> Ran {
+    let changes = changes_of(rt, alloc, &mut Draws { state: seed }, count);
+    run_both(
         rt,
         alloc,
         &WHOLE,
         &with_texts(&DRAWN, COM, changes.as_str()),
-    );
-    let first = changes_of(rt, alloc, &mut Draws { state: seed }, 50);
-    let middle = run_both(rt, alloc, &WHOLE, &with_texts(&DRAWN, COM, first.as_str()));
+    )
+}
+
+/// Asserts that a run goes back to the end of another, whose changes are its first ones, and forth again.
+fn assert_goes_back_to(rt: &impl Abort, alloc: Global, there: &Ran, middle: &Ran) {
     let one = Run {
         options: ModifyOptions {
-            last: Some(accepted(&there).saturating_sub(accepted(&middle))),
+            last: Some(accepted(there).saturating_sub(accepted(middle))),
             ..STOP
         },
         ..with_texts(&DRAWN, there.out.as_str(), there.undo.as_str())
     };
     let back = run_both(rt, alloc, &WHOLE, &one);
-    assert_text(rt, first.as_str(), back.out.as_str(), middle.out.as_str());
+    assert_text(
+        rt,
+        "back to the middle",
+        back.out.as_str(),
+        middle.out.as_str(),
+    );
     let forth = run_back(rt, alloc, &one, &back);
-    assert_text(rt, changes.as_str(), forth.out.as_str(), there.out.as_str());
+    assert_text(
+        rt,
+        "and forth again",
+        forth.out.as_str(),
+        there.out.as_str(),
+    );
 }
