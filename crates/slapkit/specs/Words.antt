@@ -45,7 +45,6 @@ pub record AreWordsOf (m : ArgMatches) (words : ModifyWords) : Type 0 where
   pub go_on : IsFlag (found_of m) (codes "go_on") words.options.go_on
   pub dry : IsFlag (found_of m) (codes "dry") words.options.dry
   pub verbose : IsFlag (found_of m) (codes "verbose") words.options.verbose
-  pub last : IsNumber (found_of m) (codes "last") words.options.last
 
 -- ---- the words of `slapacl`
 

@@ -1,7 +1,8 @@
 //! The command line, by `clap`.
 
-ghost use Rattle.std.specs.Prelude.{IfOk};
-ghost use Rattle.slapkit.specs.Words.{AreAccessWordsOf, AreWordsOf};
+ghost use Rattle.std.specs.Prelude.{IfOk, codes};
+ghost use Rattle.clap.specs.Matches.{found_of};
+ghost use Rattle.slapkit.specs.Words.{AreAccessWordsOf, AreWordsOf, IsNumber};
 
 use clap::error::ErrorKind;
 use clap::{Arg, ArgAction, ArgMatches, Command, Error, value_parser};
@@ -35,7 +36,8 @@ pub fn read_words<'a, S: AsStr>(alloc: Global, words: &'a [S]) -> Result<Words<'
 }
 
 fn modify_words<'a>(matches: &ArgMatches<'a>) -> ModifyWords<'a>
-    ensures { AreWordsOf matches.now result }
+    ensures words { AreWordsOf matches.now result }
+    ensures last { IsNumber (found_of matches.now) (codes "last") result.options.last }
 {
     ModifyWords {
         suffix: matches.get_str("suffix").unwrap_or(""),
