@@ -132,14 +132,3 @@ counted_now m (Some t) = refl
 
 pub end_counted : (c : Core) (left : Option (List ℕ)) → c.place ≡ AtEnd → IfSome (marks_left c left) (λ n. c.unfolder.marks.passed ≡ n)
 end_counted c left end = subst (λ p. IfSome (option_and_then (marks_at p c) left) (λ n. c.unfolder.marks.passed ≡ n)) (sym end) (counted_now c.unfolder.marks.passed left)
-
--- only the unfolder, the bytes in hand and the place tell the marks
-at_same : (p : Place) (c d : Core) → d.unfolder ≡ c.unfolder → hand d ≡ hand c → (left : Option (List ℕ)) → option_and_then (marks_at p d) left ≡ option_and_then (marks_at p c) left
-at_same p c d u h None = refl
-at_same Reading c d u h (Some t) = λ i. marks_in (to_come (u i) (h i ++ t))
-at_same AtEnd c d u h (Some t) = ap (λ (j : Unfolder). Some j.marks.passed) u
-at_same Ended c d u h (Some t) = refl
-
-pub marks_same : (old : Option ℕ) (c d : Core) (left : Option (List ℕ)) → d.unfolder ≡ c.unfolder → hand d ≡ hand c → d.place ≡ c.place → KeepsMarks old (marks_left c left) → KeepsMarks old (marks_left d left)
-marks_same old c d left u h place keeps =
-    subst (KeepsMarks old) (sym (ap (λ p. option_and_then (marks_at p d) left) place ∙ at_same c.place c d u h left)) keeps

@@ -2,7 +2,7 @@ use Rattle.std.proofs.lemmas.Result.{err_from_is_err_and}
 use Rattle.std.proofs.Common.{◌≡◌, true, refl, ap, ◌∙◌, rules}
 use Rattle.dir_ldif.specs.Bytes.{is_empty}
 use Rattle.dir_ldif.specs.Records.{found_of}
-use Rattle.dir_ldif.proofs.AnswerLemmas.{marks_same, next_counted, next_faults, next_keeps, next_none}
+use Rattle.dir_ldif.proofs.AnswerLemmas.{next_counted, next_faults, next_keeps, next_none}
 use Rattle.dir_ldif.proofs.LongLineSoon.{answer_used, ends_soon}
 use Rattle.dir_ldif.proofs.reader.Core.next_answer.Goals as goal
 
@@ -29,11 +29,6 @@ returns-in_err-block-clause-soon g c =
     ends_soon c.in_err-block.field-0.0 c.args.schema.now c.args.self.now _ _ c.in_err-block.ensures.soon
     )
 
-pub returns-then-is_empty-clause-marks : goal.returns-then-is_empty-clause-marks
-returns-then-is_empty-clause-marks g c =
-    let ok = c.in_ok-block.ensures.ok in
-    next_keeps c.args.self.now c.next_block.new.self c.in_ok-block.block.items _ _ ok.0 c.requires ok.1 ok.2
-
 pub returns-then-is_empty-clause-counted : goal.returns-then-is_empty-clause-counted
 returns-then-is_empty-clause-counted g c =
     let ok = c.in_ok-block.ensures.ok in
@@ -43,8 +38,3 @@ returns-then-is_empty-clause-counted g c =
     let none : is_empty block ≡ true = search rules in
     let end = (next_none c.args.schema.now old new block _ _ ok.0 _ c.requires ok.1 ok.2 (λ r. (ok.3 r).1) none).1 in
     next_counted new _ (g.S.Source.left c.next_block.new.source) end (next_keeps old new block (g.S.Source.left c.args.source.now) (g.S.Source.left c.next_block.new.source) ok.0 c.requires ok.1 ok.2)
-
-pub returns-clause-marks : goal.returns-clause-marks
-returns-clause-marks g c =
-    let ok = c.in_ok-block.ensures.ok in
-    marks_same _ c.next_block.new.self _ _ refl refl refl (next_keeps c.args.self.now c.next_block.new.self c.in_ok-block.block.items _ _ ok.0 c.requires ok.1 ok.2)
