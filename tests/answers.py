@@ -5,7 +5,7 @@ import definitions
 import ldif
 import names
 from model import CODES, Directory, Refused
-from texts import NOTHING
+from texts import undone
 
 
 @dataclasses.dataclass
@@ -94,26 +94,31 @@ class Run:
         return None
 
     def undo_text(self):
-        return NOTHING + "".join(change.text(names.printed_name) for group in reversed(self.groups) for change in group)
+        return undone(*("".join(change.text(names.printed_name) for change in group) for group in reversed(self.groups)))
 
 
-def answer(suffix, copy, changes, goes_on=False, is_verbose=False, config=b""):
-    """What a run on these texts must answer, with the types that a configuration defines."""
+def answer(suffix, copy, changes, goes_on=False, is_verbose=False, config=b"", last=None):
+    """What a run on these texts must answer, with the types that a configuration defines. With a number the run is of the first groups
+    of the changes, so many."""
     try:
         table = definitions.table_of(config)
     except definitions.ConfigFault as fault:
         return Answer(1, "", f"slapkit: {fault}\n", None, None)
     with names.types_of(table):
-        return answer_under_types(suffix, copy, changes, goes_on, is_verbose)
+        return answer_under_types(suffix, copy, changes, goes_on, is_verbose, last)
 
 
-def answer_under_types(suffix, copy, changes, goes_on, is_verbose):
+def answer_under_types(suffix, copy, changes, goes_on, is_verbose, last):
+    groups = None if last is None else ldif.Groups(last)
     try:
         run = Run(directory_of(suffix_key(suffix), copy))
-        for number, record in ldif.records(changes):
+        for number, record in ldif.records(changes, groups):
             run.make(number, record, is_verbose)
             if run.refused and not goes_on:
                 break
+        else:
+            if groups and groups.met < last:
+                raise Fault(f"cannot go back {last}, only {groups.met} groups")
     except ldif.StreamFault as fault:
         return Answer(1, "", f"slapkit: changes: {fault}\n", None, None)
     except Fault as fault:

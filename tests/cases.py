@@ -25,6 +25,11 @@ class Texts:
     steps: tuple[int, int] = (1, 1)
     # the configuration whose attribute types hold, if there is one
     config: bytes | None = None
+    # how many groups of the changes are run, if they are an undo file and not all of it is
+    last: int | None = None
+
+    def options(self):
+        return [] if self.last is None else ["--last", str(self.last)]
 
 
 def entry(name, *more):
@@ -78,6 +83,13 @@ OTHER_TYPES = lines(
     "attributetype ( 1.3.6.1.1.1.1.0 NAME 'uidNumber' EQUALITY caseIgnoreMatch )|"
     "attributetype ( 2.5.4.31 NAME 'member' EQUALITY uniqueMemberMatch SINGLE-VALUE )|"
     "attributetype ( 2.5.4.0 NAME 'objectClass' EQUALITY caseExactMatch )|"
+)
+# a copy after a rename, a modify of nothing and an add, and what takes these back
+RENAMED_AND_ADDED = ROOT + entry("cn=k,dc=com", "cn: k") + entry("cn=y+sn=z,dc=com", "cn: y", "sn: Z")
+TO_TAKE_BACK = (
+    "# undo 1|dn: cn=k,dc=com|changetype: delete||# undo 2|# undo 3|"
+    + rename("cn=y+sn=z,dc=com", "cn=x")
+    + "dn: cn=x,dc=com|changetype: modify|add: sn|sn: Z|-||"
 )
 FOLDED = "# folded|  comment|dn: cn=e,dc=com|changetype: modify|add: description|description: two|  words |"
 
@@ -152,6 +164,16 @@ TEXTS = {
         ),
     ),
     "attribute types of a configuration": Texts(lines(TYPED), lines(OF_TYPES), steps=(3, 3), config=lines(TYPES)),
+    "all groups of an undo file": Texts(lines(RENAMED_AND_ADDED), lines("version: 1||" + TO_TAKE_BACK), last=3),
+    "one of its groups, whose marks are folded and end in CR LF": Texts(
+        lines(RENAMED_AND_ADDED),
+        lines("# a|" + TO_TAKE_BACK.replace("# undo", "# un| do") + "# undo 4|x|").replace(b"\n", b"\r\n"),
+        steps=(1, 7),
+        last=1,
+    ),
+    "an undo file whose marks are not all there": Texts(
+        lines(RENAMED_AND_ADDED), lines("#undo 1|# undo 01|" + TO_TAKE_BACK.replace("undo 3", "undo 4")), steps=(1, 7), last=2
+    ),
 }
 
 

@@ -10,7 +10,8 @@ the definitions say of the texts as they are then: a run of slapmodify by answer
 (the report, both files, or the fault with its line), a question by access.py, which reads rules in another language (the notes, and the report or
 the fault with its line). The attribute types of a configuration are those of definitions.py.
 
-Last, a line without end comes through a pipe, and a configuration without end: slapkit may take no more than 8,192 bytes after the limit of each.
+Last, a line without end comes through a pipe, and a configuration without end: slapkit may take no more than 8,192 bytes after the limit of each,
+nor after the wanted groups of an undo file.
 """
 import dataclasses
 import fcntl
@@ -41,7 +42,7 @@ def cuts(text, step=1):
 
 def left_by(place, texts, *options):
     """What a run leaves, with all files."""
-    words = ["slapmodify", "-b", texts.suffix, "--data", "copy", "-l", "changes", "--out", "new", "--undo", "undo", *options]
+    words = ["slapmodify", "-b", texts.suffix, "--data", "copy", "-l", "changes", "--out", "new", "--undo", "undo", *texts.options(), *options]
     if texts.config is not None:
         words += ["-f", "conf"]
     ended = place.run(*words)
@@ -56,6 +57,7 @@ def check_run(place, texts, what):
     place.write("changes", texts.changes)
     place.write("conf", texts.config or b"")
     text = {"suffix": texts.suffix.encode(), "copy": texts.copy, "changes": texts.changes, "config": texts.config or b"", "is_verbose": True}
+    text["last"] = texts.last
     wanted = answer(goes_on=True, **text)
     expect(left_by(place, texts, "-v", "-c"), wanted, f"{what}, -c")
     if wanted.status and (other := answer(goes_on=False, **text)) != wanted:
@@ -136,6 +138,17 @@ def a_line_without_end(program):
     return f"{max(told)} bytes taken after the limit"
 
 
+def groups_without_end(program):
+    begin = b"# undo 1\ndn: dc=a,dc=com\nchangetype: add\n\n# undo 2\n"
+    for last, count in ((0, 0), (1, 1)):
+        taken, ended = taken_of(program, ["slapmodify", "-u", "--last", str(last)], begin + b"#")
+        expect(ended, (0, b"accepted %d, refused 0\n" % count, b""), f"the first {last} groups")
+        if taken > len(begin) + PIECE:
+            raise Wrong(f"{taken} bytes taken for the first {last} groups")
+    taken, ended = taken_of(program, ["slapmodify", "-u", "--last", "2"], begin + b"#")
+    expect(ended, (1, b"", b"slapkit: changes: L10 LineTooLong\n"))
+
+
 def a_configuration_without_end(program):
     taken, ended = taken_of(program, ["slapacl", "-f", "/dev/stdin"], b"#")
     expect(ended, (1, b"", b"slapkit: config, line 0: C11 ConfigTooLong\n"))
@@ -150,6 +163,7 @@ def main():
     pairs = [(name, lambda texts=texts: cut_after_each_byte(program, texts)) for name, texts in TEXTS.items()]
     pairs += [(name, lambda rules=rules: question_cut_after_each_byte(program, rules)) for name, rules in RULES.items()]
     pairs.append(("a line without end", lambda: a_line_without_end(program)))
+    pairs.append(("groups without end", lambda: groups_without_end(program)))
     pairs.append(("a configuration without end", lambda: a_configuration_without_end(program)))
     wanted = sys.argv[2] if len(sys.argv) > 2 else ""
     sys.exit(checks.run("cut", [pair for pair in pairs if wanted in pair[0]]))

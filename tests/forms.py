@@ -133,6 +133,52 @@ version: 1|dn: cn=a,dc=com|changetype: add|
 dn: cn=a,dc=com|changetype: add||version: 1|
 """
 )
+# texts before a record, and before another
+BEFORE_A_RECORD = """
+# undo 1
+# undo 0
+# undo 01
+# undo 2
+# undo
+# undo |
+# undo 1|
+# undo 1 |
+# undo  1
+#undo 1
+ # undo 1
+# undo 1a
+# undo +1
+# undo -1
+# undo 1.0
+# undo \u0661
+# UNDO 1
+#  undo 1
+# undo\t1
+# un| do 1
+#| | undo 1
+# undo |  1
+# undo 1| 0
+# undo 1|# undo 1
+# undo 1|# undo 2
+# undo 1||# undo 2
+# undo 1|# undo 3
+# undo 1\r
+# undo 1\r\r
+# undo \r| 1\r
+# undo 1\0
+# undo 11111111111111111111
+# undo 18446744073709551616
+version: 1|# undo 1
+version: 1||# undo 1
+version: 2|# undo 1
+# undo 1|version: 1
+# undo 1|version: 2
+x||# undo 1
+# undo 1|x|# undo 7|x|
+# undo 1|x||# undo 2|x|
+""".strip("\n").split("\n")
+MARKS = [lines(f"{text}|dn: cn=e,dc=com|changetype: add{end}") for text in BEFORE_A_RECORD for end in ("", "|", "|# undo 2||# undo 2")]
+MARKS += each("\n#\n# undo 1\n# undo 1|# undo 2\n# undo 2\n|# undo 1||# undo 2|\n# undo 1|# undo 2|version: 2|", "")
 LINES = [
     *each(":\ndn:: !\ndn:: Y249YQ\ndn:: Y249YR==\ndn::Y249YQ== \ndn:<x\ndn: cn=a\0\ncn: a\n||#\n-", end="|"),
     *each("CONTROL: x\ncontrol:< x\nx: y|control: z\nchangetype: add|changetype: add\nchangetype: increment\nchangetype:: QURE", "dn: cn=e,dc=com|", "|"),
@@ -437,10 +483,19 @@ def check_changes(place, texts, *options):
     return f"{len(texts)} texts"
 
 
-def check_run(place, suffix, copy, text, *options):
+def check_run(place, suffix, copy, text, *options, last=None):
     place.write("copy", copy)
-    wanted = answer(suffix.encode(), copy, text, goes_on=True, is_verbose=True)
-    check_change(place, suffix, text, dataclasses.astuple(wanted), repr(text), *options)
+    wanted = answer(suffix.encode(), copy, text, goes_on=True, is_verbose=True, last=last)
+    more = [] if last is None else ["--last", str(last)]
+    check_change(place, suffix, text, dataclasses.astuple(wanted), f"{text}, {last}", *options, *more)
+
+
+def check_groups(place):
+    """The first groups of texts, so many as none has, as each has, and as some have."""
+    for text in MARKS:
+        for last in (0, 1, 2, 2**64 - 1):
+            check_run(place, "dc=com", COPY, text, last=last)
+    return f"{len(MARKS)} texts"
 
 
 def check_under_other_types(place):
@@ -450,7 +505,7 @@ def check_under_other_types(place):
         check_changes(place, texts, "-f", "conf")
     for texts in TEXTS.values():
         if texts.config is None:
-            check_run(place, texts.suffix, texts.copy, texts.changes, "-f", "conf")
+            check_run(place, texts.suffix, texts.copy, texts.changes, "-f", "conf", last=texts.last)
 
 
 def check_change(place, suffix, text, wanted, what, *options):
@@ -585,6 +640,7 @@ def main():
     program = str(pathlib.Path(sys.argv[1]).resolve())
     with Place(program) as place:
         pairs = [(name, lambda texts=texts: check_changes(place, texts)) for name, texts in CHANGES.items()]
+        pairs.append(("first groups", lambda: check_groups(place)))
         pairs.append(("increments of many values", lambda: check_increments_of_many(place)))
         pairs.append(("the same and others under other types", lambda: check_under_other_types(place)))
         pairs += [(name, lambda texts=texts: check_configs(place, texts)) for name, texts in CONFIGS.items()]

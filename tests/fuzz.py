@@ -5,12 +5,13 @@ usage: fuzz.py PROGRAM [--seed S] [--runs N] [--minutes M] [--jobs J] [--failure
 
 Each case begins with texts that are right, or with the random directories of operations.py, and changes bytes, lines, words, records,
 folds, base64, names, options and characters of them, and tokens of definitions of attribute types. Some runs are under the types of the
-configuration (slapmodify -f); questions always are. Then
+configuration (slapmodify -f); questions always are. Some are of the first groups of changes that have marks (slapmodify --last). Then
 
 - each run ends by itself with status 0 or 1 and, after notes on a configuration, at most one line on standard error, and a fault leaves no file;
 - the report, the new copy and the undo file, or the fault, are those of answers.py; what a requester may do, and each note, is what access.py says;
 - the undo file, run on the new copy, is accepted whole and gives the first copy's canonical text, byte for byte, and its own undo file
-  gives the new copy again;
+  gives the new copy again; of its first groups (slapmodify --last), some of them, what answers.py says, and where they are there the undo file of
+  that run gives the new copy again;
 - questions under the types of the run are answered before it as after it was taken back.
 
 The same seed gives the same cases, whatever the number of jobs. A case that fails is told with its number, and its texts are kept.
@@ -59,6 +60,14 @@ class Case:
     goes_on: bool = True
     # whether the run is under the types of the configuration, as the question is
     is_typed: bool = False
+    # how many groups of the changes are run, if not all of the changes are
+    last: int | None = None
+    # how many groups of the undo file are run: the rest of this by two more than there are
+    back: int = 0
+
+    def options(self):
+        """The options of the run, but for its files and its types."""
+        return [*(["-c"] if self.goes_on else []), *([] if self.last is None else ["--last", str(self.last)])]
 
     def has_types_of_its_run(self):
         """Whether the types of the question are those of the run."""
@@ -224,7 +233,7 @@ def with_lines(rng, data):
         case 2:
             lines[a], lines[b] = lines[b], lines[a]
         case 3:
-            lines.insert(a, rng.choice([b"\n", b"-\n", b"# a comment\n", b" \n", b"\r\n", b"version: 1\n"]))
+            lines.insert(a, rng.choice([b"\n", b"-\n", b"# a comment\n", b" \n", b"\r\n", b"version: 1\n", b"# undo 1\n", b"# undo 2\n"]))
         case 4:
             lines.insert(a, rng.choice(WORDS) + b": " + rng.choice(WORDS) + b"\n")
         case 5:
@@ -246,6 +255,22 @@ def with_records(rng, data, others):
         case 3:
             rng.shuffle(records)
     return b"\n\n".join(records)
+
+
+# most often as slapkit writes them, else in another form, or as comments that are none
+MARKS = ["# undo {}\n"] * 30 + ["# un\n do {}\n", "# undo {}\r\n", "# undo {}\n\n", "\n# undo {}"]
+MARKS += ["# undo 0{}\n", "#undo {}\n", "# undo {} \n", "# undo  {}\n", "# undo {}0\n"]
+
+
+def with_marks(rng, data):
+    """Marks come before records, most often each in its order and one before the first record."""
+    pieces, number = [], 0
+    for record in re.split(rb"(?<=\n\n)", data):
+        for _ in range(rng.choice([0, 1, 1, 1, 1, 2]) if pieces else rng.choice([1] * 9 + [0, 2])):
+            number += rng.choice([1] * 40 + [0, 2])
+            pieces.append(rng.choice(MARKS).format(number).encode())
+        pieces.append(record)
+    return b"".join(pieces)
 
 
 def spliced(rng, data, others):
@@ -327,7 +352,10 @@ def random_case(rng):
     if has_definitions:
         config = with_lines_between(rng, config, types + more_definitions(rng))
     others = [text for texts in FIXED for text in texts[1:3] if text]
-    if rng.random() < 0.8:
+    last = None
+    if rng.random() < 0.3:
+        changes, last = with_marks(rng, changes), rng.choice([0, 1, 1, 2, 2, 3, 5, 9, 2**64 - 1])
+    if rng.random() < (0.8 if last is None else 0.5):
         changes = changed(rng, changes, [*others, changes])
     if rng.random() < 0.3:
         copy = changed(rng, copy, [*others, copy])
@@ -335,7 +363,8 @@ def random_case(rng):
         config = changed(rng, config, [])
     for _ in range(rng.choice([0, 0, 0, 0, 1, 2])):
         config = with_token(rng, config)
-    return Case(suffix, copy, changes, config, random_question(rng, suffix, copy), rng.random() < 0.8, rng.random() < (0.9 if has_definitions else 0.1))
+    question, goes_on, is_typed = random_question(rng, suffix, copy), rng.random() < 0.8, rng.random() < (0.9 if has_definitions else 0.1)
+    return Case(suffix, copy, changes, config, question, goes_on, is_typed, last, rng.randrange(2**16))
 
 
 # ---- a case
@@ -367,19 +396,20 @@ class Trial:
         given = {"copy": case.copy, "changes": case.changes, "conf": case.config, "none": b""}
         for name, data in given.items():
             self.place.write(name, data)
-        ended = self.modify(case, "copy", "changes", "new", "undo", "-v", *(["-c"] if case.goes_on else []))
+        ended = self.modify(case, "copy", "changes", "new", "undo", "-v", *case.options())
         found = (*ended, self.text("new"), self.text("undo"))
         expect(self.place.names() - given.keys(), set() if ended[2] else {"new", "undo"}, "files made")
         self.count(ended)
         self.expect_answer(found, case)
         if not ended[2]:
             self.expect_way_back(case)
+            self.expect_way_to_a_point(case)
         self.expect_access(case, "copy" if ended[2] else "back")
 
     def expect_answer(self, found, case):
         try:
             config = case.config if case.is_typed else b""
-            wanted = dataclasses.astuple(answer(case.suffix.encode(), case.copy, case.changes, case.goes_on, True, config))
+            wanted = dataclasses.astuple(answer(case.suffix.encode(), case.copy, case.changes, case.goes_on, True, config, case.last))
         except UnknownCharacter:
             self.told["not compared: a character that Python does not know"] += 1
             return
@@ -397,6 +427,21 @@ class Trial:
             status, _, message = self.modify(case, "back", "redo", "forth", "undo2", "-c")
             expect((status, message), (0, ""), "the run forth")
             expect(self.text("forth"), self.text("new"), "the new copy again")
+
+    def expect_way_to_a_point(self, case):
+        """The run of some groups of the undo file, and the run forth again."""
+        groups = len(re.findall(r"^# undo ", self.text("undo"), re.M))
+        last = case.back % (groups + 2)
+        part = dataclasses.replace(case, copy=self.place.read("new"), changes=self.place.read("undo"), last=last)
+        ended = self.modify(part, "new", "undo", "point", "redo1", "-v", *part.options())
+        self.expect_answer((*ended, self.text("point"), self.text("redo1")), part)
+        if last > groups:
+            expect(ended, (1, "", f"slapkit: cannot go back {last}, only {groups} groups\n"), "the run of one group more")
+            return
+        expect((ended[0], ended[2]), (0, ""), "the run of some groups")
+        status, _, message = self.modify(case, "point", "redo1", "forth1", "undo1")
+        expect((status, message), (0, ""), "the run forth from there")
+        expect(self.text("forth1"), self.text("new"), "the new copy again, from there")
 
     def expect_access(self, case, other):
         """A question, by the copy and by what came back."""
@@ -420,14 +465,14 @@ class Trial:
         """Counts what a run of changes came to."""
         status, report, message = ended
         if message:
-            self.told[f"run: {re.sub('[0-9]+:', 'N:', message[9:-1])}"] += 1
+            self.told[f"run: {re.sub('[0-9]+(?=[:,]| groups)', 'N', message[9:-1])}"] += 1
             return
         self.told["run: files written"] += 1
         for line in report.splitlines()[:-1]:
             self.told[f"record: {line.split(': ', 1)[1]}"] += 1
 
 
-FILES = ("new", "undo", "canonical", "nothing", "back", "redo", "forth", "undo2")
+FILES = ("new", "undo", "canonical", "nothing", "back", "redo", "forth", "undo2", "point", "redo1", "forth1", "undo1")
 
 
 def keep(folder, number, case):
@@ -436,7 +481,8 @@ def keep(folder, number, case):
     place.mkdir(parents=True, exist_ok=True)
     for name, data in (("copy", case.copy), ("changes", case.changes), ("conf", case.config)):
         (place / name).write_bytes(data)
-    (place / "case").write_text(f"-b {case.suffix} {'-c' if case.goes_on else ''} {'-f conf' if case.is_typed else ''}\n{case.question.options()}\n")
+    typed = "-f conf" if case.is_typed else ""
+    (place / "case").write_text(f"-b {case.suffix} {' '.join(case.options())} {typed}\n{case.question.options()}\nback {case.back}\n")
 
 
 def try_cases(task):

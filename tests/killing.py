@@ -10,7 +10,7 @@ import re
 import subprocess
 
 from checks import Wrong, expect
-from texts import NOTHING, added, block, deleted, same
+from texts import added, block, deleted, same, undone
 
 # Sends the program the signal KILL_BY (else SIGKILL) at its step KILL_AT: each call that touches a file has a step before it and one
 # after it. With NO_SYNC a sync does nothing.
@@ -75,7 +75,7 @@ class Trial:
         units = sorted((f"Unit {n}" for n in range(entries // 2)), key=str.lower)
         self.whole = {
             "new": copy + "".join(block(("dn", f"ou={unit},dc=com"), ("ou", unit)) for unit in units),
-            "undo": NOTHING + "".join(deleted(f"ou=Unit {n},dc=com") for n in reversed(range(entries // 2))),
+            "undo": undone(*(deleted(f"ou=Unit {n},dc=com") for n in reversed(range(entries // 2)))),
         }
         self.report = f"accepted {entries // 2}, refused 0\n"
 

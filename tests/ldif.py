@@ -16,7 +16,7 @@ MOST_BYTES_OF_A_LINE = 2_097_152
 
 BAD_LINE, BAD_BASE64, URL_VALUE, CONTROL = "L1 BadLine", "L2 BadBase64", "L3 UrlValue", "L4 Control"
 BAD_CHANGETYPE, BAD_MODIFY, BAD_RENAME, VALUE_TOO_LONG = "L5 BadChangetype", "L6 BadModify", "L7 BadRename", "L8 ValueTooLong"
-LINE_TOO_LONG, BAD_VERSION = "L10 LineTooLong", "L15 BadVersion"
+LINE_TOO_LONG, BAD_VERSION, BAD_MARK = "L10 LineTooLong", "L15 BadVersion", "L16 BadMark"
 
 
 class RecordFault(Exception):
@@ -62,8 +62,25 @@ def is_version(line):
     return re.match(rb"version:", line.data, re.I) is not None
 
 
-def blocks(text):
-    """Yields the blocks of lines, one after the other; a text may end in a fault after some of them."""
+@dataclasses.dataclass
+class Groups:
+    """The first groups of an undo text, so many of which are wanted, and how many of their marks were met."""
+
+    wanted: int
+    met: int = 0
+
+    def end_before(self, line):
+        """Whether they end before a comment line that stands between two blocks. Its mark, if it is one, must be the next."""
+        mark = re.fullmatch(rb"# undo ([1-9][0-9]*)", line.data)
+        if mark and mark[1] != b"%d" % (self.met + 1):
+            raise StreamFault(BAD_MARK)
+        is_over = bool(mark) and self.met == self.wanted
+        self.met += bool(mark) and not is_over
+        return is_over
+
+
+def blocks(text, groups=None):
+    """Yields the blocks of lines, one after the other, or only those of some groups; a text may end in a fault after some of them."""
     block, is_first = [], True
     for line in logical_lines(text):
         if len(line.data) > MOST_BYTES_OF_A_LINE:
@@ -72,10 +89,15 @@ def blocks(text):
             if block:
                 yield block
             block = []
-        elif not line.data.startswith(b"#"):
+        elif line.data.startswith(b"#"):
+            if groups and not block and groups.end_before(line):
+                return
+        else:
             if is_first and is_version(line):
                 if not re.fullmatch(rb"(?i:version): *1", line.data):
                     raise StreamFault(BAD_VERSION)
+            elif groups and not groups.met:
+                raise StreamFault(BAD_MARK)
             else:
                 block.append(line)
             is_first = False
@@ -232,9 +254,10 @@ def rename_of(dn, lines):
 CHANGES = {b"add": add_of, b"delete": delete_of, b"modify": modify_of, b"modrdn": rename_of, b"moddn": rename_of}
 
 
-def records(text):
-    """Yields the records of a text, each with the number of its first line, a fault in the place of one that has one."""
-    for block in blocks(text):
+def records(text, groups=None):
+    """Yields the records of a text, or of some groups of it, each with the number of its first line, a fault in the place of one that
+    has one."""
+    for block in blocks(text, groups):
         try:
             record = record_of(block)
         except RecordFault as fault:

@@ -7,6 +7,10 @@ usage: operations.py PROGRAM [SEED]
 
 The model gives the report, the new copy and the undo file, which must come out byte for byte. The undo file, run on the
 new copy, must give the copy again and the model's undo file of that run, and this one the new copy again.
+
+After shorter runs, with refused records between the others, the first groups of the undo file, of each number of groups, must give the copy before as
+many accepted records, and the model's undo file of that run. This one must give the new copy again, its own undo file the copy before, and the first
+groups of each what the model says.
 """
 import contextlib
 import pathlib
@@ -22,11 +26,14 @@ import names
 from checks import expect
 from model import CODES, Add, Delete, Directory, Entry, Modify, Refused, Rename
 from names import MOST_RDNS, Rule
-from texts import NOTHING, same
+from texts import same, undone
 
 RUNS = 12
 ENTRIES = 14
 CHANGES = 200
+# of runs that go back to each point
+RUNS_BACK = 6
+CHANGES_BACK = 40
 # how often an entry has many values
 MANY = 0.15
 
@@ -289,9 +296,9 @@ def random_directory(rng, depth, entries=ENTRIES):
 # ---- a run
 
 
-def run(program, folder, copy, changes, new, undo):
+def run(program, folder, copy, changes, new, undo, *options):
     """A run under the configuration of the folder, if it has one."""
-    words = [program, "slapmodify", "-b", "dc=com", "--data", copy, "-l", changes, "--out", new, "--undo", undo, "-c"]
+    words = [program, "slapmodify", "-b", "dc=com", "--data", copy, "-l", changes, "--out", new, "--undo", undo, *options]
     if pathlib.Path(folder, "conf").exists():
         words += ["-f", "conf"]
     ended = subprocess.run(words, cwd=folder, stdin=subprocess.DEVNULL, capture_output=True, timeout=60)
@@ -299,21 +306,20 @@ def run(program, folder, copy, changes, new, undo):
     return ended.returncode, ended.stdout.decode()
 
 
-def undo_text(groups):
-    return NOTHING + "".join(change.text(names.printed_name) for group in reversed(groups) for change in group)
-
-
 class Planned:
-    """The changes of a run, as the model makes them: their text, the report on them, and the groups that take them back."""
+    """The changes of a run, as the model makes them: their text, the report on them, the groups that take the accepted ones back, and the directory
+    before each of these."""
 
     def __init__(self):
-        self.text, self.report, self.groups, self.refused = "", "", [], []
+        self.text, self.report, self.groups, self.before, self.refused = "", "", [], [], []
 
     def make(self, directory, change, printed):
         number = self.text.count("\n") + 1
         self.text += change.text(printed)
+        before = directory.copy()
         try:
             self.groups.append(directory.apply(change))
+            self.before.append(before)
         except Refused as refused:
             self.refused.append(refused.code)
             self.report += f"line {number}: refused, {CODES[refused.code]}\n"
@@ -322,41 +328,85 @@ class Planned:
         status = 1 if self.refused else 0
         return status, f"{self.report}accepted {len(self.groups)}, refused {len(self.refused)}\n"
 
+    def undo(self):
+        """The undo file of the run."""
+        return undone(*("".join(change.text(names.printed_name) for change in group) for group in reversed(self.groups)))
 
-def back_and_forth(program, place, directory, planned, copy):
+    def back(self, directory, last):
+        """The run that takes the last accepted records back, so many, as the model makes it."""
+        wanted = (self.before[-last] if last else directory).text()
+        back = Planned()
+        for group in list(reversed(self.groups))[:last]:
+            for change in group:
+                back.make(directory, change, names.printed_name)
+        expect(back.refused, [], "refused by the model on the way back")
+        same(directory.text(), wanted, "the model's copy before")
+        return back
+
+
+def taken_back(program, place, files, planned, directory, last, *options):
+    """The run that takes the last accepted records of a run back, so many, from files to others: as the program makes it, and the model on a directory."""
+    copy, changes, new, undo = files
+    back = planned.back(directory, last)
+    place.joinpath(new).unlink(missing_ok=True)
+    place.joinpath(undo).unlink(missing_ok=True)
+    what = f"the run of {changes} on {copy}, {' '.join(options)}"
+    expect(run(program, place, copy, changes, new, undo, *options), back.answer(), what)
+    same(place.joinpath(new).read_text(), directory.text(), f"the new copy, {what}")
+    same(place.joinpath(undo).read_text(), back.undo(), f"the undo file, {what}")
+    return back
+
+
+def back_and_forth(program, place, directory, planned):
     """The undo run, and the run that takes it back again."""
+    back = taken_back(program, place, ("new", "undo", "back", "redo"), planned, directory, len(planned.groups), "-c")
+    taken_back(program, place, ("back", "redo", "forth", "undo2"), back, directory, len(back.groups))
+    same(place.joinpath("forth").read_text(), place.joinpath("new").read_text(), "the new copy again")
+
+
+def back_to_each_point(program, rng, place, directory, planned):
+    """The runs back to each point before an accepted record, in both modes; from there forth again, and once more back. Of the undo file of each of these
+    some groups are run, too."""
     new = directory.text()
-    back = Planned()
-    for group in reversed(planned.groups):
-        for change in group:
-            back.make(directory, change, names.printed_name)
-    same(directory.text(), copy, "the model's copy again")
-    expect(back.refused, [], "refused by the model on the way back")
-    expect(run(program, place, "new", "undo", "back", "redo"), back.answer(), "the undo run")
-    same(place.joinpath("back").read_text(), copy, "the copy again")
-    same(place.joinpath("redo").read_text(), undo_text(back.groups), "the undo file of the undo run")
-    count = sum(map(len, back.groups))
-    expect(run(program, place, "back", "redo", "forth", "undo2"), (0, f"accepted {count}, refused 0\n"), "the run forth")
-    same(place.joinpath("forth").read_text(), new, "the new copy again")
+    for last in range(len(planned.groups) + 1):
+        there = directory.copy()
+        for options in ([], ["-c"]):
+            point = directory.copy()
+            back = taken_back(program, place, ("new", "undo", "back", "redo"), planned, point, last, "--last", str(last), *options)
+        some = rng.randrange(len(back.groups) + 1)
+        taken_back(program, place, ("back", "redo", "some", "other"), back, point.copy(), some, "--last", str(some))
+        before = point.text()
+        forth = taken_back(program, place, ("back", "redo", "forth", "undo2"), back, point, len(back.groups))
+        same(point.text(), new, "the model's new copy again")
+        some = rng.randrange(len(forth.groups) + 1)
+        taken_back(program, place, ("forth", "undo2", "some", "other"), forth, point.copy(), some, "--last", str(some))
+        taken_back(program, place, ("forth", "undo2", "back2", "redo2"), forth, point, len(forth.groups))
+        same(point.text(), before, "the model's copy before again")
+        same(there.text(), new, "the model's new copy, which is not changed")
+    fault = f"slapkit: cannot go back {last + 1}, only {last} groups\n"
+    words = [program, "slapmodify", "-b", "dc=com", "--data", "new", "-l", "undo", "-u", "--last", str(last + 1)]
+    words += ["-f", "conf"] if place.joinpath("conf").exists() else []
+    ended = subprocess.run(words, cwd=place, stdin=subprocess.DEVNULL, capture_output=True, timeout=60)
+    expect((ended.returncode, ended.stdout.decode(), ended.stderr.decode()), (1, "", fault), "one record more")
 
 
-def a_run(program, seed):
-    """A run, in half of the cases under a random configuration."""
-    rng = random.Random(seed)
+def a_run(program, seed, count=CHANGES, goes_to_each_point=False):
+    """A run of so many changes, in half of the cases under a random configuration."""
+    rng = random.Random(f"{seed} back" if goes_to_each_point else seed)
     if seed % 2:
-        return run_beside_model(program, rng, seed, None)
+        return run_beside_model(program, rng, seed, None, count, goes_to_each_point)
     config, spellings = random_config(random.Random(f"{seed} types"))
     with under_types(config, spellings):
-        return run_beside_model(program, rng, seed, config)
+        return run_beside_model(program, rng, seed, config, count, goes_to_each_point)
 
 
-def run_beside_model(program, rng, seed, config):
-    # in each third run names are so long that a rename can make them too long
-    directory = random_directory(rng, 55 if seed % 3 == 0 else 0)
+def run_beside_model(program, rng, seed, config, count, goes_to_each_point):
+    # in each third run names are so long that a rename can make them too long, but not where many runs follow
+    directory = random_directory(rng, 55 if seed % 3 == 0 and not goes_to_each_point else 0)
     copy = directory.text()
     planned = Planned()
     printed = freely_printed(rng)
-    for _ in range(CHANGES):
+    for _ in range(count):
         planned.make(directory, random_change(rng, directory), printed)
     with tempfile.TemporaryDirectory() as folder:
         place = pathlib.Path(folder)
@@ -364,10 +414,13 @@ def run_beside_model(program, rng, seed, config):
         if config:
             place.joinpath("conf").write_text(config)
         place.joinpath("changes").write_text(planned.text)
-        expect(run(program, folder, "copy", "changes", "new", "undo"), planned.answer(), "the run")
+        expect(run(program, folder, "copy", "changes", "new", "undo", "-c"), planned.answer(), "the run")
         same(place.joinpath("new").read_text(), directory.text(), "the new copy")
-        same(place.joinpath("undo").read_text(), undo_text(planned.groups), "the undo file")
-        back_and_forth(program, place, directory, planned, copy)
+        same(place.joinpath("undo").read_text(), planned.undo(), "the undo file")
+        if goes_to_each_point:
+            back_to_each_point(program, rng, place, directory, planned)
+        else:
+            back_and_forth(program, place, directory, planned)
     return f"{len(planned.groups)} accepted, refused with {' '.join(map(str, sorted(set(planned.refused))))}{', with a configuration' if config else ''}"
 
 
@@ -375,6 +428,7 @@ def main():
     program = str(pathlib.Path(sys.argv[1]).resolve())
     first = int(sys.argv[2]) if len(sys.argv) > 2 else 1
     runs = [(f"random operations {seed}", lambda seed=seed: a_run(program, seed)) for seed in range(first, first + RUNS)]
+    runs += [(f"back to each point {seed}", lambda seed=seed: a_run(program, seed, CHANGES_BACK, True)) for seed in range(first, first + RUNS_BACK)]
     sys.exit(checks.run("operations", runs))
 
 

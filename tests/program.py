@@ -15,13 +15,13 @@ import time
 import checks
 from cases import OTHER_TYPES
 from checks import expect
-from texts import NOTHING, block, renamed
+from texts import NOTHING, block, deleted, renamed, undone
 
 COPY = "dn: dc=com\ndc: com\n\n"
 ADD = "dn: ou=people,DC=COM\nchangetype: add\ndescription: staff\n"
 NEW = COPY + "dn: ou=people,dc=com\ndescription: staff\nou: people\n\n"
-UNDO = "version: 1\n\ndn: ou=people,dc=com\nchangetype: delete\n\n"
-REDO = "version: 1\n\ndn: ou=people,dc=com\nchangetype: add\ndescription: staff\nou: people\n\n"
+UNDO = "version: 1\n\n# undo 1\ndn: ou=people,dc=com\nchangetype: delete\n\n"
+REDO = "version: 1\n\n# undo 1\ndn: ou=people,dc=com\nchangetype: add\ndescription: staff\nou: people\n\n"
 MISSING = "dn: ou=none,dc=com\nchangetype: delete\n"
 REFUSED = "line 1: refused, 32 noSuchObject\n"
 ONTO = ["--out", "new", "--undo", "undo"]
@@ -77,7 +77,7 @@ def an_add_is_taken_back(trial):
     expect(trial.modify("-l", "changes", *ONTO), (0, "accepted 1, refused 0\n", ""))
     trial.expect_files(NEW, UNDO)
     words = ["slapmodify", "-b", "DC=Com", "--data", "new", "-l", "undo", "--out", "back", "--undo", "redo", "-v"]
-    expect(trial.run(words), (0, "line 3: accepted\naccepted 1, refused 0\n", ""))
+    expect(trial.run(words), (0, "line 4: accepted\naccepted 1, refused 0\n", ""))
     expect((trial.text("back"), trial.text("redo")), (COPY, REDO))
 
 
@@ -91,9 +91,10 @@ def a_rename_moves_what_is_below_and_is_taken_back(trial):
     # the unit moves with the person, who then is named by another value that is there
     changes = renamed("ou=a,ou=West,dc=com", "ou=A", "ou=EAST,dc=com") + renamed("cn=kim,ou=a,ou=east,dc=com", "sn=lee", delete_old=False)
     new = COPY + east + entries("ou=east,dc=com").replace("dn: cn=Kim", "dn: sn=lee") + west
-    undo = NOTHING + renamed("sn=lee,ou=A,ou=east,dc=com", "cn=Kim")
-    undo += "dn: cn=Kim,ou=A,ou=east,dc=com\nchangetype: modify\nadd: sn\nsn: Lee\n-\n\n"
-    undo += renamed("ou=A,ou=east,dc=com", "ou=A", "ou=west,dc=com")
+    undo = undone(
+        renamed("sn=lee,ou=A,ou=east,dc=com", "cn=Kim") + "dn: cn=Kim,ou=A,ou=east,dc=com\nchangetype: modify\nadd: sn\nsn: Lee\n-\n\n",
+        renamed("ou=A,ou=east,dc=com", "ou=A", "ou=west,dc=com"),
+    )
     trial.write("copy", copy)
     report = "line 1: accepted\nline 7: accepted\naccepted 2, refused 0\n"
     expect(trial.modify("-v", *ONTO, typed=changes), (0, report, ""))
@@ -143,6 +144,56 @@ def the_copy_and_the_changes_are_not_exchanged(trial):
 def no_changes_make_the_copy_again(trial):
     expect(trial.modify("-l", "/dev/null", *ONTO), (0, "accepted 0, refused 0\n", ""))
     trial.expect_files(COPY, NOTHING)
+
+
+# two more changes after that of the typed one: of an entry below, by a modify of nothing, and by a delete
+MORE = f"\n{block(('dn', 'ou=a,ou=people,dc=com'), ('changetype', 'add'))}dn: dc=com\nchangetype: modify\n\n{deleted('ou=a,ou=people,dc=com')}"
+FOUR_BACK = ["dn: ou=a,ou=people,dc=com\nchangetype: add\nou: a\n\n", "", deleted("ou=a,ou=people,dc=com"), deleted("ou=people,dc=com")]
+# the copies before these, the last one first
+STEPS = [NEW, NEW + "dn: ou=a,ou=people,dc=com\nou: a\n\n", NEW + "dn: ou=a,ou=people,dc=com\nou: a\n\n", NEW, COPY]
+
+
+def the_last_changes_are_taken_back(trial):
+    expect(trial.modify(*ONTO, typed=f"{ADD}{MORE}"), (0, "accepted 4, refused 0\n", ""))
+    trial.expect_files(NEW, undone(*FOUR_BACK))
+    for last, (copy, count) in enumerate(zip(STEPS, (0, 1, 1, 2, 3))):
+        out, redo = f"back{last}", f"redo{last}"
+        words = ["slapmodify", "-b", "dc=com", "--data", "new", "-l", "undo", "--out", out, "--undo", redo, "--last", str(last)]
+        expect(trial.run(words), (0, f"accepted {count}, refused 0\n", ""), last)
+        expect(trial.text(out), copy, f"the copy before the last {last}")
+        # the whole way forth again, also where the redo file's own marks are counted
+        for forth in ([], ["--last", str(count)]):
+            words = ["slapmodify", "-b", "dc=com", "--data", out, "-l", redo, "--out", "forth", "--undo", "undo2", *forth]
+            expect(trial.run(words), (0, f"accepted {count}, refused 0\n", ""), last)
+            expect(trial.text("forth"), NEW, f"the new copy again, after the last {last}")
+            for name in ("forth", "undo2"):
+                (trial.folder / name).unlink()
+
+
+def no_more_changes_are_taken_back_than_were_made(trial):
+    trial.write("many", undone(*FOUR_BACK))
+    for copy, changes, last, told in (
+        (NEW, "many", "5", "cannot go back 5, only 4 groups"),
+        (NEW, "many", "18446744073709551615", "cannot go back 18446744073709551615, only 4 groups"),
+        (COPY, "/dev/null", "1", "cannot go back 1, only 0 groups"),
+        # change records of another origin
+        (COPY, "changes", "1", "changes: L16 BadMark"),
+    ):
+        trial.write("copy", copy)
+        for words in (ONTO, ["-u"], ["-c", *ONTO]):
+            expect(trial.modify("-l", changes, "--last", last, *words), (1, "", f"slapkit: {told}\n"), last)
+            expect(trial.names(), ["many"], "files made")
+
+
+def a_number_of_changes_to_take_back_is_a_number(trial):
+    for last in ("x", "-1", "", " 1", "1.0", "18446744073709551616"):
+        status, told, said = trial.modify("-l", "/dev/null", *ONTO, f"--last={last}")
+        expect((status, told, said != ""), (1, "", True), last)
+        trial.expect_no_files()
+    for words in (["--last", "-1"], ["--last"], ["--last", "1", "--last", "1"]):
+        status, told, said = trial.modify("-l", "/dev/null", *ONTO, *words)
+        expect((status, told, said != ""), (1, "", True), words)
+        trial.expect_no_files()
 
 
 def a_dry_run_touches_no_file(trial):
@@ -205,7 +256,7 @@ def a_verbose_run_reports_each_record(trial):
 
 
 def one_option_alone_is_refused(trial):
-    options = (["-b", "dc=com"], ["--data", "copy"], ["--out", "new"], ["--undo", "undo"], ["-l", "changes"], ["-f", "changes"])
+    options = (["-b", "dc=com"], ["--data", "copy"], ["--out", "new"], ["--undo", "undo"], ["-l", "changes"], ["-f", "changes"], ["--last", "1"])
     for words in (*options, ["-c"], ["-u"], ["-v"]):
         status, told, said = trial.run(["slapmodify", *words], typed=ADD)
         expect((status, told, said != ""), (1, "", True), words)
@@ -250,7 +301,7 @@ def a_suffix_may_end_in_an_escaped_backslash(trial):
     trial.write("copy", "")
     words = ["slapmodify", "-b", "dc=com\\\\", "--data", "copy", *ONTO]
     expect(trial.run(words, typed="dn: dc=com\\\\\nchangetype: add\n"), (0, "accepted 1, refused 0\n", ""))
-    trial.expect_files("dn: dc=com\\5C\ndc: com\\\n\n", "version: 1\n\ndn: dc=com\\5C\nchangetype: delete\n\n")
+    trial.expect_files("dn: dc=com\\5C\ndc: com\\\n\n", "version: 1\n\n# undo 1\ndn: dc=com\\5C\nchangetype: delete\n\n")
 
 
 def a_file_that_is_there_is_not_written_over(trial):
@@ -422,7 +473,7 @@ def a_run_under_the_types_of_a_configuration_is_taken_back(trial):
     trial.write("copy", IN_A_ROOM)
     replaced = "dn: cn=e,dc=com\nchangetype: modify\nreplace: roomName\nroomName: b\n-\n"
     expect(trial.modify("-f", "conf", *ONTO, typed=replaced), (0, "accepted 1, refused 0\n", ""))
-    trial.expect_files(IN_A_ROOM.replace("room: A 1", "roomName: b"), NOTHING + replaced.replace("roomName: b", "room: A 1").replace("replace: roomName", "replace: room") + "\n")
+    trial.expect_files(IN_A_ROOM.replace("room: A 1", "roomName: b"), undone(replaced.replace("roomName: b", "room: A 1").replace("replace: roomName", "replace: room") + "\n"))
     words = ["slapmodify", "-b", "dc=com", "--data", "new", "-l", "undo", "--out", "back", "--undo", "redo", "-f", "conf"]
     expect(trial.run(words), (0, "accepted 1, refused 0\n", ""))
     expect(trial.text("back"), IN_A_ROOM, "the copy again")
@@ -889,6 +940,9 @@ RUNS = [
     changes_come_from_their_file_alone,
     the_copy_and_the_changes_are_not_exchanged,
     no_changes_make_the_copy_again,
+    the_last_changes_are_taken_back,
+    no_more_changes_are_taken_back_than_were_made,
+    a_number_of_changes_to_take_back_is_a_number,
     a_dry_run_touches_no_file,
     a_dry_run_keeps_the_files_that_are_there,
     a_dry_run_with_a_refused_record_ends_with_status_1,

@@ -214,16 +214,16 @@ EXAMPLE_OF_CHANGES = Changes(
         f"{SUPPORT}dn: cn=Ingrid Jensen,ou=Product Support,dc=airius,dc=com|cn: Ingrid Jensen||"
     ),
     undo=lines(
-        "version: 1||dn: cn=Ingrid Jensen,ou=Product Support,dc=airius,dc=com|changetype: modify|"
+        "version: 1||# undo 1|dn: cn=Ingrid Jensen,ou=Product Support,dc=airius,dc=com|changetype: modify|"
         "add: description|description: Supports|-|add: postaladdress|postaladdress: 1 Anystreet|-||"
-        "dn: cn=Paula Jensen,ou=Product Development,dc=airius,dc=com|changetype: modify|add: description|description: Develops|-|"
+        "# undo 2|dn: cn=Paula Jensen,ou=Product Development,dc=airius,dc=com|changetype: modify|add: description|description: Develops|-|"
         "add: facsimiletelephonenumber|facsimiletelephonenumber: +1 408 555 9876|-|delete: postaladdress|-|"
         "delete: telephonenumber|telephonenumber: +1 408 555 1234|telephonenumber: +1 408 555 5678|-|"
         "add: telephonenumber|telephonenumber: +1 408 555 1212|-||"
-        "dn: ou=Product Development Accountants,ou=Accounting,dc=airius,dc=com|changetype: modrdn|newrdn: ou=PD Accountants|"
+        "# undo 3|dn: ou=Product Development Accountants,ou=Accounting,dc=airius,dc=com|changetype: modrdn|newrdn: ou=PD Accountants|"
         "deleteoldrdn: 1|newsuperior: ou=Product Development,dc=airius,dc=com||"
-        "dn: cn=Paula Jensen,ou=Product Development,dc=airius,dc=com|changetype: modrdn|newrdn: cn=Paul Jensen|deleteoldrdn: 1||"
-        "dn: cn=Robert Jensen,ou=Marketing,dc=airius,dc=com|changetype: add|cn: Robert Jensen|sn: Jensen||"
+        "# undo 4|dn: cn=Paula Jensen,ou=Product Development,dc=airius,dc=com|changetype: modrdn|newrdn: cn=Paul Jensen|deleteoldrdn: 1||"
+        "# undo 5|dn: cn=Robert Jensen,ou=Marketing,dc=airius,dc=com|changetype: add|cn: Robert Jensen|sn: Jensen||"
     ),
     suffix=AIRIUS,
 )
@@ -288,7 +288,7 @@ CHANGES = [
         lines("dn: dc=a|dc: a||dn: cn=P,dc=a|cn: P|l: x||"),
         [(1, "accepted")],
         new=lines("dn: dc=a|dc: a||dn: cn=P,dc=a|cn: 1|cn: P||"),
-        undo=lines("version: 1||dn: cn=P,dc=a|changetype: modify|delete: cn|cn: 1|-|add: l|l: x|-||"),
+        undo=lines("version: 1||# undo 1|dn: cn=P,dc=a|changetype: modify|delete: cn|cn: 1|-|add: l|l: x|-||"),
         suffix="dc=a",
     ),
     Changes(
@@ -297,7 +297,7 @@ CHANGES = [
         lines(ROOT),
         [(1, "accepted"), (5, f"refused, {BAD_BASE64}")],
         new=lines(ROOT + "dn: cn=e,dc=com|cn: e|note: x||"),
-        undo=lines("version: 1||dn: cn=e,dc=com|changetype: delete||"),
+        undo=lines("version: 1||# undo 1|dn: cn=e,dc=com|changetype: delete||"),
     ),
 ]
 
@@ -475,7 +475,7 @@ def check_last_bytes(place):
             expect(b"x:: " + base64.b64encode(value) + b"\n" in written, True, f"{value} in base64")
     name, root = b"dn: cn=a,dc=com\n", lines(ROOT)
     copy = root + name + b"cn: a\n" + written + b"\n"
-    undo = NOTHING.encode() + name + b"changetype: add\ncn: a\n" + written + b"\n"
+    undo = NOTHING.encode() + b"# undo 1\n" + name + b"changetype: add\ncn: a\n" + written + b"\n"
     expect(ended(place, "dc=com", root + name + given, b""), whole([], copy, NOTHING.encode()), "the copy")
     gone = Changes("an entry is deleted", deleted("cn=a,dc=com").encode(), copy, [(1, "accepted")], new=root, undo=undo)
     check_changes(place, [gone])

@@ -10,7 +10,7 @@ that it was to have, and no new copy without its undo file. There are notes on t
 is told after all of them, and where one can't be written there is no report.
 
 Both tools are also run under the attribute types of a configuration: its opening and reads are refused, and each call for memory from the first read of
-it up to the first of the copy.
+it up to the first of the copy. And the first group of an undo file is run, where each opening, read and call for memory is refused.
 """
 import dataclasses
 import os
@@ -36,6 +36,8 @@ TYPED = {
     "copy": "dn: dc=com\ndc: com\nroom: A 1\n\n",
     "changes": "dn: dc=com\nchangetype: modify\ndelete: roomName\nroomName: a  1\n-\n",
 }
+# an undo file, of which one group is run, on that copy
+MARKED = {"marked": "version: 1\n\n# undo 1\ndn: dc=com\nchangetype: modify\nadd: l\nl: x\n-\n\n# un\n do 2\nx\n"}
 ASKED = Question("dc=com", None, ("room/read",), is_verbose=True)
 TYPED_NOTES = access_answer(TYPED["conf"].encode(), TYPED["copy"].encode(), ASKED)[2]
 
@@ -180,8 +182,14 @@ def typed_question_in(folder):
     return ["slapacl", "-f", "conf", "--data", "copy", *ASKED.options()]
 
 
+def way_back_in(folder):
+    """A run of the first group of an undo file."""
+    words = ["slapmodify", "-b", "dc=com", "--data", "copy", "-l", "marked", "--last", "1"]
+    return [*words, "--out", folder / "new", "--undo", folder / "undo", "-v"]
+
+
 def run(program, shim, words_in, refusal):
-    """What a run leaves, and whether a call of it was refused. It is run where the shared object is, and the texts of TYPED."""
+    """What a run leaves, and whether a call of it was refused. It is run where the shared object is, and the texts of TYPED and MARKED."""
     with tempfile.TemporaryDirectory(dir=IN_MEMORY) as name:
         folder = pathlib.Path(name)
         words = [program, *words_in(folder)]
@@ -209,7 +217,7 @@ def memory_is_told(left, whole):
 
 
 def opening_is_told(left, whole):
-    paths = ("/", str(CONF), str(COPY), str(CHANGES), *TYPED, "undo", "new")
+    paths = ("/", str(CONF), str(COPY), str(CHANGES), *TYPED, *MARKED, "undo", "new")
     # The folder is opened to be synced.
     return ends(left, *(f"slapkit: cannot open {path}\n" for path in paths), *NOT_WRITTEN)
 
@@ -309,6 +317,7 @@ KINDS_UNDER_TYPES = {
     "read, by a signal": (run_is_whole, None),
 }
 MEMORY = {"memory": (memory_is_told, memory_is_told)}
+KINDS_OF_GROUPS = KINDS_UNDER_TYPES | MEMORY
 WHILE_TYPES_ARE_READ = {"REFUSE_AFTER": "conf"}
 
 # The runs that are tried: what a run is called, its words, the files that it makes, what goes to standard error, the kinds of calls, and what
@@ -319,6 +328,7 @@ RUNS = [
     (" of a question", question_in, [], NOTES, KINDS_OF_QUESTIONS, {}),
     (" under types", typed_changes_in, ["new", "undo"], "", KINDS_UNDER_TYPES, {}),
     (" while the types of a run are read", typed_changes_in, ["new", "undo"], "", MEMORY, WHILE_TYPES_ARE_READ),
+    (" of the first group of an undo file", way_back_in, ["new", "undo"], "", KINDS_OF_GROUPS, {}),
     (" of a question under types", typed_question_in, [], TYPED_NOTES, KINDS_UNDER_TYPES, {}),
     (" while the types of a question are read", typed_question_in, [], TYPED_NOTES, MEMORY, WHILE_TYPES_ARE_READ),
 ]
@@ -345,7 +355,7 @@ def main():
     with tempfile.TemporaryDirectory() as folder:
         source, shim = f"{folder}/shim.c", f"{folder}/shim.so"
         pathlib.Path(source).write_text(SHIM)
-        for name, text in TYPED.items():
+        for name, text in (TYPED | MARKED).items():
             pathlib.Path(folder, name).write_text(text)
         subprocess.run([os.environ.get("CC", "cc"), "-shared", "-fPIC", "-o", shim, source, "-ldl"], check=True)
         if not NOTES or not TYPED_NOTES:

@@ -8,17 +8,19 @@ With a word, only the rows that have it in their names.
 
 What a row wants is written here by RFC 4511, RFC 2849, slapd.access(5), docs/DEFINITIONS.md and docs/CODES.md. Each is compared with what the program
 answers, and with what the definitions say of the same texts as they are read in another language (answers.py, access.py). The undo file of each run is
-run on the new copy: nothing may be refused, and it must give the canonical text of the first copy.
+run on the new copy: nothing may be refused, and it must give the canonical text of the first copy. So must the run of as many of its groups as there are,
+and there may not be one more; and what takes that back must give the new copy again.
 """
 import dataclasses
 import pathlib
+import re
 import sys
 
 import checks
 from access import Question, access_answer
 from answers import Answer, answer
 from runs import Place
-from texts import NOTHING, added, block, deleted, renamed, same
+from texts import NOTHING, added, block, deleted, renamed, same, undone
 
 # the copy of a row that has no other: the suffix's entry alone
 COM = "dn: dc=com\ndc: com\n\n"
@@ -36,6 +38,8 @@ class Run:
     copy: str = COM
     suffix: str = "dc=com"
     options: tuple = ()
+    # how many groups of the changes are run, where they are an undo file and not all of it is
+    last: int | None = None
     # the configuration whose attribute types hold, if there is one
     types: str | None = None
     report: str = "accepted 1, refused 0\n"
@@ -53,6 +57,10 @@ class Run:
             return Answer(1, "", f"slapkit: {self.fault}\n", None, None)
         files = (None, None) if "-u" in self.options else (self.copy if self.new is None else self.new, self.undo)
         return Answer(0 if self.report.endswith(", refused 0\n") else 1, self.report, "", *files)
+
+    def words(self):
+        """The options of the run, but for its files and its types."""
+        return [*self.options, *([] if self.last is None else ["--last", str(self.last)])]
 
 
 @dataclasses.dataclass
@@ -85,7 +93,7 @@ def modify(shows, rdn, before, mods, after, undo=None):
         shows,
         f"{head}changetype: modify\n{mods}\n",
         copy=f"{COM}{head}{before}\n",
-        undo=f"{NOTHING}{head}changetype: modify\n{undo}\n" if undo else NOTHING,
+        undo=undone(f"{head}changetype: modify\n{undo}\n" if undo else ""),
         new=f"{COM}{head}{after}\n",
     )
 
@@ -110,7 +118,7 @@ ENTRIES = [
         suffix="dc=Example,dc=com",
         copy="",
         changes="dn: DC=Example, dc=com\nchangetype: add\nobjectClass: domain\n",
-        undo=NOTHING + "dn: DC=Example,dc=com\nchangetype: delete\n\n",
+        undo=undone("dn: DC=Example,dc=com\nchangetype: delete\n\n"),
         new="dn: DC=Example,dc=com\nDC: Example\nobjectClass: domain\n\n",
     ),
     Run(
@@ -118,34 +126,34 @@ ENTRIES = [
         suffix="dc=Example,dc=com",
         copy="dn: DC=Example,dc=com\nDC: Example\nobjectClass: domain\n\n",
         changes="version: 1\n\ndn: DC=Example,dc=com\nchangetype: delete\n\n",
-        undo=NOTHING + "dn: DC=Example,dc=com\nchangetype: add\nDC: Example\nobjectClass: domain\n\n",
+        undo=undone("dn: DC=Example,dc=com\nchangetype: add\nDC: Example\nobjectClass: domain\n\n"),
         new="",
     ),
     Run(
         "an added entry gains its naming value and the spelling of its parent's name",
         changes="dn: ou=people,DC=COM\nchangetype: add\ndescription: staff\n",
-        undo=NOTHING + "dn: ou=people,dc=com\nchangetype: delete\n\n",
+        undo=undone("dn: ou=people,dc=com\nchangetype: delete\n\n"),
         new=STAFF,
     ),
     Run(
         "and is deleted again",
         copy=STAFF,
         changes="version: 1\n\ndn: ou=people,dc=com\nchangetype: delete\n\n",
-        undo=NOTHING + "dn: ou=people,dc=com\nchangetype: add\ndescription: staff\nou: people\n\n",
+        undo=undone("dn: ou=people,dc=com\nchangetype: add\ndescription: staff\nou: people\n\n"),
         new=COM,
     ),
     Run(
         "a deleted entry comes back with every byte",
         copy=COM + "dn: cn=a,dc=com\ncn: a\ndescription:: IGxlYWQ=\nnote:\nuserPassword:: AP8=\n\n",
         changes="dn: cn=a,dc=com\nchangetype: delete\n",
-        undo=NOTHING + "dn: cn=a,dc=com\nchangetype: add\ncn: a\ndescription:: IGxlYWQ=\nnote:\nuserPassword:: AP8=\n\n",
+        undo=undone("dn: cn=a,dc=com\nchangetype: add\ncn: a\ndescription:: IGxlYWQ=\nnote:\nuserPassword:: AP8=\n\n"),
         new=COM,
     ),
     Run(
         "and with its spellings",
         copy="dn: DC=Com\nDomainComponent: COM\n\ndn: CN=A  b,DC=Com\ncommonName: a B\nsn;lang-EN: X\n\n",
         changes="dn: cn=a b,dc=com\nchangetype: delete\n",
-        undo=NOTHING + "dn: CN=A  b,DC=Com\nchangetype: add\ncommonName: a B\nsn;lang-EN: X\n\n",
+        undo=undone("dn: CN=A  b,DC=Com\nchangetype: add\ncommonName: a B\nsn;lang-EN: X\n\n"),
         new="dn: DC=Com\nDomainComponent: COM\n\n",
     ),
     Run(
@@ -158,10 +166,11 @@ ENTRIES = [
             "dn: cn=y,ou=a,dc=com\nchangetype: add\ndescription: new\n"
         ),
         report="line 9: refused, 32 noSuchObject\naccepted 4, refused 1\n",
-        undo=(
-            NOTHING
-            + "dn: cn=y,ou=A,dc=com\nchangetype: delete\n\ndn: ou=A,dc=com\nchangetype: delete\n\n"
-            "dn: ou=a,dc=com\nchangetype: add\nou: a\n\ndn: cn=x,ou=a,dc=com\nchangetype: add\ncn: x\n\n"
+        undo=undone(
+            "dn: cn=y,ou=A,dc=com\nchangetype: delete\n\n",
+            "dn: ou=A,dc=com\nchangetype: delete\n\n",
+            "dn: ou=a,dc=com\nchangetype: add\nou: a\n\n",
+            "dn: cn=x,ou=a,dc=com\nchangetype: add\ncn: x\n\n",
         ),
         new=COM + "dn: ou=A,dc=com\nou: A\n\ndn: cn=y,ou=A,dc=com\ncn: y\ndescription: new\n\n",
     ),
@@ -169,14 +178,15 @@ ENTRIES = [
         "and forward again",
         copy=COM + "dn: ou=A,dc=com\nou: A\n\ndn: cn=y,ou=A,dc=com\ncn: y\ndescription: new\n\n",
         changes=(
-            "version: 1\n\ndn: cn=y,ou=A,dc=com\nchangetype: delete\n\ndn: ou=A,dc=com\nchangetype: delete\n\n"
-            "dn: ou=a,dc=com\nchangetype: add\nou: a\n\ndn: cn=x,ou=a,dc=com\nchangetype: add\ncn: x\n\n"
+            "version: 1\n\n# undo 1\ndn: cn=y,ou=A,dc=com\nchangetype: delete\n\n# undo 2\ndn: ou=A,dc=com\nchangetype: delete\n\n"
+            "# undo 3\ndn: ou=a,dc=com\nchangetype: add\nou: a\n\n# undo 4\ndn: cn=x,ou=a,dc=com\nchangetype: add\ncn: x\n\n"
         ),
         report="accepted 4, refused 0\n",
-        undo=(
-            NOTHING
-            + "dn: cn=x,ou=a,dc=com\nchangetype: delete\n\ndn: ou=a,dc=com\nchangetype: delete\n\n"
-            "dn: ou=A,dc=com\nchangetype: add\nou: A\n\ndn: cn=y,ou=A,dc=com\nchangetype: add\ncn: y\ndescription: new\n\n"
+        undo=undone(
+            "dn: cn=x,ou=a,dc=com\nchangetype: delete\n\n",
+            "dn: ou=a,dc=com\nchangetype: delete\n\n",
+            "dn: ou=A,dc=com\nchangetype: add\nou: A\n\n",
+            "dn: cn=y,ou=A,dc=com\nchangetype: add\ncn: y\ndescription: new\n\n",
         ),
         new=COM + "dn: ou=a,dc=com\nou: a\n\ndn: cn=x,ou=a,dc=com\ncn: x\n\n",
     ),
@@ -194,16 +204,15 @@ RENAMES = [
         "the old value goes",
         copy=COM + "dn: dc=a,dc=com\ndc: a\n\n",
         changes="dn: dc=a,dc=com\nchangetype: modrdn\nnewrdn: dc=b\ndeleteoldrdn: 1\n",
-        undo=NOTHING + "dn: dc=b,dc=com\nchangetype: modrdn\nnewrdn: dc=a\ndeleteoldrdn: 1\n\n",
+        undo=undone("dn: dc=b,dc=com\nchangetype: modrdn\nnewrdn: dc=a\ndeleteoldrdn: 1\n\n"),
         new=COM + "dn: dc=b,dc=com\ndc: b\n\n",
     ),
     Run(
         "a value of the new RDN is there already, and is lost by the way back",
         copy=COM + "dn: cn=x,dc=com\ncn: x\nsn: Z\n\n",
         changes="dn: cn=x,dc=com\nchangetype: modrdn\nnewrdn: cn=y+sn=z\ndeleteoldrdn: 1\n",
-        undo=(
-            NOTHING
-            + "dn: cn=y+sn=z,dc=com\nchangetype: modrdn\nnewrdn: cn=x\ndeleteoldrdn: 1\n\n"
+        undo=undone(
+            "dn: cn=y+sn=z,dc=com\nchangetype: modrdn\nnewrdn: cn=x\ndeleteoldrdn: 1\n\n"
             "dn: cn=x,dc=com\nchangetype: modify\nadd: sn\nsn: Z\n-\n\n"
         ),
         new=COM + "dn: cn=y+sn=z,dc=com\ncn: y\nsn: Z\n\n",
@@ -212,7 +221,7 @@ RENAMES = [
         "the key stays and the spelling changes",
         copy=COM + "dn: cn=a,dc=com\ncn: a\n\n",
         changes="dn: cn=a,dc=com\nchangetype: modrdn\nnewrdn: CN=A\ndeleteoldrdn: 1\n",
-        undo=NOTHING + "dn: CN=A,dc=com\nchangetype: modrdn\nnewrdn: cn=a\ndeleteoldrdn: 1\n\n",
+        undo=undone("dn: CN=A,dc=com\nchangetype: modrdn\nnewrdn: cn=a\ndeleteoldrdn: 1\n\n"),
         new=COM + "dn: CN=A,dc=com\ncn: a\n\n",
     ),
     Run(
@@ -223,7 +232,7 @@ RENAMES = [
             "dn: cn=desk,cn=Kim,ou=Team,ou=A,dc=com\ncn: desk\n\ndn: ou=B,dc=com\nou: B\n\n"
         ),
         changes="dn: ou=team,ou=a,dc=com\nchangetype: modrdn\nnewrdn: ou=Team\ndeleteoldrdn: 1\nnewsuperior: ou=b,dc=com\n",
-        undo=NOTHING + "dn: ou=Team,ou=B,dc=com\nchangetype: modrdn\nnewrdn: ou=Team\ndeleteoldrdn: 1\nnewsuperior: ou=A,dc=com\n\n",
+        undo=undone("dn: ou=Team,ou=B,dc=com\nchangetype: modrdn\nnewrdn: ou=Team\ndeleteoldrdn: 1\nnewsuperior: ou=A,dc=com\n\n"),
         new=(
             COM
             + "dn: ou=A,dc=com\nou: A\n\ndn: ou=B,dc=com\nou: B\n\ndn: ou=Team,ou=B,dc=com\nou: Team\n\n"
@@ -239,11 +248,10 @@ RENAMES = [
             "dn: cn=t,dc=com\nchangetype: moddn\nnewrdn: cn=b\ndeleteoldrdn: 1\n"
         ),
         report="accepted 3, refused 0\n",
-        undo=(
-            NOTHING
-            + "dn: cn=b,dc=com\nchangetype: modrdn\nnewrdn: cn=t\ndeleteoldrdn: 1\n\n"
-            "dn: cn=a,dc=com\nchangetype: modrdn\nnewrdn: cn=b\ndeleteoldrdn: 1\n\n"
-            "dn: cn=t,dc=com\nchangetype: modrdn\nnewrdn: cn=a\ndeleteoldrdn: 1\n\n"
+        undo=undone(
+            "dn: cn=b,dc=com\nchangetype: modrdn\nnewrdn: cn=t\ndeleteoldrdn: 1\n\n",
+            "dn: cn=a,dc=com\nchangetype: modrdn\nnewrdn: cn=b\ndeleteoldrdn: 1\n\n",
+            "dn: cn=t,dc=com\nchangetype: modrdn\nnewrdn: cn=a\ndeleteoldrdn: 1\n\n",
         ),
     ),
 ]
@@ -261,7 +269,7 @@ OPTIONS = [
         options=("-c",),
         changes=REFUSED_FIRST,
         report="line 1: refused, 32 noSuchObject\naccepted 1, refused 1\n",
-        undo=NOTHING + "dn: cn=a,dc=com\nchangetype: delete\n\n",
+        undo=undone("dn: cn=a,dc=com\nchangetype: delete\n\n"),
         new=COM + "dn: cn=a,dc=com\ncn: a\n\n",
     ),
     Run(
@@ -269,14 +277,14 @@ OPTIONS = [
         options=("-c",),
         changes=CUT,
         report="line 5: refused, L2 BadBase64\naccepted 1, refused 1\n",
-        undo=NOTHING + "dn: cn=e,dc=com\nchangetype: delete\n\n",
+        undo=undone("dn: cn=e,dc=com\nchangetype: delete\n\n"),
         new=COM + "dn: cn=e,dc=com\ncn: e\nnote: x\n\n",
     ),
     Run(
         "the same where a run stops",
         changes=CUT,
         report="line 5: refused, L2 BadBase64\naccepted 1, refused 1\n",
-        undo=NOTHING + "dn: cn=e,dc=com\nchangetype: delete\n\n",
+        undo=undone("dn: cn=e,dc=com\nchangetype: delete\n\n"),
         new=COM + "dn: cn=e,dc=com\ncn: e\nnote: x\n\n",
     ),
     Run(
@@ -284,7 +292,7 @@ OPTIONS = [
         options=("-v",),
         changes="# folded\r\n  comment\r\ndn: cn=e,dc=com\r\nchangetype: add\r\ndescription: two\r\n  words \r\n",
         report="line 3: accepted\naccepted 1, refused 0\n",
-        undo=NOTHING + "dn: cn=e,dc=com\nchangetype: delete\n\n",
+        undo=undone("dn: cn=e,dc=com\nchangetype: delete\n\n"),
         new=COM + "dn: cn=e,dc=com\ncn: e\ndescription:: dHdvIHdvcmRzIA==\n\n",
     ),
     Run(
@@ -293,7 +301,7 @@ OPTIONS = [
         copy=COM + "dn: cn=e,dc=com\ncn: e\nnote: x\n\n",
         changes="# folded\r\n  comment\r\ndn: cn=e,dc=com\r\nchangetype: modify\r\nadd: description\r\ndescription: two\r\n  words \r\n",
         report="line 3: accepted\naccepted 1, refused 0\n",
-        undo=NOTHING + "dn: cn=e,dc=com\nchangetype: modify\ndelete: description\n-\n\n",
+        undo=undone("dn: cn=e,dc=com\nchangetype: modify\ndelete: description\n-\n\n"),
         new=COM + "dn: cn=e,dc=com\ncn: e\ndescription:: dHdvIHdvcmRzIA==\nnote: x\n\n",
     ),
     Run(
@@ -469,11 +477,11 @@ MODIFIES = [
             "dn: CN=E,dc=com\nchangetype: add\nsn: C\n\ndn: cn=e,dc=com\nchangetype: modify\nreplace: sn\n-\n"
         ),
         report="accepted 4, refused 0\n",
-        undo=(
-            NOTHING
-            + "dn: CN=E,dc=com\nchangetype: modify\nadd: sn\nsn: C\n-\n\ndn: CN=E,dc=com\nchangetype: delete\n\n"
-            "dn: cn=e,dc=com\nchangetype: add\ncn: e\nsn: A\nsn: B\n\n"
-            "dn: cn=e,dc=com\nchangetype: modify\ndelete: sn\nsn: B\n-\n\n"
+        undo=undone(
+            "dn: CN=E,dc=com\nchangetype: modify\nadd: sn\nsn: C\n-\n\n",
+            "dn: CN=E,dc=com\nchangetype: delete\n\n",
+            "dn: cn=e,dc=com\nchangetype: add\ncn: e\nsn: A\nsn: B\n\n",
+            "dn: cn=e,dc=com\nchangetype: modify\ndelete: sn\nsn: B\n-\n\n",
         ),
         new=COM + "dn: CN=E,dc=com\nCN: E\n\n",
     ),
@@ -655,7 +663,7 @@ UNDER_TYPES = [
         types=LEVEL,
         copy=LEVELS,
         changes="dn: cn=e,dc=com\nchangetype: modify\nincrement: level\nlevel: 10\n-\n",
-        undo=NOTHING + "dn: cn=e,dc=com\nchangetype: modify\ndelete: Level\nLevel: 10\nLevel: 15\n-\nadd: Level\nLevel: -5\nLevel: 0\n-\n\n",
+        undo=undone("dn: cn=e,dc=com\nchangetype: modify\ndelete: Level\nLevel: 10\nLevel: 15\n-\nadd: Level\nLevel: -5\nLevel: 0\n-\n\n"),
         new=COM + "dn: cn=e,dc=com\ncn: e\nLevel: 10\nLevel: 15\nLevel: 5\n\n",
     ),
     Run(
@@ -664,7 +672,7 @@ UNDER_TYPES = [
         types=ROOM,
         copy=IN_A_ROOM,
         changes="dn: cn=e,dc=com\nchangetype: modify\nreplace: room\nroom: b\n-\n",
-        undo=NOTHING + "dn: cn=e,dc=com\nchangetype: modify\ndelete: room\nroom: b\n-\nadd: room\nroom: A 1\n-\n\n",
+        undo=undone("dn: cn=e,dc=com\nchangetype: modify\ndelete: room\nroom: b\n-\nadd: room\nroom: A 1\n-\n\n"),
         new=COM + "dn: cn=e,dc=com\ncn: e\nroom: b\n\n",
     ),
     Run(
@@ -673,7 +681,7 @@ UNDER_TYPES = [
         types=ROOM,
         copy=ROOMS,
         changes="dn: roomName=a  1,dc=com\nchangetype: delete\n",
-        undo=NOTHING + "dn: room=A 1,dc=com\nchangetype: add\nroom: A 1\n\n",
+        undo=undone("dn: room=A 1,dc=com\nchangetype: add\nroom: A 1\n\n"),
         new=COM,
     ),
     Run(
@@ -695,7 +703,7 @@ def thousand():
         "".join(deleted(name) for name, _ in entries),
         copy=COM + "".join(block(("dn", name), value) for name, value in entries),
         report="accepted 1000, refused 0\n",
-        undo=NOTHING + "".join(added(name, value) for name, value in reversed(entries)),
+        undo=undone(*(added(name, value) for name, value in reversed(entries))),
         new=COM,
     )
 
@@ -739,7 +747,7 @@ LARGE = [
     move(
         "one that leaves a name of 64 RDNs",
         62,
-        undo=NOTHING + renamed(f"ou=m,{name_at(62)}", "ou=m", "dc=com"),
+        undo=undone(renamed(f"ou=m,{name_at(62)}", "ou=m", "dc=com")),
         new=COM + chain(2, 63, ("cn", "a")) + unit_below(name_at(62), ("ou", "m"), ("cn", "b")),
     ),
     Run(
@@ -753,6 +761,152 @@ LARGE = [
         options=("-c",),
         fault="changes: L10 LineTooLong",
     ),
+]
+
+# a copy before two changes, between them and after them: an entry is added, and another one renamed
+ADDED, NOT_RENAMED, RENAMED = ("dn: cn=k,dc=com\ncn: k\n\n", "dn: cn=x,dc=com\ncn: x\nsn: Z\n\n", "dn: cn=y+sn=z,dc=com\ncn: y\nsn: Z\n\n")
+BEFORE_TWO, BETWEEN_TWO, AFTER_TWO = COM + NOT_RENAMED, COM + ADDED + NOT_RENAMED, COM + ADDED + RENAMED
+# what takes them back, and what takes back the records of the first group of that
+WITH_VALUE = "dn: cn=x,dc=com\nchangetype: modify\nadd: sn\nsn: Z\n-\n\n"
+UNDO_TWO = undone(renamed("cn=y+sn=z,dc=com", "cn=x") + WITH_VALUE, deleted("cn=k,dc=com"))
+RENAMED_AGAIN = (
+    "dn: cn=x,dc=com\nchangetype: modify\ndelete: sn\n-\n\n",
+    renamed("cn=x,dc=com", "cn=y+sn=z") + "dn: cn=y+sn=z,dc=com\nchangetype: modify\ndelete: sn\nsn: z\n-\nadd: sn\nsn: Z\n-\n\n",
+)
+# the undo file of another version, which has no marks
+UNMARKED = "version: 1\n\ndn: cn=y,dc=com\nchangetype: delete\n\n"
+WITH_Y = COM + "dn: cn=y,dc=com\ncn: y\n\n"
+# changes after which a mark stands where it is no longer judged, and the longest line that may be, with one byte more
+ADD_A = "dn: cn=a,dc=com\nchangetype: add\n\n"
+TOO_LONG = "a" * 2_097_153
+
+
+def first_group(shows, changes, **more):
+    """A run of the first group of changes, which adds an entry."""
+    return Run(shows, changes, **{"last": 1, "undo": undone(deleted("cn=a,dc=com")), "new": COM + "dn: cn=a,dc=com\ncn: a\n\n"} | more)
+
+
+def back_two(shows, last, **more):
+    """A run of so many groups of the undo file of the two changes."""
+    return Run(shows, UNDO_TWO, copy=AFTER_TWO, last=last, **more)
+
+
+def bad_mark(shows, changes, last=1):
+    return Run(shows, changes, last=last, fault="changes: L16 BadMark")
+
+
+FIRST_GROUPS = [
+    Run(
+        "each accepted change has its mark",
+        added("cn=k,dc=com") + renamed("cn=x,dc=com", "cn=y+sn=z"),
+        copy=BEFORE_TWO,
+        report="accepted 2, refused 0\n",
+        undo=UNDO_TWO,
+        new=AFTER_TWO,
+    ),
+    back_two("the last change is taken back, of two records", 1, report="accepted 2, refused 0\n", undo=undone(*RENAMED_AGAIN), new=BETWEEN_TWO),
+    back_two(
+        "its records are reported",
+        1,
+        options=("-v",),
+        report="line 4: accepted\nline 9: accepted\naccepted 2, refused 0\n",
+        undo=undone(*RENAMED_AGAIN),
+        new=BETWEEN_TWO,
+    ),
+    back_two(
+        "both changes are taken back",
+        2,
+        report="accepted 3, refused 0\n",
+        undo=undone("dn: cn=k,dc=com\nchangetype: add\ncn: k\n\n", *RENAMED_AGAIN),
+        new=BEFORE_TWO,
+    ),
+    back_two("none is taken back", 0, report="accepted 0, refused 0\n"),
+    back_two("a dry run takes one back", 1, options=("-u",), report="accepted 2, refused 0\n"),
+    back_two("there are too few groups", 3, fault="cannot go back 3, only 2 groups"),
+    back_two("in a dry run too", 3, options=("-u",), fault="cannot go back 3, only 2 groups"),
+    back_two("the greatest number", 18_446_744_073_709_551_615, fault="cannot go back 18446744073709551615, only 2 groups"),
+    Run(
+        "a run that stops at a refused record is not at the end of the text",
+        UNDO_TWO,
+        last=3,
+        report="line 4: refused, 32 noSuchObject\naccepted 0, refused 1\n",
+    ),
+    Run(
+        "also where that is the last record of the text",
+        "# undo 1\n" + NO_ENTRY,
+        last=2,
+        report="line 2: refused, 32 noSuchObject\naccepted 0, refused 1\n",
+    ),
+    Run("one that goes on comes to it", UNDO_TWO, options=("-c",), last=3, fault="cannot go back 3, only 2 groups"),
+    Run(
+        "one that goes on and has its groups",
+        UNDO_TWO,
+        options=("-c",),
+        last=1,
+        report="line 4: refused, 32 noSuchObject\nline 9: refused, 32 noSuchObject\naccepted 0, refused 2\n",
+    ),
+    Run("an empty group", undone(""), last=1, report="accepted 0, refused 0\n"),
+    Run("without its line feed", undone("")[:-1], last=1, report="accepted 0, refused 0\n"),
+    Run("empty groups before others", undone("", "", ADD_A), last=2, report="accepted 0, refused 0\n"),
+    Run("no group of a text that has none", NOTHING, last=0, report="accepted 0, refused 0\n"),
+    Run("one group of a text that has none", NOTHING, last=1, fault="cannot go back 1, only 0 groups"),
+    Run("one group of a text that has nothing", "", last=1, fault="cannot go back 1, only 0 groups"),
+    Run("an undo file without marks is run whole", UNMARKED, copy=WITH_Y, undo=undone("dn: cn=y,dc=com\nchangetype: add\ncn: y\n\n"), new=COM),
+    bad_mark("a group of it is not to be told", UNMARKED),
+    bad_mark("nor where none is wanted", UNMARKED, last=0),
+    bad_mark("a record before the first mark", ADD_A + "# undo 1\n" + ADD_A),
+    bad_mark("right after the version line", "version: 1\nx\n"),
+    bad_mark("the first mark is the second", "version: 1\n\n# undo 2\n" + ADD_A),
+    bad_mark("the second is left out after the last wanted group", "# undo 1\n" + ADD_A + "# undo 3\n"),
+    bad_mark("a mark that comes twice", "# undo 1\n# undo 1\n" + ADD_A),
+    bad_mark("of 30 digits", "# undo " + "1" * 30 + "\n" + ADD_A),
+    bad_mark("a number that goes on in the next line", "# undo 1\n 0\n" + ADD_A),
+    Run(
+        "without a number of groups marks are comments",
+        UNDO_TWO.replace("undo 2", "undo 1"),
+        options=("-u",),
+        copy=AFTER_TWO,
+        report="accepted 3, refused 0\n",
+    ),
+    first_group("a mark right after the version line", "version: 1\n# undo 1\n" + ADD_A + "# undo 2\nx\n"),
+    first_group("a mark before the version line", "# undo 1\nversion: 1\n" + ADD_A + "# undo 2\nx\n"),
+    first_group("folded marks", "# un\n do 1\n" + ADD_A + "#\n  undo\n  2\nx\n"),
+    first_group("marks with CR", "# undo 1\r\n" + ADD_A.replace("\n", "\r\n") + "# un\r\n do 2\r\nx\r\n"),
+    first_group("the last mark without its line feed", "# undo 1\n" + ADD_A + "# undo 2"),
+    first_group("and wanted", "# undo 1\n" + ADD_A + "# undo 2", last=2),
+    first_group("with a CR", "# undo 1\n" + ADD_A + "# undo 2\r", last=2),
+    first_group("a comment within a record", "# undo 1\ndn: cn=a,dc=com\n# undo 2\nchangetype: add\n# undo 7\n\n# undo 2\nx\n"),
+    first_group(
+        "comments that are no marks",
+        "# undo 0\n# undo 01\n# undo  1\n#undo 1\n# undo 1 \n# undo 1a\n# undo\n# undo \n# undo -1\n# Undo 2\n## undo 2\n# undo 1\n"
+        + ADD_A
+        + "# undo 0\n# undo 02\n",
+    ),
+    first_group("comments between two groups", "# a\n\n# undo 1\n# b\n\n# c\n" + ADD_A + "# d\n# undo 2\nx\n"),
+    first_group("no mark is judged after the last wanted group", "# undo 1\n" + ADD_A + "# undo 2\n# undo 2\n# undo 9\nversion: 2\n"),
+    first_group("nor a line that is too long", "# undo 1\n" + ADD_A + "# undo 2\n" + TOO_LONG),
+    Run("unless its group is wanted", "# undo 1\n" + ADD_A + "# undo 2\n" + TOO_LONG, last=2, fault="changes: L10 LineTooLong"),
+    Run("or it belongs to what begins as a mark", "# undo 1\n" + ADD_A + "# undo 2\n " + "1" * 2_097_145, last=1, fault="changes: L10 LineTooLong"),
+    bad_mark("the same of a number that is not too long", "# undo 1\n" + ADD_A + "# undo 2\n " + "1" * 2_097_144),
+    Run(
+        "marks in a copy are comments",
+        NOTHING,
+        copy=f"# undo 2\n{COM}# undo 7\n",
+        last=0,
+        report="accepted 0, refused 0\n",
+        new=COM,
+        back=COM,
+    ),
+    Run(
+        "a group under types",
+        undone("dn: cn=e,dc=com\nchangetype: modify\ndelete: roomName\nroomName: a  1\n-\nadd: room\nroom: b\n-\n\n", "x\n"),
+        types=ROOM,
+        copy=IN_A_ROOM,
+        last=1,
+        undo=undone("dn: cn=e,dc=com\nchangetype: modify\ndelete: room\nroom: b\n-\nadd: room\nroom: A 1\n-\n\n"),
+        new=COM + "dn: cn=e,dc=com\ncn: e\nroom: b\n\n",
+    ),
+    Run("an unknown version in a wanted group", "# undo 1\nversion: 2\n", last=1, fault="changes: L15 BadVersion"),
 ]
 
 
@@ -1112,17 +1266,29 @@ def check_run(program, row):
     with Place(program) as place:
         for name, text in texts.items():
             place.write(name, text.encode())
-        streams = left_by(place, row, "--data", "copy", "-l", "changes", "--out", "new", "--undo", "undo", *row.options)
+        streams = left_by(place, row, "--data", "copy", "-l", "changes", "--out", "new", "--undo", "undo", *row.words())
         check_answer(Answer(*streams, text_of(place, "new"), text_of(place, "undo")), wanted)
         check_answer(defined_answer(row), wanted, " by the definitions")
         made = set() if wanted.new is None else {"new", "undo"}
         checks.expect(place.names(), made | set(texts), "files")
         if made:
-            streams = left_by(place, row, "--data", "new", "-l", "undo", "--out", "back", "--undo", "redo")
-            count = wanted.undo.count("\nchangetype: ")
-            checks.expect(streams, (0, f"accepted {count}, refused 0\n", ""), "the undo run")
-            checks.expect(place.names(), {*texts, "new", "undo", "back", "redo"}, "files after the undo run")
-            same(text_of(place, "back"), row.copy if row.back is None else row.back, "the copy that the undo run gives")
+            check_back(place, row, wanted, set(texts))
+
+
+def check_back(place, row, wanted, texts):
+    """Takes the changes of a row back, and makes them again."""
+    count, groups = (len(re.findall(f"^{begin}", wanted.undo, re.M)) for begin in ("changetype: ", "# undo "))
+    accepted = 0, f"accepted {count}, refused 0\n", ""
+    streams = left_by(place, row, "--data", "new", "-l", "undo", "--out", "back", "--undo", "redo")
+    checks.expect(streams, accepted, "the undo run")
+    checks.expect(place.names(), {*texts, "new", "undo", "back", "redo"}, "files after the undo run")
+    same(text_of(place, "back"), row.copy if row.back is None else row.back, "the copy that the undo run gives")
+    checks.expect(left_by(place, row, "--data", "new", "-l", "undo", "--last", str(groups), "-u"), accepted, "the run of all groups")
+    fault = f"slapkit: cannot go back {groups + 1}, only {groups} groups\n"
+    checks.expect(left_by(place, row, "--data", "new", "-l", "undo", "--last", str(groups + 1), "-u"), (1, "", fault), "the run of one group more")
+    streams = left_by(place, row, "--data", "back", "-l", "redo", "--out", "forth", "--undo", "undo2")
+    checks.expect((streams[0], streams[2]), (0, ""), "the run forth")
+    same(text_of(place, "forth"), wanted.new, "the new copy again")
 
 
 def text_of(place, name):
@@ -1139,9 +1305,8 @@ def check_answer(found, wanted, by=""):
 
 def defined_answer(row):
     """What the definitions say of the texts of a row. A dry run is as any other, but writes no file."""
-    defined = answer(
-        row.suffix.encode(), row.copy.encode(), row.changes.encode(), "-c" in row.options, "-v" in row.options, (row.types or "").encode()
-    )
+    texts = (row.suffix.encode(), row.copy.encode(), row.changes.encode())
+    defined = answer(*texts, "-c" in row.options, "-v" in row.options, (row.types or "").encode(), row.last)
     return dataclasses.replace(defined, new=None, undo=None) if "-u" in row.options else defined
 
 
@@ -1182,6 +1347,7 @@ RUNS = {
     "faults of runs": ENDINGS,
     "runs under types": UNDER_TYPES,
     "large runs": LARGE,
+    "first groups of an undo file": FIRST_GROUPS,
 }
 QUESTIONS = {
     "reports": REPORTS,

@@ -16,7 +16,7 @@ import tempfile
 
 import checks
 from checks import expect
-from texts import NOTHING, added, block, deleted, line, renamed, same
+from texts import NOTHING, added, block, deleted, line, renamed, same, undone
 
 ROOT = "dn: dc=com\ndc: com\n\n"
 
@@ -70,9 +70,9 @@ def an_entry_of_2000_lines(program):
     random.Random(1).shuffle(mixed)
     expect(len(mixed), 2000, "lines")
     large = block(("dn", name), *in_order)
-    wanted = Wanted(0, "accepted 1, refused 0\n", ROOT + large, NOTHING + deleted(name), ROOT)
+    wanted = Wanted(0, "accepted 1, refused 0\n", ROOT + large, undone(deleted(name)), ROOT)
     try_run(program, ROOT, added(name, *mixed), wanted)
-    wanted = Wanted(0, "accepted 1, refused 0\n", ROOT, NOTHING + added(name, *in_order), ROOT + large)
+    wanted = Wanted(0, "accepted 1, refused 0\n", ROOT, undone(added(name, *in_order)), ROOT + large)
     try_run(program, block(("dn", name), *mixed) + ROOT, deleted(name), wanted)
 
 
@@ -98,7 +98,7 @@ def a_group_of_5500_members(program):
     left = set(first) - set(gone) | set(come)
     copy = ROOT + block(("dn", name), ("cn", "All"), *(("member", member) for member in mixed(first)))
     changes = modified(name, ("add", "member", mixed(come))) + modified(name, ("delete", "member", mixed(gone)))
-    undo = NOTHING + modified(name, ("add", "member", sorted(gone))) + modified(name, ("delete", "member", sorted(come)))
+    undo = undone(modified(name, ("add", "member", sorted(gone))), modified(name, ("delete", "member", sorted(come))))
     wanted = Wanted(0, "accepted 2, refused 0\n", ROOT + group(left), undo, ROOT + group(first))
     try_run(program, copy, changes, wanted)
 
@@ -111,7 +111,7 @@ def a_modify_of_many_descriptions(program):
         pairs = [(of, f"Value {i}") for i, of in enumerate(names)]
         copy = ROOT + block(("dn", name), *head, *pairs)
         changes = modified(name, *(("delete", of, []) for of in random.Random(count).sample(names, count)))
-        undo = NOTHING + modified(name, *(("add", of, [value]) for of, value in pairs))
+        undo = undone(modified(name, *(("add", of, [value]) for of, value in pairs)))
         try_run(program, copy, changes, Wanted(0, "accepted 1, refused 0\n", ROOT + block(("dn", name), *head), undo, copy))
 
 
@@ -129,14 +129,14 @@ def a_name_of_64_rdns(program):
     report = "line {}: accepted\nline {}: accepted\nline {}: accepted\naccepted 3, refused 0\n"
     first = added(name(64), leaf).count("\n") + 1
     second = first + deleted(name(64)).count("\n")
-    undo = NOTHING + deleted(name(64)) + added(name(64), leaf) + deleted(name(64))
+    undo = undone(deleted(name(64)), added(name(64), leaf), deleted(name(64)))
     try_run(program, parents, changes, Wanted(0, report.format(1, first, second), parents + entry(64), undo, parents), "-v")
     # one RDN more is past the limit
     report = "line 1: refused, L9 N5 NameLimit\naccepted 0, refused 1\n"
     try_run(program, parents, added(name(65)), Wanted(1, report, parents, NOTHING, parents))
     # all 63 are added, and taken back from the leaf on
     changes = "".join(added(name(depth)) for depth in range(2, 65))
-    undo = NOTHING + "".join(deleted(name(depth)) for depth in range(64, 1, -1))
+    undo = undone(*(deleted(name(depth)) for depth in range(64, 1, -1)))
     try_run(program, ROOT, changes, Wanted(0, "accepted 63, refused 0\n", parents + entry(64), undo, ROOT))
 
 
@@ -187,9 +187,8 @@ def a_copy_of_20_mb(program):
     left = above + "".join(sorted([text for name, text in in_order.items() if name not in set(gone)] + [
         block(("dn", new), ("sn", "New"), ("uid", f"new{i:03}")) for i, new in enumerate(come)
     ]))
-    undo = NOTHING + "".join(
-        deleted(new) + in_order[old].replace("\n", "\nchangetype: add\n", 1) for old, new in reversed(list(zip(gone, come)))
-    )
+    pairs = reversed(list(zip(gone, come)))
+    undo = undone(*(group for old, new in pairs for group in (deleted(new), in_order[old].replace("\n", "\nchangetype: add\n", 1))))
     report = "accepted 1000, refused 0\n"
     try_run(program, "".join(mixed) + above, changes, Wanted(0, report, left, undo, canonical))
 
@@ -209,7 +208,7 @@ def a_subtree_at_64_rdns(program):
     second = renamed(name("ou=a", 3), "ou=Unit number 3", name("ou=b", 3))
     third = renamed(name("ou=a", 4), "ou=Unit number 4", name("ou=b", 3))
     report = "line {}: refused, 11 adminLimitExceeded\nline {}: refused, 11 adminLimitExceeded\naccepted 1, refused 2\n"
-    undo = NOTHING + renamed(name("ou=b", 4), "ou=Unit number 4", name("ou=a", 3))
+    undo = undone(renamed(name("ou=b", 4), "ou=Unit number 4", name("ou=a", 3)))
     new = ROOT + entries("ou=a", range(2, 4)) + entries("ou=b", range(2, 64))
     wanted = Wanted(1, report.format(1, first.count("\n") + 1), new, undo, copy)
     try_run(program, copy, first + second + third, wanted, "-c")
@@ -234,9 +233,9 @@ def a_move_of_10000_entries(program):
     copy = ROOT + east + west + team("ou=west,dc=com")
     moved = ROOT + east + team("ou=east,dc=com") + west
     there, home = renamed(away, "ou=team", "ou=east,dc=com"), renamed(back, "ou=team", "ou=west,dc=com")
-    try_run(program, copy, there, Wanted(0, "accepted 1, refused 0\n", moved, NOTHING + home, copy))
+    try_run(program, copy, there, Wanted(0, "accepted 1, refused 0\n", moved, undone(home), copy))
     # away and back a hundred times, and once more away
-    wanted = Wanted(0, "accepted 201, refused 0\n", moved, NOTHING + (home + there) * 100 + home, copy)
+    wanted = Wanted(0, "accepted 201, refused 0\n", moved, undone(*[home, there] * 100, home), copy)
     try_run(program, copy, (there + home) * 100 + there, wanted)
 
 
@@ -245,7 +244,7 @@ def a_value_of_1048576_bytes(program):
     for length in (1_048_575, 1_048_576):
         entry = [("cn", "a"), ("description", "x" * length)]
         new = ROOT + block(("dn", name), *entry)
-        wanted = Wanted(0, "accepted 1, refused 0\n", new, NOTHING + deleted(name), ROOT)
+        wanted = Wanted(0, "accepted 1, refused 0\n", new, undone(deleted(name)), ROOT)
         try_run(program, ROOT, added(name, *entry), wanted)
     report = "line 1: refused, L8 ValueTooLong\naccepted 0, refused 1\n"
     try_run(program, ROOT, added(name, ("description", "x" * 1_048_577)), Wanted(1, report, ROOT, NOTHING, ROOT))
@@ -258,7 +257,7 @@ def a_line_of_2097152_bytes(program):
     begin = "dn: cn=a,dc=com\nchangetype: add\nsn: "
     for form in forms:
         comment, value = form("#" + "x" * (limit - 1)), form("sn: " + "x" * (limit - 4))
-        wanted = Wanted(0, "accepted 1, refused 0\n", ROOT + block(("dn", "cn=a,dc=com"), ("cn", "a"), ("sn", "b")), NOTHING + deleted("cn=a,dc=com"), ROOT)
+        wanted = Wanted(0, "accepted 1, refused 0\n", ROOT + block(("dn", "cn=a,dc=com"), ("cn", "a"), ("sn", "b")), undone(deleted("cn=a,dc=com")), ROOT)
         try_run(program, ROOT, f"{comment}{begin}b\n", wanted)
         report = "line 1: refused, L8 ValueTooLong\naccepted 0, refused 1\n"
         try_run(program, ROOT, begin.replace("sn: ", "") + value, Wanted(1, report, ROOT, NOTHING, ROOT))

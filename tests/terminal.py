@@ -21,14 +21,14 @@ import unicodedata
 
 import checks
 from checks import Wrong, expect
-from texts import NOTHING, added, block, deleted, same
+from texts import added, block, deleted, same, undone
 
 STEP = 8 * 1024 * 1024
 ROOT = block(("dn", "dc=com"), ("dc", "com"))
 UNIT = "ou=unit,dc=com"
 CHANGES = added(UNIT)
 UNIT_TEXT = block(("dn", UNIT), ("ou", "unit"))
-UNDO = NOTHING + deleted(UNIT)
+UNDO = undone(deleted(UNIT))
 CONF = "database mdb\nsuffix dc=com\naccess to * by * read\n"
 CONF_WITH_NOTES = f"include core.schema\n{CONF}access to attrs=gn by * read\n"
 NOTES = 'slapkit: note: config, line 1: include "core.schema" is not read\nslapkit: note: config, line 5: unknown attribute "gn"\n'

@@ -4,8 +4,13 @@ import base64
 from checks import Wrong
 from names import as_bytes
 
-# the undo file of a run that changed nothing, and the beginning of every other one
+# the undo file of a run that accepted nothing, and the beginning of every other one
 NOTHING = "version: 1\n\n"
+
+
+def undone(*groups):
+    """The undo file of these groups, each after its mark. Each takes one accepted change back, the first the last one."""
+    return NOTHING + "".join(f"# undo {number}\n{group}" for number, group in enumerate(groups, 1))
 
 
 def is_plain(value):

@@ -10,6 +10,7 @@ complete -c slapkit -n '__fish_seen_subcommand_from slapmodify' -l data -r -d 'T
 complete -c slapkit -n '__fish_seen_subcommand_from slapmodify' -l out -r -d 'The file for the new copy'
 complete -c slapkit -n '__fish_seen_subcommand_from slapmodify' -l undo -r -d 'The file for the changes that take the run back'
 complete -c slapkit -n '__fish_seen_subcommand_from slapmodify' -s l -r -d 'The change records, in LDIF'
+complete -c slapkit -n '__fish_seen_subcommand_from slapmodify' -l last -x -d 'The changes are an undo file: take so many records back'
 complete -c slapkit -n '__fish_seen_subcommand_from slapmodify' -s f -r -d 'A slapd.conf whose attribute types are added'
 complete -c slapkit -n '__fish_seen_subcommand_from slapmodify' -s c -d 'Go on after a refused record'
 complete -c slapkit -n '__fish_seen_subcommand_from slapmodify' -s u -d 'Dry run: write the report alone'

@@ -1,5 +1,6 @@
 -- Worked examples, proved of the definitions: undo texts, modifications (RFC 4511, section 4.6), and the texts of result codes (section 4.1.9).
 use Rattle.std.proofs.Common.{◌≡◌, ℕ, List, [], ◌∷◌, codes, refl, Option, Some, None, Ok, Err}
+use Rattle.std.specs.Fmt.{digits}
 use Rattle.dir_names.specs.Attr.{Attr}
 use Rattle.dir_names.specs.Names.{SpelledName}
 use Rattle.dir_names.specs.Table.Builtin.{builtin_rows}
@@ -31,10 +32,10 @@ deletion name = record { dn = name; kind = kind.Delete }
 pub nothing-to-undo : undo_text_of [] ≡ codes "version: 1\n\n"
 nothing-to-undo = refl
 
--- the group of the last accepted record comes first: the entry is deleted before its parent
+-- the group of the last accepted record comes first, each after its mark: the entry is deleted before its parent
 pub last-group-first : undo_text_of ((deletion people ∷ []) ∷ (deletion person ∷ []) ∷ [])
-    ≡ codes "version: 1\n\ndn: cn=a,ou=people,dc=com\nchangetype: delete\n\ndn: ou=people,dc=com\nchangetype: delete\n\n"
-unfolding fold_from
+    ≡ codes "version: 1\n\n# undo 1\ndn: cn=a,ou=people,dc=com\nchangetype: delete\n\n# undo 2\ndn: ou=people,dc=com\nchangetype: delete\n\n"
+unfolding fold_from digits
 last-group-first = refl
 
 -- ---- modifications of the attribute `note`, whose type has no row: its values are compared by their bytes

@@ -1,5 +1,5 @@
 -- Lists of changes, and the groups that take the accepted ones back.
-use Rattle.std.specs.Prelude.{◌≡◌, List, [], ◌∷◌, map, reverse, Option, None, Some, Result, Ok, Err}
+use Rattle.std.specs.Prelude.{◌≡◌, ℕ, ◌<◌, ◌^◌, List, [], ◌∷◌, length, map, min, reverse, take, Option, None, Some, Result, Ok, Err}
 use Rattle.std.specs.List.{flat_map}
 use Rattle.dir_names.specs.declared.schema.TypeRow.{TypeRow}
 use Rattle.dir_names.specs.Keys.{DnKeys}
@@ -8,7 +8,7 @@ use Rattle.dir_ldif.specs.declared.records.Change.{Change}
 use Rattle.dir_tree.specs.Dir.{Dir}
 use Rattle.dir_ldif.specs.declared.records.Record.TheVariants as form
 use Rattle.dir_ldif.specs.RoundTrip.{without_line}
-use Rattle.dir_ldif.specs.Records.{records_of}
+use Rattle.dir_ldif.specs.Records.{marks_up_to, records_of, records_up_to}
 use Rattle.dir_tree.specs.WellFormed.{Each, IsWellFormed, IsWithinLimits}
 use Rattle.dir_change.specs.declared.result_code.ResultCode.{ResultCode}
 use Rattle.dir_change.specs.Operation.{step}
@@ -65,8 +65,18 @@ RunsAreTakenBack = (rows : List TypeRow) (d : Dir) (changes : List Change) → I
 abbrev pub ReadsBack : List TypeRow → Ending → Type 0
 ReadsBack rows ending = map without_line (records_of rows (undo_text_of ending.groups)) ≡ map (λ c. Ok (Ok (form.Change c))) (undo_changes ending)
 
+-- of its first groups, so many, the records are the changes of these, and as many marks are passed
+abbrev pub FirstReadBack : List TypeRow → Ending → ℕ → Type 0
+FirstReadBack rows ending k =
+    (map without_line (records_up_to rows k (undo_text_of ending.groups)) ≡ map (λ c. Ok (Ok (form.Change c))) (flat_map (λ group. group) (take k (reverse ending.groups))))
+    × (marks_up_to k (undo_text_of ending.groups) ≡ Some (min k (length ending.groups)))
+
+abbrev pub ReadsBackByGroups : List TypeRow → Ending → Type 0
+ReadsBackByGroups rows ending = ReadsBack rows ending × ((k : ℕ) → k < 2 ^ 64 → FirstReadBack rows ending k)
+
 abbrev pub UndoTextsReadBack : Type 0
-UndoTextsReadBack = (rows : List TypeRow) (d : Dir) (changes : List Change) → IsWellFormed rows d → IsWithinLimits d → Each (IsSoundChange rows) changes → ReadsBack rows (run_to_end rows d changes) × ReadsBack rows (run_to_refusal rows d changes)
+UndoTextsReadBack = (rows : List TypeRow) (d : Dir) (changes : List Change) → IsWellFormed rows d → IsWithinLimits d → Each (IsSoundChange rows) changes
+    → ReadsBackByGroups rows (run_to_end rows d changes) × ReadsBackByGroups rows (run_to_refusal rows d changes)
 
 -- where a run ends, the directory is well formed and within the limits, under the same suffix
 abbrev pub StaysInOrder : List TypeRow → Dir → Ending → Type 0

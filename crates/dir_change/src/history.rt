@@ -1,11 +1,10 @@
 //! The groups of changes that take a run back, and the undo text.
 
 ghost use Rattle.std.specs.Prelude.{◌≡◌, [], ◌∷◌, ◌++◌, IfErr, IfOk, OnErr, OnOk, reverse};
-ghost use Rattle.std.specs.List.{flat_map};
-ghost use Rattle.dir_change.specs.UndoText.{group_text, undo_text_of};
+ghost use Rattle.dir_change.specs.UndoText.{group_text, marked_text, undo_text_of};
 
 use crate::Undo;
-use dir_ldif::push_change;
+use dir_ldif::{push_change, push_mark};
 use dir_names::Memory;
 use std::alloc::Global;
 use std::marker::Model;
@@ -51,8 +50,8 @@ impl History {
         }
     }
 
-    /// The undo text: `version: 1`, an empty line, and the groups' records, the last accepted
-    /// record's group first.
+    /// The undo text: `version: 1`, an empty line, and the groups, the last accepted record's first. Before each stands its
+    /// mark, the comment line `# undo N`, with N from 1.
     pub fn undo_text(&self, alloc: Global) -> Result<Vec<u8>, Memory>
         ensures { IfOk result (λ text. text.items ≡ undo_text_of self.now) }
     {
@@ -62,13 +61,16 @@ impl History {
     }
 }
 
-/// Appends the texts of groups, the last one first.
+/// Appends the texts of groups, the last one first, each after its mark.
 fn push_groups(out: &mut Vec<u8>, groups: &[Undo]) -> Result<(), Memory>
-    ensures { OnOk result (out.new.items ≡ out.old.items ++ flat_map group_text (reverse groups.now)) }
+    ensures { OnOk result (out.new.items ≡ out.old.items ++ marked_text 1 (reverse groups.now)) }
 {
     let mut at = groups.len();
+    let mut number: u64 = 0;
     while at > 0 {
         at -= 1;
+        number += 1;
+        push_mark(out, number)?;
         push_group(out, &groups[at])?;
     }
     Ok(())

@@ -2,7 +2,7 @@
 
 ghost use Rattle.dir_change.specs.Runs.{GroupsUndo, RunsAreTakenBack, RunsStayInOrder, UndoTextsReadBack};
 
-use dir_ldif::written_records_read_back;
+use dir_ldif::marked_groups_read_back;
 
 /// A law: the group of a sound change that is accepted on a well-formed directory within the limits
 /// undoes it. Its records are legal, and after the change all are accepted and lead back. It is one
@@ -20,11 +20,11 @@ pub fn runs_are_taken_back()
 {}
 
 /// A law: the undo text of these groups reads back as their changes, in the order in which they are to
-/// be applied, and no record is faulty.
+/// be applied, and no record is faulty. A reader of its first groups reads the changes of these.
 pub fn undo_texts_read_back()
     ensures { UndoTextsReadBack }
 {
-    written_records_read_back();
+    marked_groups_read_back();
 }
 
 /// A law: the directory at the end of such a list is well formed and within the limits, as it was at the

@@ -31,9 +31,9 @@ asks_over t known answer text before after report wrote answers whole fresh take
 }
 
 pub asks_and_ends : {A : Type 0} (t : AccessTerms) (known : AccessSources) (answer : Result A ToolFault) (report : List ℕ) (result : Result A Fault) (a b : Option Disk)
-    → AsksOver t known answer (Some [], Some report) → Made a b (λ d. EndsWithoutOutputs report answer result) → Made a b (λ d. Asks t known result)
+    → AsksOver t known answer (Some [], Some report) → Made a b (λ d. EndsWithoutOutputs IsRunFault report answer result) → Made a b (λ d. Asks t known result)
 asks_and_ends t known answer report result a b over ended =
-    made_as a b (λ d. EndsWithoutOutputs report answer result) (λ d. Asks t known result) ended (λ d calls is h. (answer, report, over, h))
+    made_as a b (λ d. EndsWithoutOutputs IsRunFault report answer result) (λ d. Asks t known result) ended (λ d calls is h. (answer, report, over, h))
 
 -- ---- where the tool doesn't answer
 
@@ -59,7 +59,7 @@ unread A words config copy e shown a h is =
       answers = answers_so A t known e [] at_fault;
       whole = whole_answer A t config copy e [] at_fault;
     } in
-    answered words known (Err shown) a a (asks_and_ends t known answer [] (Err shown) a a over (no_report_due A [] e shown a is))
+    answered words known (Err shown) a a (asks_and_ends t known answer [] (Err shown) a a over (no_report_due A IsRunFault [] e shown a is))
 
 -- ---- the question from its beginning, where no path is given twice
 

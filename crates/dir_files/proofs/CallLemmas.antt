@@ -14,7 +14,7 @@ use Rattle.dir_files.specs.declared.words.ModifyWords.{ModifyWords}
 use Rattle.dir_files.specs.declared.words.OutputPaths.{OutputPaths}
 use Rattle.dir_files.specs.declared.fault.Fault.{Fault}
 use Rattle.dir_files.specs.declared.files.Refusal.{Refusal}
-use Rattle.dir_files.specs.Faults.{FailsSo, IsNotCreated, IsNotOpened, IsNotReported, IsRunFault}
+use Rattle.dir_files.specs.Faults.{FailsSo, IsModifyFault, IsNotCreated, IsNotOpened, IsNotReported, IsRunFault}
 use Rattle.dir_files.specs.Files.{Call, Disk, Told, creates, discards, opens, reports, standard_input, with_call}
 use Rattle.dir_files.specs.Paths.{outputs_of}
 use Rattle.dir_files.specs.Runs.{AllCalls, AreTypesOf, CallsUnder, Ends, EndsWithOutputs, EndsWithoutOutputs, FindsTypes, Made, OpensChanges, ReadsTypes, RunsOver, RunsOverDrafts, Tries, WritesAll, WritesOutputs, WritesReport, both_discarded, changes_text, terms_of, sources_of}
@@ -119,7 +119,7 @@ module _ (paths : OutputPaths) (mode : ℕ) (q : RunTerms) (known : Sources) (re
   -- both drafts are created, and the tool runs over them
   module _ (answer : Result Summary ToolFault) (undo undo' out out' : Option (List ℕ)) (report : List ℕ) where
     abbrev Rest : List Call → Type 0
-    Rest calls = EndsWithOutputs paths undo' out' report answer result calls
+    Rest calls = EndsWithOutputs q.options.last paths undo' out' report answer result calls
 
     pub writes_outputs : (a b c e : Option Disk) → Told a b (creates paths.undo.now mode None) → Told b c (creates paths.out.now mode None)
         → IfSome b (λ d. undo ≡ Some []) → IfSome c (λ d. out ≡ Some []) → RunsOver q known answer (undo, undo') (out, out') (Some [], Some report)
@@ -138,34 +138,35 @@ module _ (paths : OutputPaths) (mode : ℕ) (q : RunTerms) (known : Sources) (re
             (subst (λ (t : Option (List ℕ)). RunsOver q known answer (undo, undo') (t, out') (Some [], Some report)) o ran)
 
 -- after the tool's own fault the drafts are removed
-pub ends_in_fault : (paths : OutputPaths) (undo out : Option (List ℕ)) (report : List ℕ) (told : ToolFault) (e : Fault) (a b c : Option Disk)
-    → Told a b (discards paths.out.now) → Told b c (discards paths.undo.now) → IsRunFault told e
-    → Made a c (λ d. EndsWithOutputs paths undo out report (Err told) (Err e))
-ends_in_fault paths undo out report told e a b c first second fails =
-    made_as a c (Just (both_discarded paths)) (λ d. EndsWithOutputs paths undo out report (Err told) (Err e))
+pub ends_in_fault : (last : Option ℕ) (paths : OutputPaths) (undo out : Option (List ℕ)) (report : List ℕ) (told : ToolFault) (e : Fault) (a b c : Option Disk)
+    → Told a b (discards paths.out.now) → Told b c (discards paths.undo.now) → IsModifyFault last told e
+    → Made a c (λ d. EndsWithOutputs last paths undo out report (Err told) (Err e))
+ends_in_fault last paths undo out report told e a b c first second fails =
+    made_as a c (Just (both_discarded paths)) (λ d. EndsWithOutputs last paths undo out report (Err told) (Err e))
     (just_two a b c (discards paths.out.now) (discards paths.undo.now) first second) (λ d calls is same. (same, fails))
 
 -- where no files are to be written
 pub writes_report : (q : RunTerms) (known : Sources) (answer : Result Summary ToolFault) (report : List ℕ) (result : Result Summary Fault) (a b : Option Disk)
-    → RunsOver q known answer (None, None) (None, None) (Some [], Some report) → Made a b (λ d. EndsWithoutOutputs report answer result)
+    → RunsOver q known answer (None, None) (None, None) (Some [], Some report) → Made a b (λ d. EndsWithoutOutputs (IsModifyFault q.options.last) report answer result)
     → Made a b (λ d. WritesReport q known result)
 writes_report q known answer report result a b ran ended =
-    made_as a b (λ d. EndsWithoutOutputs report answer result) (λ d. WritesReport q known result) ended (λ d calls is h. (answer, report, ran, h))
+    made_as a b (λ d. EndsWithoutOutputs (IsModifyFault q.options.last) report answer result) (λ d. WritesReport q known result) ended (λ d calls is h. (answer, report, ran, h))
 
-module _ {A : Type 0} (report : List ℕ) where
+module _ {A : Type 0} (tells : ToolFault → Fault → Type 0) (report : List ℕ) where
   pub report_refused : (answer : A) (why : Refusal) (e : Fault) (a b : Option Disk) → Told a b (reports report (Some why)) → IsNotReported why e
-      → Made a b (λ d. EndsWithoutOutputs {A = A} report (Ok answer) (Err e))
+      → Made a b (λ d. EndsWithoutOutputs {A = A} tells report (Ok answer) (Err e))
   report_refused answer why e a b told fails =
       let failed : Result A Fault = Err e in
       tries_refused (reports report) IsNotReported [] failed (λ d. Ends answer failed) a b b why told (just_none b) fails
 
-  pub reported : (answer : A) (a b : Option Disk) → Told a b (reports report None) → Made a b (λ d. EndsWithoutOutputs {A = A} report (Ok answer) (Ok answer))
+  pub reported : (answer : A) (a b : Option Disk) → Told a b (reports report None) → Made a b (λ d. EndsWithoutOutputs {A = A} tells report (Ok answer) (Ok answer))
   reported answer a b told =
       let done : Result A Fault = Ok answer in
       tries_on (reports report) IsNotReported [] done (Ends answer done) a b b told (ends b answer)
 
-pub no_report_due : (A : Type 0) (report : List ℕ) (told : ToolFault) (e : Fault) (a : Option Disk) → IsRunFault told e → Made a a (λ d. EndsWithoutOutputs {A = A} report (Err told) (Err e))
-no_report_due A report told e a fails = made_none a (λ d. EndsWithoutOutputs {A = A} report (Err told) (Err e)) (λ d is. (refl, fails))
+pub no_report_due : (A : Type 0) (tells : ToolFault → Fault → Type 0) (report : List ℕ) (told : ToolFault) (e : Fault) (a : Option Disk) → tells told e
+    → Made a a (λ d. EndsWithoutOutputs {A = A} tells report (Err told) (Err e))
+no_report_due A tells report told e a fails = made_none a (λ d. EndsWithoutOutputs {A = A} tells report (Err told) (Err e)) (λ d is. (refl, fails))
 
 -- the files to be written, with what the two sources have left and the mode
 module _ (rows : List TypeRow) (words : ModifyWords) (result : Result Summary Fault) (mode : ℕ) (copy changes : Option (List ℕ)) where

@@ -28,11 +28,13 @@ none_of words text (tool.BadCopy line why) = refl
 none_of words text (tool.BadQuestion item) = refl
 none_of words text (tool.BadChanges why) = refl
 none_of words text tool.NoEntry = refl
+none_of words text (tool.TooFewGroups groups) = refl
 
 none_for : {A : Type 0} (words : AccessWords) (text : Option (List ℕ)) (result : Result A Fault) → AreArgumentsFor words text result []
 none_for words text (Ok answer) = refl
 none_for words text (Err (fault.Tool e)) = none_of words text e
 none_for words text (Err (fault.NoWords why)) = refl
+none_for words text (Err (fault.TooFewGroups wanted groups)) = refl
 none_for words text (Err (fault.SamePath path)) = refl
 none_for words text (Err (fault.CannotOpen path)) = refl
 none_for words text (Err (fault.Exists path)) = refl
@@ -70,11 +72,13 @@ handed words text (tool.BadCopy line why) found h = of_other found words.verbose
 handed words text (tool.BadQuestion item) found h = of_other found words.verbose h
 handed words text (tool.BadChanges why) found h = of_other found words.verbose h
 handed words text tool.NoEntry found h = of_other found words.verbose h
+handed words text (tool.TooFewGroups groups) found h = of_other found words.verbose h
 
 as_shown : (A : Type 0) (words : AccessWords) (text : Option (List ℕ)) (arguments : List FaultArgument) (e : ToolFault) (shown : Fault) → AreArgumentsOf words text e arguments → IsTool e shown
     → AreArgumentsFor {A = A} words text (Err shown) arguments
 as_shown A words text arguments e (fault.Tool told) h is = subst (λ (f : ToolFault). AreArgumentsOf words text f arguments) (sym is) h
 as_shown A words text arguments e (fault.NoWords why) h is = absurd (is)
+as_shown A words text arguments e (fault.TooFewGroups wanted groups) h is = absurd (is)
 as_shown A words text arguments e (fault.SamePath path) h is = absurd (is)
 as_shown A words text arguments e (fault.CannotOpen path) h is = absurd (is)
 as_shown A words text arguments e (fault.Exists path) h is = absurd (is)
@@ -100,11 +104,13 @@ unknown_of words text arguments (tool.BadCopy line why) h = h
 unknown_of words text arguments (tool.BadQuestion item) h = h
 unknown_of words text arguments (tool.BadChanges why) h = h
 unknown_of words text arguments tool.NoEntry h = h
+unknown_of words text arguments (tool.TooFewGroups groups) h = h
 
 unknown : {A : Type 0} (words : AccessWords) (text : Option (List ℕ)) (arguments : List FaultArgument) (result : Result A Fault) → AreArgumentsFor words text result arguments → AreArgumentsFor words None result arguments
 unknown words text arguments (Ok answer) h = h
 unknown words text arguments (Err (fault.Tool e)) h = unknown_of words text arguments e h
 unknown words text arguments (Err (fault.NoWords why)) h = h
+unknown words text arguments (Err (fault.TooFewGroups wanted groups)) h = h
 unknown words text arguments (Err (fault.SamePath path)) h = h
 unknown words text arguments (Err (fault.CannotOpen path)) h = h
 unknown words text arguments (Err (fault.Exists path)) h = h

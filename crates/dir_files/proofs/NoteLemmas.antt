@@ -96,6 +96,7 @@ is_told text (tool.BadCopy line why) shown h is = absurd (h)
 is_told text (tool.BadQuestion item) shown h is = absurd (h)
 is_told text (tool.BadChanges why) shown h is = absurd (h)
 is_told text tool.NoEntry shown h is = absurd (h)
+is_told text (tool.TooFewGroups groups) shown h is = absurd (h)
 
 unread : (words : AccessWords) (text : Option (List ℕ)) (e : ToolFault) → IsConfigFault builtin_rows text e → AreToldBefore words text e []
 unread words text (tool.Config why) h = refl
@@ -108,10 +109,12 @@ unread words text (tool.BadCopy line why) h = absurd (h)
 unread words text (tool.BadQuestion item) h = absurd (h)
 unread words text (tool.BadChanges why) h = absurd (h)
 unread words text tool.NoEntry h = absurd (h)
+unread words text (tool.TooFewGroups groups) h = absurd (h)
 
 as_shown : (A : Type 0) (words : AccessWords) (text : Option (List ℕ)) (notes : List Note) (e : ToolFault) (shown : Fault) → AreToldBefore words text e notes → IsTool e shown → AreToldFor {A = A} words text (Err shown) notes
 as_shown A words text notes e (fault.Tool told) h is = subst (λ (f : ToolFault). AreToldBefore words text f notes) (sym is) h
 as_shown A words text notes e (fault.NoWords why) h is = absurd (is)
+as_shown A words text notes e (fault.TooFewGroups wanted groups) h is = absurd (is)
 as_shown A words text notes e (fault.SamePath path) h is = absurd (is)
 as_shown A words text notes e (fault.CannotOpen path) h is = absurd (is)
 as_shown A words text notes e (fault.Exists path) h is = absurd (is)
@@ -136,6 +139,7 @@ told_before words text notes (tool.BadCopy line why) h are may = (are, may)
 told_before words text notes (tool.BadQuestion item) h are may = (are, may)
 told_before words text notes (tool.BadChanges why) h are may = (are, may)
 told_before words text notes tool.NoEntry h are may = (are, may)
+told_before words text notes (tool.TooFewGroups groups) h are may = (are, may)
 
 -- they are told before the tool's answer
 pub all_told : {A : Type 0} (words : AccessWords) (text : Option (List ℕ)) (notes : List Note) (result : Result A Fault) → IfErr result IsAfterConfig → AreNotesOf words text notes → MayBeAnswered words.strict notes
@@ -143,6 +147,7 @@ pub all_told : {A : Type 0} (words : AccessWords) (text : Option (List ℕ)) (no
 all_told words text notes (Ok answer) h are may = (are, may)
 all_told words text notes (Err (fault.Tool e)) h are may = told_before words text notes e h are may
 all_told words text notes (Err (fault.NoWords why)) h are may = absurd (h)
+all_told words text notes (Err (fault.TooFewGroups wanted groups)) h are may = absurd (h)
 all_told words text notes (Err (fault.SamePath path)) h are may = absurd (h)
 all_told words text notes (Err (fault.CannotOpen path)) h are may = absurd (h)
 all_told words text notes (Err (fault.Exists path)) h are may = absurd (h)
@@ -155,6 +160,7 @@ ended A words text notes fault.HasNotes h are some = (are, some, h)
 ended A words text notes fault.NotesUntold h are some = (are, some)
 ended A words text notes (fault.Tool e) h are some = absurd (h)
 ended A words text notes (fault.NoWords why) h are some = absurd (h)
+ended A words text notes (fault.TooFewGroups wanted groups) h are some = absurd (h)
 ended A words text notes (fault.SamePath path) h are some = absurd (h)
 ended A words text notes (fault.CannotOpen path) h are some = absurd (h)
 ended A words text notes (fault.Exists path) h are some = absurd (h)
@@ -176,6 +182,7 @@ unknown_before words text notes (tool.BadCopy line why) h = (unknown_text words 
 unknown_before words text notes (tool.BadQuestion item) h = (unknown_text words text notes h.0, h.1)
 unknown_before words text notes (tool.BadChanges why) h = (unknown_text words text notes h.0, h.1)
 unknown_before words text notes tool.NoEntry h = (unknown_text words text notes h.0, h.1)
+unknown_before words text notes (tool.TooFewGroups groups) h = (unknown_text words text notes h.0, h.1)
 
 unknown : {A : Type 0} (words : AccessWords) (text : Option (List ℕ)) (notes : List Note) (result : Result A Fault) → AreToldFor words text result notes → AreToldFor words None result notes
 unknown words text notes (Ok answer) h = (unknown_text words text notes h.0, h.1)
@@ -183,6 +190,7 @@ unknown words text notes (Err fault.HasNotes) h = (unknown_text words text notes
 unknown words text notes (Err fault.NotesUntold) h = (unknown_text words text notes h.0, h.1)
 unknown words text notes (Err (fault.Tool e)) h = unknown_before words text notes e h
 unknown words text notes (Err (fault.NoWords why)) h = h
+unknown words text notes (Err (fault.TooFewGroups wanted groups)) h = h
 unknown words text notes (Err (fault.SamePath path)) h = h
 unknown words text notes (Err (fault.CannotOpen path)) h = h
 unknown words text notes (Err (fault.Exists path)) h = h
@@ -214,6 +222,7 @@ pub told_well : {A : Type 0} (result : Result A Fault) (failures : ℕ) → IfEr
 told_well (Ok answer) failures h = refl
 told_well (Err (fault.Tool e)) failures h = refl
 told_well (Err (fault.NoWords why)) failures h = absurd (h)
+told_well (Err (fault.TooFewGroups wanted groups)) failures h = absurd (h)
 told_well (Err (fault.SamePath path)) failures h = absurd (h)
 told_well (Err (fault.CannotOpen path)) failures h = absurd (h)
 told_well (Err (fault.Exists path)) failures h = absurd (h)
@@ -224,6 +233,7 @@ told_well (Err fault.NotesUntold) failures h = absurd (h)
 pub not_asked : (A : Type 0) (e : ToolFault) (shown : Fault) (failures : ℕ) → IsTool e shown → EndsIfUntold {A = A} (Err shown) failures failures
 not_asked A e (fault.Tool told) failures is = refl
 not_asked A e (fault.NoWords why) failures is = absurd (is)
+not_asked A e (fault.TooFewGroups wanted groups) failures is = absurd (is)
 not_asked A e (fault.SamePath path) failures is = absurd (is)
 not_asked A e (fault.CannotOpen path) failures is = absurd (is)
 not_asked A e (fault.Exists path) failures is = absurd (is)

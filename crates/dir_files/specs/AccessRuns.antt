@@ -11,7 +11,7 @@ use Rattle.dir_tools.specs.Writing.{TakenBytes, WroteReport}
 use Rattle.dir_files.specs.declared.words.AccessWords.{AccessWords}
 use Rattle.dir_files.specs.declared.fault.Fault.{Fault}
 use Rattle.dir_files.specs.declared.fault.Fault.TheVariants.{CannotOpen, HasNotes, NotesUntold, SamePath, Tool}
-use Rattle.dir_files.specs.Faults.{FailsSo}
+use Rattle.dir_files.specs.Faults.{FailsSo, IsRunFault}
 use Rattle.dir_files.specs.Files.{Disk}
 use Rattle.dir_files.specs.Runs.{Calls, EndsWithoutOutputs, Opens}
 
@@ -41,7 +41,7 @@ pub record AsksOver {A : Type 0} (t : AccessTerms) (known : AccessSources) (answ
 
 -- the tool answers over these texts, and its report is written
 abbrev pub Asks : {A : Type 0} → AccessTerms → AccessSources → Result A Fault → Calls
-Asks {A} t known result calls = (answer : Result A ToolFault) × (report : List ℕ) × AsksOver t known answer (Some [], Some report) × EndsWithoutOutputs report answer result calls
+Asks {A} t known result calls = (answer : Result A ToolFault) × (report : List ℕ) × AsksOver t known answer (Some [], Some report) × EndsWithoutOutputs IsRunFault report answer result calls
 
 -- the notes on the configuration end the run: they can't be told, or only an answer without notes is wanted
 abbrev pub IsEndOfNotes : Bool → Fault → Type 0

@@ -1,5 +1,5 @@
 -- The fault in which a run ends where a call is refused, or where the tool itself has a fault.
-use Rattle.std.specs.Prelude.{◌≡◌, ℕ, List, Result, Ok, Err}
+use Rattle.std.specs.Prelude.{◌≡◌, ℕ, List, Option, None, Some, Result, Ok, Err, ⊤}
 use Rattle.dir_tools.specs.declared.fault.Output.{Output}
 use Rattle.dir_tools.specs.declared.fault.Output.TheVariants as output
 use Rattle.dir_tools.specs.declared.fault.ToolFault.{ToolFault}
@@ -47,6 +47,23 @@ IsNotReported why e = IsTool (tool.Write output.Report) e
 abbrev pub IsRunFault : ToolFault → Fault → Type 0
 IsRunFault (tool.Write output.Report) e = IsTool tool.Memory e
 IsRunFault told e = IsTool told e
+
+-- too few groups are told with the number of those that are wanted
+abbrev pub IsTooFew : Option ℕ → ℕ → Fault → Type 0
+IsTooFew (Some asked) there (fault.TooFewGroups wanted groups) = (wanted ≡ asked) × (groups ≡ there)
+IsTooFew (Some asked) there e = ⊥
+IsTooFew None there e = IsTool (tool.TooFewGroups there) e
+
+-- the fault of a run of changes, of which so many groups may be wanted
+abbrev pub IsModifyFault : Option ℕ → ToolFault → Fault → Type 0
+IsModifyFault last (tool.TooFewGroups groups) e = IsTooFew last groups e
+IsModifyFault last told e = IsRunFault told e
+
+-- the fault names no path
+abbrev pub NamesNoPath : Fault → Type 0
+NamesNoPath (fault.TooFewGroups wanted groups) = ⊤
+NamesNoPath (fault.Tool told) = ⊤
+NamesNoPath e = ⊥
 
 -- the run ends in such a fault
 abbrev pub FailsSo : {A : Type 0} → (Fault → Type 0) → Result A Fault → Type 0

@@ -7,7 +7,7 @@ use Rattle.dir_names.specs.Orders.{bytes_eq}
 use Rattle.dir_files.specs.declared.words.ModifyWords.{ModifyWords}
 use Rattle.dir_files.specs.declared.words.OutputPaths.{OutputPaths}
 use Rattle.dir_files.specs.declared.fault.Fault.{Fault}
-use Rattle.dir_files.specs.declared.fault.Fault.TheVariants.{CannotOpen, Exists, SamePath, Tool}
+use Rattle.dir_files.specs.declared.fault.Fault.TheVariants.{CannotOpen, Exists, SamePath, TooFewGroups, Tool}
 
 abbrev pub given : Option (List ℕ) → List (List ℕ)
 given None = []
@@ -50,10 +50,11 @@ abbrev pub IsAmong : List ℕ → List (List ℕ) → Type 0
 IsAmong path [] = ⊥
 IsAmong path (p ∷ ps) = (path ≡ p) ⊎ IsAmong path ps
 
--- the fault of a run whose paths differ: `CannotOpen` names a path that was given, `Exists` a file to be written; or it is the tool's own. Of the files themselves it says nothing
+-- the fault of a run whose paths differ: `CannotOpen` names a path that was given, `Exists` a file to be written; or it is the tool's own, or that there are too few groups. Of the files themselves it says nothing
 abbrev pub NamesItsPath : ModifyWords → Fault → Type 0
 NamesItsPath words (CannotOpen path) = IsAmong path.now (paths_of words)
 NamesItsPath words (Exists path) = IsAmong path.now (output_paths (outputs_of words))
+NamesItsPath words (TooFewGroups wanted groups) = ⊤
 NamesItsPath words (Tool fault) = ⊤
 NamesItsPath words other = ⊥
 

@@ -16,7 +16,7 @@ use Rattle.dir_files.specs.declared.words.ModifyWords.{ModifyWords}
 use Rattle.dir_files.specs.declared.words.OutputPaths.{OutputPaths}
 use Rattle.dir_files.specs.declared.fault.Fault.{Fault}
 use Rattle.dir_files.specs.declared.files.Refusal.{Refusal}
-use Rattle.dir_files.specs.Faults.{FailsSo, IsNotCreated, IsNotOpened, IsNotReported, IsNotWritten, IsRunFault}
+use Rattle.dir_files.specs.Faults.{FailsSo, IsModifyFault, IsNotCreated, IsNotOpened, IsNotReported, IsNotWritten, IsRunFault}
 use Rattle.dir_files.specs.Files.{Call, Disk, creates, discards, opens, publishes, reports, standard_input, syncs, withdraws}
 use Rattle.dir_files.specs.Paths.{outputs_of}
 
@@ -109,21 +109,21 @@ Syncs paths undo out report summary result =
     (Tries (syncs paths.out.now out) (IsNotWritten paths.out.now to.Out) (both_discarded paths) result (Publishes paths undo out report summary result))
 
 -- after the tool's own fault the drafts are removed
-abbrev pub EndsWithOutputs : OutputPaths → Option (List ℕ) → Option (List ℕ) → List ℕ → Result Summary ToolFault → Result Summary Fault → Calls
-EndsWithOutputs paths undo out report (Ok summary) result calls = Syncs paths undo out report summary result calls
-EndsWithOutputs paths undo out report (Err e) result calls = (calls ≡ both_discarded paths) × FailsSo (IsRunFault e) result
+abbrev pub EndsWithOutputs : Option ℕ → OutputPaths → Option (List ℕ) → Option (List ℕ) → List ℕ → Result Summary ToolFault → Result Summary Fault → Calls
+EndsWithOutputs last paths undo out report (Ok summary) result calls = Syncs paths undo out report summary result calls
+EndsWithOutputs last paths undo out report (Err e) result calls = (calls ≡ both_discarded paths) × FailsSo (IsModifyFault last e) result
 
--- a tool that makes no files: its report is written, or it has a fault of its own
-abbrev pub EndsWithoutOutputs : {A : Type 0} → List ℕ → Result A ToolFault → Result A Fault → Calls
-EndsWithoutOutputs report (Ok answer) result calls = Tries (reports report) IsNotReported [] result (Ends answer result) calls
-EndsWithoutOutputs report (Err e) result calls = (calls ≡ []) × FailsSo (IsRunFault e) result
+-- a tool that makes no files: its report is written, or it has a fault of its own, which is told so
+abbrev pub EndsWithoutOutputs : {A : Type 0} → (ToolFault → Fault → Type 0) → List ℕ → Result A ToolFault → Result A Fault → Calls
+EndsWithoutOutputs tells report (Ok answer) result calls = Tries (reports report) IsNotReported [] result (Ends answer result) calls
+EndsWithoutOutputs tells report (Err e) result calls = (calls ≡ []) × FailsSo (tells e) result
 
 -- ---- the whole run
 
 -- the tool runs over the drafts, and the run ends
 abbrev pub RunsOverDrafts : OutputPaths → RunTerms → Sources → Result Summary Fault → Calls
 RunsOverDrafts paths q known result calls = (answer : Result Summary ToolFault) × (undo : Option (List ℕ)) × (out : Option (List ℕ)) × (report : List ℕ)
-    × RunsOver q known answer (Some [], undo) (Some [], out) (Some [], Some report) × EndsWithOutputs paths undo out report answer result calls
+    × RunsOver q known answer (Some [], undo) (Some [], out) (Some [], Some report) × EndsWithOutputs q.options.last paths undo out report answer result calls
 
 -- the draft of the undo file is created, then that of the new copy, with the mode of the copy; and the tool runs over them
 abbrev pub WritesOutputs : OutputPaths → ℕ → RunTerms → Sources → Result Summary Fault → Calls
@@ -134,7 +134,7 @@ WritesOutputs paths mode q known result =
 -- the tool runs, and nothing but the report is written
 abbrev pub WritesReport : RunTerms → Sources → Result Summary Fault → Calls
 WritesReport q known result calls = (answer : Result Summary ToolFault) × (report : List ℕ)
-    × RunsOver q known answer (None, None) (None, None) (Some [], Some report) × EndsWithoutOutputs report answer result calls
+    × RunsOver q known answer (None, None) (None, None) (Some [], Some report) × EndsWithoutOutputs (IsModifyFault q.options.last) report answer result calls
 
 abbrev pub WritesAll : Option OutputPaths → ℕ → RunTerms → Sources → Result Summary Fault → Calls
 WritesAll (Some paths) mode q known result calls = WritesOutputs paths mode q known result calls

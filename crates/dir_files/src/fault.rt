@@ -1,13 +1,14 @@
 //! Why the program ends without an answer, and what it says then.
 
-ghost use Rattle.std.specs.Prelude.{◌++◌};
+ghost use Rattle.std.specs.Prelude.{◌++◌, decimal};
 ghost use Rattle.std.specs.Fmt.{WritesOnOk, WritesStyledOnOk};
 ghost use Rattle.dir_files.specs.Escape.{escaped};
 ghost use Rattle.dir_files.specs.FaultText.{fault_text};
 
 use crate::escape::show_escaped;
-use dir_tools::ToolFault;
-use std::{fmt, io};
+use dir_tools::{Number, ToolFault};
+use std::fmt::{self, Display};
+use std::io;
 
 /// Why the program ends without an answer.
 #[derive(Debug, Drop)]
@@ -24,11 +25,13 @@ pub enum Fault<'a> {
     HasNotes,
     /// The notes can't be written.
     NotesUntold,
+    /// The undo file has fewer groups than are to be taken back.
+    TooFewGroups { wanted: u64, groups: u64 },
     /// The tool's own fault.
     Tool(ToolFault),
 }
 
-impl fmt::Display for Fault<'_> {
+impl Display for Fault<'_> {
     ghost output = { fault_text };
 
     ghost styled_output = { λ fault _. fault_text fault };
@@ -41,6 +44,11 @@ impl fmt::Display for Fault<'_> {
             Fault::Exists(path) => show_path(f, "exists already: ", path),
             Fault::HasNotes => f.write_str("not answered, because there are notes"),
             Fault::NotesUntold => f.write_str("cannot write notes"),
+            Fault::TooFewGroups { wanted, groups } => {
+                show_number(f, "cannot go back ", *wanted)?;
+                show_number(f, ", only ", *groups)?;
+                f.write_str(" groups")
+            }
             Fault::Tool(fault) => fault.fmt(f),
         }
     }
@@ -53,4 +61,13 @@ fn show_path<W: fmt::Write>(f: &mut fmt::Formatter<W>, words: &str, path: &str) 
 {
     f.write_str(words)?;
     show_escaped(f, path)
+}
+
+/// Shows a number after some words, whatever the options.
+fn show_number<W: fmt::Write>(f: &mut fmt::Formatter<W>, words: &str, number: u64) -> fmt::Result
+    ensures writes { WritesOnOk W.write_str_gives f.old result (words.now ++ decimal number) f.new }
+    ensures styled { WritesStyledOnOk W.write_str_gives f.old result (words.now ++ decimal number) f.new }
+{
+    f.write_str(words)?;
+    Number(number).fmt(f)
 }

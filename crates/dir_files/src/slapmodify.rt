@@ -8,7 +8,7 @@ ghost use Rattle.dir_tools.specs.Headline.{RunOutput};
 ghost use Rattle.dir_tools.specs.RunAnswers.{AnswersRun, IsWholeRun, sources};
 ghost use Rattle.dir_tools.specs.StoppedReading.{HeldBefore};
 ghost use Rattle.dir_tools.specs.Writing.{FlushedInOrder, WroteInOrder};
-ghost use Rattle.dir_files.specs.Faults.{IsNotCreated, IsNotOpened, IsNotReported, IsNotWritten, IsRunFault};
+ghost use Rattle.dir_files.specs.Faults.{IsModifyFault, IsNotCreated, IsNotOpened, IsNotReported, IsNotWritten, IsRunFault, NamesNoPath};
 ghost use Rattle.dir_files.specs.Paths.{IsWriteFaultOf, NamesItsPath, RefusesSamePath, first_repeated, outputs_of};
 ghost use Rattle.dir_files.specs.Runs.{AllCalls, AreTypesOf, CallsUnder, Made, Publishes, RunsOver, Syncs, WritesAll, WritesOutputs, WritesReport, changes_text, terms_of, sources_of};
 
@@ -207,7 +207,7 @@ fn without_outputs<'a, F: FileSystem, R: Source, R2: Source>(
             Ok(()) => Ok(summary),
             Err(why) => Err(not_reported(why)),
         },
-        Err(fault) => Err(run_fault(fault)),
+        Err(fault) => Err(modify_fault(words.options.last, fault)),
     }
 }
 
@@ -253,7 +253,7 @@ fn with_outputs<'a, F: FileSystem, R: Source, R2: Source>(
         Err(fault) => {
             files.discard(paths.out, out);
             files.discard(paths.undo, undo);
-            Err(run_fault(fault))
+            Err(modify_fault(words.options.last, fault))
         }
     }
 }
@@ -341,6 +341,17 @@ fn with_files<R: Source, R2: Source, W: Sink, W2: Sink, W3: Sink>(
         out,
         report,
     )
+}
+
+/// The fault of a run that is to take so many records back, if it is, as the program's.
+fn modify_fault<'a>(last: Option<u64>, fault: ToolFault) -> Fault<'a>
+    ensures told { IsModifyFault last fault result }
+    ensures named { NamesNoPath result }
+{
+    match (last, fault) {
+        (Some(wanted), ToolFault::TooFewGroups(groups)) => Fault::TooFewGroups { wanted, groups },
+        (_, fault) => run_fault(fault),
+    }
 }
 
 /// The tool's fault, as the program's. The report is written into memory first.

@@ -71,7 +71,7 @@ not_true : (v : Bool) → not v ≡ true → v ≡ false
 not_true true e = cc
 not_true false e = refl
 
-closed : (k : ℕ) (text : List ℕ) (n : ℕ) (lines : List (List ℕ)) → apart lines ≡ true → logical_lines ((k, text) ∷ physical_lines n lines) ≡ (k, text) ∷ logical_lines (physical_lines n lines)
+pub closed : (k : ℕ) (text : List ℕ) (n : ℕ) (lines : List (List ℕ)) → apart lines ≡ true → logical_lines ((k, text) ∷ physical_lines n lines) ≡ (k, text) ∷ logical_lines (physical_lines n lines)
 closed k text n [] e = refl
 closed k text n (line ∷ lines) e = logical_lines-apart (k, text) n (without_last 13 line) (physical_lines (n + 1) lines) (not_true (begins_with 32 (without_last 13 line)) e)
 

@@ -13,12 +13,16 @@ pub mod LogicalLineLemmas
 pub mod LongLineSoon
 pub mod LongLinesStay
 pub mod ManyCallsLemmas
+pub mod MarkLines
+pub mod MarkedBlocks
+pub mod MarkedGroups
 pub mod NoLongLine
 pub mod PartialLines
 pub mod PhysicalLines
 pub mod ReadIsLegal
 pub mod ReadIsSound
 pub mod RecordsLemmas
+mod RemainderLemmas
 pub mod Rfc
 pub mod RoundTrip
 pub mod ScanLemmas

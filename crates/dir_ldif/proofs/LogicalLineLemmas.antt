@@ -9,7 +9,8 @@ use Rattle.dir_ldif.specs.declared.faults.StreamFault.TheVariants.{LineTooLong}
 use Rattle.dir_ldif.specs.declared.reader.unfolder.Unfolder.{Unfolder}
 use Rattle.dir_ldif.specs.Bytes.{is_empty, begins_with, without_last}
 use Rattle.dir_ldif.specs.LogicalLines.{Line, cut, is_lf, is_long, logical_lines, physical_lines, with_first_line}
-use Rattle.dir_ldif.specs.Blocks.{BlockResult, EndsAtOnce, blocks_from}
+use Rattle.dir_ldif.specs.Remainder.{FailsAtOnce, Remainder, fails, remainder_from}
+use Rattle.dir_ldif.specs.declared.reader.marks.Marks.{Marks}
 use Rattle.dir_ldif.specs.Reader.Unfolding.{lines_after}
 use Rattle.dir_ldif.specs.Inside.Unfolder.{TakesLine}
 use Rattle.dir_ldif.specs.Inside.Bounds.{may_be_continued}
@@ -85,26 +86,26 @@ if_true : {A : Type 0} (v : Bool) (x y : A) → v ≡ true → (if v then x else
 if_true v x y e = rw e refl
 
 -- a line that is too long ends the text, however it goes on
-pub blocks_from-long : (begun : Bool) (block : List Line) (n : ℕ) (text : List ℕ) (rest : List Line) → is_long (n, text) ≡ true → blocks_from begun block (with_first_line (n, text) rest) ≡ Err LineTooLong ∷ []
-blocks_from-long begun block n text rest e =
+pub remainder_from-long : (m : Marks) → m.is_over ≡ false → (begun : Bool) (block : List Line) (n : ℕ) (text : List ℕ) (rest : List Line) → is_long (n, text) ≡ true → remainder_from m begun block (with_first_line (n, text) rest) ≡ fails LineTooLong
+remainder_from-long m going begun block n text rest e =
     let f = with_first_line-first n text rest in
     let longer : nat_lt 2097152 (length (text ++ f.0)) ≡ true = grind (arith, nat_tests, length-append) in
-    rw f.2 (if_true _ _ _ longer)
+    rw (f.2, going) (if_true _ _ _ longer)
 
 -- the same of two lines
 pub logical_lines-apart : (last : Line) (n : ℕ) (text : List ℕ) (more : List Line) → begins_with 32 text ≡ false → logical_lines (last ∷ (n, text) ∷ more) ≡ last ∷ logical_lines ((n, text) ∷ more)
 logical_lines-apart last n text more e = with_first_line-apart last n text (logical_lines more) e
 
 -- a fault of a line that is not continued ends the text whatever follows
-pub EndsAtOnce-apart : (fault : StreamFault) (begun : Bool) (block : List Line) (o : Option Line) (last : Line) (n : ℕ) (text : List ℕ) (more : List Line) → o ≡ Some last → begins_with 32 text ≡ false
-    → ((after : List Line) → EndsAtOnce fault (blocks_from begun block (last ∷ after))) → EndsAtOnce fault (blocks_from begun block (lines_after o ((n, text) ∷ more)))
-EndsAtOnce-apart fault begun block o last n text more is e h =
-    rw is (subst (λ t. EndsAtOnce fault (blocks_from begun block t)) (sym (logical_lines-apart last n text more e)) (h (logical_lines ((n, text) ∷ more))))
+pub FailsAtOnce-apart : (fault : StreamFault) (m : Marks) (begun : Bool) (block : List Line) (o : Option Line) (last : Line) (n : ℕ) (text : List ℕ) (more : List Line) → o ≡ Some last → begins_with 32 text ≡ false
+    → ((after : List Line) → FailsAtOnce fault (remainder_from m begun block (last ∷ after))) → FailsAtOnce fault (remainder_from m begun block (lines_after o ((n, text) ∷ more)))
+FailsAtOnce-apart fault m begun block o last n text more is e h =
+    rw is (subst (λ t. FailsAtOnce fault (remainder_from m begun block t)) (sym (logical_lines-apart last n text more e)) (h (logical_lines ((n, text) ∷ more))))
 
 -- a continuation was taken
-pub TakesLine-continued : (begun : Bool) (block : List Line) (o : Option Line) (last : Line) (n : ℕ) (text given : List ℕ) (r : Result Bool StreamFault) (j : Unfolder) → o ≡ Some last → given ≡ text
-    → TakesLine (λ more. blocks_from begun block (logical_lines (last ∷ (n, given) ∷ more))) r j → TakesLine (λ more. blocks_from begun block (lines_after o ((n, text) ∷ more))) r j
-TakesLine-continued begun block o last n text given r j is same h = rw (is, sym same) h
+pub TakesLine-continued : (m : Marks) (begun : Bool) (block : List Line) (o : Option Line) (last : Line) (n : ℕ) (text given : List ℕ) (r : Result Bool StreamFault) (j : Unfolder) → o ≡ Some last → given ≡ text
+    → TakesLine (λ more. remainder_from m begun block (logical_lines (last ∷ (n, given) ∷ more))) r j → TakesLine (λ more. remainder_from m begun block (lines_after o ((n, text) ∷ more))) r j
+TakesLine-continued m begun block o last n text given r j is same h = rw (is, sym same) h
 
 -- a line and what continues it are one
 pub logical_lines-continued : (last : Line) (n : ℕ) (text : List ℕ) (more : List Line) → is_empty last.1 ≡ false → begins_with 32 text ≡ true
@@ -114,9 +115,9 @@ logical_lines-continued (k, a ∷ tail) n [] more some space = cc
 logical_lines-continued (k, a ∷ tail) n (c ∷ cs) more some space = rw (eqb-true c 32 space) (with_first_line-continued k a tail n cs (logical_lines more))
 
 -- the blocks to come, written otherwise
-pub TakesLine-same : (before before' : List Line → List BlockResult) (r : Result Bool StreamFault) (j : Unfolder) → ((more : List Line) → before more ≡ before' more) → TakesLine before' r j → TakesLine before r j
+pub TakesLine-same : (before before' : List Line → Remainder) (r : Result Bool StreamFault) (j : Unfolder) → ((more : List Line) → before more ≡ before' more) → TakesLine before' r j → TakesLine before r j
 TakesLine-same before before' (Ok ends) j e h = λ more. e more ∙ h more
-TakesLine-same before before' (Err fault) j e h = λ more. subst (EndsAtOnce fault) (sym (e more)) (h more)
+TakesLine-same before before' (Err fault) j e h = λ more. subst (FailsAtOnce fault) (sym (e more)) (h more)
 
 some_of_long : (partial : List ℕ) → 2097152 < length (without_last 13 partial) → is_empty partial ≡ false
 some_of_long [] long = absurd (omega arith)
@@ -149,23 +150,23 @@ partial_first n [] text lacks some = cc
 partial_first n (x ∷ xs) text lacks some = let f = cut-front x xs text lacks in (f.0, physical_lines (n + 1) f.1, rw f.2 refl)
 
 -- where a line that has not ended is too long, it ends the text
-pub long_alone : (begun : Bool) (block : List Line) (n : ℕ) (partial text : List ℕ) → list_any is_lf partial ≡ false → 2097152 < length (without_last 13 partial)
-    → blocks_from begun block (logical_lines (physical_lines n (cut is_lf (partial ++ text)))) ≡ Err LineTooLong ∷ []
-long_alone begun block n partial text lacks long =
+pub long_alone : (m : Marks) → m.is_over ≡ false → (begun : Bool) (block : List Line) (n : ℕ) (partial text : List ℕ) → list_any is_lf partial ≡ false → 2097152 < length (without_last 13 partial)
+    → remainder_from m begun block (logical_lines (physical_lines n (cut is_lf (partial ++ text)))) ≡ fails LineTooLong
+long_alone m going begun block n partial text lacks long =
     let f = partial_first n partial text lacks (some_of_long partial long) in
-    rw f.2 (blocks_from-long begun block n (without_last 13 (partial ++ f.0)) (logical_lines f.1) (ltb-of_lt _ _ (omega (arith, length-without_last partial f.0))))
+    rw f.2 (remainder_from-long m going begun block n (without_last 13 (partial ++ f.0)) (logical_lines f.1) (ltb-of_lt _ _ (omega (arith, length-without_last partial f.0))))
 
 pub some_of_begins : (b : ℕ) (xs : List ℕ) → begins_with b xs ≡ true → is_empty xs ≡ false
 some_of_begins b [] e = cc
 some_of_begins b (x ∷ xs) e = refl
 
-pub glued_long : (begun : Bool) (block : List Line) (k n : ℕ) (text next : List ℕ) (rest : List Line) → is_empty text ≡ false → begins_with 32 next ≡ true → 2097153 < length text + length next
-    → blocks_from begun block (with_first_line (k, text) (with_first_line (n, next) rest)) ≡ Err LineTooLong ∷ []
-glued_long begun block k n [] next rest some space long = cc
-glued_long begun block k n (a ∷ tail) [] rest some space long = cc
-glued_long begun block k n (a ∷ tail) (c ∷ cs) rest some space long =
-    let whole : blocks_from begun block (with_first_line (k, (a ∷ tail) ++ cs) rest) ≡ Err LineTooLong ∷ [] =
-    blocks_from-long begun block k ((a ∷ tail) ++ cs) rest (ltb-of_lt _ _ (omega (arith, length-append (a ∷ tail) cs))) in
+pub glued_long : (m : Marks) → m.is_over ≡ false → (begun : Bool) (block : List Line) (k n : ℕ) (text next : List ℕ) (rest : List Line) → is_empty text ≡ false → begins_with 32 next ≡ true → 2097153 < length text + length next
+    → remainder_from m begun block (with_first_line (k, text) (with_first_line (n, next) rest)) ≡ fails LineTooLong
+glued_long m going begun block k n [] next rest some space long = cc
+glued_long m going begun block k n (a ∷ tail) [] rest some space long = cc
+glued_long m going begun block k n (a ∷ tail) (c ∷ cs) rest some space long =
+    let whole : remainder_from m begun block (with_first_line (k, (a ∷ tail) ++ cs) rest) ≡ fails LineTooLong =
+    remainder_from-long m going begun block k ((a ∷ tail) ++ cs) rest (ltb-of_lt _ _ (omega (arith, length-append (a ∷ tail) cs))) in
     rw (eqb-true c 32 space, with_first_line-continued k a tail n cs rest) whole
 
 pub not_first : (v w : Bool) → (not v && w) ≡ true → v ≡ false

@@ -1,54 +1,64 @@
 -- A text in which no line is too long does not end in that fault.
-use Rattle.std.proofs.Common.{◌≡◌, ℕ, ◌+◌, ◌≤◌, Bool, true, false, ◌||◌, nat_le, List, [], ◌∷◌, ◌++◌, length, drop, refl, sym, subst, ⊎_elim, append-nil, length-append, Option, None, Some, Err, arith}
+use Rattle.std.proofs.Common.{◌≡◌, ℕ, ◌+◌, ◌≤◌, Bool, true, false, ◌||◌, nat_le, List, [], ◌∷◌, ◌++◌, length, drop, refl, not, sym, subst, ⊎_elim, append-nil, if◌then◌else◌, length-append, Option, None, Some, Ok, Err, arith}
 use Rattle.std.specs.List.{list_any}
 use Rattle.std.proofs.lemmas.Bool.Decides.{nat_tests}
-use Rattle.dir_ldif.specs.declared.faults.StreamFault.TheVariants.{LineTooLong, BadVersion}
+use Rattle.dir_ldif.specs.Remainder.{Remainder, after_marks, done, fails, remainder_from, then_rest}
+use Rattle.dir_ldif.specs.Marks.{after_due, after_mark, may_have_records}
+use Rattle.dir_ldif.specs.MarkText.{is_mark, mark_of}
+use Rattle.std.specs.Str.{bytes_eq}
+use Rattle.dir_ldif.specs.declared.reader.marks.Marks.{Marks}
+use Rattle.dir_ldif.specs.declared.faults.StreamFault.TheVariants.{LineTooLong, BadVersion, BadMark}
 use Rattle.dir_ldif.specs.declared.reader.unfolder.Unfolder.{Unfolder}
 use Rattle.dir_ldif.specs.declared.reader.version.Version.{Version}
 use Rattle.dir_ldif.specs.declared.reader.version.Version.TheVariants.{Absent, One, Other}
 use Rattle.dir_ldif.specs.Bytes.{is_empty, begins_with, without_last}
 use Rattle.dir_ldif.specs.LogicalLines.{Line, cut, is_comment, is_lf, is_long, logical_lines, physical_lines}
 use Rattle.dir_ldif.specs.Inside.Bounds.{has_room, may_be_continued}
-use Rattle.dir_ldif.specs.Blocks.{BlockResult, block_then, by_version, blocks_from, version_of}
-use Rattle.dir_ldif.specs.Reader.Unfolding.{blocks_to_come, lines_after}
+use Rattle.dir_ldif.specs.Blocks.{BlockResult, by_version, version_of}
+use Rattle.dir_ldif.specs.Reader.Unfolding.{to_come, lines_after}
 use Rattle.dir_ldif.proofs.BytesLemmas.{true_or_false}
 use Rattle.dir_ldif.proofs.LogicalLineLemmas.{line_alone, not_second}
 
--- the blocks are not the fault alone
-abbrev Goes : List BlockResult → Type 0
-Goes parts = parts ≡ Err LineTooLong ∷ [] → ⊥
+-- what is left is not that fault alone
+abbrev Goes : Remainder → Type 0
+Goes left = left ≡ fails LineTooLong → ⊥
 
-give_goes : (block : List Line) (parts : List BlockResult) → Goes parts → Goes (block_then block parts)
-give_goes [] parts h = h
-give_goes (line ∷ block) parts h = λ e. cc
+then_goes : (block : List Line) (left : Remainder) → Goes left → Goes (then_rest block left)
+then_goes [] left h = h
+then_goes (line ∷ block) left h = λ e. cc
 
-by_version_goes : (v : Version) (absent one : List BlockResult) → Goes absent → Goes one → Goes (by_version v absent one (Err BadVersion ∷ []))
+by_version_goes : (v : Version) (absent one : Remainder) → Goes absent → Goes one → Goes (by_version v absent one (fails BadVersion))
 by_version_goes Absent absent one p q = p
 by_version_goes One absent one p q = q
 by_version_goes Other absent one p q = λ e. cc
+
+either_goes : (v : Bool) (x y : Remainder) → Goes x → Goes y → Goes (if v then x else y)
+either_goes true x y p q = p
+either_goes false x y p q = q
+
+marks_go : (o : Option ℕ) (m : Marks) (text : List ℕ) (rest : Marks → Remainder) → ((m : Marks) → Goes (rest m)) → Goes (after_marks rest (after_mark o m text))
+marks_go None m text rest h = h m
+marks_go (Some groups) m text rest h = by_mark (not (is_mark text)) (bytes_eq text (mark_of (m.passed + 1)))
+  where
+    by_mark : (v w : Bool) → Goes (after_marks rest (if v then Ok m else (if w then Ok (after_due groups m) else Err BadMark)))
+    by_mark true w = h m
+    by_mark false true = h (after_due groups m)
+    by_mark false false = λ e. cc
 
 pub neither : (v w : Bool) → (v || w) ≡ false → (v ≡ false) × (w ≡ false)
 neither true w e = cc
 neither false w e = (refl, e)
 
-pub short_goes : (begun : Bool) (block : List Line) (lines : List Line) → list_any is_long lines ≡ false → Goes (blocks_from begun block lines)
-short_goes begun block [] short = give_goes block [] (λ e. cc)
-short_goes begun block (line ∷ rest) short =
+pub short_goes : (m : Marks) (begun : Bool) (block : List Line) (lines : List Line) → list_any is_long lines ≡ false → Goes (remainder_from m begun block lines)
+short_goes m begun block [] short = then_goes block (done m.passed) (λ e. cc)
+short_goes m begun block (line ∷ rest) short =
     let both = neither (is_long line) (list_any is_long rest) short in
-    rw both.0 (
-    ⊎_elim
-    (λ (yes : is_comment line ≡ true). rw yes (short_goes begun block rest both.1))
-    (λ (other : is_comment line ≡ false).
-    rw other (⊎_elim
-    (λ (empty : is_empty line.1 ≡ true). rw empty (give_goes block _ (short_goes begun [] rest both.1)))
-    (λ (some : is_empty line.1 ≡ false).
-    rw some (⊎_elim
-    (λ (yes : begun ≡ true). rw yes (short_goes true (block ++ line ∷ []) rest both.1))
-    (λ (fresh : begun ≡ false). rw fresh (by_version_goes (version_of line.1) _ _ (short_goes true (block ++ line ∷ []) rest both.1) (short_goes true block rest both.1)))
-    (true_or_false begun)))
-    (true_or_false (is_empty line.1))))
-    (true_or_false (is_comment line))
-    )
+    rw both.0 (either_goes m.is_over _ _ (λ e. cc) (either_goes (is_comment line) _ _
+    (either_goes (is_empty block) _ _ (marks_go m.groups m line.1 _ (λ m'. short_goes m' begun [] rest both.1)) (short_goes m begun block rest both.1))
+    (either_goes (is_empty line.1) _ _ (then_goes block _ (short_goes m begun [] rest both.1))
+    (either_goes begun _ _
+    (either_goes (may_have_records m) _ _ (short_goes m true (block ++ line ∷ []) rest both.1) (λ e. cc))
+    (by_version_goes (version_of line.1) _ _ (either_goes (may_have_records m) _ _ (short_goes m true (block ++ line ∷ []) rest both.1) (λ e. cc)) (short_goes m true block rest both.1))))))
 
 fits : (n : ℕ) (text : List ℕ) → length text ≤ 2097152 → is_long (n, text) ≡ false
 fits n text h = grind (arith, nat_tests)
@@ -106,5 +116,5 @@ hand_short o n (x ∷ xs) kept lacks room =
     rw (line_alone n (x ∷ xs) lacks refl) (subst (λ t. list_any is_long (lines_after o ((n, without_last 13 t) ∷ [])) ≡ false) (sym (append-nil (x ∷ xs))) (after_short o n (x ∷ xs) kept room))
 
 -- what was taken is no such fault, had the text ended there
-pub unfolder_goes : (j : Unfolder) → blocks_to_come j [] ≡ Err LineTooLong ∷ [] → ⊥
-unfolder_goes j = short_goes j.begun j.block.items (lines_after j.last (physical_lines j.number (cut is_lf (j.partial.items ++ [])))) (hand_short j.last j.number j.partial.items j.continuable j.unended j.short)
+pub unfolder_goes : (j : Unfolder) → to_come j [] ≡ fails LineTooLong → ⊥
+unfolder_goes j = short_goes j.marks j.begun j.block.items (lines_after j.last (physical_lines j.number (cut is_lf (j.partial.items ++ [])))) (hand_short j.last j.number j.partial.items j.continuable j.unended j.short)

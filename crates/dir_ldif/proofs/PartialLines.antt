@@ -8,11 +8,12 @@ use Rattle.dir_ldif.specs.declared.faults.StreamFault.TheVariants.{LineTooLong}
 use Rattle.dir_ldif.specs.declared.reader.unfolder.Unfolder.{Unfolder}
 use Rattle.dir_ldif.specs.Bytes.{is_empty, begins_with, without_last}
 use Rattle.dir_ldif.specs.LogicalLines.{Line, cut, is_lf, is_long, logical_lines, physical_lines}
-use Rattle.dir_ldif.specs.Blocks.{EndsAtOnce, blocks_from}
-use Rattle.dir_ldif.specs.Reader.Unfolding.{blocks_to_come}
+use Rattle.dir_ldif.specs.Remainder.{FailsAtOnce, Remainder, fails, remainder_from, then_rest}
+use Rattle.dir_ldif.specs.declared.reader.marks.Marks.{Marks}
+use Rattle.dir_ldif.specs.Reader.Unfolding.{to_come}
 use Rattle.dir_ldif.specs.Inside.Bounds.{may_be_continued}
 use Rattle.dir_ldif.proofs.BytesLemmas.{true_or_false, without_last-append}
-use Rattle.dir_ldif.proofs.LogicalLineLemmas.{logical_lines-apart, logical_lines-continued, partial_first, blocks_from-long, some_of_kept_line}
+use Rattle.dir_ldif.proofs.LogicalLineLemmas.{logical_lines-apart, logical_lines-continued, partial_first, remainder_from-long, some_of_kept_line}
 use Rattle.dir_ldif.proofs.NoLongLine.{neither}
 
 -- ---- two parts without a final CR
@@ -97,9 +98,9 @@ some_front : (xs ys : List ℕ) → is_empty xs ≡ false → is_empty (xs ++ ys
 some_front [] ys e = cc
 some_front (x ∷ xs) ys e = refl
 
-module _ (begun : Bool) (block : List Line) (last : Line) (n : ℕ) where
+module _ (m : Marks) (begun : Bool) (block : List Line) (last : Line) (n : ℕ) where
   grows : (front held text : List ℕ) → is_empty last.1 ≡ false → list_any is_lf (32 ∷ front) ≡ false → (first_piece (cut is_lf (held ++ text)) ≡ [] → without_last 13 (32 ∷ front) ≡ 32 ∷ front)
-      → blocks_from begun block (logical_lines (last ∷ physical_lines n (cut is_lf (32 ∷ (front ++ (held ++ text)))))) ≡ blocks_from begun block (logical_lines ((last.0, last.1 ++ front) ∷ physical_lines n (cut is_lf (32 ∷ (held ++ text)))))
+      → remainder_from m begun block (logical_lines (last ∷ physical_lines n (cut is_lf (32 ∷ (front ++ (held ++ text)))))) ≡ remainder_from m begun block (logical_lines ((last.0, last.1 ++ front) ∷ physical_lines n (cut is_lf (32 ∷ (held ++ text)))))
   grows front held text some lacks h =
       let p = first_piece (cut is_lf (held ++ text)) in
       let ps = physical_lines (n + 1) (more_pieces (cut is_lf (held ++ text))) in
@@ -110,15 +111,15 @@ module _ (begun : Bool) (block : List Line) (last : Line) (n : ℕ) where
       let two : logical_lines ((last.0, last.1 ++ front) ∷ physical_lines n (cut is_lf (32 ∷ (held ++ text)))) ≡ logical_lines ((last.0, (last.1 ++ front) ++ drop 1 short) ∷ ps) =
       ap (λ t. logical_lines ((last.0, last.1 ++ front) ∷ physical_lines n t)) (cut_over 32 [] (held ++ text) refl) ∙ logical_lines-continued (last.0, last.1 ++ front) n short ps (some_front last.1 front some) (first_stays 32 p) in
       let same : last.1 ++ drop 1 long ≡ (last.1 ++ front) ++ drop 1 short = ap (λ t. last.1 ++ t) (rest_after front p h) ∙ sym (append_assoc last.1 front (drop 1 short)) in
-      ap (blocks_from begun block) (one ∙ ap (λ t. logical_lines ((last.0, t) ∷ ps)) same ∙ sym two)
+      ap (remainder_from m begun block) (one ∙ ap (λ t. logical_lines ((last.0, t) ∷ ps)) same ∙ sym two)
 
   -- the whole line is its first part and what is held back
   grows_by : (line front held text : List ℕ) → is_empty last.1 ≡ false → list_any is_lf line ≡ false → line ≡ (32 ∷ front) ++ held → (first_piece (cut is_lf (held ++ text)) ≡ [] → without_last 13 (32 ∷ front) ≡ 32 ∷ front)
-      → blocks_from begun block (logical_lines (last ∷ physical_lines n (cut is_lf (line ++ text)))) ≡ blocks_from begun block (logical_lines ((last.0, last.1 ++ front) ∷ physical_lines n (cut is_lf (32 ∷ (held ++ text)))))
+      → remainder_from m begun block (logical_lines (last ∷ physical_lines n (cut is_lf (line ++ text)))) ≡ remainder_from m begun block (logical_lines ((last.0, last.1 ++ front) ∷ physical_lines n (cut is_lf (32 ∷ (held ++ text)))))
   grows_by line front held text some lacks e h =
       let lacks_all : list_any is_lf ((32 ∷ front) ++ held) ≡ false = ap (list_any is_lf) (sym e) ∙ lacks in
       let lacks_front : list_any is_lf (32 ∷ front) ≡ false = front_lacks (32 ∷ front) held lacks_all in
-      ap (λ t. blocks_from begun block (logical_lines (last ∷ physical_lines n (cut is_lf (t ++ text))))) e ∙ ap (λ t. blocks_from begun block (logical_lines (last ∷ physical_lines n (cut is_lf t)))) (append_assoc (32 ∷ front) held text) ∙ grows front held text some lacks_front h
+      ap (λ t. remainder_from m begun block (logical_lines (last ∷ physical_lines n (cut is_lf (t ++ text))))) e ∙ ap (λ t. remainder_from m begun block (logical_lines (last ∷ physical_lines n (cut is_lf t)))) (append_assoc (32 ∷ front) held text) ∙ grows front held text some lacks_front h
     where
       front_lacks : (xs ys : List ℕ) → list_any is_lf (xs ++ ys) ≡ false → list_any is_lf xs ≡ false
       front_lacks [] ys e = refl
@@ -126,8 +127,8 @@ module _ (begun : Bool) (block : List Line) (last : Line) (n : ℕ) where
 
   -- the same of a line without its final CR
   grown : (line front : List ℕ) (has_cr : Bool) (text : List ℕ) → is_empty last.1 ≡ false → list_any is_lf line ≡ false → 32 ∷ front ≡ without_last 13 line → has_cr ≡ nat_lt (length (32 ∷ front)) (length line)
-      → blocks_from begun block (logical_lines (last ∷ physical_lines n (cut is_lf (line ++ text))))
-      ≡ blocks_from begun block (logical_lines ((last.0, last.1 ++ front) ∷ physical_lines n (cut is_lf ((if has_cr then 32 ∷ 13 ∷ [] else 32 ∷ []) ++ text))))
+      → remainder_from m begun block (logical_lines (last ∷ physical_lines n (cut is_lf (line ++ text))))
+      ≡ remainder_from m begun block (logical_lines ((last.0, last.1 ++ front) ∷ physical_lines n (cut is_lf ((if has_cr then 32 ∷ 13 ∷ [] else 32 ∷ []) ++ text))))
   grown line front has_cr text some lacks e t =
       ⊎_elim
       (λ (whole : without_last 13 line ≡ line).
@@ -150,15 +151,15 @@ module _ (begun : Bool) (block : List Line) (last : Line) (n : ℕ) where
       held_some text e = let some : 13 ∷ first_piece (cut is_lf text) ≡ [] = ap first_piece (sym (onto_pieces 13 (cut is_lf text))) ∙ e in cc
 
 -- a line was taken over as far as it goes, and a space stays in hand, with the CR that may be the final one
-pub grown_to_come : (begun : Bool) (block : List Line) (last : Line) (n : ℕ) (line shown : List ℕ) (has_cr : Bool) (k : Unfolder) → may_be_continued (Some last) ≡ true → list_any is_lf line ≡ false
+pub grown_to_come : (m : Marks) (begun : Bool) (block : List Line) (last : Line) (n : ℕ) (line shown : List ℕ) (has_cr : Bool) (k : Unfolder) → may_be_continued (Some last) ≡ true → list_any is_lf line ≡ false
     → shown ≡ without_last 13 line → begins_with 32 shown ≡ true → has_cr ≡ nat_lt (length shown) (length line)
-    → k.begun ≡ begun → k.block.items ≡ block → k.number ≡ n → k.last ≡ Some (last.0, last.1 ++ drop 1 shown) → k.partial.items ≡ (if has_cr then 32 ∷ 13 ∷ [] else 32 ∷ [])
-    → (text : List ℕ) → blocks_from begun block (logical_lines (last ∷ physical_lines n (cut is_lf (line ++ text)))) ≡ blocks_to_come k text
-grown_to_come begun block last n line [] has_cr k kept lacks e space t b c m l p text = cc
-grown_to_come begun block last n line (x ∷ front) has_cr k kept lacks e space t b c m l p text =
+    → k.marks ≡ m → k.begun ≡ begun → k.block.items ≡ block → k.number ≡ n → k.last ≡ Some (last.0, last.1 ++ drop 1 shown) → k.partial.items ≡ (if has_cr then 32 ∷ 13 ∷ [] else 32 ∷ [])
+    → (text : List ℕ) → remainder_from m begun block (logical_lines (last ∷ physical_lines n (cut is_lf (line ++ text)))) ≡ to_come k text
+grown_to_come m begun block last n line [] has_cr k kept lacks e space t a b c i l p text = cc
+grown_to_come m begun block last n line (x ∷ front) has_cr k kept lacks e space t a b c i l p text =
     let same : x ≡ 32 = eqb-true x 32 space in
     let shown : 32 ∷ front ≡ without_last 13 line = ap (λ v. v ∷ front) (sym same) ∙ e in
-    rw (b, c, m, l, p) (grown begun block last n line front has_cr text (some_of_kept_line last kept) lacks shown t)
+    rw (a, b, c, i, l, p) (grown m begun block last n line front has_cr text (some_of_kept_line last kept) lacks shown t)
 
 -- ---- a line that is too long
 
@@ -166,22 +167,22 @@ longer_stays : (m : ℕ) (xs ys : List ℕ) → is_long (m, xs) ≡ true → is_
 longer_stays m xs ys e = let whole : length (xs ++ ys) ≡ length xs + length ys = length-append xs ys in grind (arith, nat_tests)
 
 -- a line that is too long with what continues it ends the text
-pub grown_long : (begun : Bool) (block : List Line) (last : Line) (n : ℕ) (shown text : List ℕ) (more : List Line) → may_be_continued (Some last) ≡ true → begins_with 32 shown ≡ true → is_long (last.0, last.1 ++ drop 1 shown) ≡ true
-    → blocks_from begun block (logical_lines (last ∷ (n, shown ++ text) ∷ more)) ≡ Err LineTooLong ∷ []
-grown_long begun block last n [] text more kept space long = cc
-grown_long begun block last n (x ∷ xs) text more kept space long =
+pub grown_long : (m : Marks) → m.is_over ≡ false → (begun : Bool) (block : List Line) (last : Line) (n : ℕ) (shown text : List ℕ) (more : List Line) → may_be_continued (Some last) ≡ true → begins_with 32 shown ≡ true → is_long (last.0, last.1 ++ drop 1 shown) ≡ true
+    → remainder_from m begun block (logical_lines (last ∷ (n, shown ++ text) ∷ more)) ≡ fails LineTooLong
+grown_long m going begun block last n [] text more kept space long = cc
+grown_long m going begun block last n (x ∷ xs) text more kept space long =
     let longer : is_long (last.0, last.1 ++ (xs ++ text)) ≡ true = ap (λ t. is_long (last.0, t)) (sym (append_assoc last.1 xs text)) ∙ longer_stays last.0 (last.1 ++ xs) text long in
-    ap (blocks_from begun block) (logical_lines-continued last n ((x ∷ xs) ++ text) more (some_of_kept_line last kept) space) ∙ blocks_from-long begun block last.0 (last.1 ++ (xs ++ text)) (logical_lines more) longer
+    ap (remainder_from m begun block) (logical_lines-continued last n ((x ∷ xs) ++ text) more (some_of_kept_line last kept) space) ∙ remainder_from-long m going begun block last.0 (last.1 ++ (xs ++ text)) (logical_lines more) longer
 
 -- a fault of a line with all that may continue it is one of the text
-pub grown_Ends : (fault : StreamFault) (begun : Bool) (block : List Line) (last : Line) (n : ℕ) (line shown : List ℕ) → list_any is_lf line ≡ false → is_empty line ≡ false → shown ≡ without_last 13 line
-    → ((text : List ℕ) → (n : ℕ) → (more : List Line) → EndsAtOnce fault (blocks_from begun block (logical_lines (last ∷ (n, shown ++ text) ∷ more))))
-    → (text : List ℕ) → EndsAtOnce fault (blocks_from begun block (logical_lines (last ∷ physical_lines n (cut is_lf (line ++ text)))))
-grown_Ends fault begun block last n line shown lacks some e h text =
+pub grown_Ends : (fault : StreamFault) (m : Marks) (begun : Bool) (block : List Line) (last : Line) (n : ℕ) (line shown : List ℕ) → list_any is_lf line ≡ false → is_empty line ≡ false → shown ≡ without_last 13 line
+    → ((text : List ℕ) → (n : ℕ) → (more : List Line) → FailsAtOnce fault (remainder_from m begun block (logical_lines (last ∷ (n, shown ++ text) ∷ more))))
+    → (text : List ℕ) → FailsAtOnce fault (remainder_from m begun block (logical_lines (last ∷ physical_lines n (cut is_lf (line ++ text)))))
+grown_Ends fault m begun block last n line shown lacks some e h text =
     let f = partial_first n line text lacks some in
     let stays = front_stays line f.0 in
     let whole : without_last 13 (line ++ f.0) ≡ shown ++ stays.0 = stays.1 ∙ ap (λ t. t ++ stays.0) (sym e) in
-    subst (λ t. EndsAtOnce fault (blocks_from begun block (logical_lines (last ∷ t)))) (sym (f.2 ∙ ap (λ t. (n, t) ∷ f.1) whole)) (h stays.0 n f.1)
+    subst (λ t. FailsAtOnce fault (remainder_from m begun block (logical_lines (last ∷ t)))) (sym (f.2 ∙ ap (λ t. (n, t) ∷ f.1) whole)) (h stays.0 n f.1)
 
 -- ---- a line that continues none
 
@@ -194,25 +195,25 @@ apart_after last n (x ∷ xs) text lacks some space =
     rw f.2 (logical_lines-apart last n (without_last 13 ((x ∷ xs) ++ f.0)) f.1 other)
 
 -- the line before it is closed
-pub closed_before : (begun begun' : Bool) (block block' : List Line) (last : Line) (n m : ℕ) (line : List ℕ) → list_any is_lf line ≡ false → is_empty line ≡ false → begins_with 32 (without_last 13 line) ≡ false
-    → ((more : List Line) → blocks_from begun block (last ∷ more) ≡ blocks_from begun' block' more) → m ≡ n
-    → (text : List ℕ) → blocks_from begun block (logical_lines (last ∷ physical_lines n (cut is_lf (line ++ text)))) ≡ blocks_from begun' block' (logical_lines (physical_lines m (cut is_lf (line ++ text))))
-closed_before begun begun' block block' last n m line lacks some space closed same text =
+pub closed_before : (m m' : Marks) (begun begun' : Bool) (block block' : List Line) (last : Line) (n i : ℕ) (line : List ℕ) → list_any is_lf line ≡ false → is_empty line ≡ false → begins_with 32 (without_last 13 line) ≡ false
+    → ((more : List Line) → remainder_from m begun block (last ∷ more) ≡ remainder_from m' begun' block' more) → i ≡ n
+    → (text : List ℕ) → remainder_from m begun block (logical_lines (last ∷ physical_lines n (cut is_lf (line ++ text)))) ≡ remainder_from m' begun' block' (logical_lines (physical_lines i (cut is_lf (line ++ text))))
+closed_before m m' begun begun' block block' last n i line lacks some space closed same text =
     let rest = logical_lines (physical_lines n (cut is_lf (line ++ text))) in
-    ap (blocks_from begun block) (apart_after last n line text lacks some space) ∙ closed rest ∙ ap (λ k. blocks_from begun' block' (logical_lines (physical_lines k (cut is_lf (line ++ text))))) (sym same)
+    ap (remainder_from m begun block) (apart_after last n line text lacks some space) ∙ closed rest ∙ ap (λ k. remainder_from m' begun' block' (logical_lines (physical_lines k (cut is_lf (line ++ text))))) (sym same)
 
-pub apart_Ends : (fault : StreamFault) (begun : Bool) (block : List Line) (last : Line) (n : ℕ) (line : List ℕ) → list_any is_lf line ≡ false → is_empty line ≡ false → begins_with 32 (without_last 13 line) ≡ false
-    → ((more : List Line) → EndsAtOnce fault (blocks_from begun block (last ∷ more)))
-    → (text : List ℕ) → EndsAtOnce fault (blocks_from begun block (logical_lines (last ∷ physical_lines n (cut is_lf (line ++ text)))))
-apart_Ends fault begun block last n line lacks some space h text =
-    subst (λ t. EndsAtOnce fault (blocks_from begun block t)) (sym (apart_after last n line text lacks some space)) (h (logical_lines (physical_lines n (cut is_lf (line ++ text)))))
+pub apart_Ends : (fault : StreamFault) (m : Marks) (begun : Bool) (block : List Line) (last : Line) (n : ℕ) (line : List ℕ) → list_any is_lf line ≡ false → is_empty line ≡ false → begins_with 32 (without_last 13 line) ≡ false
+    → ((more : List Line) → FailsAtOnce fault (remainder_from m begun block (last ∷ more)))
+    → (text : List ℕ) → FailsAtOnce fault (remainder_from m begun block (logical_lines (last ∷ physical_lines n (cut is_lf (line ++ text)))))
+apart_Ends fault m begun block last n line lacks some space h text =
+    subst (λ t. FailsAtOnce fault (remainder_from m begun block t)) (sym (apart_after last n line text lacks some space)) (h (logical_lines (physical_lines n (cut is_lf (line ++ text)))))
 
 -- ---- a chunk after what is in hand
 
 pub rest_some : (j : Unfolder) (last : Line) (front piece : List ℕ) → j.last ≡ Some last → front ≡ j.partial.items
-    → (text : List ℕ) → blocks_to_come j (piece ++ text) ≡ blocks_from j.begun j.block.items (logical_lines (last ∷ physical_lines j.number (cut is_lf ((front ++ piece) ++ text))))
-rest_some j last front piece is e text = rw (is, e) (ap (λ t. blocks_from j.begun j.block.items (logical_lines (last ∷ physical_lines j.number (cut is_lf t)))) (sym (append_assoc j.partial.items piece text)))
+    → (text : List ℕ) → to_come j (piece ++ text) ≡ remainder_from j.marks j.begun j.block.items (logical_lines (last ∷ physical_lines j.number (cut is_lf ((front ++ piece) ++ text))))
+rest_some j last front piece is e text = rw (is, e) (ap (λ t. remainder_from j.marks j.begun j.block.items (logical_lines (last ∷ physical_lines j.number (cut is_lf t)))) (sym (append_assoc j.partial.items piece text)))
 
 pub rest_none : (j : Unfolder) (front piece : List ℕ) → j.last ≡ None → front ≡ j.partial.items
-    → (text : List ℕ) → blocks_to_come j (piece ++ text) ≡ blocks_from j.begun j.block.items (logical_lines (physical_lines j.number (cut is_lf ((front ++ piece) ++ text))))
-rest_none j front piece is e text = rw (is, e) (ap (λ t. blocks_from j.begun j.block.items (logical_lines (physical_lines j.number (cut is_lf t)))) (sym (append_assoc j.partial.items piece text)))
+    → (text : List ℕ) → to_come j (piece ++ text) ≡ remainder_from j.marks j.begun j.block.items (logical_lines (physical_lines j.number (cut is_lf ((front ++ piece) ++ text))))
+rest_none j front piece is e text = rw (is, e) (ap (λ t. remainder_from j.marks j.begun j.block.items (logical_lines (physical_lines j.number (cut is_lf t)))) (sym (append_assoc j.partial.items piece text)))

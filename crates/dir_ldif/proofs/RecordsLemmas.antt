@@ -2,7 +2,7 @@
 use Rattle.std.proofs.Common.{◌≡◌, ℕ, true, false, List, [], ◌∷◌, ◌++◌, refl, sym, ap, ◌∙◌, append-nil, Ok}
 use Rattle.dir_names.specs.declared.schema.TypeRow.{TypeRow}
 use Rattle.dir_ldif.specs.declared.faults.StreamFault.{StreamFault}
-use Rattle.dir_ldif.specs.declared.faults.StreamFault.TheVariants.{LineTooLong, Read, Memory, Ended, TooManyTurns, BadVersion}
+use Rattle.dir_ldif.specs.declared.faults.StreamFault.TheVariants.{LineTooLong, Read, Memory, Ended, TooManyTurns, BadVersion, BadMark}
 use Rattle.dir_ldif.specs.Bytes.{is_empty}
 use Rattle.dir_ldif.specs.LogicalLines.{Line}
 use Rattle.dir_ldif.specs.Blocks.{BlockResult, EndsAtOnce, block_then}
@@ -14,6 +14,8 @@ pub ends_in : (fault : StreamFault) (rows : List TypeRow) (text : List ℕ) (fou
 ends_in LineTooLong rows text found parts inv e =
     (found, ap (records_of rows) (sym (append-nil text)) ∙ inv ∙ ap (λ p. all_found found ++ answers_on rows p) e)
 ends_in BadVersion rows text found parts inv e =
+    (found, ap (records_of rows) (sym (append-nil text)) ∙ inv ∙ ap (λ p. all_found found ++ answers_on rows p) e)
+ends_in BadMark rows text found parts inv e =
     (found, ap (records_of rows) (sym (append-nil text)) ∙ inv ∙ ap (λ p. all_found found ++ answers_on rows p) e)
 ends_in Memory rows text found parts inv e = tt
 ends_in Read rows text found parts inv e = absurd e

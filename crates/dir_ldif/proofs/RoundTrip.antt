@@ -73,7 +73,7 @@ record-text (form.Change change) =
     let b = written_line (codes "changetype") (change_word change.kind) in
     ap (λ t. t ++ 10 ∷ []) (append_assoc a b (kind_text change.kind) ∙ ap (λ t. a ++ (b ++ t)) (kind-text change.kind))
 
-records-text : (records : List Record) → records_text records ≡ blocks_text (map record_lines records)
+pub records-text : (records : List Record) → records_text records ≡ blocks_text (map record_lines records)
 records-text [] = refl
 records-text (r ∷ rs) = ap (λ t. t ++ records_text rs) (record-text r) ∙ ap (λ t. block_text (record_lines r) ++ t) (records-text rs)
 
@@ -180,7 +180,7 @@ word-short (kind.Rename rdn flag superior) = omega arith
 good_dn : (name : SpelledName) → IsSoundName name → Good (line_of (codes "dn") (printed_name name))
 good_dn name back = good_line 100 (110 ∷ []) (printed_name name) refl refl refl (omega arith) (name_short name back)
 
-good_record : (rows : List TypeRow) (r : Record) → is_legal_record rows r ≡ true → IsSoundRecord r → AllGood (record_lines r)
+pub good_record : (rows : List TypeRow) (r : Record) → is_legal_record rows r ≡ true → IsSoundRecord r → AllGood (record_lines r)
 good_record rows (form.Content name lines) legal back = (good_dn name back.0, good_values rows lines (and_second (has_key rows name) (list_all (is_legal_line rows) lines) legal))
 good_record rows (form.Change change) legal back = (
   good_dn change.dn back.0,
@@ -194,7 +194,7 @@ some_lines : (r : Record) → is_empty (record_lines r) ≡ false
 some_lines (form.Content name lines) = refl
 some_lines (form.Change change) = refl
 
-good_all : (rows : List TypeRow) (records : List Record) → AreLegalAndSound rows records → AllBlocks (map record_lines records)
+pub good_all : (rows : List TypeRow) (records : List Record) → AreLegalAndSound rows records → AllBlocks (map record_lines records)
 good_all rows [] back = tt
 good_all rows (r ∷ rs) back = (good_record rows r back.0 back.1, some_lines r, good_all rows rs back.2)
 
@@ -214,7 +214,7 @@ first_block (form.Change change) (x ∷ xs) n rest e g =
     let here : x.1 ≡ line_of (codes "dn") (printed_name change.dn) = cc in
     first_parts x xs n rest (subst AllGood (sym e) g) (ap version_of here ∙ version-plain_value (printed_name change.dn))
 
-answers-back : (rows : List TypeRow) (records : List Record) (blocks : List (List Line)) → map texts blocks ≡ map record_lines records → AreLegalAndSound rows records
+pub answers-back : (rows : List TypeRow) (records : List Record) (blocks : List (List Line)) → map texts blocks ≡ map record_lines records → AreLegalAndSound rows records
     → map without_line (answers_on rows (map (λ (b : List Line). Ok b) blocks)) ≡ map (λ (r : Record). Ok (Ok r)) records
 answers-back rows [] [] e back = refl
 answers-back rows [] (b ∷ bs) e back = cc

@@ -1,5 +1,5 @@
 -- Each record of a text of bytes is legal and sound.
-use Rattle.std.proofs.Common.{◌≡◌, ℕ, zero, suc, ◌+◌, ◌<◌, ◌==◌, nat_lt, Bool, true, false, cond, List, [], ◌∷◌, ◌++◌, length, drop, codes, refl, Option, None, Some, Result, Ok, Err, IfOk, IfSome, arith}
+use Rattle.std.proofs.Common.{◌≡◌, ℕ, zero, suc, ◌+◌, ◌<◌, ◌==◌, nat_lt, Bool, true, false, cond, List, [], ◌∷◌, ◌++◌, length, drop, codes, refl, subst, Option, None, Some, Result, Ok, Err, IfOk, IfSome, arith}
 use Rattle.std.specs.Option.{option_map}
 use Rattle.std.specs.List.{AllByRecursion, list_any, onto_first}
 use Rattle.base64.specs.declared.decode.DecodeError.{DecodeError}
@@ -14,21 +14,26 @@ use Rattle.dir_names.specs.Names.Reading.{name_within_limits, rdn_within_limit}
 use Rattle.dir_names.specs.Orders.{attr_eq}
 use Rattle.dir_names.specs.Outcome.{ok_or_bad_dn}
 use Rattle.dir_names.specs.Results.{and_then}
-use Rattle.dir_ldif.specs.declared.faults.StreamFault.TheVariants.{LineTooLong, BadVersion}
+use Rattle.dir_ldif.specs.declared.faults.StreamFault.{StreamFault}
+use Rattle.dir_ldif.specs.declared.faults.StreamFault.TheVariants.{LineTooLong, BadMark, BadVersion}
+use Rattle.dir_ldif.specs.declared.reader.marks.Marks.{Marks}
 use Rattle.dir_ldif.specs.declared.reader.version.Version.{Version}
 use Rattle.dir_ldif.specs.declared.reader.version.Version.TheVariants.{Absent, One, Other}
 use Rattle.dir_ldif.specs.declared.records.Mod.{Mod}
 use Rattle.dir_ldif.specs.AttrVal.{attrval_from, attrval_of, attrval_of_cut, base64_value, is_nul_or_cr, or_bad_base64, value_of, within_limit}
-use Rattle.dir_ldif.specs.Blocks.{BlockResult, block_then, blocks_from, blocks_of, by_version, version_of}
+use Rattle.dir_ldif.specs.Blocks.{BlockResult, blocks_of, by_version, version_of}
 use Rattle.dir_ldif.specs.Bytes.{cut_at, is_empty, without_last, without_leading}
 use Rattle.dir_ldif.specs.LegalRecords.{is_legal_record}
 use Rattle.dir_ldif.specs.LogicalLines.{Line, continues, cut, is_comment, is_lf, is_long, lines_of, logical_lines, physical_lines, with_first_line}
 use Rattle.dir_ldif.specs.RecordGrammar.{as_record_fault, body_of, change_of, content_of, deletion_of, dn_line, flag_of, is_dash, is_keyword, legal_dn, legal_rdn, mod_head, mod_of, mod_value, mods_of, only_superior, record_of, rename_after_rdn, rename_line, rename_of, superior_of, try_map, value_line, value_lines}
-use Rattle.dir_ldif.specs.Records.{answer_of, answers_on}
-use Rattle.dir_ldif.specs.SoundRecords.{AreBytes, AreSoundAnswers, IsSoundFound, IsSoundKind, IsSoundName, IsSoundRdn, IsSoundRecord, IsSoundSuperior, ModsAreBytes, RecordsAreSound, ValuesAreBytes}
+use Rattle.dir_ldif.specs.Marks.{after_comment, ignored, may_have_records, up_to}
+use Rattle.dir_ldif.specs.Records.{answer_of, answers_on, read_up_to}
+use Rattle.dir_ldif.specs.Remainder.{Remainder, after_marks, blocks_in, done, fails, remainder_from, then_rest}
+use Rattle.dir_ldif.specs.SoundRecords.{AreBytes, AreSoundAnswers, FirstRecordsAreSound, IsSoundFound, IsSoundKind, IsSoundName, IsSoundRdn, IsSoundRecord, IsSoundSuperior, ModsAreBytes, RecordsAreSound, ValuesAreBytes}
 use Rattle.dir_ldif.proofs.Base64Lemmas.{decoded_is_bytes, drop_bytes}
 use Rattle.dir_ldif.proofs.ReadIsLegal.{after, as_record_fault-ok, chosen, known, record_of-legal}
 use Rattle.dir_ldif.proofs.ReadIsSound.{read_name_sound, read_rdn_sound}
+use Rattle.dir_ldif.proofs.RemainderLemmas.{remainder_is_blocks}
 
 -- ---- bytes
 
@@ -310,28 +315,35 @@ line_more : (lines : List Line) (line : Line) → AreLinesOfBytes lines → IsBy
 line_more [] line hs h = (h, tt)
 line_more (l ∷ ls) line hs h = (hs.0, line_more ls line hs.1 h)
 
-block_then-bytes : (block : List Line) (rest : List BlockResult) → AreLinesOfBytes block → AreBlocksOfBytes rest → AreBlocksOfBytes (block_then block rest)
-block_then-bytes [] rest h hs = hs
-block_then-bytes (line ∷ lines) rest h hs = (h, hs)
+then-bytes : (block : List Line) (left : Remainder) → AreLinesOfBytes block → AreBlocksOfBytes (blocks_in left) → AreBlocksOfBytes (blocks_in (then_rest block left))
+then-bytes [] left h hs = hs
+then-bytes (line ∷ lines) left h hs = (h, hs)
 
-blocks_from-bytes : (begun : Bool) (block lines : List Line) → AreLinesOfBytes block → AreLinesOfBytes lines → AreBlocksOfBytes (blocks_from begun block lines)
-blocks_from-bytes begun block [] hb h = block_then-bytes block [] hb tt
-blocks_from-bytes begun block (line ∷ rest) hb h =
-    by (λ b lines hl. blocks_from-bytes b lines rest hl h.1) (is_long line) (is_comment line) (is_empty line.1) begun (version_of line.1)
+remainder-bytes : (m : Marks) (begun : Bool) (block lines : List Line) → AreLinesOfBytes block → AreLinesOfBytes lines → AreBlocksOfBytes (blocks_in (remainder_from m begun block lines))
+remainder-bytes m begun block [] hb h = then-bytes block (done m.passed) hb tt
+remainder-bytes m begun block (line ∷ rest) hb h =
+    by (λ n b lines hl. remainder-bytes n b lines rest hl h.1) m.is_over (is_long line) (is_comment line) (is_empty block) (is_empty line.1) begun (may_have_records m) (version_of line.1) (after_comment m line.1)
   where
-    by : ((b : Bool) (lines : List Line) → AreLinesOfBytes lines → AreBlocksOfBytes (blocks_from b lines rest)) → (t u v w : Bool) (version : Version)
-        → AreBlocksOfBytes (cond t (Err LineTooLong ∷ [])
-        (cond u (blocks_from begun block rest)
-        (cond v (block_then block (blocks_from begun [] rest))
-        (cond w (blocks_from true (block ++ line ∷ []) rest)
-        (by_version version (blocks_from true (block ++ line ∷ []) rest) (blocks_from true block rest) (Err BadVersion ∷ []))))))
-    by later true u v w version = (tt, tt)
-    by later false true v w version = later begun block hb
-    by later false false true w version = block_then-bytes block (blocks_from begun [] rest) hb (later begun [] tt)
-    by later false false false true version = later true (block ++ line ∷ []) (line_more block line hb h.0)
-    by later false false false false Absent = later true (block ++ line ∷ []) (line_more block line hb h.0)
-    by later false false false false One = later true block hb
-    by later false false false false Other = (tt, tt)
+    by : ((n : Marks) (b : Bool) (lines : List Line) → AreLinesOfBytes lines → AreBlocksOfBytes (blocks_in (remainder_from n b lines rest)))
+        → (o t u e v w r : Bool) (version : Version) (after : Result Marks StreamFault)
+        → AreBlocksOfBytes (blocks_in (cond o (done m.passed)
+        (cond t (fails LineTooLong)
+        (cond u (cond e (after_marks (λ n. remainder_from n begun [] rest) after) (remainder_from m begun block rest))
+        (cond v (then_rest block (remainder_from m begun [] rest))
+        (cond w (cond r (remainder_from m true (block ++ line ∷ []) rest) (fails BadMark))
+        (by_version version (cond r (remainder_from m true (block ++ line ∷ []) rest) (fails BadMark)) (remainder_from m true block rest) (fails BadVersion))))))))
+    by later true t u e v w r version after = tt
+    by later false true u e v w r version after = (tt, tt)
+    by later false false true true v w r version (Ok n) = later n begun [] tt
+    by later false false true true v w r version (Err fault) = (tt, tt)
+    by later false false true false v w r version after = later m begun block hb
+    by later false false false e true w r version after = then-bytes block (remainder_from m begun [] rest) hb (later m begun [] tt)
+    by later false false false e false true true version after = later m true (block ++ line ∷ []) (line_more block line hb h.0)
+    by later false false false e false true false version after = (tt, tt)
+    by later false false false e false false true Absent after = later m true (block ++ line ∷ []) (line_more block line hb h.0)
+    by later false false false e false false false Absent after = (tt, tt)
+    by later false false false e false false r One after = later m true block hb
+    by later false false false e false false r Other after = (tt, tt)
 
 -- ---- the records of a text
 
@@ -348,4 +360,8 @@ sound_answers rows [] h = tt
 sound_answers rows (block ∷ blocks) h = (sound_answer rows block h.0, sound_answers rows blocks h.1)
 
 pub records_sound : RecordsAreSound
-records_sound rows text h = sound_answers rows (blocks_of text) (blocks_from-bytes false [] (lines_of text) tt (lines_of-bytes text h))
+records_sound rows text h =
+    sound_answers rows (blocks_of text) (subst AreBlocksOfBytes (remainder_is_blocks false [] (lines_of text)) (remainder-bytes ignored false [] (lines_of text) tt (lines_of-bytes text h)))
+
+pub first_records_sound : FirstRecordsAreSound
+first_records_sound rows groups text h = sound_answers rows (blocks_in (read_up_to groups text)) (remainder-bytes (up_to groups) false [] (lines_of text) tt (lines_of-bytes text h))

@@ -29,7 +29,7 @@ apart-good (c ∷ cs) rest g =
     let first : without_last 13 (c ∷ front 75 cs) ≡ c ∷ front 75 cs = without_last-lacks (c ∷ front 75 cs) (front-lacks 76 (c ∷ cs) g.0) in
     ap apart (cut-folded_line 76 (c ∷ cs) rest g.0) ∙ ap (λ t. not (begins_with 32 t)) first ∙ ap not g.1
 
-apart-lines : (lines : List (List ℕ)) (rest : List ℕ) → AllGood lines → apart (cut is_lf rest) ≡ true → apart (cut is_lf (flat_map folded_line lines ++ rest)) ≡ true
+pub apart-lines : (lines : List (List ℕ)) (rest : List ℕ) → AllGood lines → apart (cut is_lf rest) ≡ true → apart (cut is_lf (flat_map folded_line lines ++ rest)) ≡ true
 apart-lines [] rest g a = a
 apart-lines (line ∷ lines) rest g a =
     ap (λ t. apart (cut is_lf t)) (append_assoc (folded_line line) (flat_map folded_line lines) rest) ∙ apart-good line (flat_map folded_line lines ++ rest) g.0
@@ -69,15 +69,15 @@ block_reads lines rest n g =
 
 -- ---- blocks
 
-good_short : (n : ℕ) (text : List ℕ) → Good text → is_long (n, text) ≡ false
+pub good_short : (n : ℕ) (text : List ℕ) → Good text → is_long (n, text) ≡ false
 good_short n [] g = absurd g
 good_short n (c ∷ cs) g = let within : length (c ∷ cs) ≤ 2097152 = g.3 in grind (arith, nat_tests)
 
-good_kept : (n : ℕ) (text : List ℕ) → Good text → is_comment (n, text) ≡ false
+pub good_kept : (n : ℕ) (text : List ℕ) → Good text → is_comment (n, text) ≡ false
 good_kept n [] g = absurd g
 good_kept n (c ∷ cs) g = g.2
 
-good_some : (text : List ℕ) → Good text → is_empty text ≡ false
+pub good_some : (text : List ℕ) → Good text → is_empty text ≡ false
 good_some [] g = absurd g
 good_some (c ∷ cs) g = refl
 

@@ -2,7 +2,7 @@
 use Rattle.std.specs.Prelude.{◌≡◌, ℕ, Bool, true, false, if◌then◌else◌, List, [], ◌∷◌, ◌++◌, Option, None, Some, Result, Ok, Err}
 use Rattle.std.specs.Str.{str_eq_ignore_ascii_case, bytes_eq}
 use Rattle.dir_ldif.specs.declared.faults.StreamFault.{StreamFault}
-use Rattle.dir_ldif.specs.declared.faults.StreamFault.TheVariants.{LineTooLong, Read, Memory, Ended, TooManyTurns, BadVersion}
+use Rattle.dir_ldif.specs.declared.faults.StreamFault.TheVariants.{LineTooLong, Read, Memory, Ended, TooManyTurns, BadVersion, BadMark}
 use Rattle.dir_ldif.specs.declared.reader.version.Version.{Version}
 use Rattle.dir_ldif.specs.declared.reader.version.Version.TheVariants.{Absent, One, Other}
 use Rattle.dir_ldif.specs.Bytes.{is_empty, cut_at, without_leading}
@@ -60,6 +60,7 @@ blocks_of text = blocks_from false [] (lines_of text)
 abbrev pub EndsAtOnce : StreamFault → List BlockResult → Type 0
 EndsAtOnce LineTooLong blocks = blocks ≡ Err LineTooLong ∷ []
 EndsAtOnce BadVersion blocks = blocks ≡ Err BadVersion ∷ []
+EndsAtOnce BadMark blocks = blocks ≡ Err BadMark ∷ []
 EndsAtOnce Memory blocks = Unit {0}
 EndsAtOnce Read blocks = ⊥
 EndsAtOnce Ended blocks = ⊥

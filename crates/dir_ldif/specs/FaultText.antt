@@ -24,6 +24,7 @@ stream_fault_text stream.Memory = codes "L12 Memory"
 stream_fault_text stream.Ended = codes "L13 Ended"
 stream_fault_text stream.TooManyTurns = codes "L14 TooManyTurns"
 stream_fault_text stream.BadVersion = codes "L15 BadVersion"
+stream_fault_text stream.BadMark = codes "L16 BadMark"
 
 abbrev pub device_fault_text : List ℕ
 device_fault_text = codes "the device failed"

@@ -6,7 +6,7 @@ use Rattle.dir_names.specs.declared.schema.TypeRow.{TypeRow}
 use Rattle.dir_ldif.specs.declared.faults.StreamFault.{StreamFault}
 use Rattle.dir_ldif.specs.declared.reader.RecordReader.{RecordReader}
 use Rattle.dir_ldif.specs.declared.reader.Place.TheVariants.{Reading, AtEnd, Ended}
-use Rattle.dir_ldif.specs.Reader.Answers.{answers_ahead, answers_left, bytes_ahead, EndsSoon, ExplainsFault, GoesOn, hand, IsInPieces}
+use Rattle.dir_ldif.specs.Reader.Answers.{answers_ahead, answers_left, bytes_ahead, EndsSoon, ExplainsFault, GoesOn, hand, IsInPieces, marks_left}
 use Rattle.dir_ldif.specs.Records.{Found, Answer}
 use Rattle.dir_ldif.specs.SoundRecords.{IsLegalFound, IsSoundFound}
 pub mod Answers
@@ -66,6 +66,14 @@ module _ {R : Type 0} where
   -- the record that is given is sound
   abbrev pub GivesSound : RecordReader R → Found → Type 0
   GivesSound r found = IsSoundFound r.schema.now found
+
+  -- the marks that were passed
+  abbrev pub marks_passed : RecordReader R → ℕ
+  marks_passed r = r.core.unfolder.marks.passed
+
+  -- the marks that are passed at the end, where the source tells its bytes, if that is no fault
+  abbrev pub marks_at_end : (R → Option (List ℕ)) → RecordReader R → Option ℕ
+  marks_at_end left r = marks_left r.core (left r.source)
 
   -- why no further answer is given
   abbrev pub StopsFor : (R → Option (List ℕ)) → (R → ℕ) → StreamFault → RecordReader R → RecordReader R → Type 0

@@ -13,7 +13,7 @@ use Rattle.dir_ldif.specs.declared.records.ChangeKind.{ChangeKind}
 use Rattle.dir_ldif.specs.declared.records.ChangeKind.TheVariants as kind
 use Rattle.dir_ldif.specs.declared.records.Mod.{Mod}
 use Rattle.dir_ldif.specs.LegalRecords.{is_legal_record}
-use Rattle.dir_ldif.specs.Records.{Answer, Found, records_of}
+use Rattle.dir_ldif.specs.Records.{Answer, Found, records_of, records_up_to}
 
 -- a name that is sound and within the limits, as each name that was read is
 abbrev pub IsSoundName : SpelledName → Type 0
@@ -72,3 +72,7 @@ AreSoundAnswers rows (answer ∷ answers) = IfOk answer (IsSoundFound rows) × A
 -- a law: each record of a text of bytes is legal and sound
 abbrev pub RecordsAreSound : Type 0
 RecordsAreSound = (rows : List TypeRow) (text : List ℕ) → IsBytes text → AreSoundAnswers rows (records_of rows text)
+
+-- and each of those that are read of the first groups of an undo text
+abbrev pub FirstRecordsAreSound : Type 0
+FirstRecordsAreSound = (rows : List TypeRow) (groups : ℕ) (text : List ℕ) → IsBytes text → AreSoundAnswers rows (records_up_to rows groups text)

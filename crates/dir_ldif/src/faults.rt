@@ -86,6 +86,8 @@ pub enum StreamFault {
     TooManyTurns,
     /// The text begins with a version line of another version than 1.
     BadVersion,
+    /// A mark of a group that is not the one due, or a record before the first mark, where groups are counted.
+    BadMark,
 }
 
 impl fmt::Display for StreamFault {
@@ -104,6 +106,7 @@ impl fmt::Display for StreamFault {
             StreamFault::Ended => "L13 Ended",
             StreamFault::TooManyTurns => "L14 TooManyTurns",
             StreamFault::BadVersion => "L15 BadVersion",
+            StreamFault::BadMark => "L16 BadMark",
         })
     }
 }

@@ -4,7 +4,8 @@ ghost use Rattle.dir_ldif.specs.BlocksAtOnce.{LongLinesStay, TextsAreBlocks};
 ghost use Rattle.dir_ldif.specs.LegalRecords.{LegalChangesHaveNoFault};
 ghost use Rattle.dir_ldif.specs.LineText.{WrittenLinesAreFolded};
 ghost use Rattle.dir_ldif.specs.RoundTrip.{WrittenLineReadsBack, RecordsReadBack};
-ghost use Rattle.dir_ldif.specs.SoundRecords.{RecordsAreSound};
+ghost use Rattle.dir_ldif.specs.MarkedGroups.{MarkedGroupsReadBack, MarksAreKnown};
+ghost use Rattle.dir_ldif.specs.SoundRecords.{FirstRecordsAreSound, RecordsAreSound};
 ghost use Rattle.dir_ldif.specs.ManyCalls.{ReadCallsAreUsed, ReadingEndsSoon, ReadingStopsThere};
 
 /// A law: the blocks of a text are the pieces between its empty lines that have a line, among the lines that
@@ -62,4 +63,21 @@ pub fn written_records_read_back()
 /// A law: each record of a text of bytes is legal and sound.
 pub fn records_are_sound()
     ensures { RecordsAreSound }
+{}
+
+/// A law: so is each record that is read of the first groups of an undo text.
+pub fn first_records_are_sound()
+    ensures { FirstRecordsAreSound }
+{}
+
+/// A law: groups of legal and sound records, each after its mark, read back as they are: all of them where marks are
+/// comments, and of `RecordReader::up_to` so many, with as many marks.
+pub fn marked_groups_read_back()
+    ensures { MarkedGroupsReadBack }
+{}
+
+/// A law: where a reader of the first groups of a text comes to an end that is no fault, the marks that it has passed
+/// are known.
+pub fn marks_are_known()
+    ensures { MarksAreKnown }
 {}

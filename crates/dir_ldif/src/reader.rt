@@ -1,13 +1,15 @@
 //! The reader: it takes the bytes of a source in pieces, unfolds their lines (`unfolder`), and reads each block of
 //! lines as a record (`parser`).
 
-ghost use Rattle.std.specs.Prelude.{◌≡◌, ◌+◌, ◌-◌, ◌*◌, ◌++◌, ◌∷◌, ◌^◌, ◌<◌, ◌≤◌, [], All, Err, IfErr, IfOk, OnOk, length, vec_len};
+ghost use Rattle.std.specs.Prelude.{◌≡◌, ◌+◌, ◌-◌, ◌*◌, ◌++◌, ◌∷◌, ◌^◌, ◌<◌, ◌≤◌, [], All, Err, IfErr, IfOk, OnOk, false, length, vec_len};
+ghost use Rattle.dir_ldif.specs.declared.reader.Place.TheVariants.{Reading};
 ghost use Rattle.dir_ldif.specs.Limits.{most_read_calls};
 ghost use Rattle.dir_ldif.specs.Records.{EndsIn, all_found, found_of, records_of};
 ghost use Rattle.dir_ldif.specs.SoundRecords.{IsLegalFound, IsSoundFound};
 
 mod attrval;
 mod bytes;
+mod marks;
 mod parser;
 mod spare;
 mod unfolder;
@@ -15,6 +17,7 @@ mod version;
 
 use crate::device::Source;
 use crate::faults::{RecordFault, Refusal, StreamFault};
+use crate::reader::marks::Marks;
 use crate::reader::parser::record_of;
 use crate::reader::spare::Spare;
 use crate::reader::unfolder::{Line, Unfolder};
@@ -56,10 +59,10 @@ pub struct RecordReader<'s, R> {
 
 impl<'s, R: Source + Drop> RecordReader<'s, R> {
     ghost use Rattle.std.specs.Prelude.{◌≡◌, ◌<◌, ℕ, List, [], None, Ok, Err, IfErr, IfNone, IfOk, IfSome, OnOk};
-    ghost use Rattle.std.specs.Option.{option_map};
-    ghost use Rattle.dir_ldif.specs.Reader.Answers.{GivesFirst, GivesNone};
-    ghost use Rattle.dir_ldif.specs.Reader.{GivesLegal, GivesSound, IsAtEnd, IsEnded, IsReading, ReadsPieces, SpendsTurns, StopsFor, StopsSoonFor, UsesUp, answers_to_come, answers_to_come_with, budget, in_hand, schema_of, source_of, turns_left};
-    ghost use Rattle.dir_ldif.specs.Records.{records_of};
+    ghost use Rattle.std.specs.Option.{option_and_then, option_map};
+    ghost use Rattle.dir_ldif.specs.Reader.Answers.{GivesFirst, GivesNone, KeepsMarks};
+    ghost use Rattle.dir_ldif.specs.Reader.{GivesLegal, GivesSound, IsAtEnd, IsEnded, IsReading, ReadsPieces, SpendsTurns, StopsFor, StopsSoonFor, UsesUp, answers_to_come, answers_to_come_with, budget, in_hand, marks_at_end, marks_passed, schema_of, source_of, turns_left};
+    ghost use Rattle.dir_ldif.specs.Records.{marks_up_to, records_of, records_up_to};
 
     /// A reader that is allowed 1,099,511,627,776 read calls.
     ///
@@ -101,8 +104,41 @@ impl<'s, R: Source + Drop> RecordReader<'s, R> {
         Ok(RecordReader {
             schema,
             source,
-            core: Core::new(alloc, turns)?,
+            core: Core::new(alloc, turns, Marks::ignored())?,
         })
+    }
+
+    /// A reader of the first groups of an undo text, so many: for it the text ends before the mark after them. It is allowed
+    /// as many read calls as that of `new`.
+    ///
+    /// # Errors
+    ///
+    /// `Memory` alone.
+    pub fn up_to(
+        alloc: Global,
+        schema: &'s Schema,
+        source: R,
+        groups: u64,
+    ) -> Result<RecordReader<'s, R>, StreamFault>
+        ensures answers { IfOk result (λ r. answers_to_come R.left r ≡ option_map (records_up_to schema.now groups) (R.left source)) }
+        ensures ahead { IfOk result (λ r. (in_hand r ≡ []) × ((text : List ℕ) → answers_to_come_with r text ≡ records_up_to schema.now groups text)) }
+        ensures marks { IfOk result (λ r. marks_at_end R.left r ≡ option_and_then (marks_up_to groups) (R.left source)) }
+        ensures turns { IfOk result (λ r. turns_left r ≡ most_read_calls) }
+        ensures source { IfOk result (λ r. (source_of r ≡ source) × (schema_of r ≡ schema.now) × IsReading r) }
+        ensures err { IfErr result (λ fault. fault ≡ StreamFault.Memory) }
+    {
+        Ok(RecordReader {
+            schema,
+            source,
+            core: Core::new(alloc, MAX_TURNS, Marks::up_to(groups))?,
+        })
+    }
+
+    /// The marks of groups that were passed; 0 where they are not counted.
+    pub fn marks(&self) -> u64
+        ensures { result ≡ marks_passed self.now }
+    {
+        self.core.unfolder.marks()
     }
 
     /// The next record or its fault, or none at the end. After a stream fault each call answers `Ended`, and
@@ -110,7 +146,7 @@ impl<'s, R: Source + Drop> RecordReader<'s, R> {
     ///
     /// # Errors
     ///
-    /// `LineTooLong` and `BadVersion` where the text is at fault and no record is left; `Read` where the source
+    /// `LineTooLong`, `BadVersion` and `BadMark` where the text is at fault and no record is left; `Read` where the source
     /// failed in this call; `TooManyTurns` where the source gave at least as many bytes as read calls were
     /// left; `Memory`; `Ended`.
     pub fn next(&mut self) -> Result<Option<Answer>, StreamFault>
@@ -129,6 +165,8 @@ impl<'s, R: Source + Drop> RecordReader<'s, R> {
         ensures going { OnOk result (¬ (IsEnded self.new)) }
         ensures count { OnOk result (R.failures (source_of self.new) ≡ R.failures (source_of self.old)) }
         ensures turns { IfOk result (λ _. IsReading self.new → SpendsTurns R.left self.old self.new) }
+        ensures marks { IfOk result (λ _. KeepsMarks (marks_at_end R.left self.old) (marks_at_end R.left self.new)) }
+        ensures counted { IfOk result (λ o. IfNone o (IfSome (marks_at_end R.left self.old) (λ n. marks_passed self.new ≡ n))) }
         ensures same { R.is_same (source_of self.old) (source_of self.new) }
     {
         self.core.next(self.schema, &mut self.source)
@@ -160,32 +198,35 @@ struct Core {
     ghost in_range: { at ≤ end },
     ghost in_buffer: { end ≤ vec_len buffer },
     ghost piece: { vec_len buffer ≡ 8192 },
+    ghost going: { place ≡ Reading → unfolder.marks.is_over ≡ false },
     ghost room: { unfolder.number + (end - at) + 8192 * turns < 2 ^ 62 },
 }
 
 impl Core {
-    ghost use Rattle.std.specs.Prelude.{◌≡◌, ◌+◌, ◌++◌, ◌*◌, ◌^◌, ◌<◌, ◌≤◌, ℕ, List, [], None, Ok, Err, true, false, IfErr, IfNone, IfOk, IfSome, MatchOption, OnOk, length};
+    ghost use Rattle.std.specs.Prelude.{◌≡◌, ◌⊎◌, ◌+◌, ◌++◌, ◌*◌, ◌^◌, ◌<◌, ◌≤◌, ℕ, List, [], None, Ok, Err, true, false, IfErr, IfNone, IfOk, IfSome, MatchOption, OnOk, length};
     ghost use Rattle.std.specs.Io.KnownBytes.{Consumes, IsAtEnd};
     ghost use Rattle.dir_ldif.specs.declared.reader.Place.TheVariants.{AtEnd, Ended, Reading};
-    ghost use Rattle.dir_ldif.specs.Reader.Answers.{EndsSoon, ExplainsFault, GivesFirst, GivesNone, GoesOn, answers_left};
+    ghost use Rattle.dir_ldif.specs.Reader.Answers.{EndsSoon, ExplainsFault, GivesFirst, GivesNone, GoesOn, KeepsMarks, answers_left, marks_left};
     ghost use Rattle.dir_ldif.specs.SoundRecords.{IsLegalFound, IsSoundFound};
     ghost use Rattle.dir_ldif.specs.Bytes.{is_empty};
     ghost use Rattle.dir_ldif.specs.Inside.Reader.{FailsToRead};
-    ghost use Rattle.dir_ldif.specs.Reader.Unfolding.{blocks_to_come};
-    ghost use Rattle.dir_ldif.specs.Blocks.{EndsAtOnce, block_then, blocks_of};
+    ghost use Rattle.dir_ldif.specs.Reader.Unfolding.{to_come};
+    ghost use Rattle.dir_ldif.specs.LogicalLines.{lines_of};
+    ghost use Rattle.dir_ldif.specs.Remainder.{FailsAtOnce, done, remainder_from, then_rest};
     ghost use Rattle.dir_ldif.specs.Inside.Reader.{Finds, Stops, StopsSoon, Uses};
-    ghost use Rattle.dir_ldif.specs.Reader.Answers.{IsInPieces, blocks_left, bytes_ahead, hand};
+    ghost use Rattle.dir_ldif.specs.Reader.Answers.{IsInPieces, to_read, bytes_ahead, hand};
 
-    fn new(alloc: Global, turns: u64) -> Result<Core, StreamFault>
-        requires { turns ≤ most_read_calls }
-        ensures text { IfOk result (λ c. (text : List ℕ) → blocks_to_come c.unfolder text ≡ blocks_of text) }
+    fn new(alloc: Global, turns: u64, marks: Marks) -> Result<Core, StreamFault>
+        requires turns { turns ≤ most_read_calls }
+        requires going { marks.is_over ≡ false }
+        ensures text { IfOk result (λ c. (text : List ℕ) → to_come c.unfolder text ≡ remainder_from marks false [] (lines_of text)) }
         ensures fresh { IfOk result (λ c. hand c ≡ []) }
         ensures place { IfOk result (λ c. c.place ≡ Reading) }
         ensures turns { IfOk result (λ c. c.turns ≡ turns) }
         ensures err { IfErr result (λ fault. fault ≡ StreamFault.Memory) }
     {
         Ok(Core {
-            unfolder: Unfolder::new(alloc),
+            unfolder: Unfolder::new(alloc, marks),
             spare: Spare::new(alloc),
             names: NameReader::new(alloc),
             buffer: vec![in alloc; 0; PIECE]?,
@@ -219,6 +260,8 @@ impl Core {
         ensures turns { IfOk result (λ _. self.new.place ≡ Reading → (bytes : List ℕ)
             × Consumes (S.left source.old) (S.left source.new) bytes × (self.old.turns ≤ self.new.turns + length bytes)) }
         ensures count { OnOk result (S.failures source.new ≡ S.failures source.old) }
+        ensures marks { IfOk result (λ _. KeepsMarks (marks_left self.old (S.left source.old)) (marks_left self.new (S.left source.new))) }
+        ensures counted { IfOk result (λ o. IfNone o (IfSome (marks_left self.old (S.left source.old)) (λ n. self.new.unfolder.marks.passed ≡ n))) }
         ensures same { S.is_same source.old source.new }
     {
         match self.place {
@@ -244,7 +287,7 @@ impl Core {
         ensures some { IfOk result (λ o. IfSome o (λ found. GivesFirst (Ok found)
             (answers_left schema.now self.old (S.left source.old)) (answers_left schema.now self.new (S.left source.new)))) }
         ensures used { IfOk result (λ o. IfSome o (λ found. self.new.place ≡ Reading → GoesOn found schema.now self.old self.new (S.left source.old) (S.left source.new))) }
-        ensures shrinks { IfOk result (λ _. bytes_ahead self.new < bytes_ahead self.old) }
+        ensures shrinks { IfOk result (λ o. IfSome o (λ _. bytes_ahead self.new < bytes_ahead self.old)) }
         ensures none { IfOk result (λ o. IfNone o (GivesNone (answers_left schema.now self.old (S.left source.old)) × (self.new.place ≡ AtEnd))) }
         ensures err { IfErr result (λ fault. ExplainsFault fault schema.now self.old (S.left source.old) (S.left source.new) (S.failures source.old) (S.failures source.new)) }
         ensures soon { IfErr result (λ fault. EndsSoon fault schema.now self.old (S.left source.old) (S.left source.new)) }
@@ -255,6 +298,8 @@ impl Core {
         ensures turns { IfOk result (λ _. self.new.place ≡ Reading → (bytes : List ℕ)
             × Consumes (S.left source.old) (S.left source.new) bytes × (self.old.turns ≤ self.new.turns + length bytes)) }
         ensures count { OnOk result (S.failures source.new ≡ S.failures source.old) }
+        ensures marks { IfOk result (λ _. KeepsMarks (marks_left self.old (S.left source.old)) (marks_left self.new (S.left source.new))) }
+        ensures counted { IfOk result (λ o. IfNone o (IfSome (marks_left self.old (S.left source.old)) (λ n. self.new.unfolder.marks.passed ≡ n))) }
         ensures same { S.is_same source.old source.new }
     {
         let block = self.next_block(source)?;
@@ -271,10 +316,10 @@ impl Core {
         requires { self.old.place ≡ Reading }
         ensures ok { IfOk result (λ block. (bytes : List ℕ)
             × Consumes (S.left source.old) (S.left source.new) bytes
-            × Finds self.new.place (blocks_left self.old) block.items (blocks_left self.new) bytes (S.left source.new)
+            × Finds self.new.place (to_read self.old) block.items (to_read self.new) self.new.unfolder.marks.passed bytes (S.left source.new)
             × (self.new.place ≡ Reading → (self.old.turns ≤ self.new.turns + length bytes) × (is_empty block.items ≡ false))) }
         ensures used { IfOk result (λ block. self.new.place ≡ Reading → Uses self.old self.new block.items (S.left source.old) (S.left source.new)) }
-        ensures shrinks { IfOk result (λ _. bytes_ahead self.new < bytes_ahead self.old) }
+        ensures shrinks { IfOk result (λ block. is_empty block.items ≡ false → bytes_ahead self.new < bytes_ahead self.old) }
         ensures err { IfErr result (λ fault. (bytes : List ℕ)
             × Consumes (S.left source.old) (S.left source.new) bytes
             × Stops fault self.old self.new bytes (S.left source.new) (S.failures source.old) (S.failures source.new)) }
@@ -287,6 +332,9 @@ impl Core {
             if let Some(block) = self.use_buffer()? {
                 return Ok(block);
             }
+            if self.place == Place::AtEnd {
+                return Ok(Vec::new(self.alloc));
+            }
             if !self.read_more(source)? {
                 return self.finish();
             }
@@ -295,17 +343,18 @@ impl Core {
 
     /// Uses up the bytes in hand, to the end of a block if one ends in them. Answers that block, if there is one.
     fn use_buffer(&mut self) -> Result<Option<Vec<Line>>, StreamFault>
+        requires { self.old.place ≡ Reading }
         ensures turns { self.new.turns ≡ self.old.turns }
-        ensures place { self.new.place ≡ self.old.place }
+        ensures place { IfOk result (λ o. MatchOption o ((self.new.place ≡ Reading) ⊎ ((self.new.place ≡ AtEnd) × (self.new.unfolder.marks.is_over ≡ true))) (λ _. self.new.place ≡ Reading)) }
         ensures ok { IfOk result (λ o. MatchOption o
-            ((text : List ℕ) → blocks_left self.old text ≡ blocks_to_come self.new.unfolder text)
-            (λ block. (text : List ℕ) → blocks_left self.old text ≡ block_then block.items (blocks_left self.new text))) }
+            ((text : List ℕ) → to_read self.old text ≡ to_come self.new.unfolder text)
+            (λ block. (text : List ℕ) → to_read self.old text ≡ then_rest block.items (to_read self.new text))) }
         ensures used { IfOk result (λ o. IfSome o (λ block. (used : List ℕ) × (hand self.old ≡ used ++ hand self.new)
-            × ((text : List ℕ) → blocks_to_come self.old.unfolder (used ++ text) ≡ block_then block.items (blocks_to_come self.new.unfolder text)))) }
+            × ((text : List ℕ) → to_come self.old.unfolder (used ++ text) ≡ then_rest block.items (to_come self.new.unfolder text)))) }
         ensures shorter { IfOk result (λ o. IfSome o (λ _. length (hand self.new) < length (hand self.old))) }
         ensures none { IfOk result (λ o. IfNone o (self.new.at ≡ self.new.end)) }
         ensures some { IfOk result (λ o. IfSome o (λ block. is_empty block.items ≡ false)) }
-        ensures err { IfErr result (λ fault. (text : List ℕ) → EndsAtOnce fault (blocks_left self.old text)) }
+        ensures err { IfErr result (λ fault. (text : List ℕ) → FailsAtOnce fault (to_read self.old text)) }
     {
         let piece = &self.buffer[self.at..self.end];
         match self.unfolder.push_chunk(&mut self.spare, piece) {
@@ -315,10 +364,14 @@ impl Core {
             }
             Ok(None) => {
                 self.at = self.end;
+                if self.unfolder.is_over() {
+                    self.place = Place::AtEnd;
+                }
                 Ok(None)
             }
             Err(fault) => {
                 self.at = self.end;
+                self.place = Place::Ended;
                 Err(fault)
             }
         }
@@ -356,12 +409,13 @@ impl Core {
     /// Ends the text, and answers the last block.
     fn finish(&mut self) -> Result<Vec<Line>, StreamFault>
         requires empty { hand self.old ≡ [] }
+        requires going { self.old.unfolder.marks.is_over ≡ false }
         requires room { self.old.unfolder.number + 8192 * self.old.turns + 1 < 2 ^ 62 }
         ensures place { self.new.place ≡ AtEnd }
         ensures empty { hand self.new ≡ [] }
         ensures turns { self.new.turns ≡ self.old.turns }
-        ensures ok { IfOk result (λ block. blocks_left self.old [] ≡ block_then block.items []) }
-        ensures err { IfErr result (λ fault. EndsAtOnce fault (blocks_left self.old [])) }
+        ensures ok { IfOk result (λ block. to_read self.old [] ≡ then_rest block.items (done self.new.unfolder.marks.passed)) }
+        ensures err { IfErr result (λ fault. FailsAtOnce fault (to_read self.old [])) }
     {
         self.place = Place::AtEnd;
         self.at = 0;
@@ -403,7 +457,7 @@ pub fn read_all(alloc: Global, schema: &Schema, text: &[u8]) -> Result<Vec<Answe
     if text.len() > MAX_TEXT {
         return Err(StreamFault::TooManyTurns);
     }
-    let mut unfolder = Unfolder::new(alloc);
+    let mut unfolder = Unfolder::new(alloc, Marks::ignored());
     let mut spare = Spare::new(alloc);
     let mut names = NameReader::new(alloc);
     let mut answers = Vec::new(alloc);

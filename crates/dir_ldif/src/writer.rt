@@ -6,6 +6,7 @@ ghost use Rattle.std.specs.List.{flat_map, list_all};
 ghost use Rattle.dir_names.specs.Names.Printing.{printed_rdn};
 ghost use Rattle.dir_ldif.specs.Bytes.{ends_in};
 ghost use Rattle.dir_ldif.specs.RecordText.{change_text, change_word, flag_text, kind_text, mod_text, name_line, op_word, record_text_of, superior_text, value_text};
+ghost use Rattle.dir_ldif.specs.MarkText.{mark_line};
 ghost use Rattle.dir_ldif.specs.RoundTrip.{ReadsBackAs};
 ghost use Rattle.dir_ldif.specs.SoundRecords.{AreBytes, IsBytes, IsSoundKind, IsSoundName, IsSoundRdn, IsSoundRecord, IsSoundSuperior, ModsAreBytes, ValuesAreBytes};
 ghost use Rattle.dir_ldif.specs.LineText.{base64_of, fold_from, is_plain, is_safe, is_safe_first, value_spec, written_line};
@@ -15,6 +16,7 @@ use crate::records::{Change, ChangeKind, Mod, ModOp, Record};
 use crate::scan::all_usual;
 use base64::engine::general_purpose::STANDARD;
 use dir_names::{Bytes, Description, Dn, Lines, Memory, Rdn};
+use itoa::Buffer;
 use std::alloc::Global;
 
 /// The greatest length of a written line without its LF, in bytes.
@@ -50,6 +52,15 @@ fn push_content(out: &mut Vec<u8>, dn: &Dn, lines: &Lines) -> Result<(), Memory>
     push_name(out, b"dn", dn)?;
     push_values(out, lines.as_slice())?;
     push_end(out)
+}
+
+/// Appends the mark of a group: the comment line `# undo N`.
+pub fn push_mark(out: &mut Vec<u8>, number: u64) -> Result<(), Memory>
+    ensures { OnOk result (out.new.items ≡ out.old.items ++ mark_line number) }
+{
+    out.extend_from_slice(b"# undo ")?;
+    out.extend_from_slice(Buffer::new().format(number).as_bytes())?;
+    Ok(out.push(b'\n')?)
 }
 
 /// Appends the text of a change record.

@@ -30,13 +30,14 @@ static OF_RECORDS: [(RecordFault, &str); 15] = [
     (RecordFault::Name(NameFault::BadType), "L9 N7 BadType"),
 ];
 
-static OF_STREAMS: [(StreamFault, &str); 6] = [
+static OF_STREAMS: [(StreamFault, &str); 7] = [
     (StreamFault::LineTooLong, "L10 LineTooLong"),
     (StreamFault::Read, "L11 Read"),
     (StreamFault::Memory, "L12 Memory"),
     (StreamFault::Ended, "L13 Ended"),
     (StreamFault::TooManyTurns, "L14 TooManyTurns"),
     (StreamFault::BadVersion, "L15 BadVersion"),
+    (StreamFault::BadMark, "L16 BadMark"),
 ];
 
 #[test]

@@ -146,8 +146,118 @@ fn assert_read(rt: &impl Abort, alloc: Global, source: Script, turns: Option<u8>
         Some(turns) => RecordReader::with_turns(alloc, &schema, source, turns.into()),
         None => RecordReader::new(alloc, &schema, source),
     };
-    let reader = reader.expect(rt, "a reader");
-    assert_shown(rt, alloc, &shown(rt, alloc, reader), want);
+    let mut reader = reader.expect(rt, "a reader");
+    assert_shown(rt, alloc, &shown(rt, alloc, &mut reader), want);
+    // without a number of groups no mark is counted
+    assert!(rt; reader.marks() == 0);
+}
+
+const GROUPS: &str =
+    "version: 1\n\n# undo 1\ndn: dc=a\n\ndn: dc=b\n\n# undo 2\n# undo 3\ndn: dc=c\n\n";
+
+/// Texts, how many of their groups are read, what these read as, and how many marks are passed.
+static GROUPED: [(&str, u64, &str, u64); 24] = [
+    (GROUPS, 0, "", 0),
+    (GROUPS, 1, "4 dn: dc=a||;6 dn: dc=b||;", 1),
+    (GROUPS, 2, "4 dn: dc=a||;6 dn: dc=b||;", 2),
+    (GROUPS, 3, "4 dn: dc=a||;6 dn: dc=b||;10 dn: dc=c||;", 3),
+    // The end comes after fewer marks.
+    (GROUPS, 4, "4 dn: dc=a||;6 dn: dc=b||;10 dn: dc=c||;", 3),
+    (
+        GROUPS,
+        u64::MAX,
+        "4 dn: dc=a||;6 dn: dc=b||;10 dn: dc=c||;",
+        3,
+    ),
+    ("", 1, "", 0),
+    ("version: 1\n", 1, "", 0),
+    ("version: 1\n# undo 1", 1, "", 1),
+    // Records before the first mark.
+    ("dn: dc=a\n\n# undo 1\n", 0, "L16 BadMark;L13 Ended;", 0),
+    ("version: 1\ndn: dc=a\n", 1, "L16 BadMark;L13 Ended;", 0),
+    // Marks that are not due.
+    ("# undo 2\n", 1, "L16 BadMark;L13 Ended;", 0),
+    ("# undo 2\n", 0, "L16 BadMark;L13 Ended;", 0),
+    ("# undo 1\n# undo 1\n", 2, "L16 BadMark;L13 Ended;", 1),
+    (
+        "# undo 1\ndn: dc=a\n\n# undo 3",
+        1,
+        "2 dn: dc=a||;L16 BadMark;L13 Ended;",
+        1,
+    ),
+    (
+        "# undo 111111111111111111111111111111\n",
+        1,
+        "L16 BadMark;L13 Ended;",
+        0,
+    ),
+    // Comments of other forms.
+    (
+        "# undo 0\n# undo 01\n# undo  1\n#undo 1\n# undo\n# undo \n# undo 1a\n# Undo 1\n",
+        1,
+        "",
+        0,
+    ),
+    (
+        "# undo 1 \n # undo 2\n# undo 1\ndn: dc=a\n",
+        1,
+        "4 dn: dc=a||;",
+        1,
+    ),
+    // Within a record, right after the version line, and at once after a record's empty line.
+    (
+        "version: 1\n# undo 1\ndn: dc=a\n# undo 7\nl: x\n# undo 2\n\n# undo 2\nx\n",
+        1,
+        "3 dn: dc=a|l: x||;",
+        1,
+    ),
+    // Folded, and with CR LF.
+    (
+        "# un\n do 1\ndn: dc=a\n\n#\n  undo\n  2\nx\n",
+        1,
+        "3 dn: dc=a||;",
+        1,
+    ),
+    (
+        "# undo 1\r\ndn: dc=a\r\n\r\n# undo \r\n 2\r\nx\r\n",
+        1,
+        "2 dn: dc=a||;",
+        1,
+    ),
+    ("# undo 1\n 0\ndn: dc=a\n", 1, "L16 BadMark;L13 Ended;", 0),
+    // What comes after the last wanted group is not judged.
+    (
+        "# undo 1\ndn: dc=a\n\n# undo 2\n# undo 2\nversion: 2\n\nx\n",
+        1,
+        "2 dn: dc=a||;",
+        1,
+    ),
+    ("# undo 1\nversion: 2\n", 1, "L15 BadVersion;L13 Ended;", 1),
+];
+
+#[test]
+fn first_groups_are_read(rt: HostRuntime) {
+    for (text, groups, want, marks) in &GROUPED {
+        let script = Script::new(text.as_bytes());
+        assert_groups(&rt, rt.alloc(), script, *groups, want, *marks);
+        let script = Script::new(text.as_bytes()).pieces(1);
+        assert_groups(&rt, rt.alloc(), script, *groups, want, *marks);
+    }
+}
+
+/// Asserts what the first so many groups of a source's text read as, and how many marks are passed.
+fn assert_groups(
+    rt: &impl Abort,
+    alloc: Global,
+    source: Script,
+    groups: u64,
+    want: &str,
+    marks: u64,
+) {
+    let schema = schema(rt, alloc);
+    let mut reader = RecordReader::up_to(alloc, &schema, source, groups).expect(rt, "a reader");
+    assert_shown(rt, alloc, &shown(rt, alloc, &mut reader), want);
+    assert!(rt; reader.marks() == marks, "{want}");
 }
 
 fn assert_shown(rt: &impl Abort, alloc: Global, shown: &String, want: &str) {
@@ -156,10 +266,10 @@ fn assert_shown(rt: &impl Abort, alloc: Global, shown: &String, want: &str) {
 }
 
 /// What a reader answers.
-fn shown(rt: &impl Abort, alloc: Global, mut reader: RecordReader<Script>) -> String {
+fn shown(rt: &impl Abort, alloc: Global, reader: &mut RecordReader<Script>) -> String {
     let mut out = String::new(alloc);
     for _ in 0..100 {
-        if !push_next(rt, alloc, &mut out, next(&mut reader)) {
+        if !push_next(rt, alloc, &mut out, next(reader)) {
             break;
         }
     }

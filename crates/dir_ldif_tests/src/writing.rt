@@ -1,7 +1,9 @@
 //! Changes and lines as they are written.
 
 use crate::make::{Does, added_mods, change, name};
-use dir_ldif::{ModOp, Record, push_change, push_end, push_line, push_name, push_record};
+use dir_ldif::{
+    ModOp, Record, push_change, push_end, push_line, push_mark, push_name, push_record,
+};
 
 /// Names and what is done to their entries. Each change is written twice: by itself, and as a record.
 static CHANGES: [(&str, Does); 2] = [
@@ -14,7 +16,8 @@ const WRITTEN: &[u8] = b"version: 1\n\n\
     dn: cn=y+sn=z,dc=com\nchangetype: modrdn\nnewrdn: cn=x\ndeleteoldrdn: 1\n\n\
     dn: cn=x,dc=com\nchangetype: modify\nadd: sn\nsn: Z\n-\n\n\
     dn: cn=x,dc=com\nchangetype: modify\nadd: sn\nsn: Z\n-\n\n\
-    newsuperior: ou=A,dc=com\n";
+    newsuperior: ou=A,dc=com\n\
+    # undo 1\n# undo 18446744073709551615\n";
 
 #[test]
 fn changes_and_lines_are_written(rt: HostRuntime) {
@@ -28,6 +31,8 @@ fn changes_and_lines_are_written(rt: HostRuntime) {
     }
     let superior = name(&rt, rt.alloc(), "ou=A, dc=com");
     push_name(&mut out, b"newsuperior", &superior).expect(&rt, "memory");
+    push_mark(&mut out, 1).expect(&rt, "memory");
+    push_mark(&mut out, u64::MAX).expect(&rt, "memory");
     assert!(rt; out.as_slice() == WRITTEN);
 }
 

@@ -75,9 +75,9 @@ canonical_access sound reads_back q copy first bytes is =
     (ap (copy_of q.rows key) found.4 ∙ subst (λ (k : DnKeys). copy_of q.rows k (canonical_of d) ≡ Ok d) suffix_is back ∙ sym copied)
 
 pub access_as_before : CopiesAreSound → CanonicalTextsReadBack → Headline → AccessIsAsBefore
-access_as_before sound reads_back law q copy changes output back options copy_bytes changes_bytes runs runs_back =
+access_as_before sound reads_back law q copy changes output back options whole copy_bytes changes_bytes runs runs_back =
     let taken = law q copy changes output copy_bytes changes_bytes runs in
-    let leads : IsTakenBack q output options taken.0 = taken.2 options in
+    let leads : IsTakenBack q output options taken.0 = taken.2 options whole in
     let answers : Ok back ≡ Ok leads.back = sym runs_back ∙ leads.runs in
     let same : back ≡ leads.back = cc in
     let first_is : taken.0 ≡ back.texts.out = sym (ap (λ (o : RunOutput). o.texts.out) same ∙ leads.gives_first) in
@@ -85,9 +85,9 @@ access_as_before sound reads_back law q copy changes output back options copy_by
 
 -- ---- there and back in memory
 
-pub access_there_and_back : AccessIsAsBefore → (q : RunTerms) (options : ModifyOptions) (copy changes : List ℕ) (there back : RunInMemory) → IsBytes copy → IsBytes changes
+pub access_there_and_back : AccessIsAsBefore → (q : RunTerms) (options : ModifyOptions) (copy changes : List ℕ) (there back : RunInMemory) → options.last ≡ None → IsBytes copy → IsBytes changes
     → IsRunInMemory q copy changes there → IsRunInMemory (terms q.rows q.suffix options) there.out.items there.undo.items back → HaveSameAccess q copy back.out.items
-access_there_and_back law q options copy changes there back copy_bytes changes_bytes ran ran_back =
+access_there_and_back law q options copy changes there back whole copy_bytes changes_bytes ran ran_back =
     let runs_back : output_of (terms q.rows q.suffix options) ran.output.texts.out ran.output.texts.undo ≡ Ok ran_back.output =
     sym (λ i. output_of (terms q.rows q.suffix options) (ran.out i) (ran.undo i)) ∙ ran_back.runs in
-    subst (λ (o : List ℕ). HaveSameAccess q copy o) (sym ran_back.out) (law q copy changes ran.output ran_back.output options copy_bytes changes_bytes ran.runs runs_back)
+    subst (λ (o : List ℕ). HaveSameAccess q copy o) (sym ran_back.out) (law q copy changes ran.output ran_back.output options whole copy_bytes changes_bytes ran.runs runs_back)

@@ -35,6 +35,7 @@ question_blamed t known c (tool.Write output) reads h = absurd (h)
 question_blamed t known c (tool.BadChanges fault) reads h = absurd (h)
 question_blamed t known c (tool.Config fault) reads h = absurd (h)
 question_blamed t known c tool.NoEntry reads h = absurd (h)
+question_blamed t known c (tool.TooFewGroups groups) reads h = absurd (h)
 
 -- ---- the copy
 
@@ -56,6 +57,7 @@ copy_blamed t known asking empty failures failures' (tool.BadQuestion item) aske
 copy_blamed t known asking empty failures failures' (tool.BadChanges fault) asked named bare h = absurd (h)
 copy_blamed t known asking empty failures failures' (tool.Config fault) asked named bare h = absurd (h)
 copy_blamed t known asking empty failures failures' tool.NoEntry asked named bare h = absurd (h)
+copy_blamed t known asking empty failures failures' (tool.TooFewGroups groups) asked named bare h = absurd (h)
 
 -- the complete records before the fault of the copy's reader
 pub copy_first : (t : AccessTerms) (config : Option (List ℕ)) (asking : Asking) (copy copy' : Option (List ℕ)) (empty : Dir) (failures failures' : ℕ) (fault : ToolFault)
@@ -81,12 +83,14 @@ copy_first t config asking copy copy' empty failures failures' (tool.BadCopy lin
 copy_first t config asking copy copy' empty failures failures' (tool.BadCopy line (cause.Ended stream.Memory)) asked named h settled = tt
 copy_first t config asking copy copy' empty failures failures' (tool.BadCopy line (cause.Ended stream.Ended)) asked named h settled = tt
 copy_first t config asking copy copy' empty failures failures' (tool.BadCopy line (cause.Ended stream.BadVersion)) asked named h settled = tt
+copy_first t config asking copy copy' empty failures failures' (tool.BadCopy line (cause.Ended stream.BadMark)) asked named h settled = tt
 copy_first t config asking copy copy' empty failures failures' tool.Memory asked named h settled = tt
 copy_first t config asking copy copy' empty failures failures' (tool.Write output) asked named h settled = absurd (h)
 copy_first t config asking copy copy' empty failures failures' (tool.BadQuestion item) asked named h settled = absurd (h)
 copy_first t config asking copy copy' empty failures failures' (tool.BadChanges fault) asked named h settled = absurd (h)
 copy_first t config asking copy copy' empty failures failures' (tool.Config fault) asked named h settled = absurd (h)
 copy_first t config asking copy copy' empty failures failures' tool.NoEntry asked named h settled = absurd (h)
+copy_first t config asking copy copy' empty failures failures' (tool.TooFewGroups groups) asked named h settled = absurd (h)
 
 -- ---- a fault before the report is written
 
@@ -102,6 +106,7 @@ blamed t known (tool.BadCopy line why) h = absurd (h)
 blamed t known (tool.BadQuestion item) h = absurd (h)
 blamed t known (tool.BadChanges why) h = absurd (h)
 blamed t known tool.NoEntry h = absurd (h)
+blamed t known (tool.TooFewGroups groups) h = absurd (h)
 
 -- nothing is written
 pub nothing_written : (A : Type 0) (t : AccessTerms) (known : AccessSources) (e : ToolFault) (taken : Option (List ℕ)) → IsAccessFault t known e → WroteReport {A = A} (Err e) (taken, taken) []
@@ -111,6 +116,7 @@ nothing_written A t known tool.Memory taken h = refl
 nothing_written A t known (tool.BadCopy line why) taken h = refl
 nothing_written A t known (tool.BadQuestion item) taken h = refl
 nothing_written A t known tool.NoEntry taken h = refl
+nothing_written A t known (tool.TooFewGroups groups) taken h = refl
 nothing_written A t known (tool.Write to) taken h = absurd (h)
 nothing_written A t known (tool.BadChanges why) taken h = absurd (h)
 
@@ -126,6 +132,7 @@ answers_so A t known tool.Memory report h = h
 answers_so A t known (tool.BadCopy line why) report h = h
 answers_so A t known (tool.BadQuestion item) report h = h
 answers_so A t known tool.NoEntry report h = h
+answers_so A t known (tool.TooFewGroups groups) report h = h
 answers_so A t known (tool.Write to) report h = absurd (h)
 answers_so A t known (tool.BadChanges why) report h = absurd (h)
 
@@ -177,7 +184,9 @@ module _ (A : Type 0) (t : AccessTerms) (config copy report : List ℕ) where
   wholly (tool.BadCopy line (cause.Ended stream.Memory)) h = bad_copy h.0 (line, cause.Ended stream.Memory) h.1 h.2
   wholly (tool.BadCopy line (cause.Ended stream.Ended)) h = bad_copy h.0 (line, cause.Ended stream.Ended) h.1 h.2
   wholly (tool.BadCopy line (cause.Ended stream.BadVersion)) h = bad_copy h.0 (line, cause.Ended stream.BadVersion) h.1 h.2
+  wholly (tool.BadCopy line (cause.Ended stream.BadMark)) h = bad_copy h.0 (line, cause.Ended stream.BadMark) h.1 h.2
   wholly tool.NoEntry h = no_entry h
+  wholly (tool.TooFewGroups groups) h = absurd (h)
   wholly (tool.Write to) h = absurd (h)
   wholly (tool.BadChanges why) h = absurd (h)
 

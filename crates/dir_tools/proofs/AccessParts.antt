@@ -147,6 +147,7 @@ words_fault t base requester (tool.Write output) named asked bad = absurd (bad)
 words_fault t base requester (tool.BadChanges fault) named asked bad = absurd (bad)
 words_fault t base requester (tool.Config fault) named asked bad = absurd (bad)
 words_fault t base requester tool.NoEntry named asked bad = absurd (bad)
+words_fault t base requester (tool.TooFewGroups groups) named asked bad = absurd (bad)
 
 -- that of the requester too
 pub requester_fault : (t : AccessTerms) (base : DnKeys) → name_value_key t.rows t.question.base ≡ Some base → requester_of t.rows t.question.authc ≡ None → parts_of t ≡ Err (tool.BadQuestion item.Authc)

@@ -10,10 +10,10 @@ use Rattle.std.specs.Io.KnownBytes.{Consumes}
 use Rattle.dir_ldif.specs.declared.reader.Place.TheVariants.{Reading}
 use Rattle.dir_ldif.specs.Reader.Answers.{FirstIsComplete, answers_ahead, answers_at}
 use Rattle.dir_ldif.specs.Reader.{StopsFor, UsesUp, answers_to_come_with, in_hand, schema_of, source_of}
-use Rattle.dir_ldif.specs.Records.{Answer, Found, all_found, records_of}
+use Rattle.dir_ldif.specs.Records.{Answer, Found, all_found}
 use Rattle.dir_tree.specs.Dir.{Dir}
 use Rattle.dir_tools.specs.CopyOf.{LoadedCopy}
-use Rattle.dir_tools.specs.CompleteRecords.{AreComplete, CompleteRecordsAreAccepted, CompleteRecordsLoad, GaveBytes, GaveBytesTo, answers_after}
+use Rattle.dir_tools.specs.CompleteRecords.{AreComplete, CompleteRecordsAreAccepted, CompleteRecordsLoad, GaveBytes, GaveBytesTo}
 
 -- ---- lists of answers
 
@@ -43,6 +43,7 @@ IsReaders stream.LineTooLong = ⊥
 IsReaders stream.Memory = ⊥
 IsReaders stream.Ended = ⊥
 IsReaders stream.BadVersion = ⊥
+IsReaders stream.BadMark = ⊥
 
 module _ {S : Type 0} (left : S → Option (List ℕ)) where
   -- these records were given, and the rest is to come
@@ -93,21 +94,22 @@ module _ {S : Type 0} (left : S → Option (List ℕ)) where
   gave_all failures stream.Memory first old new founds is stops was = absurd (is)
   gave_all failures stream.Ended first old new founds is stops was = absurd (is)
   gave_all failures stream.BadVersion first old new founds is stops was = absurd (is)
+  gave_all failures stream.BadMark first old new founds is stops was = absurd (is)
 
 -- ---- a reader that has just begun
 
 settles_so : (a b : List ℕ → List Answer) → ((text : List ℕ) → b text ≡ a text) → (founds : List Found) → AreComplete b founds → AreComplete a founds
 settles_so a b same founds h = λ text. ((h text).0, sym (same text) ∙ (h text).1)
 
-module _ {S : Type 0} (rows : List TypeRow) (left : S → Option (List ℕ)) where
+module _ {S : Type 0} (records : List ℕ → List Answer) (left : S → Option (List ℕ)) where
   -- what it gives is the records of the text
   pub from_start : (P : (List ℕ → List Answer) → Type 0) → ((a b : List ℕ → List Answer) → ((text : List ℕ) → b text ≡ a text) → P a → P b) → (first now : RecordReader S) (before behind : Option (List ℕ))
-      → in_hand first ≡ [] → ((text : List ℕ) → answers_to_come_with first text ≡ records_of rows text) → left (source_of first) ≡ before → left (source_of now) ≡ behind
-      → GaveBytesTo left first now P → GaveBytes before behind (λ bytes. P (answers_after rows bytes))
+      → in_hand first ≡ [] → ((text : List ℕ) → answers_to_come_with first text ≡ records text) → left (source_of first) ≡ before → left (source_of now) ≡ behind
+      → GaveBytesTo left first now P → GaveBytes before behind (λ bytes. P (λ text. records (bytes ++ text)))
   from_start P moves first now before behind empty reads starts ends gave = (
     gave.0,
     subst (λ o. Consumes before o gave.0) ends (subst (λ o. Consumes o (left (source_of now)) gave.0) starts gave.1),
-    moves (λ text. answers_to_come_with first (in_hand first ++ (gave.0 ++ text))) (answers_after rows gave.0)
+    moves (λ text. answers_to_come_with first (in_hand first ++ (gave.0 ++ text))) (λ text. records (gave.0 ++ text))
         (λ text. sym (ap (λ t. answers_to_come_with first (t ++ (gave.0 ++ text))) empty ∙ reads (gave.0 ++ text))) gave.2,
   )
 

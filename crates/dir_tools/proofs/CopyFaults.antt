@@ -108,7 +108,7 @@ module _ {D : Type 0} (state : D → Dir) (rows : List TypeRow) (first : Option 
       → (start : LoadedCopy) → IsLoaded state start begun → IfSome first (λ answers. with_records rows start answers ≡ Err (line, why))
   broken fault loading line why upto fails start holds =
       let all = loads_all state rows upto.0 begun upto.2 upto.3 start holds in
-      known first (λ answers given. ap (with_records rows start) given.1 ∙ all.3 (Ok upto.1 ∷ given.0) ∙ ap (λ r. and_then r (λ n. with_records rows n given.0)) (fails all.0 all.1)) upto.5
+      known first (λ answers given. ap (with_records rows start) given.1 ∙ all.3 (Ok upto.1 ∷ given.0) ∙ ap (λ r. and_then r (λ n. with_records rows n given.0)) (fails all.0 all.1)) upto.6
 
   -- the first record that can't be taken
   pub stops_at : (failures failures' : ℕ) (fault : ToolFault) (loading : Loading D) → TakesUpTo rows (TakesRecord state rows) (Err fault) first begun loading → StopsLoading state rows first failures failures' begun fault
@@ -122,6 +122,7 @@ module _ {D : Type 0} (state : D → Dir) (rows : List TypeRow) (first : Option 
   stops_at failures failures' (tool.BadChanges fault) loading upto = absurd (upto.4.0)
   stops_at failures failures' (tool.Config fault) loading upto = absurd (upto.4.0)
   stops_at failures failures' tool.NoEntry loading upto = absurd (upto.4.0)
+  stops_at failures failures' (tool.TooFewGroups groups) loading upto = absurd (upto.4.0)
 
   ended_so : (founds : List Found) (loading : Loading D) (fault : StreamFault) → TakesAll rows (TakesRecord state rows) founds begun loading → IfSome first (λ known. known ≡ all_found founds ++ Err fault ∷ [])
       → (start : LoadedCopy) → IsLoaded state start begun → IfSome first (λ answers. with_records rows start answers ≡ Err (0, cause.Ended fault))
@@ -136,6 +137,7 @@ of_copy stream.LineTooLong is = absurd (is)
 of_copy stream.Memory is = absurd (is)
 of_copy stream.Ended is = absurd (is)
 of_copy stream.BadVersion is = absurd (is)
+of_copy stream.BadMark is = absurd (is)
 
 -- a record's fault is not the reader's
 pub of_record : (fault : ToolFault) → IsRecordFault fault → IsReaderFault fault → ⊥
@@ -149,6 +151,7 @@ of_record (tool.BadQuestion item) of is = of
 of_record (tool.BadChanges fault) of is = of
 of_record (tool.Config fault) of is = of
 of_record tool.NoEntry of is = of
+of_record (tool.TooFewGroups groups) of is = of
 
 -- the fault of a reader
 module _ {D : Type 0} {S : Type 0} (state : D → Dir) (rows : List TypeRow) (left : S → Option (List ℕ)) (failures : S → ℕ) (founds : List Found) (begun loading : Loading D) (first last : RecordReader S) where
@@ -156,6 +159,7 @@ module _ {D : Type 0} {S : Type 0} (state : D → Dir) (rows : List TypeRow) (le
       → StopsLoading state rows (answers_to_come left first) (failures (source_of first)) (failures (source_of last)) begun (copy_fault fault)
   loads_blamed stream.LineTooLong takes breaks = ended_so state rows (answers_to_come left first) begun founds loading stream.LineTooLong takes breaks
   loads_blamed stream.BadVersion takes breaks = ended_so state rows (answers_to_come left first) begun founds loading stream.BadVersion takes breaks
+  loads_blamed stream.BadMark takes breaks = ended_so state rows (answers_to_come left first) begun founds loading stream.BadMark takes breaks
   loads_blamed stream.Read takes breaks = breaks.0
   loads_blamed stream.Memory takes breaks = tt
   loads_blamed stream.TooManyTurns takes breaks = refl
@@ -186,6 +190,7 @@ module _ {D : Type 0} (state : D → Dir) (rows : List TypeRow) (empty : D) (giv
   blamed_read text old failures failures' (tool.BadCopy line (cause.Fault fault)) known start long h = λ bare. bad_text text line (cause.Fault fault) known (h (empty_copy (state empty).suffix) (start bare))
   blamed_read text old failures failures' (tool.BadCopy line (cause.Ended stream.LineTooLong)) known start long h = λ bare. bad_text text line (cause.Ended stream.LineTooLong) known (h (empty_copy (state empty).suffix) (start bare))
   blamed_read text old failures failures' (tool.BadCopy line (cause.Ended stream.BadVersion)) known start long h = λ bare. bad_text text line (cause.Ended stream.BadVersion) known (h (empty_copy (state empty).suffix) (start bare))
+  blamed_read text old failures failures' (tool.BadCopy line (cause.Ended stream.BadMark)) known start long h = λ bare. bad_text text line (cause.Ended stream.BadMark) known (h (empty_copy (state empty).suffix) (start bare))
   blamed_read text old failures failures' (tool.BadCopy line (cause.Ended stream.Read)) known start long h = λ bare. bad_text text line (cause.Ended stream.Read) known (h (empty_copy (state empty).suffix) (start bare))
   blamed_read text old failures failures' (tool.BadCopy line (cause.Ended stream.Memory)) known start long h = λ bare. bad_text text line (cause.Ended stream.Memory) known (h (empty_copy (state empty).suffix) (start bare))
   blamed_read text old failures failures' (tool.BadCopy line (cause.Ended stream.Ended)) known start long h = λ bare. bad_text text line (cause.Ended stream.Ended) known (h (empty_copy (state empty).suffix) (start bare))
@@ -203,6 +208,7 @@ module _ {D : Type 0} (state : D → Dir) (rows : List TypeRow) (empty : D) (giv
   blamed_read text old failures failures' (tool.BadChanges fault) known start long h = absurd (h)
   blamed_read text old failures failures' (tool.Config fault) known start long h = absurd (h)
   blamed_read text old failures failures' tool.NoEntry known start long h = absurd (h)
+  blamed_read text old failures failures' (tool.TooFewGroups groups) known start long h = absurd (h)
 
   bad_whole : (text : Option (List ℕ)) (old new : Loading D) (line : ℕ) (why : Cause) → given ≡ option_map (records_of rows) text → LoadsOver state rows given old new
       → IsLoaded state (empty_copy (state empty).suffix) old → ((m : LoadedCopy) → IsLoaded state m new → whole_directory m ≡ Err (line, why)) → IfSome text (λ t. copy_of rows (state empty).suffix t ≡ Err (line, why))
@@ -226,6 +232,7 @@ module _ {D : Type 0} (state : D → Dir) (rows : List TypeRow) (empty : D) (giv
   blamed_whole text old new failures failures' (tool.BadChanges fault) known leads start of why = absurd (of)
   blamed_whole text old new failures failures' (tool.Config fault) known leads start of why = absurd (of)
   blamed_whole text old new failures failures' tool.NoEntry known leads start of why = absurd (of)
+  blamed_whole text old new failures failures' (tool.TooFewGroups groups) known leads start of why = absurd (of)
 
   pub finish_blamed : {A : Type 0} (r : Result A ToolFault) (text : Option (List ℕ)) (old new : Loading D) (failures failures' : ℕ) → given ≡ option_map (records_of rows) text
       → LoadsOver state rows given old new → (HasNoEntries (state empty) → IsLoaded state (empty_copy (state empty).suffix) old)

@@ -8,6 +8,7 @@ pub mod CopyBack
 pub mod CopyFaults
 pub mod CopyLemmas
 pub mod CopySound
+pub mod CutRuns
 pub mod Examples
 pub mod Orphans
 pub mod ReadCalls

@@ -1,5 +1,5 @@
 -- A run's outcomes, one after the other.
-use Rattle.std.proofs.Common.{◌≡◌, ℕ, ◌⊎◌, inl, inr, ◌+◌, Bool, true, false, ◌||◌, cond, List, [], ◌∷◌, ◌++◌, length, refl, sym, ap, subst, ◌∙◌, Option, Result, Ok, Err, IfSome, arith, append_assoc, length-append}
+use Rattle.std.proofs.Common.{◌≡◌, ℕ, ◌+◌, ◌<◌, Bool, true, false, ◌||◌, cond, List, [], ◌∷◌, ◌++◌, length, refl, sym, ap, subst, ◌∙◌, Option, None, Some, Result, Ok, Err, IfSome, arith, append_assoc, length-append}
 use Rattle.std.proofs.lemmas.List.{append-nil}
 use Rattle.std.specs.List.{flat_map}
 use Rattle.dir_names.specs.declared.schema.TypeRow.{TypeRow}
@@ -9,21 +9,25 @@ use Rattle.dir_ldif.specs.declared.records.Change.{Change}
 use Rattle.dir_ldif.specs.declared.records.Record.{Record}
 use Rattle.dir_ldif.specs.declared.faults.StreamFault.TheVariants as stream
 use Rattle.dir_ldif.specs.declared.reader.RecordReader.{RecordReader}
-use Rattle.dir_ldif.specs.Reader.{answers_to_come, source_of}
+use Rattle.dir_ldif.specs.Bytes.{is_empty}
+use Rattle.dir_ldif.specs.Reader.{answers_to_come, marks_at_end, marks_passed, source_of}
 use Rattle.dir_ldif.specs.Records.{Answer, Found, all_found}
 use Rattle.dir_tree.specs.Dir.{Dir}
 use Rattle.dir_tools.specs.declared.fault.Cause.{Cause}
+use Rattle.dir_tools.specs.declared.fault.Input.TheVariants as input
+use Rattle.dir_tools.specs.declared.fault.ToolFault.{ToolFault}
+use Rattle.dir_tools.specs.declared.fault.ToolFault.TheVariants as tool
 use Rattle.dir_tools.specs.declared.run.Run.{Run}
-use Rattle.dir_tools.specs.RunOf.{Outcome, RecordStep, RunEnd, cause_in, change_step, ended_run, group_in, groups_in, record_step, run_after, run_of, with_outcomes_before, HasAccepted}
+use Rattle.dir_tools.specs.RunOf.{Outcome, RecordStep, RunEnd, cause_in, causes_in, change_step, ended_run, group_in, groups_in, looked_at_all, record_step, run_after, run_of, too_few_groups, with_outcomes_before, HasAccepted}
 use Rattle.dir_tools.specs.Report.{outcome_line}
-use Rattle.dir_ldif.specs.SoundRecords.{IsSoundFound}
+use Rattle.dir_ldif.specs.SoundRecords.{AreSoundAnswers, IsSoundFound}
 use Rattle.dir_ldif.specs.declared.records.Record.TheVariants as form
 use Rattle.dir_tree.specs.WellFormed.{Each}
 use Rattle.dir_change.specs.declared.result_code.ResultCode.{ResultCode}
 use Rattle.dir_change.specs.Operation.{step}
 use Rattle.dir_change.specs.Runs.{Ending, accepted_or, group_of, run_to_end, with_group_first}
 use Rattle.dir_change.specs.SoundChange.{IsSoundChange}
-use Rattle.dir_tools.specs.Inside.Running.{Adds, AddsAll, BreaksOff, IsChangesFaultCause, RunsOver, Takes, TakesRecord, changes_fault}
+use Rattle.dir_tools.specs.Inside.Running.{Adds, AddsAll, BreaksOff, GoesTo, HasTooFew, IsChangesFaultCause, RunsOver, Takes, TakesRecord, changes_fault, end_at}
 use Rattle.dir_tools.specs.CompleteRecords.{AcceptsTo, CompleteRecordsAreAccepted, GaveBytesTo, IsReaderFault}
 use Rattle.dir_tools.specs.Inside.Taking.{BreaksAfter, EndsIn, TakesAll, TakesUpTo}
 use Rattle.dir_tools.proofs.CompleteRecords.{IsReaders}
@@ -112,33 +116,6 @@ pub one_further : (rows : List TypeRow) (d e : Dir) (c : Change) → step rows d
     → run_to_end rows d (c ∷ []) ≡ record { end = e; groups = group_of rows d e c ∷ [] }
 one_further rows d e c is = goes_on_step rows d c [] (Ok e) is
 
-ending_end : (a b : Ending) → a ≡ b → a.end ≡ b.end
-ending_end a b e = ap (λ x. x.end) e
-
-further_on : (rows : List TypeRow) (d0 : Dir) (c : Change) (cs : List Change) (r : Result Dir ResultCode) (e : Dir) (x : Change) → step rows d0 c ≡ r
-    → ((d : Dir) → step rows (run_to_end rows d cs).end x ≡ Ok e → run_to_end rows d (cs ++ x ∷ []) ≡ record { end = e; groups = (run_to_end rows d cs).groups ++ group_of rows (run_to_end rows d cs).end e x ∷ [] })
-    → step rows (run_to_end rows d0 (c ∷ cs)).end x ≡ Ok e
-    → run_to_end rows d0 (c ∷ (cs ++ x ∷ [])) ≡ record { end = e; groups = (run_to_end rows d0 (c ∷ cs)).groups ++ group_of rows (run_to_end rows d0 (c ∷ cs)).end e x ∷ [] }
-further_on rows d0 c cs (Ok d1) e x is rest takes =
-    let here : run_to_end rows d0 (c ∷ cs) ≡ with_group_first (group_of rows d0 d1 c) (run_to_end rows d1 cs) = goes_on_step rows d0 c cs (Ok d1) is in
-    let takes' : step rows (run_to_end rows d1 cs).end x ≡ Ok e = subst (λ (n : Ending). step rows n.end x ≡ Ok e) here takes in
-    subst (λ (n : Ending). run_to_end rows d0 (c ∷ (cs ++ x ∷ [])) ≡ record { end = e; groups = n.groups ++ group_of rows n.end e x ∷ [] }) (sym here)
-    (goes_on_step rows d0 c (cs ++ x ∷ []) (Ok d1) is ∙ ap (with_group_first (group_of rows d0 d1 c)) (rest d1 takes'))
-further_on rows d0 c cs (Err code) e x is rest takes =
-    let here : run_to_end rows d0 (c ∷ cs) ≡ run_to_end rows d0 cs = goes_on_step rows d0 c cs (Err code) is in
-    let takes' : step rows (run_to_end rows d0 cs).end x ≡ Ok e = subst (λ (n : Ending). step rows n.end x ≡ Ok e) here takes in
-    subst (λ (n : Ending). run_to_end rows d0 (c ∷ (cs ++ x ∷ [])) ≡ record { end = e; groups = n.groups ++ group_of rows n.end e x ∷ [] }) (sym here)
-    (goes_on_step rows d0 c (cs ++ x ∷ []) (Err code) is ∙ rest d0 takes')
-
-further : (rows : List TypeRow) (d : Dir) (cs : List Change) (e : Dir) (x : Change) → step rows (run_to_end rows d cs).end x ≡ Ok e
-    → run_to_end rows d (cs ++ x ∷ []) ≡ record { end = e; groups = (run_to_end rows d cs).groups ++ group_of rows (run_to_end rows d cs).end e x ∷ [] }
-further rows d [] e x takes = one_further rows d e x takes
-further rows d (c ∷ cs) e x takes = further_on rows d c cs (step rows d c) e x refl (λ f. further rows f cs e x) takes
-
-each_snoc : {A : Type 0} (P : A → Type 0) (xs : List A) (x : A) → Each P xs → P x → Each P (xs ++ x ∷ [])
-each_snoc P [] x ps p = (p, tt)
-each_snoc P (y ∷ xs) x ps p = (ps.0, each_snoc P xs x ps.1 p)
-
 pub accepted_none : (rows : List TypeRow) (d : Dir) → HasAccepted rows d [] d
 accepted_none rows d = ([], tt, refl)
 
@@ -150,43 +127,49 @@ accepted_step rows d e change (Ok f) group is =
     (ap Ok there, subst (λ z. group_of rows d z change ≡ group) there made)
 accepted_step rows d e change (Err code) group is = absurd (cc)
 
--- an accepted record more
-pub accepted_more : (rows : List TypeRow) (d0 d e : Dir) (os : List (ℕ × Outcome)) (line : ℕ) (found : Result Record RecordFault) (group : List Change)
-    → record_step rows d found ≡ Ok (e, group) → IsSoundFound rows (line, found) → HasAccepted rows d0 os d → HasAccepted rows d0 (os ++ (line, Ok group) ∷ []) e
-accepted_more rows d0 d e os line (Ok (form.Change change)) group is sound was =
-    let took = accepted_step rows d e change (step rows d change) group is in
-    let ends : (run_to_end rows d0 was.0).end ≡ d = ap (λ (n : Ending). n.end) was.2 in
-    let takes : step rows (run_to_end rows d0 was.0).end change ≡ Ok e = subst (λ z. step rows z change ≡ Ok e) (sym ends) took.0 in
-    let on : run_to_end rows d0 (was.0 ++ change ∷ []) ≡ record { end = e; groups = groups_in os ++ group_of rows d e change ∷ [] } =
-    subst (λ (n : Ending). run_to_end rows d0 (was.0 ++ change ∷ []) ≡ record { end = e; groups = n.groups ++ group_of rows n.end e change ∷ [] }) was.2 (further rows d0 was.0 e change takes) in (
-      was.0 ++ change ∷ [],
-      each_snoc (IsSoundChange rows) was.0 change was.1 sound,
-      on ∙ ap (λ gs. record { end = e; groups = gs }) (ap (λ g. groups_in os ++ g ∷ []) took.1 ∙ sym (flat_map_snoc group_in os (line, Ok group))),
-    )
-accepted_more rows d0 d e os line (Ok (form.Content name lines)) group is sound was = absurd (cc)
-accepted_more rows d0 d e os line (Err fault) group is sound was = absurd (cc)
-
--- and a refused one
-pub accepted_still : (rows : List TypeRow) (d0 d e : Dir) (os : List (ℕ × Outcome)) (line : ℕ) (why : Cause) → e ≡ d → HasAccepted rows d0 os d → HasAccepted rows d0 (os ++ (line, Err why) ∷ []) e
-accepted_still rows d0 d e os line why same was = (
-  was.0,
-  was.1,
-  was.2 ∙ ap (λ z. record { end = z; groups = groups_in os }) (sym same)
-      ∙ ap (λ gs. record { end = e; groups = gs }) (sym (append-nil (groups_in os)) ∙ sym (flat_map_snoc group_in os (line, Err why))),
-)
-
 -- ---- over the records that are taken
 
+-- whether a run has looked at each record
+any_true : (b : Bool) → (b || true) ≡ true
+any_true true = refl
+any_true false = refl
+
+none_refused : (os : List (ℕ × Outcome)) (line : ℕ) (group : List Change) → causes_in (os ++ (line, Ok group) ∷ []) ≡ causes_in os
+none_refused os line group = flat_map_snoc cause_in os (line, Ok group) ∙ append-nil (causes_in os)
+
+not_empty : {A : Type 0} (xs : List A) (x : A) → is_empty (xs ++ x ∷ []) ≡ false
+not_empty [] x = refl
+not_empty (y ∷ xs) x = refl
+
+one_refused : (os : List (ℕ × Outcome)) (line : ℕ) (why : Cause) → is_empty (causes_in (os ++ (line, Err why) ∷ [])) ≡ false
+one_refused os line why = ap is_empty (flat_map_snoc cause_in os (line, Err why)) ∙ not_empty (causes_in os) why
+
+sound_more : (rows : List TypeRow) (founds : List Found) (found : Found) → AreSoundAnswers rows (all_found founds) → IsSoundFound rows found → AreSoundAnswers rows (all_found (founds ++ found ∷ []))
+sound_more rows [] found h k = (k, tt)
+sound_more rows (f ∷ founds) found h k = (h.0, sound_more rows founds found h.1 k)
+
+-- groups that are enough where the marks are known, and where the run hasn't come to the end
+few_known : (last marks : Option ℕ) (n : ℕ) → IfSome marks (λ m. n ≡ m) → too_few_groups last (Some n) true ≡ None → too_few_groups last marks true ≡ None
+few_known None marks n same enough = refl
+few_known (Some wanted) None n same enough = refl
+few_known (Some wanted) (Some m) n same enough = ap (λ k. too_few_groups (Some wanted) (Some k) true) (sym same) ∙ enough
+
+before_end : (last marks : Option ℕ) → too_few_groups last marks false ≡ None
+before_end None marks = refl
+before_end (Some wanted) None = refl
+before_end (Some wanted) (Some marks) = refl
+
 module _ {D : Type 0} (state : D → Dir) (rows : List TypeRow) (begun : Run D) where
-  -- the run so far: outcomes were told, and what follows these records is to be run from here
+  -- the run so far: outcomes were told of sound records, what follows these is to be run from here, and the run goes on after each that was refused
   abbrev RunsSoFar : List Found → Run D → Type 0
   RunsSoFar founds run =
-      (outcomes : List (ℕ × Outcome)) × AddsAll outcomes begun run × HasAccepted rows (state begun.directory) outcomes (state run.directory) × (run.options ≡ begun.options)
+      (outcomes : List (ℕ × Outcome)) × AddsAll outcomes begun run × AreSoundAnswers rows (all_found founds) × (run.options ≡ begun.options)
       × ((rest : List Answer)
       → run_of rows begun.options.go_on (state begun.directory) (all_found founds ++ rest) ≡ with_outcomes_before outcomes (run_of rows begun.options.go_on (state run.directory) rest))
+      × ((begun.options.go_on || is_empty (causes_in outcomes)) ≡ true)
 
   runs_begun : RunsSoFar [] begun
-  runs_begun = ([], adds_none begun, accepted_none rows (state begun.directory), refl, λ rest. onto_none (run_of rows begun.options.go_on (state begun.directory) rest))
+  runs_begun = ([], adds_none begun, tt, refl, (λ rest. onto_none (run_of rows begun.options.go_on (state begun.directory) rest)), any_true begun.options.go_on)
 
   runs_further : (founds : List Found) (found : Found) (run next : Run D) → IsSoundFound rows found → TakesRecord state rows found run (Ok true) next → RunsSoFar founds run → RunsSoFar (founds ++ found ∷ []) next
   runs_further founds found run next sound gives was = by gives.1 gives.2 gives.3
@@ -195,19 +178,22 @@ module _ {D : Type 0} (state : D → Dir) (rows : List TypeRow) (begun : Run D) 
       by true takes wants = (
         was.0 ++ (found.0, Ok takes.0) ∷ [],
         adds_one was.0 (found.0, Ok takes.0) begun run next was.1 takes.2,
-        accepted_more rows (state begun.directory) (state run.directory) (state next.directory) was.0 found.0 found.1 takes.0 takes.1 sound was.2,
+        sound_more rows founds found was.2 sound,
         gives.0 ∙ was.3,
-        λ rest. ap (run_of rows begun.options.go_on (state begun.directory)) (found_then founds found rest) ∙ was.4 (Ok found ∷ rest)
-            ∙ on_accepted rows begun.options.go_on (state run.directory) (state next.directory) was.0 found rest takes.0 takes.1,
+        (λ rest. ap (run_of rows begun.options.go_on (state begun.directory)) (found_then founds found rest) ∙ was.4 (Ok found ∷ rest)
+            ∙ on_accepted rows begun.options.go_on (state run.directory) (state next.directory) was.0 found rest takes.0 takes.1),
+        ap (λ cs. begun.options.go_on || is_empty cs) (none_refused was.0 found.0 takes.0) ∙ was.5,
       )
-      by false takes wants = (
-        was.0 ++ (found.0, Err takes.0) ∷ [],
-        adds_one was.0 (found.0, Err takes.0) begun run next was.1 takes.3,
-        accepted_still rows (state begun.directory) (state run.directory) (state next.directory) was.0 found.0 takes.0 takes.2 was.2,
-        gives.0 ∙ was.3,
-        λ rest. ap (run_of rows begun.options.go_on (state begun.directory)) (found_then founds found rest) ∙ was.4 (Ok found ∷ rest)
-            ∙ on_refused rows begun.options.go_on (state run.directory) (state next.directory) was.0 found rest takes.0 (sym (ap (λ o. o.go_on) was.3) ∙ sym wants) takes.1 takes.2,
-      )
+      by false takes wants =
+          let on : begun.options.go_on ≡ true = sym (ap (λ o. o.go_on) was.3) ∙ sym wants in (
+            was.0 ++ (found.0, Err takes.0) ∷ [],
+            adds_one was.0 (found.0, Err takes.0) begun run next was.1 takes.3,
+            sound_more rows founds found was.2 sound,
+            gives.0 ∙ was.3,
+            (λ rest. ap (run_of rows begun.options.go_on (state begun.directory)) (found_then founds found rest) ∙ was.4 (Ok found ∷ rest)
+                ∙ on_refused rows begun.options.go_on (state run.directory) (state next.directory) was.0 found rest takes.0 on takes.1 takes.2),
+            ap (λ b. b || is_empty (causes_in (was.0 ++ (found.0, Err takes.0) ∷ []))) on,
+          )
 
   runs_all : (founds : List Found) (run : Run D) → TakesAll rows (TakesRecord state rows) founds begun run → RunsSoFar founds run
   runs_all founds run takes = takes_induct rows (TakesRecord state rows) RunsSoFar runs_further founds begun run takes runs_begun
@@ -215,34 +201,58 @@ module _ {D : Type 0} (state : D → Dir) (rows : List TypeRow) (begun : Run D) 
   same_options : (founds : List Found) (run : Run D) → TakesAll rows (TakesRecord state rows) founds begun run → run.options ≡ begun.options
   same_options founds run takes = (runs_all founds run takes).3
 
+  goes_to_end : (founds : List Found) (run : Run D) (was : RunsSoFar founds run) → GoesTo state rows begun (all_found founds) (end_at state run was.0)
+  goes_to_end founds run was =
+      ap (run_of rows begun.options.go_on (state begun.directory)) (sym (append-nil (all_found founds))) ∙ was.4 [] ∙ ap (λ t. Ok (record { end = state run.directory; outcomes = t })) (append-nil was.0)
+
   -- the run ends at the end of the text
-  runs_out : (founds : List Found) (first : Option (List Answer)) (run : Run D) → TakesAll rows (TakesRecord state rows) founds begun run → IfSome first (λ known. known ≡ all_found founds) → RunsOver state rows first begun run
-  runs_out founds first run takes given =
+  runs_out : (founds : List Found) (first : Option (List Answer)) (marks : Option ℕ) (run : Run D) → TakesAll rows (TakesRecord state rows) founds begun run → IfSome first (λ known. known ≡ all_found founds)
+      → too_few_groups begun.options.last marks true ≡ None → RunsOver state rows first marks begun run
+  runs_out founds first marks run takes given enough =
       let was = runs_all founds run takes in (
         was.0,
+        founds,
         was.1,
         was.2,
-        known first
-            (λ answers is. ap (run_of rows begun.options.go_on (state begun.directory)) (is ∙ sym (append-nil (all_found founds))) ∙ was.4 []
-            ∙ ap (λ t. Ok (record { end = state run.directory; outcomes = t })) (append-nil was.0))
-            given,
+        goes_to_end founds run was,
+        known first (λ answers is. ([], is ∙ sym (append-nil (all_found founds)), ap (run_of rows begun.options.go_on (state begun.directory)) is ∙ goes_to_end founds run was)) given,
+        ap (too_few_groups begun.options.last marks) was.5 ∙ enough,
+      )
+
+  -- or the text has too few groups
+  runs_short : (founds : List Found) (first : Option (List Answer)) (marks : Option ℕ) (run : Run D) (groups wanted : ℕ) → TakesAll rows (TakesRecord state rows) founds begun run → IfSome first (λ known. known ≡ all_found founds)
+      → IfSome marks (λ n. groups ≡ n) → begun.options.last ≡ Some wanted → groups < wanted → HasTooFew state rows first marks begun groups
+  runs_short founds first marks run groups wanted takes given counted is fewer =
+      let was = runs_all founds run takes in (
+        wanted,
+        is,
+        fewer,
+        counted,
+        known first (λ answers same. (end_at state run was.0, founds, same, ap (run_of rows begun.options.go_on (state begun.directory)) same ∙ goes_to_end founds run was, was.5)) given,
       )
 
   -- it ends at a refused record
-  runs_stopped : (first : Option (List Answer)) (next : Run D) → TakesUpTo rows (TakesRecord state rows) (Ok false) first begun next → RunsOver state rows first begun next
-  runs_stopped first next upto = by upto.4.1 upto.4.2 upto.4.3
+  runs_stopped : (first : Option (List Answer)) (marks : Option ℕ) (next : Run D) → TakesUpTo rows (TakesRecord state rows) (Ok false) first begun next → RunsOver state rows first marks begun next
+  runs_stopped first marks next upto = by upto.4.1 upto.4.2 upto.4.3
     where
-      by : (is_accepted : Bool) → Takes is_accepted state rows upto.1.0 upto.1.1 upto.2 next → false ≡ (is_accepted || upto.2.options.go_on) → RunsOver state rows first begun next
+      by : (is_accepted : Bool) → Takes is_accepted state rows upto.1.0 upto.1.1 upto.2 next → false ≡ (is_accepted || upto.2.options.go_on) → RunsOver state rows first marks begun next
       by true takes wants = absurd (cc)
       by false takes wants =
-          let was = runs_all upto.0 upto.2 upto.3 in (
-            was.0 ++ (upto.1.0, Err takes.0) ∷ [],
+          let was = runs_all upto.0 upto.2 upto.3 in
+          let off : begun.options.go_on ≡ false = sym (ap (λ o. o.go_on) was.3) ∙ sym wants in
+          let outcomes : List (ℕ × Outcome) = was.0 ++ (upto.1.0, Err takes.0) ∷ [] in
+          let stops : (rest : List Answer) → run_of rows begun.options.go_on (state begun.directory) (all_found upto.0 ++ Ok upto.1 ∷ rest) ≡ Ok (end_at state next outcomes) =
+          (λ rest. was.4 (Ok upto.1 ∷ rest) ∙ on_stopped rows begun.options.go_on (state upto.2.directory) (state next.directory) was.0 upto.1 rest takes.0 off takes.1 takes.2) in
+          let alone : GoesTo state rows begun (all_found (upto.0 ++ upto.1 ∷ [])) (end_at state next outcomes) =
+          ap (run_of rows begun.options.go_on (state begun.directory)) (sym (append-nil (all_found (upto.0 ++ upto.1 ∷ []))) ∙ found_then upto.0 upto.1 []) ∙ stops [] in
+          let stays : looked_at_all begun.options.go_on (end_at state next outcomes) ≡ false = ap (λ b. b || is_empty (causes_in outcomes)) off ∙ one_refused was.0 upto.1.0 takes.0 in (
+            outcomes,
+            upto.0 ++ upto.1 ∷ [],
             adds_one was.0 (upto.1.0, Err takes.0) begun upto.2 next was.1 takes.3,
-            accepted_still rows (state begun.directory) (state upto.2.directory) (state next.directory) was.0 upto.1.0 takes.0 takes.2 was.2,
-            known first
-                (λ answers given. ap (run_of rows begun.options.go_on (state begun.directory)) given.1 ∙ was.4 (Ok upto.1 ∷ given.0)
-                ∙ on_stopped rows begun.options.go_on (state upto.2.directory) (state next.directory) was.0 upto.1 given.0 takes.0 (sym (ap (λ o. o.go_on) was.3) ∙ sym wants) takes.1 takes.2)
-                upto.5,
+            sound_more rows upto.0 upto.1 was.2 upto.5,
+            alone,
+            known first (λ answers given. (given.0, given.1 ∙ sym (found_then upto.0 upto.1 given.0), ap (run_of rows begun.options.go_on (state begun.directory)) given.1 ∙ stops given.0)) upto.6,
+            ap (too_few_groups begun.options.last marks) stays ∙ before_end begun.options.last marks,
           )
 
   -- it comes to the fault of the text
@@ -251,15 +261,19 @@ module _ {D : Type 0} (state : D → Dir) (rows : List TypeRow) (begun : Run D) 
   runs_faulty founds fault first run takes given =
       let was = runs_all founds run takes in known first (λ answers is. ap (run_of rows begun.options.go_on (state begun.directory)) is ∙ was.4 (Err fault ∷ [])) given
 
--- a run ends at the end of the text, or at a refused record
-pub all_run : {D : Type 0} {S : Type 0} (state : D → Dir) (rows : List TypeRow) (left : S → Option (List ℕ)) (failures : S → ℕ) (ended : End) (begun run : Run D) (first last : RecordReader S)
-    → (ended ≡ end.AtEnd) ⊎ (ended ≡ end.Enough) → EndsIn rows (TakesRecord state rows) left failures ended begun run first last → RunsOver state rows (answers_to_come left first) begun run
-all_run state rows left failures end.AtEnd begun run first last is ends = runs_out state rows begun ends.1.0 (answers_to_come left first) run ends.1.1 ends.1.2
-all_run state rows left failures end.Enough begun run first last is ends = runs_stopped state rows begun (answers_to_come left first) run ends.1
-all_run state rows left failures (end.TextFault fault) begun run first last (inl is) ends = absurd (cc)
-all_run state rows left failures (end.TextFault fault) begun run first last (inr is) ends = absurd (cc)
-all_run state rows left failures (end.TakeFault fault) begun run first last (inl is) ends = absurd (cc)
-all_run state rows left failures (end.TakeFault fault) begun run first last (inr is) ends = absurd (cc)
+-- a run ends at the end of the text, or at a refused record; or the text has too few groups
+module _ {D : Type 0} {S : Type 0} (state : D → Dir) (rows : List TypeRow) (left : S → Option (List ℕ)) (failures : S → ℕ) (begun run : Run D) (first last : RecordReader S) where
+  pub run_to_end_of_text : EndsIn rows (TakesRecord state rows) left failures end.AtEnd begun run first last → too_few_groups begun.options.last (Some (marks_passed last)) true ≡ None
+      → RunsOver state rows (answers_to_come left first) (marks_at_end left first) begun run
+  run_to_end_of_text ends enough =
+      runs_out state rows begun ends.1.0 (answers_to_come left first) (marks_at_end left first) run ends.1.1 ends.1.2 (few_known begun.options.last (marks_at_end left first) (marks_passed last) ends.2 enough)
+
+  pub run_too_short : EndsIn rows (TakesRecord state rows) left failures end.AtEnd begun run first last → (wanted : ℕ) → begun.options.last ≡ Some wanted → marks_passed last < wanted
+      → HasTooFew state rows (answers_to_come left first) (marks_at_end left first) begun (marks_passed last)
+  run_too_short ends wanted is fewer = runs_short state rows begun ends.1.0 (answers_to_come left first) (marks_at_end left first) run (marks_passed last) wanted ends.1.1 ends.1.2 ends.2 is fewer
+
+  pub run_stopped : EndsIn rows (TakesRecord state rows) left failures end.Enough begun run first last → RunsOver state rows (answers_to_come left first) (marks_at_end left first) begun run
+  run_stopped ends = runs_stopped state rows begun (answers_to_come left first) (marks_at_end left first) run ends.1
 
 pub options_stay : {D : Type 0} {S : Type 0} (state : D → Dir) (rows : List TypeRow) (left : S → Option (List ℕ)) (failures : S → ℕ) (ended : End) (begun run : Run D) (first last : RecordReader S)
     → EndsIn rows (TakesRecord state rows) left failures ended begun run first last → run.options ≡ begun.options
@@ -286,13 +300,15 @@ of_changes stream.LineTooLong is = absurd (is)
 of_changes stream.Memory is = absurd (is)
 of_changes stream.Ended is = absurd (is)
 of_changes stream.BadVersion is = absurd (is)
+of_changes stream.BadMark is = absurd (is)
 
 -- the fault of a reader
 module _ {D : Type 0} {S : Type 0} (state : D → Dir) (rows : List TypeRow) (left : S → Option (List ℕ)) (failures : S → ℕ) (founds : List Found) (begun run : Run D) (first last : RecordReader S) where
   pub runs_blamed : (fault : StreamFault) → TakesAll rows (TakesRecord state rows) founds begun run → BreaksAfter rows (TakesRecord state rows) left failures founds fault begun first last
-      → IsChangesFaultCause state rows (answers_to_come left first) (failures (source_of first)) (failures (source_of last)) begun (changes_fault fault)
+      → IsChangesFaultCause state rows (answers_to_come left first) (marks_at_end left first) (failures (source_of first)) (failures (source_of last)) begun (changes_fault fault)
   runs_blamed stream.LineTooLong takes breaks = runs_faulty state rows begun founds stream.LineTooLong (answers_to_come left first) run takes breaks
   runs_blamed stream.BadVersion takes breaks = runs_faulty state rows begun founds stream.BadVersion (answers_to_come left first) run takes breaks
+  runs_blamed stream.BadMark takes breaks = runs_faulty state rows begun founds stream.BadMark (answers_to_come left first) run takes breaks
   runs_blamed stream.Read takes breaks = breaks.0
   runs_blamed stream.Memory takes breaks = tt
   runs_blamed stream.TooManyTurns takes breaks = tt
@@ -306,3 +322,44 @@ module _ {D : Type 0} {S : Type 0} (state : D → Dir) (rows : List TypeRow) (le
         gave.1,
         λ settled settles. let taken = gave.2 settled settles in (state taken.0.directory, accepts_all state rows settled begun taken.0 off taken.1),
       )
+
+-- ---- where the answers and the marks are told in other words
+
+few_as : (last marks marks' : Option ℕ) (at_end : Bool) → ((wanted : ℕ) → last ≡ Some wanted → marks ≡ marks') → too_few_groups last marks at_end ≡ None → too_few_groups last marks' at_end ≡ None
+few_as None marks marks' at_end same h = refl
+few_as (Some wanted) marks marks' at_end same h = subst (λ m. too_few_groups (Some wanted) m at_end ≡ None) (same wanted refl) h
+
+module _ {D : Type 0} (state : D → Dir) (rows : List TypeRow) (given given' : Option (List Answer)) (marks marks' : Option ℕ) (begun : Run D) (same : given ≡ given')
+    (marked : (wanted : ℕ) → begun.options.last ≡ Some wanted → marks ≡ marks') where
+  pub runs_over_as : (run : Run D) → RunsOver state rows given marks begun run → RunsOver state rows given' marks' begun run
+  runs_over_as run over = (
+    over.0,
+    over.1,
+    over.2,
+    over.3,
+    over.4,
+    subst (λ (o : Option (List Answer)). IfSome o (λ answers. (rest : List Answer) × (answers ≡ all_found over.1 ++ rest) × GoesTo state rows begun answers (end_at state run over.0))) same over.5,
+    few_as begun.options.last marks marks' (looked_at_all begun.options.go_on (end_at state run over.0)) marked over.6,
+  )
+
+  marks_as : (failures failures' : ℕ) (fault : ToolFault) → IsChangesFaultCause state rows given' marks failures failures' begun fault → IsChangesFaultCause state rows given' marks' failures failures' begun fault
+  marks_as failures failures' (tool.TooFewGroups groups) h = (h.0, h.1, h.2, subst (λ (o : Option ℕ). IfSome o (λ n. groups ≡ n)) (marked h.0 h.1) h.3, h.4)
+  marks_as failures failures' (tool.BadChanges stream.LineTooLong) h = h
+  marks_as failures failures' (tool.BadChanges stream.BadVersion) h = h
+  marks_as failures failures' (tool.BadChanges stream.BadMark) h = h
+  marks_as failures failures' (tool.BadChanges stream.TooManyTurns) h = h
+  marks_as failures failures' (tool.BadChanges stream.Read) h = h
+  marks_as failures failures' (tool.BadChanges stream.Memory) h = h
+  marks_as failures failures' (tool.BadChanges stream.Ended) h = h
+  marks_as failures failures' (tool.Read input.Changes) h = h
+  marks_as failures failures' (tool.Read input.Copy) h = h
+  marks_as failures failures' (tool.Read input.Config) h = h
+  marks_as failures failures' tool.Memory h = h
+  marks_as failures failures' (tool.BadCopy line why) h = h
+  marks_as failures failures' (tool.Write output) h = h
+  marks_as failures failures' (tool.BadQuestion item) h = h
+  marks_as failures failures' (tool.Config fault) h = h
+  marks_as failures failures' tool.NoEntry h = h
+
+  pub blamed_as : (failures failures' : ℕ) (fault : ToolFault) → IsChangesFaultCause state rows given marks failures failures' begun fault → IsChangesFaultCause state rows given' marks' failures failures' begun fault
+  blamed_as failures failures' fault h = marks_as failures failures' fault (subst (λ (o : Option (List Answer)). IsChangesFaultCause state rows o marks failures failures' begun fault) same h)

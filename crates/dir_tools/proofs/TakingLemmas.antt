@@ -6,7 +6,7 @@ use Rattle.dir_ldif.specs.Device.{HasFailed}
 use Rattle.dir_ldif.specs.declared.faults.StreamFault.{StreamFault}
 use Rattle.dir_ldif.specs.declared.faults.StreamFault.TheVariants as stream
 use Rattle.dir_ldif.specs.declared.reader.RecordReader.{RecordReader}
-use Rattle.dir_ldif.specs.Reader.Answers.{GivesFirst, GivesNone}
+use Rattle.dir_ldif.specs.Reader.Answers.{GivesFirst, GivesNone, KeepsMarks}
 use Rattle.dir_ldif.specs.Reader.{IsEnded, SpendsTurns, StopsFor, answers_to_come, source_of}
 use Rattle.dir_ldif.specs.Records.{Answer, Found, all_found}
 use Rattle.dir_ldif.specs.SoundRecords.{IsSoundFound}
@@ -55,6 +55,20 @@ given_fault founds fault None old ends was = tt
 given_fault founds fault (Some answers) None ends was = absurd (was)
 given_fault founds fault (Some answers) (Some rest) ends was = was ∙ ap (λ t. all_found founds ++ t) ends
 
+-- ---- the marks that were passed
+
+pub keeps_refl : (marks : Option ℕ) → KeepsMarks marks marks
+keeps_refl None = tt
+keeps_refl (Some n) = refl
+
+pub keeps_on : (first old new : Option ℕ) → KeepsMarks first old → KeepsMarks old new → KeepsMarks first new
+keeps_on None old new was keeps = tt
+keeps_on (Some n) old new was keeps = subst (λ (o : Option ℕ). KeepsMarks o new) was keeps
+
+pub counted_so : (first old : Option ℕ) (passed : ℕ) → KeepsMarks first old → IfSome old (λ n. passed ≡ n) → IfSome first (λ n. passed ≡ n)
+counted_so None old passed was counted = tt
+counted_so (Some n) old passed was counted = subst (λ (o : Option ℕ). IfSome o (λ m. passed ≡ m)) was counted
+
 -- ---- the records that were taken
 
 module _ {T : Type 0} (rows : List TypeRow) (take_gives : Found → T → Result Bool ToolFault → T → Type 0) where
@@ -93,6 +107,7 @@ module _ {T : Type 0} (rows : List TypeRow) (take_gives : Found → T → Result
         → SpendsTurns left first now → ComesFrom left first now founds → BreaksAfter rows take_gives left failures founds fault old first last
     breaks founds stream.LineTooLong old new first now last going same stops takes given spends comes = given_fault founds stream.LineTooLong (answers_to_come left first) (answers_to_come left now) stops given
     breaks founds stream.BadVersion old new first now last going same stops takes given spends comes = given_fault founds stream.BadVersion (answers_to_come left first) (answers_to_come left now) stops given
+    breaks founds stream.BadMark old new first now last going same stops takes given spends comes = given_fault founds stream.BadMark (answers_to_come left first) (answers_to_come left now) stops given
     breaks founds stream.Read old new first now last going same stops takes given spends comes = (
       subst (λ n. HasFailed n (failures (source_of last))) same stops.0,
       complete founds old new first last takes (gave_all left failures stream.Read first now last founds tt stops comes),
@@ -110,5 +125,6 @@ module _ {T : Type 0} (rows : List TypeRow) (take_gives : Found → T → Result
     gave_complete founds stream.TooManyTurns old first last is ends = ends.1
     gave_complete founds stream.LineTooLong old first last is ends = absurd (is)
     gave_complete founds stream.BadVersion old first last is ends = absurd (is)
+    gave_complete founds stream.BadMark old first last is ends = absurd (is)
     gave_complete founds stream.Memory old first last is ends = absurd (is)
     gave_complete founds stream.Ended old first last is ends = absurd (is)

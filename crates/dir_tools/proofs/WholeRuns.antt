@@ -3,23 +3,26 @@ use Rattle.std.proofs.Common.{◌≡◌, ℕ, List, length, Option, None, Some, 
 use Rattle.dir_names.specs.Keys.{DnKeys}
 use Rattle.dir_names.specs.Results.{and_then}
 use Rattle.dir_ldif.specs.declared.faults.StreamFault.{StreamFault}
-use Rattle.dir_ldif.specs.Records.{records_of}
-use Rattle.dir_ldif.specs.SoundRecords.{IsBytes, RecordsAreSound}
+use Rattle.dir_ldif.specs.SoundRecords.{AreSoundAnswers, FirstRecordsAreSound, IsBytes, RecordsAreSound}
 use Rattle.dir_tree.specs.Dir.{Dir}
+use Rattle.dir_tree.specs.WellFormed.{IsWellFormed, IsWithinLimits}
+use Rattle.dir_change.specs.Runs.{Ending, RunsStayInOrder, StaysInOrder}
+use Rattle.dir_names.specs.declared.schema.TypeRow.{TypeRow}
 use Rattle.dir_tools.specs.declared.fault.Cause.{Cause}
 use Rattle.dir_tools.specs.declared.fault.Item.TheVariants.{Suffix}
 use Rattle.dir_tools.specs.declared.fault.ToolFault.{ToolFault}
-use Rattle.dir_tools.specs.declared.fault.ToolFault.TheVariants.{BadChanges, BadCopy, BadQuestion}
+use Rattle.dir_tools.specs.declared.fault.ToolFault.TheVariants.{BadChanges, BadCopy, BadQuestion, TooFewGroups}
 use Rattle.dir_tools.specs.declared.run.ModifyOptions.{ModifyOptions}
 use Rattle.dir_tools.specs.declared.round_trip.RunInMemory.{RunInMemory}
 use Rattle.dir_tools.specs.declared.run.Summary.{Summary}
 use Rattle.dir_tools.specs.Canonical.{canonical_of}
 use Rattle.dir_tools.specs.CopyOf.{CopyFault, copy_of}
-use Rattle.dir_tools.specs.Headline.{Headline, IsTakenBack, RunTerms, RunOutput, canonical_copy_of, directory_of, ok_or_bad_changes, ok_or_bad_copy, ok_or_bad_suffix, output_at, output_of, terms}
+use Rattle.dir_tools.specs.Headline.{GoesBackToAnyPoint, Headline, IsTakenBack, RunTerms, RunOutput, UndosAreUndone, canonical_copy_of, directory_of, ok_or_bad_changes, ok_or_bad_copy, ok_or_bad_suffix, ok_or_too_few, output_at, output_of, records_in, terms, too_few_in}
 use Rattle.dir_tools.specs.Inside.RunInMemory.{IsRunInMemory}
-use Rattle.dir_tools.specs.Laws.{CopiesAreSound, LeadsBackTo, RunsAcceptChanges, WrittenRunsAreTakenBack}
-use Rattle.dir_tools.specs.RunOf.{RunEnd, run_of}
+use Rattle.dir_tools.specs.Laws.{CanonicalTextsReadBack, CopiesAreSound, LeadsBackTo, RunsAcceptChanges, WrittenRunsAreTakenBack, WrittenRunsGoBack}
+use Rattle.dir_tools.specs.RunOf.{RunEnd, groups_in, records_at, run_of}
 use Rattle.dir_tools.specs.Suffix.{suffix_of}
+use Rattle.dir_tools.proofs.CutRuns.{leads_back, point, to_come}
 use Rattle.dir_tools.proofs.SoundCopies.{copy_suffix}
 use Rattle.dir_tools.proofs.SuffixLemmas.{named_suffix}
 
@@ -27,7 +30,7 @@ use Rattle.dir_tools.proofs.SuffixLemmas.{named_suffix}
 
 module _ (q : RunTerms) (copy changes : List ℕ) where
   abbrev from_directory : Dir → Result RunOutput ToolFault
-  from_directory first = and_then (ok_or_bad_changes (run_of q.rows q.options.go_on first (records_of q.rows changes))) (λ ran. Ok (output_at q ran))
+  from_directory first = and_then (ok_or_bad_changes (run_of q.rows q.options.go_on first (records_in q changes))) (λ ran. ok_or_too_few (too_few_in q changes ran) (output_at q ran))
 
   abbrev from_suffix : Option DnKeys → Result Dir ToolFault
   from_suffix key = and_then (ok_or_bad_suffix key) (λ k. ok_or_bad_copy (copy_of q.rows k copy))
@@ -46,61 +49,164 @@ module _ (q : RunTerms) (copy changes : List ℕ) where
       pub read_whole : directory_of q copy ≡ Ok first
       read_whole = read_at (Ok first) reads
 
-      pub bad_changes : (fault : StreamFault) → run_of q.rows q.options.go_on first (records_of q.rows changes) ≡ Err fault → output_of q copy changes ≡ Err (BadChanges fault)
-      bad_changes fault is = ap (λ r. and_then r from_directory) read_whole ∙ ap (λ r. and_then (ok_or_bad_changes r) (λ ran. Ok (output_at q ran))) is
+      pub bad_changes : (fault : StreamFault) → run_of q.rows q.options.go_on first (records_in q changes) ≡ Err fault → output_of q copy changes ≡ Err (BadChanges fault)
+      bad_changes fault is = ap (λ r. and_then r from_directory) read_whole ∙ ap (λ r. and_then (ok_or_bad_changes r) (λ ran. ok_or_too_few (too_few_in q changes ran) (output_at q ran))) is
 
-      pub whole_run : (ran : RunEnd) → run_of q.rows q.options.go_on first (records_of q.rows changes) ≡ Ok ran → output_of q copy changes ≡ Ok (output_at q ran)
-      whole_run ran is = ap (λ r. and_then r from_directory) read_whole ∙ ap (λ r. and_then (ok_or_bad_changes r) (λ n. Ok (output_at q n))) is
+      whole_or_not : (ran : RunEnd) (o : Option ℕ) → run_of q.rows q.options.go_on first (records_in q changes) ≡ Ok ran → too_few_in q changes ran ≡ o → output_of q copy changes ≡ ok_or_too_few o (output_at q ran)
+      whole_or_not ran o is few =
+          ap (λ r. and_then r from_directory) read_whole ∙ ap (λ r. and_then (ok_or_bad_changes r) (λ n. ok_or_too_few (too_few_in q changes n) (output_at q n))) is ∙ ap (λ f. ok_or_too_few f (output_at q ran)) few
 
--- ---- the run back
+      pub whole_run : (ran : RunEnd) → run_of q.rows q.options.go_on first (records_in q changes) ≡ Ok ran → too_few_in q changes ran ≡ None → output_of q copy changes ≡ Ok (output_at q ran)
+      whole_run ran is enough = whole_or_not ran None is enough
 
-pub gives_back : (q : RunTerms) (first : Dir) (ran : RunEnd) → suffix_of q.rows q.suffix ≡ Some first.suffix → (options : ModifyOptions) → LeadsBackTo q.rows first ran options.go_on
-    → IsTakenBack q (output_at q ran) options (canonical_of first)
-gives_back q first ran named options leads = record {
-  back = output_at (terms q.rows q.suffix options) leads.back;
-  runs = whole_run (terms q.rows q.suffix options) (output_at q ran).texts.out (output_at q ran).texts.undo first.suffix named ran.end leads.copied leads.back leads.runs;
-  refuses_nothing = ap length leads.refuses_nothing;
-  gives_first = ap canonical_of leads.ends_first;
-}
+      pub too_few : (ran : RunEnd) (groups : ℕ) → run_of q.rows q.options.go_on first (records_in q changes) ≡ Ok ran → too_few_in q changes ran ≡ Some groups → output_of q copy changes ≡ Err (TooFewGroups groups)
+      too_few ran groups is few = whole_or_not ran (Some groups) is few
 
--- ---- the theorem
+-- ---- what an output says of its run
 
-abbrev IsTaken : RunTerms → List ℕ → RunOutput → Type 0
-IsTaken q copy output = (first : List ℕ) × (canonical_copy_of q copy ≡ Ok first) × ((options : ModifyOptions) → IsTakenBack q output options first)
+pub record Parts (q : RunTerms) (copy changes : List ℕ) (output : RunOutput) : Type 0 where
+  pub key : DnKeys
+  pub first : Dir
+  pub ran : RunEnd
+  pub named : suffix_of q.rows q.suffix ≡ Some key
+  pub reads : copy_of q.rows key copy ≡ Ok first
+  pub runs : run_of q.rows q.options.go_on first (records_in q changes) ≡ Ok ran
+  pub output_is : output_at q ran ≡ output
 
-pub headline : RecordsAreSound → CopiesAreSound → RunsAcceptChanges → WrittenRunsAreTakenBack → Headline
-headline records copies accept taken q copy changes output copy_bytes changes_bytes is = at_suffix (suffix_of q.rows q.suffix) refl is
+pub parts_of : (q : RunTerms) (copy changes : List ℕ) (output : RunOutput) → output_of q copy changes ≡ Ok output → Parts q copy changes output
+parts_of q copy changes output is = at_suffix (suffix_of q.rows q.suffix) refl is
   where
-    at_run : (key : DnKeys) (first : Dir) → suffix_of q.rows q.suffix ≡ Some key → copy_of q.rows key copy ≡ Ok first
-        → (r : Result RunEnd StreamFault) → run_of q.rows q.options.go_on first (records_of q.rows changes) ≡ r → and_then (ok_or_bad_changes r) (λ ran. Ok (output_at q ran)) ≡ Ok output → IsTaken q copy output
-    at_run key first named reads (Err fault) runs h = absurd (cc)
-    at_run key first named reads (Ok ran) runs h =
-        let same : output_at q ran ≡ output = cc in
-        let named' : suffix_of q.rows q.suffix ≡ Some first.suffix = named ∙ ap Some (sym (copy_suffix q.rows key copy first reads)) in
-        let sound = copies q.rows key copy first copy_bytes (named_suffix q.rows q.suffix key named) reads in
-        let accepted = accept q.rows q.options.go_on first (records_of q.rows changes) ran (records q.rows changes changes_bytes) runs in
-        let back = (taken q.rows first ran sound.0 sound.1 accepted).1 in (
-          canonical_of first,
-          ap (λ r. and_then r (λ d. Ok (canonical_of d))) (read_whole q copy changes key named first reads),
-          λ options. subst (λ (o : RunOutput). IsTakenBack q o options (canonical_of first)) same (gives_back q first ran named' options (back options.go_on)),
-        )
+    at_end : (key : DnKeys) (first : Dir) (ran : RunEnd) → suffix_of q.rows q.suffix ≡ Some key → copy_of q.rows key copy ≡ Ok first → run_of q.rows q.options.go_on first (records_in q changes) ≡ Ok ran
+        → (o : Option ℕ) → ok_or_too_few o (output_at q ran) ≡ Ok output → Parts q copy changes output
+    at_end key first ran named reads runs None h = record { key = key; first = first; ran = ran; named = named; reads = reads; runs = runs; output_is = cc }
+    at_end key first ran named reads runs (Some groups) h = absurd (cc)
 
-    at_copy : (key : DnKeys) → suffix_of q.rows q.suffix ≡ Some key → (r : Result Dir CopyFault) → copy_of q.rows key copy ≡ r → and_then (ok_or_bad_copy r) (from_directory q copy changes) ≡ Ok output → IsTaken q copy output
-    at_copy key named (Ok first) reads h = at_run key first named reads (run_of q.rows q.options.go_on first (records_of q.rows changes)) refl h
+    at_run : (key : DnKeys) (first : Dir) → suffix_of q.rows q.suffix ≡ Some key → copy_of q.rows key copy ≡ Ok first → (r : Result RunEnd StreamFault) → run_of q.rows q.options.go_on first (records_in q changes) ≡ r
+        → and_then (ok_or_bad_changes r) (λ ran. ok_or_too_few (too_few_in q changes ran) (output_at q ran)) ≡ Ok output → Parts q copy changes output
+    at_run key first named reads (Err fault) runs h = absurd (cc)
+    at_run key first named reads (Ok ran) runs h = at_end key first ran named reads runs (too_few_in q changes ran) h
+
+    at_copy : (key : DnKeys) → suffix_of q.rows q.suffix ≡ Some key → (r : Result Dir CopyFault) → copy_of q.rows key copy ≡ r → and_then (ok_or_bad_copy r) (from_directory q copy changes) ≡ Ok output → Parts q copy changes output
+    at_copy key named (Ok first) reads h = at_run key first named reads (run_of q.rows q.options.go_on first (records_in q changes)) refl h
     at_copy key named (Err fault) reads h = absurd (cc)
 
-    at_suffix : (o : Option DnKeys) → suffix_of q.rows q.suffix ≡ o → and_then (from_suffix q copy changes o) (from_directory q copy changes) ≡ Ok output → IsTaken q copy output
+    at_suffix : (o : Option DnKeys) → suffix_of q.rows q.suffix ≡ o → and_then (from_suffix q copy changes o) (from_directory q copy changes) ≡ Ok output → Parts q copy changes output
     at_suffix None named h = absurd (cc)
     at_suffix (Some key) named h = at_copy key named (copy_of q.rows key copy) refl h
 
+-- the records that a run takes are sound
+pub sound_at : RecordsAreSound → FirstRecordsAreSound → (rows : List TypeRow) (last : Option ℕ) (text : List ℕ) → IsBytes text → AreSoundAnswers rows (records_at rows last text)
+sound_at records firsts rows None text bytes = records rows text bytes
+sound_at records firsts rows (Some groups) text bytes = firsts rows groups text bytes
+
+-- ---- the run back
+
+pub gives_back : (q : RunTerms) (suffix : DnKeys) (ran : RunEnd) → suffix_of q.rows q.suffix ≡ Some suffix → (options : ModifyOptions) (there : Dir) → LeadsBackTo q.rows suffix ran options.go_on options.last there
+    → IsTakenBack q (output_at q ran) options (canonical_of there)
+gives_back q suffix ran named options there leads = record {
+  back = output_at (terms q.rows q.suffix options) leads.back;
+  runs = whole_run (terms q.rows q.suffix options) (output_at q ran).texts.out (output_at q ran).texts.undo suffix named ran.end leads.copied leads.back leads.runs leads.enough;
+  refuses_nothing = ap length leads.refuses_nothing;
+  gives_first = ap canonical_of leads.ends_there;
+}
+
+-- by the whole undo text
+pub gives_whole_back : (q : RunTerms) (first : Dir) (ran : RunEnd) → suffix_of q.rows q.suffix ≡ Some first.suffix → (options : ModifyOptions) → options.last ≡ None
+    → LeadsBackTo q.rows first.suffix ran options.go_on None first → IsTakenBack q (output_at q ran) options (canonical_of first)
+gives_whole_back q first ran named options whole leads =
+    gives_back q first.suffix ran named options first (subst (λ l. LeadsBackTo q.rows first.suffix ran options.go_on l first) (sym whole) leads)
+
+-- by its first groups
+pub gives_back_by : (q : RunTerms) (first there : Dir) (ran : RunEnd) (k : ℕ) → suffix_of q.rows q.suffix ≡ Some first.suffix → (options : ModifyOptions) → options.last ≡ Some k
+    → LeadsBackTo q.rows first.suffix ran options.go_on (Some k) there → IsTakenBack q (output_at q ran) options (canonical_of there)
+gives_back_by q first there ran k named options last leads =
+    gives_back q first.suffix ran named options there (subst (λ l. LeadsBackTo q.rows first.suffix ran options.go_on l there) (sym last) leads)
+
+-- ---- the theorems
+
+-- the copy of an output's run is that of a sound directory, and the records that it took are sound
+module _ (records : RecordsAreSound) (firsts : FirstRecordsAreSound) (copies : CopiesAreSound) (q : RunTerms) (copy changes : List ℕ) (output : RunOutput) (copy_bytes : IsBytes copy) (changes_bytes : IsBytes changes)
+    (parts : Parts q copy changes output) where
+  named_first : suffix_of q.rows q.suffix ≡ Some parts.first.suffix
+  named_first = parts.named ∙ ap Some (sym (copy_suffix q.rows parts.key copy parts.first parts.reads))
+
+  in_order : IsWellFormed q.rows parts.first × IsWithinLimits parts.first
+  in_order = copies q.rows parts.key copy parts.first copy_bytes (named_suffix q.rows q.suffix parts.key parts.named) parts.reads
+
+  sound_in : AreSoundAnswers q.rows (records_in q changes)
+  sound_in = sound_at records firsts q.rows q.options.last changes changes_bytes
+
+abbrev IsTaken : RunTerms → List ℕ → RunOutput → Type 0
+IsTaken q copy output = (first : List ℕ) × (canonical_copy_of q copy ≡ Ok first) × ((options : ModifyOptions) → options.last ≡ None → IsTakenBack q output options first)
+
+pub headline : RecordsAreSound → FirstRecordsAreSound → CopiesAreSound → RunsAcceptChanges → WrittenRunsAreTakenBack → Headline
+headline records firsts copies accept taken q copy changes output copy_bytes changes_bytes is =
+    let p = parts_of q copy changes output is in
+    let order = in_order records firsts copies q copy changes output copy_bytes changes_bytes p in
+    let named = named_first records firsts copies q copy changes output copy_bytes changes_bytes p in
+    let accepted = accept q.rows q.options.go_on p.first (records_in q changes) p.ran (sound_in records firsts copies q copy changes output copy_bytes changes_bytes p) p.runs in
+    let back = (taken q.rows p.first p.ran order.0 order.1 accepted).1 in (
+      canonical_of p.first,
+      ap (λ r. and_then r (λ d. Ok (canonical_of d))) (read_whole q copy changes p.key p.named p.first p.reads),
+      λ options whole. subst (λ (o : RunOutput). IsTakenBack q o options (canonical_of p.first)) p.output_is (gives_whole_back q p.first p.ran named options whole (back options.go_on)),
+    )
+
+pub to_any_point : RecordsAreSound → FirstRecordsAreSound → CopiesAreSound → WrittenRunsGoBack → GoesBackToAnyPoint
+to_any_point records firsts copies law q copy changes output copy_bytes changes_bytes is =
+    let p = parts_of q copy changes output is in
+    let order = in_order records firsts copies q copy changes output copy_bytes changes_bytes p in
+    let named = named_first records firsts copies q copy changes output copy_bytes changes_bytes p in
+    let sound = sound_in records firsts copies q copy changes output copy_bytes changes_bytes p in record {
+      first = p.first;
+      ran = p.ran;
+      begins = read_whole q copy changes p.key p.named p.first p.reads;
+      runs = p.runs;
+      output_is = sym p.output_is;
+      goes_back = λ k few fits.
+          let cut = point law q.rows q.options.go_on p.first (records_in q changes) p.ran sound p.runs order.0 order.1 k few in (
+            cut.earlier.end,
+            record { taken = cut.taken; earlier = cut.earlier; runs = cut.runs; ends = refl; to_come = to_come law q.rows q.options.go_on p.first (records_in q changes) p.ran sound p.runs order.0 order.1 k few },
+            λ options last. subst (λ (o : RunOutput). IsTakenBack q o options (canonical_of cut.earlier.end)) p.output_is
+                (gives_back_by q p.first cut.earlier.end p.ran k named options last
+                (leads_back law q.rows q.options.go_on p.first (records_in q changes) p.ran sound p.runs order.0 order.1 k few fits options.go_on)),
+          );
+    }
+
+-- the same keys are named by the same suffix
+same_key : (rows : List TypeRow) (suffix : List ℕ) (k l : DnKeys) → suffix_of rows suffix ≡ Some k → suffix_of rows suffix ≡ Some l → k ≡ l
+same_key rows suffix k l is other = cc
+
+same_read : (rows : List TypeRow) (k : DnKeys) (text : List ℕ) (d e : Dir) → copy_of rows k text ≡ Ok d → copy_of rows k text ≡ Ok e → d ≡ e
+same_read rows k text d e is other = cc
+
+pub undone : RecordsAreSound → FirstRecordsAreSound → CopiesAreSound → CanonicalTextsReadBack → RunsAcceptChanges → RunsStayInOrder → WrittenRunsAreTakenBack → UndosAreUndone
+undone records firsts copies canonical accept stay taken q copy changes more written output options copy_bytes changes_bytes more_bytes is is_too others whole =
+    let p = parts_of q copy changes written is in
+    let order = in_order records firsts copies q copy changes written copy_bytes changes_bytes p in
+    let was = accept q.rows q.options.go_on p.first (records_in q changes) p.ran (sound_in records firsts copies q copy changes written copy_bytes changes_bytes p) p.runs in
+    let stays : StaysInOrder q.rows p.first (record { end = p.ran.end; groups = groups_in p.ran.outcomes }) = subst (StaysInOrder q.rows p.first) was.2 (stay q.rows p.first was.0 order.0 order.1 was.1).0 in
+    let out_is : written.texts.out ≡ canonical_of p.ran.end = ap (λ (o : RunOutput). o.texts.out) (sym p.output_is) in
+    let r : RunTerms = terms q.rows q.suffix options in
+    let n = parts_of r written.texts.out more output is_too in
+    let named : suffix_of q.rows q.suffix ≡ Some p.ran.end.suffix = named_first records firsts copies q copy changes written copy_bytes changes_bytes p ∙ ap Some (sym stays.2) in
+    let key_is : n.key ≡ p.ran.end.suffix = same_key q.rows q.suffix n.key p.ran.end.suffix n.named named in
+    let reads : copy_of q.rows p.ran.end.suffix (canonical_of p.ran.end) ≡ Ok n.first = subst (λ k. copy_of q.rows k (canonical_of p.ran.end) ≡ Ok n.first) key_is (ap (copy_of q.rows n.key) (sym out_is) ∙ n.reads) in
+    let first_is : p.ran.end ≡ n.first = same_read q.rows p.ran.end.suffix (canonical_of p.ran.end) p.ran.end n.first (canonical q.rows p.ran.end stays.0 stays.1) reads in
+    let sound : AreSoundAnswers q.rows (records_in r more) = sound_at records firsts q.rows options.last more more_bytes in
+    let accepted = accept q.rows options.go_on n.first (records_in r more) n.ran sound n.runs in
+    let back = (taken q.rows n.first n.ran (subst (IsWellFormed q.rows) first_is stays.0) (subst IsWithinLimits first_is stays.1) accepted).1 in
+    subst (λ t. IsTakenBack r output others t) (ap canonical_of (sym first_is) ∙ sym out_is)
+    (subst (λ (o : RunOutput). IsTakenBack r o others (canonical_of n.first)) n.output_is
+    (gives_whole_back r n.first n.ran (named ∙ ap (λ (d : Dir). Some d.suffix) first_is) others whole (back others.go_on)))
+
 -- ---- there and back in memory
 
-pub there_and_back : Headline → (q : RunTerms) (options : ModifyOptions) (copy changes : List ℕ) (there back : RunInMemory) → IsBytes copy → IsBytes changes
+pub there_and_back : Headline → (q : RunTerms) (options : ModifyOptions) (copy changes : List ℕ) (there back : RunInMemory) → options.last ≡ None → IsBytes copy → IsBytes changes
     → IsRunInMemory q copy changes there → IsRunInMemory (terms q.rows q.suffix options) there.out.items there.undo.items back
     → (back.summary.refused ≡ 0) × (canonical_copy_of q copy ≡ Ok back.out.items)
-there_and_back law q options copy changes there back copy_bytes changes_bytes ran ran_back =
+there_and_back law q options copy changes there back whole copy_bytes changes_bytes ran ran_back =
     let taken = law q copy changes ran.output copy_bytes changes_bytes ran.runs in
-    let leads : IsTakenBack q ran.output options taken.0 = taken.2 options in
+    let leads : IsTakenBack q ran.output options taken.0 = taken.2 options whole in
     let answers : Ok ran_back.output ≡ Ok leads.back = sym ran_back.runs ∙ (λ i. output_of (terms q.rows q.suffix options) (ran.out i) (ran.undo i)) ∙ leads.runs in
     let same : ran_back.output ≡ leads.back = cc in (
       ap (λ (n : Summary). n.refused) ran_back.summary ∙ ap (λ (o : RunOutput). o.summary.refused) same ∙ leads.refuses_nothing,

@@ -1,5 +1,5 @@
 -- Access as before: once a run is taken back, each question has the answer that it had before the run.
-use Rattle.std.specs.Prelude.{◌≡◌, ℕ, List, Some, Ok}
+use Rattle.std.specs.Prelude.{◌≡◌, ℕ, List, None, Some, Ok}
 use Rattle.dir_ldif.specs.SoundRecords.{IsBytes}
 use Rattle.dir_names.specs.declared.schema.TypeRow.{TypeRow}
 use Rattle.dir_tools.specs.declared.acl.Question.{Question}
@@ -17,8 +17,8 @@ abbrev pub HaveSameAccess : RunTerms → List ℕ → List ℕ → Type 0
 HaveSameAccess q copy back =
     (start : List TypeRow) (question : Question) (config : List ℕ) → IsOfRun q start config → acl_report_of (access_terms start question) config back ≡ acl_report_of (access_terms start question) config copy
 
--- the copy that the run back writes has the same access as the first
+-- the copy that the run back of the whole undo text writes has the same access as the first
 abbrev pub AccessIsAsBefore : Type 0
-AccessIsAsBefore = (q : RunTerms) (copy changes : List ℕ) (output back : RunOutput) (options : ModifyOptions) → IsBytes copy → IsBytes changes
+AccessIsAsBefore = (q : RunTerms) (copy changes : List ℕ) (output back : RunOutput) (options : ModifyOptions) → options.last ≡ None → IsBytes copy → IsBytes changes
     → output_of q copy changes ≡ Ok output → output_of (terms q.rows q.suffix options) output.texts.out output.texts.undo ≡ Ok back
     → HaveSameAccess q copy back.texts.out

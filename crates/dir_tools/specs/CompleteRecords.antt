@@ -12,7 +12,7 @@ use Rattle.dir_tools.specs.declared.fault.Cause.TheVariants as cause
 use Rattle.dir_tools.specs.declared.fault.ToolFault.{ToolFault}
 use Rattle.dir_tools.specs.declared.fault.ToolFault.TheVariants as tool
 use Rattle.dir_tools.specs.CopyOf.{LoadedCopy, with_records}
-use Rattle.dir_tools.specs.RunOf.{record_step}
+use Rattle.dir_tools.specs.RunOf.{record_step, records_at}
 
 -- a reader failed, or had no read call left
 abbrev pub IsReaderFault : ToolFault → Type 0
@@ -32,6 +32,10 @@ GaveBytes left left' P = (bytes : List ℕ) × Consumes left left' bytes × P by
 -- the answers on these bytes and the text that follows them
 abbrev pub answers_after : List TypeRow → List ℕ → List ℕ → List Answer
 answers_after rows bytes text = records_of rows (bytes ++ text)
+
+-- the same of a text of changes, of which all records are taken, or those of its first groups
+abbrev pub changes_after : List TypeRow → Option ℕ → List ℕ → List ℕ → List Answer
+changes_after rows last bytes text = records_at rows last (bytes ++ text)
 
 -- the complete records of a copy are taken in, one after the other
 abbrev pub CompleteRecordsLoad : List TypeRow → LoadedCopy → (List ℕ → List Answer) → Type 0

@@ -38,3 +38,4 @@ tool_fault_text (tool.BadQuestion part) = codes "bad question: " ++ item_text pa
 tool_fault_text (tool.BadChanges fault) = codes "changes: " ++ stream_fault_text fault
 tool_fault_text (tool.Config fault) = codes "config, line " ++ decimal fault.line ++ codes ": " ++ config_cause_text fault.cause
 tool_fault_text tool.NoEntry = codes "no such entry"
+tool_fault_text (tool.TooFewGroups groups) = codes "cannot go back, only " ++ decimal groups ++ codes " groups"

@@ -1,9 +1,8 @@
 -- What `run_modify` answers over devices, which may tell their bytes or not.
-use Rattle.std.specs.Prelude.{◌≡◌, ℕ, ⊤, List, Option, None, Some, IfSome, Result, Ok, Err}
+use Rattle.std.specs.Prelude.{◌≡◌, ℕ, ◌<◌, ◌≤◌, ◌^◌, ⊤, List, length, Option, None, Some, IfSome, Result, Ok, Err}
 use Rattle.dir_names.specs.Keys.{DnKeys}
 use Rattle.dir_ldif.specs.declared.faults.StreamFault.{StreamFault}
 use Rattle.dir_ldif.specs.declared.faults.StreamFault.TheVariants as stream
-use Rattle.dir_ldif.specs.Records.{records_of}
 use Rattle.dir_tree.specs.Dir.{Dir}
 use Rattle.dir_tools.specs.declared.fault.Cause.{Cause}
 use Rattle.dir_tools.specs.declared.fault.Cause.TheVariants as cause
@@ -16,7 +15,7 @@ use Rattle.dir_tools.specs.declared.run.Summary.{Summary}
 use Rattle.dir_tools.specs.Canonical.{canonical_of}
 use Rattle.dir_tools.specs.CopyFaults.{IsBadCopy}
 use Rattle.dir_tools.specs.CopyOf.{copy_of}
-use Rattle.dir_tools.specs.Headline.{IsTakenBack, RunTerms, RunOutput, output_at, output_of}
+use Rattle.dir_tools.specs.Headline.{IsTakenBack, RunTerms, RunOutput, WasThere, output_at, output_of, records_in, too_few_in}
 use Rattle.dir_tools.specs.ReadCalls.{FillsReadCalls}
 use Rattle.dir_tools.specs.RunOf.{AreUndos, ReadsAsGroups, RunEnd, groups_in, run_of}
 use Rattle.dir_tools.specs.Suffix.{suffix_of}
@@ -31,18 +30,31 @@ sources copy changes = record { copy = copy; changes = changes }
 
 -- ---- a run that came to its end
 
+-- the run of a text of changes from a directory ends there, and has groups enough
+abbrev pub RunsTo : RunTerms → Dir → List ℕ → RunEnd → Type 0
+RunsTo q first text ran = (run_of q.rows q.options.go_on first (records_in q text) ≡ Ok ran) × (too_few_in q text ran ≡ None)
+
+-- where the last accepted records, so many, were still to come, the run was at a directory to whose text so many groups of the undo text lead
+-- back, whatever the other options
+pub record LeadsBackBy (q : RunTerms) (known : Option (List ℕ)) (output : RunOutput) (first : Dir) (ran : RunEnd) (k : ℕ) : Type 0 where
+  pub point : Dir
+  pub was_there : IfSome known (λ text. WasThere q first text ran k point)
+  pub taken_back : (options : ModifyOptions) → options.last ≡ Some k → IsTakenBack q output options (canonical_of point)
+
 -- a run from the directory that its copy is the text of, over the records of its changes. Each accepted record has an undo as its group; the
--- records of the undo text are those of the groups, the last first; and the output takes the run back, whatever the options
+-- records of the undo text are those of the groups, the last first; the whole of it takes the run back, whatever the other options; and so
+-- many of its groups, as many of the accepted records
 pub record IsStatedRun (q : RunTerms) (known : Sources) (output : RunOutput) : Type 0 where
   pub first : Dir
   pub ran : RunEnd
   pub suffix : suffix_of q.rows q.suffix ≡ Some first.suffix
   pub copy : IfSome known.copy (λ text. copy_of q.rows first.suffix text ≡ Ok first)
-  pub changes : IfSome known.changes (λ text. run_of q.rows q.options.go_on first (records_of q.rows text) ≡ Ok ran)
+  pub changes : IfSome known.changes (λ text. RunsTo q first text ran)
   pub output_is : output ≡ output_at q ran
   pub undos : AreUndos q.rows first (groups_in ran.outcomes) ran.end
   pub undo_records : ReadsAsGroups q.rows output.texts.undo (groups_in ran.outcomes)
-  pub taken_back : (options : ModifyOptions) → IsTakenBack q output options (canonical_of first)
+  pub taken_back : (options : ModifyOptions) → options.last ≡ None → IsTakenBack q output options (canonical_of first)
+  pub goes_back : (k : ℕ) → k ≤ length (groups_in ran.outcomes) → k < 2 ^ 64 → LeadsBackBy q known.changes output first ran k
 
 -- ---- a fault before the writing
 
@@ -50,7 +62,7 @@ pub record IsStatedRun (q : RunTerms) (known : Sources) (output : RunOutput) : T
 -- a reader
 abbrev pub IsBadText : RunTerms → Dir → List ℕ → StreamFault → Type 0
 IsBadText q first text stream.TooManyTurns = FillsReadCalls text
-IsBadText q first text fault = run_of q.rows q.options.go_on first (records_of q.rows text) ≡ Err fault
+IsBadText q first text fault = run_of q.rows q.options.go_on first (records_in q text) ≡ Err fault
 
 -- the copy is the text of a directory, and from there the text of changes is at fault
 pub record AreBadChanges (q : RunTerms) (known : Sources) (fault : StreamFault) : Type 0 where
@@ -58,6 +70,16 @@ pub record AreBadChanges (q : RunTerms) (known : Sources) (fault : StreamFault) 
   pub suffix : suffix_of q.rows q.suffix ≡ Some first.suffix
   pub copy : IfSome known.copy (λ text. copy_of q.rows first.suffix text ≡ Ok first)
   pub changes : IfSome known.changes (λ text. IsBadText q first text fault)
+
+-- the run looked at each record of the text of changes, and that has only so many groups, fewer than are wanted
+pub record AreTooFewGroups (q : RunTerms) (known : Sources) (groups : ℕ) : Type 0 where
+  pub first : Dir
+  pub wanted : ℕ
+  pub last : q.options.last ≡ Some wanted
+  pub fewer : groups < wanted
+  pub suffix : suffix_of q.rows q.suffix ≡ Some first.suffix
+  pub copy : IfSome known.copy (λ text. copy_of q.rows first.suffix text ≡ Ok first)
+  pub changes : IfSome known.changes (λ text. (ran : RunEnd) × (run_of q.rows q.options.go_on first (records_in q text) ≡ Ok ran) × (too_few_in q text ran ≡ Some groups))
 
 -- the fault is that of the copy's text
 abbrev pub HasBadCopy : RunTerms → Sources → ℕ → Cause → Type 0
@@ -68,6 +90,7 @@ abbrev pub IsCausedBy : RunTerms → Sources → ToolFault → Type 0
 IsCausedBy q known (tool.BadQuestion item.Suffix) = suffix_of q.rows q.suffix ≡ None
 IsCausedBy q known (tool.BadCopy line why) = HasBadCopy q known line why
 IsCausedBy q known (tool.BadChanges fault) = AreBadChanges q known fault
+IsCausedBy q known (tool.TooFewGroups groups) = AreTooFewGroups q known groups
 IsCausedBy q known (tool.Read input.Copy) = ⊤
 IsCausedBy q known (tool.Read input.Changes) = ⊤
 IsCausedBy q known tool.Memory = ⊤

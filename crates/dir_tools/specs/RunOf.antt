@@ -1,5 +1,5 @@
 -- A run of changes on a directory (slapmodify(8)): an outcome for each record that it looks at.
-use Rattle.std.specs.Prelude.{ℕ, Bool, cond, List, [], ◌∷◌, ◌++◌, map, reverse, Result, Ok, Err, ◌≡◌}
+use Rattle.std.specs.Prelude.{ℕ, Bool, ◌&&◌, ◌||◌, nat_lt, cond, if◌then◌else◌, List, [], ◌∷◌, ◌++◌, map, reverse, Option, None, Some, Result, Ok, Err, ◌≡◌}
 use Rattle.std.specs.List.{flat_map}
 use Rattle.dir_names.specs.declared.schema.TypeRow.{TypeRow}
 use Rattle.dir_ldif.specs.declared.faults.RecordFault.{RecordFault}
@@ -8,7 +8,8 @@ use Rattle.dir_ldif.specs.declared.faults.StreamFault.{StreamFault}
 use Rattle.dir_ldif.specs.declared.records.Change.{Change}
 use Rattle.dir_ldif.specs.declared.records.Record.{Record}
 use Rattle.dir_ldif.specs.declared.records.Record.TheVariants as form
-use Rattle.dir_ldif.specs.Records.{Answer, records_of}
+use Rattle.dir_ldif.specs.Bytes.{is_empty}
+use Rattle.dir_ldif.specs.Records.{Answer, marks_up_to, records_of, records_up_to}
 use Rattle.dir_ldif.specs.RoundTrip.{without_line}
 use Rattle.dir_tree.specs.Dir.{Dir}
 use Rattle.dir_change.specs.declared.result_code.ResultCode.{ResultCode}
@@ -77,6 +78,30 @@ groups_in outcomes = flat_map group_in outcomes
 
 abbrev pub causes_in : List (ℕ × Outcome) → List Cause
 causes_in outcomes = flat_map cause_in outcomes
+
+-- ---- the first groups of an undo text
+
+-- the records of a text of changes that a run takes: all of them, or those of the first groups of an undo text, so many
+abbrev pub records_at : List TypeRow → Option ℕ → List ℕ → List Answer
+records_at rows None text = records_of rows text
+records_at rows (Some groups) text = records_up_to rows groups text
+
+-- the marks of groups that it passes, where they are counted and the text ends in no fault
+abbrev pub marks_at : Option ℕ → List ℕ → Option ℕ
+marks_at None text = None
+marks_at (Some groups) text = marks_up_to groups text
+
+-- a run has looked at each record: it goes on after a refused one, or it refused none
+abbrev pub looked_at_all : Bool → RunEnd → Bool
+looked_at_all go_on ran = go_on || is_empty (causes_in ran.outcomes)
+
+-- how many groups there are, where a run that has looked at each record wants more
+abbrev pub too_few_groups : Option ℕ → Option ℕ → Bool → Option ℕ
+too_few_groups None marks at_end = None
+too_few_groups (Some wanted) None at_end = None
+too_few_groups (Some wanted) (Some marks) at_end = if at_end && nat_lt marks wanted then Some marks else None
+
+-- ---- the accepted changes
 
 -- the outcomes of a run from one directory to another: their groups are those of sound changes that were accepted one after the other
 abbrev pub HasAccepted : List TypeRow → Dir → List (ℕ × Outcome) → Dir → Type 0

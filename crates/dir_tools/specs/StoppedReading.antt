@@ -7,7 +7,7 @@ use Rattle.dir_tools.specs.declared.fault.Cause.TheVariants as cause
 use Rattle.dir_tools.specs.declared.fault.Input.TheVariants as input
 use Rattle.dir_tools.specs.declared.fault.ToolFault.{ToolFault}
 use Rattle.dir_tools.specs.declared.fault.ToolFault.TheVariants as tool
-use Rattle.dir_tools.specs.CompleteRecords.{CompleteRecordsAreAccepted, CompleteRecordsLoad, GaveBytes, answers_after}
+use Rattle.dir_tools.specs.CompleteRecords.{CompleteRecordsAreAccepted, CompleteRecordsLoad, GaveBytes, answers_after, changes_after}
 use Rattle.dir_tools.specs.CopyOf.{copy_of, empty_copy}
 use Rattle.dir_tools.specs.Headline.{RunTerms}
 use Rattle.dir_tools.specs.Suffix.{suffix_of}
@@ -27,7 +27,7 @@ pub record ChangesWereAccepted (q : RunTerms) (copy changes : KnownBytes) : Type
   pub first : Dir
   pub suffix : suffix_of q.rows q.suffix ≡ Some first.suffix
   pub reads : IfSome copy.0 (λ text. copy_of q.rows first.suffix text ≡ Ok first)
-  pub accepted : q.options.go_on ≡ false → GaveBytes changes.0 changes.1 (λ bytes. CompleteRecordsAreAccepted q.rows first (answers_after q.rows bytes))
+  pub accepted : q.options.go_on ≡ false → GaveBytes changes.0 changes.1 (λ bytes. CompleteRecordsAreAccepted q.rows first (changes_after q.rows q.options.last bytes))
 
 -- for each fault of a reader, what holds of the complete records before it
 abbrev pub HeldBefore : RunTerms → KnownBytes → KnownBytes → ToolFault → Type 0

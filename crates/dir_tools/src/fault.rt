@@ -35,6 +35,8 @@ pub enum ToolFault {
     Config(ConfigFault),
     /// The base of the question is outside the suffix, or the copy has no entry of this name.
     NoEntry,
+    /// The undo text has only so many groups, fewer than are to be run.
+    TooFewGroups(u64),
 }
 
 impl Display for ToolFault {
@@ -58,6 +60,10 @@ impl Display for ToolFault {
                 show_after(f, ": ", &fault.cause)
             }
             ToolFault::NoEntry => f.write_str("no such entry"),
+            ToolFault::TooFewGroups(groups) => {
+                show_after(f, "cannot go back, only ", &Number(*groups))?;
+                f.write_str(" groups")
+            }
         }
     }
 }

@@ -24,8 +24,9 @@ pub use copy::{read_copy, write_copy};
 pub use fault::{Cause, Input, Item, Number, Output, ToolFault};
 pub use held::HeldMemory;
 pub use laws::{
-    access_is_as_before, canonical_texts_read_back, copies_are_sound, groups_are_undos, headline,
-    runs_accept_changes, written_runs_are_taken_back,
+    access_is_as_before, canonical_texts_read_back, copies_are_sound, goes_back_to_any_point,
+    groups_are_undos, headline, runs_accept_changes, undos_are_undone, written_runs_are_taken_back,
+    written_runs_go_back,
 };
 pub use memory::Buffer;
 pub use modify::{run_modify, run_modify_holding};

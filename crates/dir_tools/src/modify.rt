@@ -15,11 +15,11 @@ ghost use Rattle.dir_tools.specs.declared.fault.ToolFault.TheVariants as ToolFau
 
 use crate::copy::read_copy;
 use crate::held::HeldMemory;
-use crate::laws::{groups_are_undos, written_runs_are_taken_back};
+use crate::laws::{groups_are_undos, written_runs_are_taken_back, written_runs_go_back};
 use crate::run::{ModifyOptions, Run, RunTexts, Summary};
 use crate::write::write_text;
 use crate::{Item, Output, ToolFault};
-use dir_ldif::{Sink, Source};
+use dir_ldif::{Sink, Source, marks_are_known};
 use dir_names::{Dn, DnKey, NameFault, Schema};
 use dir_tree::TreeDirectory;
 use std::alloc::Global;
@@ -29,13 +29,14 @@ use std::alloc::Global;
 ///
 /// A record that is not a legal change counts as refused. Unless the run goes on, it ends after the
 /// first refused record; what was accepted before is kept and written. A dry run writes only the
-/// report.
+/// report. With `last` the changes are an undo text, of which the first so many groups are run: that takes
+/// back the last so many accepted records of the run that wrote it.
 ///
 /// # Errors
 ///
 /// In this order: the suffix is not a name of at least one RDN; the copy, as `read_copy` answers; the
-/// fault in which the text of changes ends, if the run comes to it; a writer's fault. Out of memory
-/// comes where it is met.
+/// fault in which the text of changes ends, if the run comes to it; that it ended after fewer groups than
+/// are wanted; a writer's fault. Out of memory comes where it is met.
 pub fn run_modify<R: Source, R2: Source, W: Sink, W2: Sink, W3: Sink>(
     alloc: Global,
     schema: &Schema,
@@ -171,11 +172,13 @@ fn make_texts<R: Source, R2: Source>(
         Err(fault) => return Err(fault),
     };
     let mut run = Run::new(alloc, directory, options);
+    marks_are_known();
     if let Err(fault) = run.take_all(alloc, schema, changes) {
         held.let_go(run);
         return Err(fault);
     }
     written_runs_are_taken_back();
+    written_runs_go_back();
     groups_are_undos();
     run.finish(alloc, held)
 }

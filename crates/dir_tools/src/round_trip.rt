@@ -48,6 +48,11 @@ pub fn run_there_and_back(
         go_on: options.go_on,
         dry: false,
         verbose: options.verbose,
+        last: options.last,
+    };
+    let whole = ModifyOptions {
+        last: None,
+        ..written
     };
     headline();
     access_is_as_before();
@@ -57,7 +62,7 @@ pub fn run_there_and_back(
     };
     let new = there.out.as_slice();
     let undo = there.undo.as_slice();
-    match run_in_memory(alloc, schema, suffix, written, new, undo) {
+    match run_in_memory(alloc, schema, suffix, whole, new, undo) {
         Ok(back) => Ok(RoundTrip {
             there: there.summary,
             back: back.summary,

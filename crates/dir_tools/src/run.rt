@@ -1,6 +1,12 @@
 //! A run of changes on a directory: how it is run, what it counts, and its texts.
 
-ghost use Rattle.std.specs.Prelude.{◌≡◌};
+ghost use Rattle.std.specs.Prelude.{◌≡◌, ℕ, List, [], Some, IfErr, IfOk};
+ghost use Rattle.std.specs.Option.{option_and_then, option_map};
+ghost use Rattle.dir_ldif.specs.declared.faults.StreamFault.TheVariants as StreamFault;
+ghost use Rattle.dir_ldif.specs.Limits.{most_read_calls};
+ghost use Rattle.dir_ldif.specs.Reader.{IsReading, answers_to_come, answers_to_come_with, in_hand, marks_at_end, schema_of, source_of, turns_left};
+ghost use Rattle.dir_ldif.specs.Records.{marks_up_to};
+ghost use Rattle.dir_tools.specs.RunOf.{records_at};
 ghost use Rattle.dir_tools.specs.Inside.Running.{changes_fault};
 
 use crate::canonical::canonical_text;
@@ -23,6 +29,8 @@ pub struct ModifyOptions {
     pub dry: bool,
     /// Report accepted records too.
     pub verbose: bool,
+    /// Run the first so many groups of an undo text, and no more: that takes back the last so many accepted records.
+    pub last: Option<u64>,
 }
 
 /// How many records a run accepted and how many it refused.
@@ -59,14 +67,14 @@ pub(crate) struct Run<D: Directory + Drop> {
 }
 
 impl<D: Directory + Drop> Run<D> {
-    ghost use Rattle.std.specs.Prelude.{◌≡◌, ◌<◌, ◌+◌, ◌^◌, ◌-◌, Err, IfErr, IfOk, IfSome, OnOk, false};
+    ghost use Rattle.std.specs.Prelude.{◌≡◌, ◌<◌, ◌+◌, ◌^◌, ◌-◌, ℕ, Err, IfErr, IfOk, IfSome, None, OnOk, Some, false, true};
     ghost use Rattle.dir_ldif.specs.declared.faults.StreamFault.TheVariants as StreamFault;
-    ghost use Rattle.dir_tools.specs.CompleteRecords.{CompleteRecordsAreAccepted, GaveBytes, GaveBytesTo, IsReaderFault, answers_after};
+    ghost use Rattle.dir_tools.specs.CompleteRecords.{CompleteRecordsAreAccepted, GaveBytes, GaveBytesTo, IsReaderFault, changes_after};
     ghost use Rattle.dir_tools.specs.ReadCalls.{FillsReadCalls, GaveAtLeast};
     ghost use Rattle.dir_tools.specs.declared.fault.ToolFault.TheVariants as ToolFault;
-    ghost use Rattle.std.specs.Option.{option_map};
-    ghost use Rattle.dir_ldif.specs.Records.{records_of};
-    ghost use Rattle.dir_ldif.specs.Reader.{IsReading, answers_to_come, schema_of, source_of, turns_left};
+    ghost use Rattle.std.specs.Option.{option_and_then, option_map};
+    ghost use Rattle.dir_ldif.specs.Reader.{IsReading, answers_to_come, marks_at_end, schema_of, source_of, turns_left};
+    ghost use Rattle.dir_tools.specs.RunOf.{marks_at, records_at, too_few_groups};
     ghost use Rattle.dir_tools.specs.Inside.Running.{AreTextsOfRun, HasChangeOutcome, HasOutcome, HasTakenNone, IsChangesFaultCause, KeepsReport, RunsOver, Takes, records_taken};
 
     /// A run that has taken no record.
@@ -85,7 +93,8 @@ impl<D: Directory + Drop> Run<D> {
         }
     }
 
-    /// Reads the changes to their end, or up to the first refused one where the run doesn't go on.
+    /// Reads the changes to their end, or up to the first refused one where the run doesn't go on; with `last` the first so
+    /// many groups of an undo text.
     pub(crate) fn take_all<R: Source>(
         &mut self,
         alloc: Global,
@@ -93,15 +102,17 @@ impl<D: Directory + Drop> Run<D> {
         changes: &mut R,
     ) -> Result<(), ToolFault>
         requires { records_taken self.old ≡ 0 }
-        ensures ok { OnOk result (RunsOver D.state schema.now (option_map (records_of schema.now) (R.left changes.old)) self.old self.new) }
-        ensures blamed { IfErr result (IsChangesFaultCause D.state schema.now (option_map (records_of schema.now) (R.left changes.old)) (R.failures changes.old) (R.failures changes.new) self.old) }
+        ensures ok { OnOk result (RunsOver D.state schema.now (option_map (records_at schema.now self.old.options.last) (R.left changes.old))
+            (option_and_then (marks_at self.old.options.last) (R.left changes.old)) self.old self.new) }
+        ensures blamed { IfErr result (IsChangesFaultCause D.state schema.now (option_map (records_at schema.now self.old.options.last) (R.left changes.old))
+            (option_and_then (marks_at self.old.options.last) (R.left changes.old)) (R.failures changes.old) (R.failures changes.new) self.old) }
         ensures unfailed { OnOk result (R.failures changes.new ≡ R.failures changes.old) }
         ensures settled { IfErr result (λ fault. IsReaderFault fault → self.old.options.go_on ≡ false → GaveBytes (R.left changes.old) (R.left changes.new)
-            (λ bytes. CompleteRecordsAreAccepted schema.now (D.state self.old.directory) (answers_after schema.now bytes))) }
+            (λ bytes. CompleteRecordsAreAccepted schema.now (D.state self.old.directory) (changes_after schema.now self.old.options.last bytes))) }
         ensures long { result ≡ Err (ToolFault.BadChanges StreamFault.TooManyTurns) → IfSome (R.left changes.old) FillsReadCalls }
         ensures options { self.new.options ≡ self.old.options }
     {
-        let mut records = match RecordReader::new(alloc, schema, changes) {
+        let mut records = match reader_of(alloc, schema, changes, self.options.last) {
             Ok(records) => records,
             Err(fault) => return Err(ended(fault)),
         };
@@ -119,8 +130,9 @@ impl<D: Directory + Drop> Run<D> {
         requires records_taken { records_taken self.old ≡ 0 }
         requires reading { IsReading records.old }
         requires schema { schema_of records.old ≡ schema.now }
-        ensures ok { OnOk result (RunsOver D.state schema.now (answers_to_come S.left records.old) self.old self.new) }
-        ensures blamed { IfErr result (IsChangesFaultCause D.state schema.now (answers_to_come S.left records.old) (S.failures (source_of records.old)) (S.failures (source_of records.new)) self.old) }
+        ensures ok { OnOk result (RunsOver D.state schema.now (answers_to_come S.left records.old) (marks_at_end S.left records.old) self.old self.new) }
+        ensures blamed { IfErr result (IsChangesFaultCause D.state schema.now (answers_to_come S.left records.old) (marks_at_end S.left records.old)
+            (S.failures (source_of records.old)) (S.failures (source_of records.new)) self.old) }
         ensures settled { IfErr result (λ fault. IsReaderFault fault → self.old.options.go_on ≡ false → GaveBytesTo S.left records.old records.new (CompleteRecordsAreAccepted schema.now (D.state self.old.directory))) }
         ensures turns { result ≡ Err (ToolFault.BadChanges StreamFault.TooManyTurns) → GaveAtLeast (S.left (source_of records.old)) (S.left (source_of records.new)) (turns_left records.old) }
         ensures unfailed { OnOk result (S.failures (source_of records.new) ≡ S.failures (source_of records.old)) }
@@ -128,9 +140,21 @@ impl<D: Directory + Drop> Run<D> {
         ensures options { self.new.options ≡ self.old.options }
     {
         match take_records(self, alloc, schema, records) {
-            End::AtEnd | End::Enough => Ok(()),
+            End::AtEnd => self.has_groups(records.marks()),
+            End::Enough => Ok(()),
             End::TextFault(fault) => Err(ended(fault)),
             End::TakeFault(fault) => Err(fault),
+        }
+    }
+
+    /// Whether a text that has ended after so many marks had the groups that are wanted.
+    fn has_groups(&self, marks: u64) -> Result<(), ToolFault>
+        ensures ok { OnOk result (too_few_groups self.now.options.last (Some marks) true ≡ None) }
+        ensures err { IfErr result (λ fault. (wanted : ℕ) × (self.now.options.last ≡ Some wanted) × (marks < wanted) × (fault ≡ ToolFault.TooFewGroups marks)) }
+    {
+        match self.options.last {
+            Some(groups) if marks < groups => Err(ToolFault::TooFewGroups(marks)),
+            _ => Ok(()),
         }
     }
 
@@ -247,6 +271,26 @@ impl<D: Directory + Drop> Taker for Run<D> {
     ) -> Result<bool, ToolFault> {
         let is_accepted = self.take_record(alloc, schema, line, found)?;
         Ok(is_accepted || self.options.go_on)
+    }
+}
+
+/// A reader of all records of a text of changes, or of its first groups, so many.
+fn reader_of<'s, S: Source + Drop>(
+    alloc: Global,
+    schema: &'s Schema,
+    changes: S,
+    last: Option<u64>,
+) -> Result<RecordReader<'s, S>, StreamFault>
+    ensures answers { IfOk result (λ r. answers_to_come S.left r ≡ option_map (records_at schema.now last) (S.left changes)) }
+    ensures ahead { IfOk result (λ r. (in_hand r ≡ []) × ((text : List ℕ) → answers_to_come_with r text ≡ records_at schema.now last text)) }
+    ensures marks { IfOk result (λ r. (wanted : ℕ) → last ≡ Some wanted → marks_at_end S.left r ≡ option_and_then (marks_up_to wanted) (S.left changes)) }
+    ensures turns { IfOk result (λ r. turns_left r ≡ most_read_calls) }
+    ensures source { IfOk result (λ r. (source_of r ≡ changes) × (schema_of r ≡ schema.now) × IsReading r) }
+    ensures err { IfErr result (λ fault. fault ≡ StreamFault.Memory) }
+{
+    match last {
+        None => RecordReader::new(alloc, schema, changes),
+        Some(groups) => RecordReader::up_to(alloc, schema, changes, groups),
     }
 }
 

@@ -1,6 +1,7 @@
 -- What a command line asks for.
-use Rattle.std.specs.Prelude.{◌≡◌, ℕ, Bool, true, false, List, [], codes, map, Option, None, Some, option_map}
+use Rattle.std.specs.Prelude.{◌≡◌, ◌<◌, ◌^◌, ℕ, Bool, true, false, List, [], codes, map, Option, None, Some, option_map}
 use Rattle.std.specs.Option.{option_copied}
+use Rattle.std.specs.Str.Parse.{IsNumeral, digits_value, without_leading_plus}
 use Rattle.clap.specs.Matches.{first_value, found_of, matched_of, one_text, raw_values}
 use Rattle.clap.specs.declared.parser.matches.ArgMatches.{ArgMatches}
 use Rattle.clap.specs.declared.parser.matches.Found.{Found}
@@ -18,6 +19,20 @@ pub record IsFlag (found : Found) (id : List ℕ) (flag : Bool) : Type 0 where
   pub missing : one_text found id ≡ None → flag ≡ false
   pub set : one_text found id ≡ Some (codes "true") → flag ≡ true
   pub unset : one_text found id ≡ Some (codes "false") → flag ≡ false
+
+-- decimal digits, with or without a `+` before them, that write a number of 64 bits
+abbrev pub WritesNumber : List ℕ → Type 0
+WritesNumber text = IsNumeral 10 (without_leading_plus text) × (digits_value 10 (without_leading_plus text) < 2 ^ 64)
+
+-- the number that a text writes, if it does
+abbrev pub IsWritten : List ℕ → Option ℕ → Type 0
+IsWritten text (Some n) = WritesNumber text × (n ≡ digits_value 10 (without_leading_plus text))
+IsWritten text None = WritesNumber text → ⊥
+
+-- a number is the one that its text writes, and there is none where there is no text
+pub record IsNumber (found : Found) (id : List ℕ) (number : Option ℕ) : Type 0 where
+  pub missing : one_text found id ≡ None → number ≡ None
+  pub written : (text : List ℕ) → one_text found id ≡ Some text → IsWritten text number
 
 -- each word is the value of its own argument
 pub record AreWordsOf (m : ArgMatches) (words : ModifyWords) : Type 0 where

@@ -1,10 +1,11 @@
 //! The command line, by `clap`.
 
-ghost use Rattle.std.specs.Prelude.{IfOk};
-ghost use Rattle.slapkit.specs.Words.{AreAccessWordsOf, AreWordsOf};
+ghost use Rattle.std.specs.Prelude.{IfOk, codes};
+ghost use Rattle.clap.specs.Matches.{found_of};
+ghost use Rattle.slapkit.specs.Words.{AreAccessWordsOf, AreWordsOf, IsNumber};
 
 use clap::error::ErrorKind;
-use clap::{Arg, ArgAction, ArgMatches, Command, Error};
+use clap::{Arg, ArgAction, ArgMatches, Command, Error, value_parser};
 use dir_files::{AccessWords, ModifyWords};
 use dir_tools::ModifyOptions;
 use std::alloc::{AllocError, Global};
@@ -35,7 +36,8 @@ pub fn read_words<'a, S: AsStr>(alloc: Global, words: &'a [S]) -> Result<Words<'
 }
 
 fn modify_words<'a>(matches: &ArgMatches<'a>) -> ModifyWords<'a>
-    ensures { AreWordsOf matches.now result }
+    ensures words { AreWordsOf matches.now result }
+    ensures last { IsNumber (found_of matches.now) (codes "last") result.options.last }
 {
     ModifyWords {
         suffix: matches.get_str("suffix").unwrap_or(""),
@@ -48,6 +50,7 @@ fn modify_words<'a>(matches: &ArgMatches<'a>) -> ModifyWords<'a>
             go_on: matches.get_flag("go_on"),
             dry: matches.get_flag("dry"),
             verbose: matches.get_flag("verbose"),
+            last: matches.get_one::<u64>("last"),
         },
     }
 }
@@ -148,7 +151,17 @@ fn slapmodify<'a>(alloc: Global) -> Result<Command<'a>, AllocError> {
             'u',
             "Dry run: report what would be done, and write no file",
         ))?
-        .arg(flag(alloc, "verbose", 'v', "Report accepted records too"))
+        .arg(flag(alloc, "verbose", 'v', "Report accepted records too"))?
+        .arg(
+            path(
+                alloc,
+                "last",
+                "K",
+                "CHANGES is an undo file: take the last K records back, and no more",
+            )
+            .long("last")
+            .value_parser(value_parser!(u64)),
+        )
 }
 
 fn slapacl<'a>(alloc: Global) -> Result<Command<'a>, AllocError> {

@@ -14,6 +14,7 @@ const OPTIONS: ModifyOptions = ModifyOptions {
     go_on: true,
     dry: false,
     verbose: false,
+    last: None,
 };
 
 /// A number that tells texts apart.
@@ -26,6 +27,21 @@ fn digest(text: &[u8]) -> u64 {
 /// Prints the length and the digest of a text.
 pub fn show(rt: &impl Print, what: &str, text: &[u8]) -> anyhow::Result<()> {
     println!(rt; "{what}: {} bytes, {}", text.len(), digest(text))?;
+    Ok(())
+}
+
+/// Prints the length and the digest of an undo text without the marks of its groups, as a tree from before the marks
+/// prints them.
+fn show_undo(rt: &impl Print, text: &[u8]) -> anyhow::Result<()> {
+    let mut hasher = DefaultHasher::new();
+    let mut length: usize = 0;
+    for line in text.split_inclusive(|b| *b == b'\n') {
+        if !line.starts_with(b"# undo ") {
+            hasher.write(line);
+            length = length.saturating_add(line.len());
+        }
+    }
+    println!(rt; "undo: {} bytes, {}", length, hasher.finish())?;
     Ok(())
 }
 
@@ -96,7 +112,7 @@ fn summary_of(
 fn show_outputs(rt: &impl Print, summary: Summary, outputs: &Outputs) -> anyhow::Result<()> {
     show_summary(rt, summary)?;
     show(rt, "copy", outputs.copy.as_slice())?;
-    show(rt, "undo", outputs.undo.as_slice())?;
+    show_undo(rt, outputs.undo.as_slice())?;
     show(rt, "report", outputs.report.as_slice())
 }
 

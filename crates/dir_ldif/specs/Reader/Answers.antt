@@ -1,17 +1,18 @@
 -- The answers that a reader has still to give, and what one call does to them. The words of Reader say the same of a `RecordReader`.
 use Rattle.std.specs.Prelude.{◌≡◌, ℕ, ◌+◌, ◌-◌, ◌*◌, ◌≤◌, List, [], ◌∷◌, ◌++◌, take, drop, length, Option, None, Some, IfSome, ⊤, Ok, Err}
-use Rattle.std.specs.Option.{option_map}
+use Rattle.std.specs.Option.{option_and_then, option_map}
 use Rattle.std.specs.Io.KnownBytes.{Consumes}
 use Rattle.dir_names.specs.declared.schema.TypeRow.{TypeRow}
 use Rattle.dir_ldif.specs.declared.faults.StreamFault.{StreamFault}
-use Rattle.dir_ldif.specs.declared.faults.StreamFault.TheVariants.{LineTooLong, Read, Memory, TooManyTurns, BadVersion}
+use Rattle.dir_ldif.specs.declared.faults.StreamFault.TheVariants.{LineTooLong, Read, Memory, TooManyTurns, BadVersion, BadMark}
 use Rattle.dir_ldif.specs.declared.faults.StreamFault.TheVariants.{Ended as AfterFault}
 use Rattle.dir_ldif.specs.declared.reader.Core.{Core}
 use Rattle.dir_ldif.specs.declared.reader.Place.{Place}
 use Rattle.dir_ldif.specs.declared.reader.Place.TheVariants.{Reading, AtEnd, Ended}
 use Rattle.dir_ldif.specs.Device.{HasFailed}
 use Rattle.dir_ldif.specs.Blocks.{BlockResult}
-use Rattle.dir_ldif.specs.Reader.Unfolding.{blocks_to_come}
+use Rattle.dir_ldif.specs.Reader.Unfolding.{blocks_to_come, to_come}
+use Rattle.dir_ldif.specs.Remainder.{Remainder, blocks_in, marks_in}
 use Rattle.dir_ldif.specs.Records.{Found, Answer, answers_on}
 
 -- ---- the bytes that were read
@@ -30,9 +31,13 @@ IsInPieces old new left left' = (bytes : List ℕ) × Consumes left left' bytes 
 
 -- ---- the answers to come
 
+-- what is to come where the source still gives this text
+abbrev pub to_read : Core → List ℕ → Remainder
+to_read c text = to_come c.unfolder (hand c ++ text)
+
 -- the blocks to come where the source still gives this text
 abbrev pub blocks_left : Core → List ℕ → List BlockResult
-blocks_left c text = blocks_to_come c.unfolder (hand c ++ text)
+blocks_left c text = blocks_in (to_read c text)
 
 -- the answers to come where the source still gives this text
 abbrev pub answers_at : Place → List TypeRow → Core → List ℕ → List Answer
@@ -48,6 +53,22 @@ answers_ahead rows c text = answers_on rows (blocks_to_come c.unfolder text)
 -- the answers to come, where the bytes that the source has left are known
 abbrev pub answers_left : List TypeRow → Core → Option (List ℕ) → Option (List Answer)
 answers_left rows c left = option_map (answers_at c.place rows c) left
+
+-- ---- the marks to come
+
+-- the marks that are passed at the end, where the source still gives this text, if that is no fault
+abbrev pub marks_at : Place → Core → List ℕ → Option ℕ
+marks_at Reading c text = marks_in (to_read c text)
+marks_at AtEnd c text = Some c.unfolder.marks.passed
+marks_at Ended c text = None
+
+-- the same, where the bytes that the source has left are known
+abbrev pub marks_left : Core → Option (List ℕ) → Option ℕ
+marks_left c left = option_and_then (marks_at c.place c) left
+
+-- marks that were known to be passed at the end still are
+abbrev pub KeepsMarks : Option ℕ → Option ℕ → Type 0
+KeepsMarks old new = IfSome old (λ n. new ≡ Some n)
 
 -- ---- what a call answers
 
@@ -78,6 +99,7 @@ FirstIsComplete answers = (found : Found) × ((text : List ℕ) → (rest : List
 abbrev pub ExplainsFault : StreamFault → List TypeRow → Core → Option (List ℕ) → Option (List ℕ) → ℕ → ℕ → Type 0
 ExplainsFault LineTooLong rows old left left' failures failures' = IfSome (answers_left rows old left) (λ known. known ≡ Err LineTooLong ∷ [])
 ExplainsFault BadVersion rows old left left' failures failures' = IfSome (answers_left rows old left) (λ known. known ≡ Err BadVersion ∷ [])
+ExplainsFault BadMark rows old left left' failures failures' = IfSome (answers_left rows old left) (λ known. known ≡ Err BadMark ∷ [])
 ExplainsFault Read rows old left left' failures failures' =
     HasFailed failures failures'
     × ((bytes : List ℕ) × Consumes left left' bytes × (FirstIsComplete (λ text. answers_at Reading rows old (bytes ++ text)) → ⊥))
@@ -97,3 +119,4 @@ EndsSoon Memory rows old left left' = Unit {0}
 EndsSoon AfterFault rows old left left' = Unit {0}
 EndsSoon TooManyTurns rows old left left' = Unit {0}
 EndsSoon BadVersion rows old left left' = Unit {0}
+EndsSoon BadMark rows old left left' = Unit {0}

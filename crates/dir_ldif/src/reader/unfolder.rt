@@ -10,6 +10,7 @@ ghost use Rattle.dir_names.specs.Ascii.{carriage_return, line_feed, space};
 
 use crate::faults::StreamFault;
 use crate::reader::bytes::{begins_with_space, cut_at, parts_without_cr, without_cr};
+use crate::reader::marks::Marks;
 use crate::reader::spare::Spare;
 use crate::reader::version::{Version, version_of};
 use std::alloc::Global;
@@ -95,8 +96,11 @@ pub(crate) struct Unfolder {
     // the physical line that has not ended. If it continues the last line, its text is there already, and
     // here are its space and a CR that may be its final one
     partial: Vec<u8>,
+    // which marks of groups end the text
+    marks: Marks,
     alloc: Global,
     ghost continuable: { may_be_continued last ≡ true },
+    ghost ended: { marks.is_over ≡ true → block.items ≡ [] },
     ghost unended: { list_any is_lf partial.items ≡ false },
     ghost short: { has_room last partial.items ≡ true },
 }
@@ -104,15 +108,17 @@ pub(crate) struct Unfolder {
 impl Unfolder {
     ghost use Rattle.std.specs.Prelude.{◌≡◌, ◌+◌, ◌∷◌, ◌++◌, ◌<◌, ◌≤◌, ◌^◌, [], IfErr, IfOk, IfSome, List, MatchOption, None, OnOk, Some, drop, false, if◌then◌else◌, true, length, ℕ};
     ghost use Rattle.dir_ldif.specs.Bytes.{begins_with, is_empty, without_last};
-    ghost use Rattle.dir_ldif.specs.Reader.Unfolding.{blocks_to_come, blocks_to_come_with};
-    ghost use Rattle.dir_ldif.specs.Inside.Unfolder.{TakesLine, blocks_after_block};
+    ghost use Rattle.dir_ldif.specs.Reader.Unfolding.{to_come, to_come_with};
+    ghost use Rattle.dir_ldif.specs.Inside.Unfolder.{TakesLine, after_block};
     ghost use Rattle.dir_ldif.specs.Inside.Bounds.{has_room, may_be_continued};
-    ghost use Rattle.dir_ldif.specs.LogicalLines.{Line, cut, is_lf, is_long, logical_lines, physical_lines};
-    ghost use Rattle.dir_ldif.specs.Blocks.{EndsAtOnce, block_then, blocks_from, blocks_of};
+    ghost use Rattle.dir_ldif.specs.LogicalLines.{Line, cut, is_lf, is_long, lines_of, logical_lines, physical_lines};
+    ghost use Rattle.dir_ldif.specs.Marks.{ignored};
+    ghost use Rattle.dir_ldif.specs.Remainder.{FailsAtOnce, Remainder, done, remainder_from, then_rest};
 
-    pub(crate) fn new(alloc: Global) -> Unfolder
+    pub(crate) fn new(alloc: Global, marks: Marks) -> Unfolder
         ensures number { result.number ≡ 1 }
-        ensures text { (text : List ℕ) → blocks_to_come result text ≡ blocks_of text }
+        ensures text { (text : List ℕ) → to_come result text ≡ remainder_from marks false [] (lines_of text) }
+        ensures marks { result.marks ≡ marks }
     {
         Unfolder {
             block: Vec::new(alloc),
@@ -120,8 +126,23 @@ impl Unfolder {
             last: None,
             number: 1,
             partial: Vec::new(alloc),
+            marks,
             alloc,
         }
+    }
+
+    /// Whether a mark has ended the text. What follows it belongs to no block.
+    pub(crate) fn is_over(&self) -> bool
+        ensures { result ≡ self.now.marks.is_over }
+    {
+        self.marks.is_over()
+    }
+
+    /// The marks that were passed.
+    pub(crate) fn marks(&self) -> u64
+        ensures { result ≡ self.now.marks.passed }
+    {
+        self.marks.passed()
     }
 
     /// Takes the next chunk of the text, up to the end of a block if one ends in it. Answers that block and the
@@ -131,24 +152,30 @@ impl Unfolder {
         spare: &mut Spare,
         chunk: &'a [u8],
     ) -> Result<Option<(Vec<Line>, &'a [u8])>, StreamFault>
-        requires { self.old.number + length chunk.now < 2 ^ 63 }
+        requires going { self.old.marks.is_over ≡ false }
+        requires given { self.old.number + length chunk.now < 2 ^ 63 }
+        ensures ignored { self.old.marks ≡ ignored → self.new.marks ≡ ignored }
         ensures number { self.new.number ≤ self.old.number + length chunk.now }
         ensures left { IfOk result (λ o. IfSome o
             (λ p. self.new.number + length p.1.now ≤ self.old.number + length chunk.now)) }
         ensures shorter { IfOk result (λ o. IfSome o (λ p. length p.1.now < length chunk.now)) }
         ensures used { IfOk result (λ o. IfSome o (λ p. (used : List ℕ) × (chunk.now ≡ used ++ p.1.now)
-            × ((text : List ℕ) → blocks_to_come self.old (used ++ text) ≡ block_then p.0.items (blocks_to_come self.new text)))) }
+            × ((text : List ℕ) → to_come self.old (used ++ text) ≡ then_rest p.0.items (to_come self.new text)))) }
         ensures ok { IfOk result (λ o. MatchOption o
-            ((text : List ℕ) → blocks_to_come self.old (chunk.now ++ text) ≡ blocks_to_come self.new text)
-            (λ p. (text : List ℕ) → blocks_to_come self.old (chunk.now ++ text) ≡ block_then p.0.items (blocks_to_come self.new (p.1.now ++ text)))) }
+            ((text : List ℕ) → to_come self.old (chunk.now ++ text) ≡ to_come self.new text)
+            (λ p. (text : List ℕ) → to_come self.old (chunk.now ++ text) ≡ then_rest p.0.items (to_come self.new (p.1.now ++ text)))) }
         ensures some { IfOk result (λ o. IfSome o (λ p. is_empty p.0.items ≡ false)) }
-        ensures err { IfErr result (λ fault. (text : List ℕ) → EndsAtOnce fault (blocks_to_come self.old (chunk.now ++ text))) }
+        ensures going { IfOk result (λ o. IfSome o (λ _. self.new.marks.is_over ≡ false)) }
+        ensures err { IfErr result (λ fault. (text : List ℕ) → FailsAtOnce fault (to_come self.old (chunk.now ++ text))) }
     {
         let mut rest = chunk;
         while let Some((text, after)) = cut_at(b'\n', rest) {
             rest = after;
             if let Some(block) = self.finish_line(spare, text)? {
                 return Ok(Some((block, rest)));
+            }
+            if self.is_over() {
+                return Ok(None);
             }
         }
         self.push_partial_line(rest)?;
@@ -162,14 +189,17 @@ impl Unfolder {
         spare: &mut Spare,
         text: &[u8],
     ) -> Result<Option<Vec<Line>>, StreamFault>
+        requires going { self.old.marks.is_over ≡ false }
         requires room { self.old.number < 2 ^ 63 }
         requires line { list_any is_lf text.now ≡ false }
+        ensures ignored { self.old.marks ≡ ignored → self.new.marks ≡ ignored }
         ensures number { self.new.number ≡ self.old.number + 1 }
         ensures ok { IfOk result (λ o. MatchOption o
-            ((rest : List ℕ) → blocks_to_come self.old (text.now ++ line_feed ∷ rest) ≡ blocks_to_come self.new rest)
-            (λ block. (rest : List ℕ) → blocks_to_come self.old (text.now ++ line_feed ∷ rest) ≡ block_then block.items (blocks_to_come self.new rest))) }
+            ((rest : List ℕ) → to_come self.old (text.now ++ line_feed ∷ rest) ≡ to_come self.new rest)
+            (λ block. (rest : List ℕ) → to_come self.old (text.now ++ line_feed ∷ rest) ≡ then_rest block.items (to_come self.new rest))) }
         ensures some { IfOk result (λ o. IfSome o (λ block. is_empty block.items ≡ false)) }
-        ensures err { IfErr result (λ fault. (rest : List ℕ) → EndsAtOnce fault (blocks_to_come self.old (text.now ++ line_feed ∷ rest))) }
+        ensures going { IfOk result (λ o. IfSome o (λ _. self.new.marks.is_over ≡ false)) }
+        ensures err { IfErr result (λ fault. (rest : List ℕ) → FailsAtOnce fault (to_come self.old (text.now ++ line_feed ∷ rest))) }
     {
         if self.finish_physical_line(spare, text)? {
             Ok(self.finish_block())
@@ -181,12 +211,14 @@ impl Unfolder {
     /// Finishes the block in hand: moves it out, if it has a line.
     fn finish_block(&mut self) -> Option<Vec<Line>>
         requires { self.old.last ≡ None }
+        ensures ignored { self.old.marks ≡ ignored → self.new.marks ≡ ignored }
         ensures number { self.new.number ≡ self.old.number }
         ensures partial { self.new.partial ≡ self.old.partial }
         ensures blocks { (more : List Line) → MatchOption result
-            (blocks_after_block self.old more ≡ blocks_to_come_with self.new more)
-            (λ block. blocks_after_block self.old more ≡ block_then block.items (blocks_to_come_with self.new more)) }
+            (after_block self.old more ≡ to_come_with self.new more)
+            (λ block. after_block self.old more ≡ then_rest block.items (to_come_with self.new more)) }
         ensures some { IfSome result (λ block. is_empty block.items ≡ false) }
+        ensures going { IfSome result (λ _. self.new.marks.is_over ≡ false) }
     {
         if self.block.is_empty() {
             return None;
@@ -196,8 +228,10 @@ impl Unfolder {
 
     /// Moves the block out.
     fn take_block(&mut self) -> Vec<Line>
+        ensures ignored { self.old.marks ≡ ignored → self.new.marks ≡ ignored }
         ensures block { result.items ≡ self.old.block.items }
         ensures empty { self.new.block.items ≡ [] }
+        ensures marks { self.new.marks ≡ self.old.marks }
         ensures begun { self.new.begun ≡ self.old.begun }
         ensures last { self.new.last ≡ self.old.last }
         ensures number { self.new.number ≡ self.old.number }
@@ -213,10 +247,12 @@ impl Unfolder {
 
     /// Takes bytes in which no line ends.
     fn push_partial_line(&mut self, chunk: &[u8]) -> Result<(), StreamFault>
-        requires { list_any is_lf chunk.now ≡ false }
+        requires going { self.old.marks.is_over ≡ false }
+        requires given { list_any is_lf chunk.now ≡ false }
+        ensures ignored { self.old.marks ≡ ignored → self.new.marks ≡ ignored }
         ensures number { self.new.number ≡ self.old.number }
-        ensures ok { OnOk result ((text : List ℕ) → blocks_to_come self.old (chunk.now ++ text) ≡ blocks_to_come self.new text) }
-        ensures err { IfErr result (λ fault. (text : List ℕ) → EndsAtOnce fault (blocks_to_come self.old (chunk.now ++ text))) }
+        ensures ok { OnOk result ((text : List ℕ) → to_come self.old (chunk.now ++ text) ≡ to_come self.new text) }
+        ensures err { IfErr result (λ fault. (text : List ℕ) → FailsAtOnce fault (to_come self.old (chunk.now ++ text))) }
     {
         if chunk.is_empty() {
             return Ok(());
@@ -235,14 +271,16 @@ impl Unfolder {
         front: Vec<u8>,
         back: &[u8],
     ) -> Result<(), StreamFault>
+        requires going { self.old.marks.is_over ≡ false }
         requires none { (self.old.partial.items ≡ []) × (self.old.last ≡ None) }
         requires continuable { may_be_continued (Some last) ≡ true }
         requires line { list_any is_lf (front.items ++ back.now) ≡ false }
         requires some { is_empty (front.items ++ back.now) ≡ false }
+        ensures ignored { self.old.marks ≡ ignored → self.new.marks ≡ ignored }
         ensures number { self.new.number ≡ self.old.number }
-        ensures ok { OnOk result ((text : List ℕ) → blocks_from self.old.begun self.old.block.items
-            (logical_lines (last ∷ physical_lines self.old.number (cut is_lf ((front.items ++ back.now) ++ text)))) ≡ blocks_to_come self.new text) }
-        ensures err { IfErr result (λ fault. (text : List ℕ) → EndsAtOnce fault (blocks_from self.old.begun self.old.block.items
+        ensures ok { OnOk result ((text : List ℕ) → remainder_from self.old.marks self.old.begun self.old.block.items
+            (logical_lines (last ∷ physical_lines self.old.number (cut is_lf ((front.items ++ back.now) ++ text)))) ≡ to_come self.new text) }
+        ensures err { IfErr result (λ fault. (text : List ℕ) → FailsAtOnce fault (remainder_from self.old.marks self.old.begun self.old.block.items
             (logical_lines (last ∷ physical_lines self.old.number (cut is_lf ((front.items ++ back.now) ++ text)))))) }
     {
         let (begin, end) = parts_without_cr(front.as_slice(), back);
@@ -251,6 +289,9 @@ impl Unfolder {
             return self.continue_partly(last, begin, end, has_cr);
         }
         self.push_to_block(last)?;
+        if self.is_over() {
+            return Ok(());
+        }
         self.push_partial_alone(front, back)
     }
 
@@ -263,15 +304,17 @@ impl Unfolder {
         back: &[u8],
         has_cr: bool,
     ) -> Result<(), StreamFault>
+        requires going { self.old.marks.is_over ≡ false }
         requires none { (self.old.partial.items ≡ []) × (self.old.last ≡ None) }
         requires continuable { may_be_continued (Some last) ≡ true }
         requires space { begins_with space front.now ≡ true }
+        ensures ignored { self.old.marks ≡ ignored → self.new.marks ≡ ignored }
         ensures number { self.new.number ≡ self.old.number }
-        ensures block { (self.new.begun ≡ self.old.begun) × (self.new.block ≡ self.old.block) }
+        ensures block { (self.new.begun ≡ self.old.begun) × (self.new.block ≡ self.old.block) × (self.new.marks ≡ self.old.marks) }
         ensures ok { OnOk result ((self.new.last ≡ Some (last.0, last.1 ++ drop 1 (front.now ++ back.now)))
             × (self.new.partial.items ≡ (if has_cr then space ∷ carriage_return ∷ [] else space ∷ []))) }
         ensures err { IfErr result (λ fault. (text : List ℕ) → (n : ℕ) → (more : List Line)
-            → EndsAtOnce fault (blocks_from self.old.begun self.old.block.items (logical_lines (last ∷ (n, (front.now ++ back.now) ++ text) ∷ more)))) }
+            → FailsAtOnce fault (remainder_from self.old.marks self.old.begun self.old.block.items (logical_lines (last ∷ (n, (front.now ++ back.now) ++ text) ∷ more)))) }
     {
         let longer = last.with_continuation(front, back)?;
         if longer.is_long() {
@@ -285,12 +328,14 @@ impl Unfolder {
 
     /// Takes a physical line that has not ended, in two parts, where it continues no line.
     fn push_partial_alone(&mut self, front: Vec<u8>, back: &[u8]) -> Result<(), StreamFault>
+        requires going { self.old.marks.is_over ≡ false }
         requires none { self.old.last ≡ None }
         requires line { list_any is_lf (front.items ++ back.now) ≡ false }
+        ensures ignored { self.old.marks ≡ ignored → self.new.marks ≡ ignored }
         ensures number { self.new.number ≡ self.old.number }
-        ensures ok { OnOk result ((text : List ℕ) → blocks_from self.old.begun self.old.block.items
-            (logical_lines (physical_lines self.old.number (cut is_lf ((front.items ++ back.now) ++ text)))) ≡ blocks_to_come self.new text) }
-        ensures err { IfErr result (λ fault. (text : List ℕ) → EndsAtOnce fault (blocks_from self.old.begun self.old.block.items
+        ensures ok { OnOk result ((text : List ℕ) → remainder_from self.old.marks self.old.begun self.old.block.items
+            (logical_lines (physical_lines self.old.number (cut is_lf ((front.items ++ back.now) ++ text)))) ≡ to_come self.new text) }
+        ensures err { IfErr result (λ fault. (text : List ℕ) → FailsAtOnce fault (remainder_from self.old.marks self.old.begun self.old.block.items
             (logical_lines (physical_lines self.old.number (cut is_lf ((front.items ++ back.now) ++ text)))))) }
     {
         let mut partial = front;
@@ -306,11 +351,13 @@ impl Unfolder {
     /// the block has ended.
     #[inline(always)]
     fn finish_physical_line(&mut self, spare: &mut Spare, text: &[u8]) -> Result<bool, StreamFault>
+        requires going { self.old.marks.is_over ≡ false }
         requires room { self.old.number < 2 ^ 63 }
+        ensures ignored { self.old.marks ≡ ignored → self.new.marks ≡ ignored }
         ensures number { self.new.number ≡ self.old.number + 1 }
         ensures partial { self.new.partial.items ≡ [] }
         ensures last { IfOk result (λ ends. ends ≡ true → self.new.last ≡ None) }
-        ensures takes { TakesLine (λ more. blocks_to_come_with self.old ((self.old.number, without_last carriage_return (self.old.partial.items ++ text.now)) ∷ more)) result self.new }
+        ensures takes { TakesLine (λ more. to_come_with self.old ((self.old.number, without_last carriage_return (self.old.partial.items ++ text.now)) ∷ more)) result self.new }
     {
         let number = self.number;
         self.number = number + 1;
@@ -332,14 +379,16 @@ impl Unfolder {
         text: &[u8],
         spare: &mut Spare,
     ) -> Result<bool, StreamFault>
+        requires going { self.old.marks.is_over ≡ false }
         requires none { self.old.partial.items ≡ [] }
         requires some { is_empty text.now ≡ false }
         requires short { length text.now ≤ 2097152 }
         requires begins { begins_with space text.now ≡ false }
+        ensures ignored { self.old.marks ≡ ignored → self.new.marks ≡ ignored }
         ensures number { self.new.number ≡ self.old.number }
         ensures partial { self.new.partial ≡ self.old.partial }
         ensures last { IfOk result (λ ends. ends ≡ false) }
-        ensures takes { TakesLine (λ more. blocks_to_come_with self.old ((number, text.now) ∷ more)) result self.new }
+        ensures takes { TakesLine (λ more. to_come_with self.old ((number, text.now) ∷ more)) result self.new }
     {
         let mut copy = spare.text(Vec::new(self.alloc));
         copy.extend_from_slice(text)?;
@@ -359,11 +408,13 @@ impl Unfolder {
         back: &[u8],
         spare: &mut Spare,
     ) -> Result<bool, StreamFault>
-        requires { self.old.partial.items ≡ [] }
+        requires going { self.old.marks.is_over ≡ false }
+        requires given { self.old.partial.items ≡ [] }
+        ensures ignored { self.old.marks ≡ ignored → self.new.marks ≡ ignored }
         ensures number { self.new.number ≡ self.old.number }
         ensures partial { self.new.partial ≡ self.old.partial }
         ensures last { IfOk result (λ ends. ends ≡ true → self.new.last ≡ None) }
-        ensures takes { TakesLine (λ more. blocks_to_come_with self.old ((number, without_last carriage_return (front.items ++ back.now)) ∷ more)) result self.new }
+        ensures takes { TakesLine (λ more. to_come_with self.old ((number, without_last carriage_return (front.items ++ back.now)) ∷ more)) result self.new }
     {
         if let Some(last) = self.last.take() {
             let (begin, end) = parts_without_cr(front.as_slice(), back);
@@ -371,6 +422,9 @@ impl Unfolder {
                 return self.continue_line(last, begin, end);
             }
             self.push_to_block(last)?;
+            if self.is_over() {
+                return Ok(false);
+            }
         }
         let mut text = spare.text(front);
         text.extend_from_slice(back)?;
@@ -380,25 +434,29 @@ impl Unfolder {
 
     /// Continues a line by one that begins with a space, in two parts.
     fn continue_line(&mut self, last: Line, front: &[u8], back: &[u8]) -> Result<bool, StreamFault>
+        requires going { self.old.marks.is_over ≡ false }
         requires none { self.old.partial.items ≡ [] }
         requires continuable { may_be_continued (Some last) ≡ true }
         requires space { begins_with space front.now ≡ true }
+        ensures ignored { self.old.marks ≡ ignored → self.new.marks ≡ ignored }
         ensures number { self.new.number ≡ self.old.number }
         ensures partial { self.new.partial ≡ self.old.partial }
         ensures last { IfOk result (λ ends. ends ≡ true → self.new.last ≡ None) }
-        ensures takes { (n : ℕ) → TakesLine (λ more. blocks_from self.old.begun self.old.block.items (logical_lines (last ∷ (n, front.now ++ back.now) ∷ more))) result self.new }
+        ensures takes { (n : ℕ) → TakesLine (λ more. remainder_from self.old.marks self.old.begun self.old.block.items (logical_lines (last ∷ (n, front.now ++ back.now) ∷ more))) result self.new }
     {
         self.set_last(last.with_continuation(front, back)?)
     }
 
     /// Begins a logical line. Answers whether it is empty, so that the block has ended.
     fn begin_line(&mut self, line: Line) -> Result<bool, StreamFault>
+        requires going { self.old.marks.is_over ≡ false }
         requires none { self.old.partial.items ≡ [] }
         requires last { self.old.last ≡ None }
+        ensures ignored { self.old.marks ≡ ignored → self.new.marks ≡ ignored }
         ensures number { self.new.number ≡ self.old.number }
         ensures partial { self.new.partial ≡ self.old.partial }
         ensures last { IfOk result (λ ends. ends ≡ true → self.new.last ≡ None) }
-        ensures takes { TakesLine (λ more. blocks_from self.old.begun self.old.block.items (logical_lines (line ∷ more))) result self.new }
+        ensures takes { TakesLine (λ more. remainder_from self.old.marks self.old.begun self.old.block.items (logical_lines (line ∷ more))) result self.new }
     {
         if line.text().is_empty() {
             return Ok(true);
@@ -408,12 +466,14 @@ impl Unfolder {
 
     /// Makes a line the last one, unless it is too long.
     fn set_last(&mut self, line: Line) -> Result<bool, StreamFault>
+        requires going { self.old.marks.is_over ≡ false }
         requires none { self.old.partial.items ≡ [] }
         requires some { is_empty line.1 ≡ false }
+        ensures ignored { self.old.marks ≡ ignored → self.new.marks ≡ ignored }
         ensures number { self.new.number ≡ self.old.number }
         ensures partial { self.new.partial ≡ self.old.partial }
         ensures last { IfOk result (λ ends. ends ≡ false) }
-        ensures takes { TakesLine (λ more. blocks_from self.old.begun self.old.block.items (logical_lines (line ∷ more))) result self.new }
+        ensures takes { TakesLine (λ more. remainder_from self.old.marks self.old.begun self.old.block.items (logical_lines (line ∷ more))) result self.new }
     {
         if line.is_long() {
             return Err(StreamFault::LineTooLong);
@@ -425,17 +485,22 @@ impl Unfolder {
     /// Adds a line that is complete to the block. Comments and the version line belong to no block.
     #[inline(always)]
     fn push_to_block(&mut self, line: Line) -> Result<(), StreamFault>
-        requires { may_be_continued (Some line) ≡ true }
+        requires going { self.old.marks.is_over ≡ false }
+        requires given { may_be_continued (Some line) ≡ true }
+        ensures ignored { self.old.marks ≡ ignored → self.new.marks ≡ ignored }
         ensures number { self.new.number ≡ self.old.number }
         ensures last { self.new.last ≡ self.old.last }
         ensures partial { self.new.partial ≡ self.old.partial }
-        ensures ok { OnOk result ((more : List Line) → blocks_from self.old.begun self.old.block.items (line ∷ more)
-            ≡ blocks_from self.new.begun self.new.block.items more) }
+        ensures ok { OnOk result ((more : List Line) → remainder_from self.old.marks self.old.begun self.old.block.items (line ∷ more)
+            ≡ remainder_from self.new.marks self.new.begun self.new.block.items more) }
         ensures err { IfErr result (λ fault. (more : List Line)
-            → EndsAtOnce fault (blocks_from self.old.begun self.old.block.items (line ∷ more))) }
+            → FailsAtOnce fault (remainder_from self.old.marks self.old.begun self.old.block.items (line ∷ more))) }
     {
         if is_comment(&line) {
-            return Ok(());
+            return match self.block.is_empty() {
+                true => self.marks.pass(line.text()),
+                false => Ok(()),
+            };
         }
         if !self.begun {
             self.begun = true;
@@ -445,16 +510,20 @@ impl Unfolder {
                 Version::Other => return Err(StreamFault::BadVersion),
             }
         }
+        if !self.marks.may_have_records() {
+            return Err(StreamFault::BadMark);
+        }
         self.block.push(line)?;
         Ok(())
     }
 
     /// Ends the text: what is in hand is its last line. Answers the last block.
     pub(crate) fn finish(&mut self, spare: &mut Spare) -> Result<Vec<Line>, StreamFault>
-        requires { self.old.number < 2 ^ 63 }
+        requires going { self.old.marks.is_over ≡ false }
+        requires given { self.old.number < 2 ^ 63 }
         ensures number { self.new.number ≤ self.old.number + 1 }
-        ensures ok { IfOk result (λ block. blocks_to_come self.old [] ≡ block_then block.items []) }
-        ensures err { IfErr result (λ fault. EndsAtOnce fault (blocks_to_come self.old [])) }
+        ensures ok { IfOk result (λ block. to_come self.old [] ≡ then_rest block.items (done self.new.marks.passed)) }
+        ensures err { IfErr result (λ fault. FailsAtOnce fault (to_come self.old [])) }
     {
         self.finish_partial_line(spare)?;
         self.finish_last_line()?;
@@ -463,10 +532,11 @@ impl Unfolder {
 
     /// Finishes the physical line in hand, if there is one: the text has ended.
     fn finish_partial_line(&mut self, spare: &mut Spare) -> Result<(), StreamFault>
-        requires { self.old.number < 2 ^ 63 }
+        requires going { self.old.marks.is_over ≡ false }
+        requires given { self.old.number < 2 ^ 63 }
         ensures number { self.new.number ≤ self.old.number + 1 }
-        ensures ok { OnOk result (blocks_to_come self.old [] ≡ blocks_to_come_with self.new []) }
-        ensures err { IfErr result (λ fault. EndsAtOnce fault (blocks_to_come self.old [])) }
+        ensures ok { OnOk result (to_come self.old [] ≡ to_come_with self.new []) }
+        ensures err { IfErr result (λ fault. FailsAtOnce fault (to_come self.old [])) }
     {
         if self.partial.is_empty() {
             return Ok(());
@@ -478,9 +548,12 @@ impl Unfolder {
     /// Adds the last line, if there is one, to the block: no line follows.
     fn finish_last_line(&mut self) -> Result<(), StreamFault>
         ensures number { self.new.number ≡ self.old.number }
-        ensures ok { OnOk result (blocks_to_come_with self.old [] ≡ block_then self.new.block.items []) }
-        ensures err { IfErr result (λ fault. EndsAtOnce fault (blocks_to_come_with self.old [])) }
+        ensures ok { OnOk result (to_come_with self.old [] ≡ then_rest self.new.block.items (done self.new.marks.passed)) }
+        ensures err { IfErr result (λ fault. FailsAtOnce fault (to_come_with self.old [])) }
     {
+        if self.is_over() {
+            return Ok(());
+        }
         match self.last.take() {
             Some(last) => self.push_to_block(last),
             None => Ok(()),

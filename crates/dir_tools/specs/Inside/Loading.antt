@@ -34,6 +34,7 @@ copy_fault stream.Memory = tool.Memory
 copy_fault stream.Ended = tool.BadCopy 0 (cause.Ended stream.Ended)
 copy_fault stream.TooManyTurns = tool.BadCopy 0 (cause.Ended stream.TooManyTurns)
 copy_fault stream.BadVersion = tool.BadCopy 0 (cause.Ended stream.BadVersion)
+copy_fault stream.BadMark = tool.BadCopy 0 (cause.Ended stream.BadMark)
 
 -- a fault of a record, or out of memory
 abbrev pub IsRecordFault : ToolFault → Type 0

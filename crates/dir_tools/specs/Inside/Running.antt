@@ -1,5 +1,5 @@
 -- The view of `Run`: a run as far as it has come, and how it takes a record. No public contract needs this file.
-use Rattle.std.specs.Prelude.{◌≡◌, ⊤, IfSome, ℕ, ◌+◌, ◌||◌, Bool, true, false, List, [], ◌∷◌, ◌++◌, length, Option, None, Some, Result, Ok, Err}
+use Rattle.std.specs.Prelude.{◌≡◌, ⊤, IfSome, ℕ, ◌+◌, ◌<◌, ◌||◌, Bool, true, false, List, [], ◌∷◌, ◌++◌, length, Option, None, Some, Result, Ok, Err}
 use Rattle.std.specs.List.{flat_map}
 use Rattle.dir_names.specs.declared.schema.TypeRow.{TypeRow}
 use Rattle.dir_ldif.specs.Device.{HasFailed}
@@ -17,11 +17,12 @@ use Rattle.dir_tools.specs.Canonical.{canonical_of}
 use Rattle.dir_tools.specs.declared.run.Files.{Files}
 use Rattle.dir_tools.specs.declared.run.RunTexts.{RunTexts}
 use Rattle.dir_tools.specs.declared.run.Run.{Run}
-use Rattle.dir_ldif.specs.Records.{Answer, Found}
+use Rattle.dir_ldif.specs.Records.{Answer, Found, all_found}
+use Rattle.dir_ldif.specs.SoundRecords.{AreSoundAnswers}
 use Rattle.dir_tools.specs.declared.fault.ToolFault.{ToolFault}
 use Rattle.dir_tools.specs.declared.fault.ToolFault.TheVariants as tool
 use Rattle.dir_tools.specs.declared.fault.Input.TheVariants as input
-use Rattle.dir_tools.specs.RunOf.{Outcome, cause_in, causes_in, group_in, groups_in, record_step, run_of, HasAccepted}
+use Rattle.dir_tools.specs.RunOf.{Outcome, RunEnd, cause_in, causes_in, group_in, groups_in, looked_at_all, record_step, run_of, too_few_groups}
 use Rattle.dir_tools.specs.Report.{numbers_line, outcome_line}
 
 -- what a fault that ends the text of changes means
@@ -32,6 +33,7 @@ changes_fault stream.Memory = tool.Memory
 changes_fault stream.Ended = tool.BadChanges stream.Ended
 changes_fault stream.TooManyTurns = tool.BadChanges stream.TooManyTurns
 changes_fault stream.BadVersion = tool.BadChanges stream.BadVersion
+changes_fault stream.BadMark = tool.BadChanges stream.BadMark
 
 module _ {D : Type 0} where
   -- it has taken no record
@@ -88,24 +90,42 @@ module _ {D : Type 0} where
       × (new.summary.accepted ≡ old.summary.accepted + length (groups_in outcomes))
       × (new.summary.refused ≡ old.summary.refused + length (causes_in outcomes))
 
-  -- the run over the answers that were given ends here
-  abbrev pub RunsOver : (D → Dir) → List TypeRow → Option (List Answer) → Run D → Run D → Type 0
-  RunsOver state rows given old new =
-      (outcomes : List (ℕ × Outcome)) × AddsAll outcomes old new × HasAccepted rows (state old.directory) outcomes (state new.directory)
-      × IfSome given (λ answers. run_of rows old.options.go_on (state old.directory) answers ≡ Ok (record { end = state new.directory; outcomes = outcomes }))
+  -- where a run is, with these outcomes
+  abbrev pub end_at : (D → Dir) → Run D → List (ℕ × Outcome) → RunEnd
+  end_at state run outcomes = record { end = state run.directory; outcomes = outcomes }
+
+  -- the run over these answers ends there
+  abbrev pub GoesTo : (D → Dir) → List TypeRow → Run D → List Answer → RunEnd → Type 0
+  GoesTo state rows old answers ran = run_of rows old.options.go_on (state old.directory) answers ≡ Ok ran
+
+  -- the run over the answers that were given ends here: it took sound records, with which the answers begin, and these have groups enough
+  abbrev pub RunsOver : (D → Dir) → List TypeRow → Option (List Answer) → Option ℕ → Run D → Run D → Type 0
+  RunsOver state rows given marks old new =
+      (outcomes : List (ℕ × Outcome)) × (founds : List Found) × AddsAll outcomes old new × AreSoundAnswers rows (all_found founds)
+      × GoesTo state rows old (all_found founds) (end_at state new outcomes)
+      × IfSome given (λ answers. (rest : List Answer) × (answers ≡ all_found founds ++ rest) × GoesTo state rows old answers (end_at state new outcomes))
+      × (too_few_groups old.options.last marks (looked_at_all old.options.go_on (end_at state new outcomes)) ≡ None)
+
+  -- the run looked at each record, and these have only so many groups, fewer than are wanted
+  abbrev pub HasTooFew : (D → Dir) → List TypeRow → Option (List Answer) → Option ℕ → Run D → ℕ → Type 0
+  HasTooFew state rows given marks old groups =
+      (wanted : ℕ) × (old.options.last ≡ Some wanted) × (groups < wanted) × IfSome marks (λ n. groups ≡ n)
+      × IfSome given (λ answers. (ran : RunEnd) × (founds : List Found) × (answers ≡ all_found founds) × GoesTo state rows old answers ran × (looked_at_all old.options.go_on ran ≡ true))
 
   -- the run comes to the fault of the text
   abbrev pub BreaksOff : (D → Dir) → List TypeRow → Option (List Answer) → Run D → StreamFault → Type 0
   BreaksOff state rows given old fault = IfSome given (λ answers. run_of rows old.options.go_on (state old.directory) answers ≡ Err fault)
 
-  -- why a run gives no texts: the text is at fault, the reader failed, or memory ran out
-  abbrev pub IsChangesFaultCause : (D → Dir) → List TypeRow → Option (List Answer) → ℕ → ℕ → Run D → ToolFault → Type 0
-  IsChangesFaultCause state rows given failures failures' old (tool.BadChanges stream.LineTooLong) = BreaksOff state rows given old stream.LineTooLong
-  IsChangesFaultCause state rows given failures failures' old (tool.BadChanges stream.BadVersion) = BreaksOff state rows given old stream.BadVersion
-  IsChangesFaultCause state rows given failures failures' old (tool.BadChanges stream.TooManyTurns) = ⊤
-  IsChangesFaultCause state rows given failures failures' old (tool.Read input.Changes) = HasFailed failures failures'
-  IsChangesFaultCause state rows given failures failures' old tool.Memory = ⊤
-  IsChangesFaultCause state rows given failures failures' old fault = ⊥
+  -- why a run gives no texts: the text is at fault or has too few groups, the reader failed, or memory ran out
+  abbrev pub IsChangesFaultCause : (D → Dir) → List TypeRow → Option (List Answer) → Option ℕ → ℕ → ℕ → Run D → ToolFault → Type 0
+  IsChangesFaultCause state rows given marks failures failures' old (tool.BadChanges stream.LineTooLong) = BreaksOff state rows given old stream.LineTooLong
+  IsChangesFaultCause state rows given marks failures failures' old (tool.BadChanges stream.BadVersion) = BreaksOff state rows given old stream.BadVersion
+  IsChangesFaultCause state rows given marks failures failures' old (tool.BadChanges stream.BadMark) = BreaksOff state rows given old stream.BadMark
+  IsChangesFaultCause state rows given marks failures failures' old (tool.BadChanges stream.TooManyTurns) = ⊤
+  IsChangesFaultCause state rows given marks failures failures' old (tool.TooFewGroups groups) = HasTooFew state rows given marks old groups
+  IsChangesFaultCause state rows given marks failures failures' old (tool.Read input.Changes) = HasFailed failures failures'
+  IsChangesFaultCause state rows given marks failures failures' old tool.Memory = ⊤
+  IsChangesFaultCause state rows given marks failures failures' old fault = ⊥
 
   -- the texts of a run, as they are made
   abbrev pub AreFilesOfRun : (D → Dir) → Run D → Option Files → Type 0

@@ -5,7 +5,7 @@ use Rattle.dir_ldif.specs.Device.{HasFailed}
 use Rattle.dir_ldif.specs.declared.faults.StreamFault.{StreamFault}
 use Rattle.dir_ldif.specs.declared.faults.StreamFault.TheVariants as stream
 use Rattle.dir_ldif.specs.declared.reader.RecordReader.{RecordReader}
-use Rattle.dir_ldif.specs.Reader.{answers_to_come, source_of, turns_left}
+use Rattle.dir_ldif.specs.Reader.{answers_to_come, marks_at_end, marks_passed, source_of, turns_left}
 use Rattle.dir_ldif.specs.Records.{Answer, Found, all_found}
 use Rattle.dir_ldif.specs.SoundRecords.{IsSoundFound}
 use Rattle.dir_tools.specs.CompleteRecords.{AreComplete, GaveBytesTo}
@@ -20,10 +20,10 @@ module _ {T : Type 0} (rows : List TypeRow) (take_gives : Found → T → Result
   TakesAll [] old new = old ≡ new
   TakesAll (found ∷ founds) old new = (next : T) × IsSoundFound rows found × take_gives found old (Ok true) next × TakesAll founds next new
 
-  -- some records are taken, and the next one gives this last answer; the known answers begin with these
+  -- some records are taken, and the next one, which is sound, gives this last answer; the known answers begin with these
   abbrev pub TakesUpTo : Result Bool ToolFault → Option (List Answer) → T → T → Type 0
   TakesUpTo last answers old new =
-      (founds : List Found) × (found : Found) × (between : T) × TakesAll founds old between × take_gives found between last new
+      (founds : List Found) × (found : Found) × (between : T) × TakesAll founds old between × take_gives found between last new × IsSoundFound rows found
       × IfSome answers (λ known. (rest : List Answer) × (known ≡ all_found founds ++ Ok found ∷ rest))
 
   -- the complete records of a text are taken
@@ -36,6 +36,7 @@ module _ {T : Type 0} (rows : List TypeRow) (take_gives : Found → T → Result
     abbrev pub BreaksAfter : List Found → StreamFault → T → RecordReader S → RecordReader S → Type 0
     BreaksAfter founds stream.LineTooLong old first now = IfSome (answers_to_come left first) (λ known. known ≡ all_found founds ++ Err stream.LineTooLong ∷ [])
     BreaksAfter founds stream.BadVersion old first now = IfSome (answers_to_come left first) (λ known. known ≡ all_found founds ++ Err stream.BadVersion ∷ [])
+    BreaksAfter founds stream.BadMark old first now = IfSome (answers_to_come left first) (λ known. known ≡ all_found founds ++ Err stream.BadMark ∷ [])
     BreaksAfter founds stream.Read old first now = HasFailed (failures (source_of first)) (failures (source_of now)) × GaveBytesTo left first now (TakesComplete old)
     BreaksAfter founds stream.TooManyTurns old first now =
         GaveAtLeast (left (source_of first)) (left (source_of now)) (turns_left first) × GaveBytesTo left first now (TakesComplete old)
@@ -47,6 +48,7 @@ module _ {T : Type 0} (rows : List TypeRow) (take_gives : Found → T → Result
     EndsIn end.AtEnd old new first now =
         (failures (source_of now) ≡ failures (source_of first))
         × ((founds : List Found) × TakesAll founds old new × IfSome (answers_to_come left first) (λ known. known ≡ all_found founds))
+        × IfSome (marks_at_end left first) (λ n. marks_passed now ≡ n)
     EndsIn end.Enough old new first now = (failures (source_of now) ≡ failures (source_of first)) × TakesUpTo (Ok false) (answers_to_come left first) old new
     EndsIn (end.TakeFault fault) old new first now = TakesUpTo (Err fault) (answers_to_come left first) old new
     EndsIn (end.TextFault fault) old new first now = (founds : List Found) × TakesAll founds old new × BreaksAfter founds fault old first now

@@ -187,7 +187,7 @@ fn adds_are_taken_back_by_deletes_the_last_first(rt: HostRuntime) {
     let mut directory = empty(&rt, alloc, &schema, b"dc=com");
     let text = "dn: DC=Com\nchangetype: add\n\ndn: ou=People, dc=com\nchangetype: add\n\n";
     let want =
-        "version: 1\n\ndn: ou=People,DC=Com\nchangetype: delete\n\ndn: DC=Com\nchangetype: delete\n\n";
+        "version: 1\n\n# undo 1\ndn: ou=People,DC=Com\nchangetype: delete\n\n# undo 2\ndn: DC=Com\nchangetype: delete\n\n";
     assert_taken_back(&rt, alloc, &schema, &mut directory, text, want);
     assert_entry_count(&rt, &directory, 0);
 }
@@ -206,7 +206,7 @@ fn a_delete_is_taken_back_with_every_byte(rt: HostRuntime) {
         "dn: cn=a,dc=com\nchangetype: add\ncn: a\ndescription:: IGxlYWQ=\nnote:\nuserPassword:: AP8=\n\n";
     let text = "dn: CN=A,dc=com\nchangetype: delete\n";
     let want =
-        "version: 1\n\ndn: cn=a,dc=com\nchangetype: add\ncn: a\ndescription:: IGxlYWQ=\nnote:\nuserPassword:: AP8=\n\n";
+        "version: 1\n\n# undo 1\ndn: cn=a,dc=com\nchangetype: add\ncn: a\ndescription:: IGxlYWQ=\nnote:\nuserPassword:: AP8=\n\n";
     assert_undo_text(&rt, rt.alloc(), &[TOP, entry], text, want);
 }
 
@@ -216,7 +216,7 @@ fn a_modify_is_taken_back_by_what_came_and_went(rt: HostRuntime) {
     let text = "dn: CN=G,dc=com\nchangetype: modify\nadd: member\nmember: cn=d\n-\n\
         delete: member\nmember: CN=B\n-\n\ndn: cn=g,dc=com\nchangetype: modify\n";
     let want =
-        "version: 1\n\ndn: cn=g,dc=com\nchangetype: modify\ndelete: member\nmember: cn=d\n-\n\
+        "version: 1\n\n# undo 1\n# undo 2\ndn: cn=g,dc=com\nchangetype: modify\ndelete: member\nmember: cn=d\n-\n\
         add: member\nmember: cn=b\n-\n\n";
     assert_undo_text(&rt, rt.alloc(), &[TOP, group], text, want);
 }
@@ -226,7 +226,7 @@ fn a_rename_to_the_own_key_is_taken_back(rt: HostRuntime) {
     let entry = "dn: cn=x,dc=com\nchangetype: add\nsn: Z\n";
     let text = "dn: cn=x,dc=com\nchangetype: moddn\nnewrdn: CN=X\ndeleteoldrdn: 0\n";
     let want =
-        "version: 1\n\ndn: CN=X,dc=com\nchangetype: modrdn\nnewrdn: cn=x\ndeleteoldrdn: 1\n\n";
+        "version: 1\n\n# undo 1\ndn: CN=X,dc=com\nchangetype: modrdn\nnewrdn: cn=x\ndeleteoldrdn: 1\n\n";
     assert_undo_text(&rt, rt.alloc(), &[TOP, entry], text, want);
 }
 
@@ -251,13 +251,13 @@ fn assert_rename_undo(rt: &impl Abort, alloc: Global, entry: &str, text: &str, w
 fn a_rename_is_taken_back_with_the_values_and_spellings_before(rt: HostRuntime) {
     let entry = "dn: cn=a,dc=com\nchangetype: add\nCN: A\ncn: B\nsn: Z\nuid: u\n";
     let text = "dn: cn=a,dc=com\nchangetype: modrdn\nnewrdn: sn=y+CN=b\ndeleteoldrdn: 1\n";
-    let want = "version: 1\n\ndn: sn=y+CN=b,dc=com\nchangetype: modrdn\nnewrdn: cn=a\n\
+    let want = "version: 1\n\n# undo 1\ndn: sn=y+CN=b,dc=com\nchangetype: modrdn\nnewrdn: cn=a\n\
         deleteoldrdn: 1\n\ndn: cn=a,dc=com\nchangetype: modify\ndelete: CN\nCN: a\n-\n\
         add: CN\nCN: A\nCN: B\n-\n\n";
     assert_rename_undo(&rt, rt.alloc(), entry, text, want);
     let entry = "dn: uid=u,dc=com\nchangetype: add\nUID: u\nmail: m\n";
     let text = "dn: uid=u,dc=com\nchangetype: modrdn\nnewrdn: cn=x\ndeleteoldrdn: 1\n";
-    let want = "version: 1\n\ndn: cn=x,dc=com\nchangetype: modrdn\nnewrdn: uid=u\n\
+    let want = "version: 1\n\n# undo 1\ndn: cn=x,dc=com\nchangetype: modrdn\nnewrdn: uid=u\n\
         deleteoldrdn: 1\n\ndn: uid=u,dc=com\nchangetype: modify\nreplace: UID\nUID: u\n-\n\n";
     assert_rename_undo(&rt, rt.alloc(), entry, text, want);
 }

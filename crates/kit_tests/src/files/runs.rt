@@ -19,7 +19,7 @@ const BOTH: &[u8] =
 
 const NEW: &[u8] = b"dn: dc=com\ndc: com\n\ndn: ou=people,dc=com\nou: people\n\n";
 
-const UNDO: &[u8] = b"version: 1\n\ndn: ou=people,dc=com\nchangetype: delete\n\n";
+const UNDO: &[u8] = b"version: 1\n\n# undo 1\ndn: ou=people,dc=com\nchangetype: delete\n\n";
 
 const ACCEPTED: &[u8] = b"accepted 1, refused 0\n";
 
@@ -44,18 +44,29 @@ pub(super) const STOP: ModifyOptions = ModifyOptions {
     go_on: false,
     dry: false,
     verbose: false,
+    last: None,
 };
 
 const DRY: ModifyOptions = ModifyOptions {
     go_on: false,
     dry: true,
     verbose: false,
+    last: None,
 };
 
 const DRY_ON: ModifyOptions = ModifyOptions {
     go_on: true,
     dry: true,
     verbose: false,
+    last: None,
+};
+
+/// Takes the last two accepted records of an earlier run back.
+const LAST_TWO: ModifyOptions = ModifyOptions {
+    go_on: false,
+    dry: false,
+    verbose: false,
+    last: Some(2),
 };
 
 /// A folder whose calls are all done.
@@ -112,7 +123,7 @@ const TYPES: Run = Run {
     ..TYPED
 };
 
-static RUNS: [Run; 26] = [
+static RUNS: [Run; 29] = [
     Run {
         shows: "each file is made in its turn and takes its own text",
         told: "open copy;open changes;create undo 640;create new 640;sync undo UNDO;sync new NEW;publish undo UNDO;publish new NEW;report ACCEPTED;1, 0",
@@ -212,6 +223,26 @@ static RUNS: [Run; 26] = [
         shows: "nor after a fault of the tool",
         typed: b"version: 2\n",
         told: "open copy;standard input;create undo 640;create new 640;discard new;discard undo;changes: L15 BadVersion",
+        ..TYPED
+    },
+    Run {
+        shows: "nor after a mark that is missing",
+        options: LAST_TWO,
+        told: "open copy;standard input;create undo 640;create new 640;discard new;discard undo;changes: L16 BadMark",
+        ..TYPED
+    },
+    Run {
+        shows: "nor where there are too few groups",
+        options: LAST_TWO,
+        typed: b"# undo 1\ndn: ou=people,dc=com\nchangetype: add\n",
+        told: "open copy;standard input;create undo 640;create new 640;discard new;discard undo;cannot go back 2, only 1 groups",
+        ..TYPED
+    },
+    Run {
+        shows: "the first groups of an undo file are run",
+        options: LAST_TWO,
+        typed: b"# undo 1\ndn: ou=people,dc=com\nchangetype: add\n\n# undo 2\n# undo 3\nx\n",
+        told: "open copy;standard input;create undo 640;create new 640;sync undo UNDO;sync new NEW;publish undo UNDO;publish new NEW;report ACCEPTED;1, 0",
         ..TYPED
     },
     Run {

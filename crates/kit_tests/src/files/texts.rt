@@ -25,7 +25,7 @@ fn the_first_path_that_is_repeated_is_found(rt: HostRuntime) {
 }
 
 /// Faults, and the text of each.
-static FAULTS: [(Fault<'static>, &str); 6] = [
+static FAULTS: [(Fault<'static>, &str); 8] = [
     (Fault::SamePath("a"), "same path twice: a"),
     (Fault::CannotOpen("a"), "cannot open a"),
     (
@@ -34,6 +34,20 @@ static FAULTS: [(Fault<'static>, &str); 6] = [
     ),
     (Fault::Exists("a"), "exists already: a"),
     (Fault::NotesUntold, "cannot write notes"),
+    (
+        Fault::TooFewGroups {
+            wanted: 3,
+            groups: 2,
+        },
+        "cannot go back 3, only 2 groups",
+    ),
+    (
+        Fault::TooFewGroups {
+            wanted: u64::MAX,
+            groups: 0,
+        },
+        "cannot go back 18446744073709551615, only 0 groups",
+    ),
     (
         Fault::Tool(ToolFault::BadCopy(7, Cause::Fault(RecordFault::Name(NameFault::BadDn)))),
         "copy, line 7: L9 N4 BadDn",

@@ -16,7 +16,7 @@ fn assert_shown(rt: &impl Abort, alloc: Global, fault: ToolFault, want: &str) {
 }
 
 /// Faults, and the text of each.
-static FAULTS: [(ToolFault, &str); 19] = [
+static FAULTS: [(ToolFault, &str); 22] = [
     (
         ToolFault::BadCopy(7, Cause::Code(ResultCode::NoSuchObject)),
         "copy, line 7: 32 noSuchObject",
@@ -48,6 +48,10 @@ static FAULTS: [(ToolFault, &str); 19] = [
         "changes: L15 BadVersion",
     ),
     (
+        ToolFault::BadChanges(StreamFault::BadMark),
+        "changes: L16 BadMark",
+    ),
+    (
         ToolFault::Config(ConfigFault {
             line: 12,
             cause: ConfigCause::Unsupported,
@@ -69,6 +73,11 @@ static FAULTS: [(ToolFault, &str); 19] = [
         "config, line 3: C12 BadType",
     ),
     (ToolFault::NoEntry, "no such entry"),
+    (ToolFault::TooFewGroups(0), "cannot go back, only 0 groups"),
+    (
+        ToolFault::TooFewGroups(u64::MAX),
+        "cannot go back, only 18446744073709551615 groups",
+    ),
 ];
 
 #[test]

@@ -68,7 +68,11 @@ fn undo_text_of(
 ) -> Vec<u8> {
     let mut history = History::new(alloc);
     let changes = Script::new(one.changes.as_bytes());
-    let mut reader = RecordReader::new(alloc, schema, changes).expect(rt, "memory");
+    let reader = match one.options.last {
+        Some(groups) => RecordReader::up_to(alloc, schema, changes, groups),
+        None => RecordReader::new(alloc, schema, changes),
+    };
+    let mut reader = reader.expect(rt, "memory");
     for _ in 0..one.changes.len() {
         match apply_next(rt, alloc, schema, directory, &mut history, &mut reader) {
             Some(is_accepted) if is_accepted || one.options.go_on => {}

@@ -34,7 +34,8 @@ fn assert_deleted(rt: &impl Abort, alloc: Global, held: HeldMemory) {
     });
     assert!(rt; answer == deleted);
     assert!(rt;
-        undo.as_slice() == b"version: 1\n\ndn: ou=b,dc=com\nchangetype: add\nou: b\n\n".as_slice()
+        undo.as_slice()
+            == b"version: 1\n\n# undo 1\ndn: ou=b,dc=com\nchangetype: add\nou: b\n\n".as_slice()
     );
     assert!(rt; out.as_slice() == b"dn: dc=com\ndc: com\n\n".as_slice());
     assert!(rt; report.as_slice() == b"accepted 1, refused 0\n".as_slice());

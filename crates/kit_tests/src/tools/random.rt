@@ -1,8 +1,9 @@
 //! Runs of changes drawn at random, there and back, over a tree and over a flat directory.
 
 use crate::tools::running::{
-    ACCEPTED, COM, GO_ON, Run, WHOLE, assert_text, run_back, run_both, with_texts,
+    ACCEPTED, COM, GO_ON, Ran, Run, STOP, WHOLE, assert_text, run_back, run_both, with_texts,
 };
+use dir_tools::ModifyOptions;
 use std::alloc::Global;
 use std::process::Abort;
 
@@ -111,4 +112,61 @@ fn assert_taken_back(rt: &impl Abort, alloc: Global, seed: u64) {
     let there = run_both(rt, alloc, &WHOLE, &one);
     let back = run_back(rt, alloc, &one, &there);
     assert_text(rt, changes.as_str(), back.out.as_str(), COM);
+}
+
+#[test]
+fn random_changes_go_back_to_their_middle(rt: HostRuntime) {
+    for seed in 0..20u64 {
+        assert_goes_back(&rt, rt.alloc(), seed);
+    }
+}
+
+fn accepted(ran: &Ran) -> u64 {
+    match ran.answer {
+        Ok(summary) => summary.accepted,
+        Err(_) => 0,
+    }
+}
+
+/// Asserts that after a hundred changes drawn from this seed what was accepted of the last fifty is taken back, and made again.
+fn assert_goes_back(rt: &impl Abort, alloc: Global, seed: u64) {
+    let there = ran_of(rt, alloc, seed, 100);
+    let middle = ran_of(rt, alloc, seed, 50);
+    assert_goes_back_to(rt, alloc, &there, &middle);
+}
+
+/// The run of as many changes drawn from this seed.
+fn ran_of(rt: &impl Abort, alloc: Global, seed: u64, count: usize) -> Ran {
+    let changes = changes_of(rt, alloc, &mut Draws { state: seed }, count);
+    run_both(
+        rt,
+        alloc,
+        &WHOLE,
+        &with_texts(&DRAWN, COM, changes.as_str()),
+    )
+}
+
+/// Asserts that a run goes back to the end of another, whose changes are its first ones, and forth again.
+fn assert_goes_back_to(rt: &impl Abort, alloc: Global, there: &Ran, middle: &Ran) {
+    let one = Run {
+        options: ModifyOptions {
+            last: Some(accepted(there).saturating_sub(accepted(middle))),
+            ..STOP
+        },
+        ..with_texts(&DRAWN, there.out.as_str(), there.undo.as_str())
+    };
+    let back = run_both(rt, alloc, &WHOLE, &one);
+    assert_text(
+        rt,
+        "back to the middle",
+        back.out.as_str(),
+        middle.out.as_str(),
+    );
+    let forth = run_back(rt, alloc, &one, &back);
+    assert_text(
+        rt,
+        "and forth again",
+        forth.out.as_str(),
+        there.out.as_str(),
+    );
 }

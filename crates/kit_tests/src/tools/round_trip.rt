@@ -3,8 +3,9 @@
 use crate::tools::running::STOP;
 use dir_names::Schema;
 use dir_tools::{
-    RoundTrip, access_is_as_before, canonical_texts_read_back, copies_are_sound, groups_are_undos,
-    headline, run_there_and_back, runs_accept_changes, written_runs_are_taken_back,
+    RoundTrip, access_is_as_before, canonical_texts_read_back, copies_are_sound,
+    goes_back_to_any_point, groups_are_undos, headline, run_there_and_back, runs_accept_changes,
+    undos_are_undone, written_runs_are_taken_back, written_runs_go_back,
 };
 use std::alloc::Global;
 use std::process::Abort;
@@ -34,8 +35,11 @@ fn laws_are_called() {
     access_is_as_before();
     canonical_texts_read_back();
     copies_are_sound();
+    goes_back_to_any_point();
     groups_are_undos();
     headline();
     runs_accept_changes();
+    undos_are_undone();
     written_runs_are_taken_back();
+    written_runs_go_back();
 }

@@ -11,24 +11,28 @@ pub(crate) const STOP: ModifyOptions = ModifyOptions {
     go_on: false,
     dry: false,
     verbose: false,
+    last: None,
 };
 
 pub(crate) const GO_ON: ModifyOptions = ModifyOptions {
     go_on: true,
     dry: false,
     verbose: false,
+    last: None,
 };
 
 pub(crate) const VERBOSE: ModifyOptions = ModifyOptions {
     go_on: false,
     dry: false,
     verbose: true,
+    last: None,
 };
 
 pub(crate) const DRY: ModifyOptions = ModifyOptions {
     go_on: false,
     dry: true,
     verbose: false,
+    last: None,
 };
 
 /// The text of a copy that has the suffix's entry alone.
@@ -36,6 +40,9 @@ pub(crate) const COM: &str = "dn: dc=com\ndc: com\n\n";
 
 /// The undo text of a run that accepted nothing.
 pub(crate) const NO_UNDO: &str = "version: 1\n\n";
+
+/// The undo text of a run that accepted a change of nothing.
+pub(crate) const EMPTY_GROUP: &str = "version: 1\n\n# undo 1\n";
 
 /// A run, and what it must write and answer.
 #[derive(Clone, Copy)]

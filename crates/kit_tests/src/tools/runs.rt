@@ -2,13 +2,15 @@
 //! Many more are tried through the program (`tests/rows.py`).
 
 use crate::tools::running::{
-    ACCEPTED, DRY, Devices, FAULTY, GO_ON, IN_EIGHTS, NO_UNDO, Run, VERBOSE, WHOLE, assert_run,
+    ACCEPTED, DRY, Devices, EMPTY_GROUP, FAULTY, GO_ON, IN_EIGHTS, NO_UNDO, Run, STOP, VERBOSE,
+    WHOLE, assert_run,
 };
+use dir_tools::ModifyOptions;
 
 pub(crate) const CHANGES: &str =
     "dn: cn=a,dc=com\nchangetype: add\nsn: b\n\ndn: cn=c,dc=com\nchangetype: delete\n";
 
-pub(crate) const UNDO: &str = "version: 1\n\ndn: cn=a,dc=com\nchangetype: delete\n\n";
+pub(crate) const UNDO: &str = "version: 1\n\n# undo 1\ndn: cn=a,dc=com\nchangetype: delete\n\n";
 
 pub(crate) const OUT: &str = "dn: dc=com\ndc: com\n\ndn: cn=a,dc=com\ncn: a\nsn: b\n\n";
 
@@ -60,10 +62,10 @@ macro_rules! copy {
 /// The undo text of a modify of this entry that is taken back by these modifications, or by none.
 macro_rules! undo {
     ($rdn:literal, none) => {
-        NO_UNDO
+        EMPTY_GROUP
     };
     ($rdn:literal, $mods:literal) => {
-        concat!("version: 1\n\ndn: ", $rdn, ",dc=com\nchangetype: modify\n", $mods, "\n")
+        concat!("version: 1\n\n# undo 1\ndn: ", $rdn, ",dc=com\nchangetype: modify\n", $mods, "\n")
     };
 }
 
@@ -143,7 +145,7 @@ static FIRST_RUNS: [(Devices, Run<'static>); 15] = [
             suffix: "dc=Example,dc=com",
             copy: "",
             changes: "dn: DC=Example, dc=com\nchangetype: add\nobjectClass: domain\n",
-            undo: "version: 1\n\ndn: DC=E",
+            undo: "version: 1\n\n# undo 1",
             answer: "cannot write undo",
             ..FAULTY
         },
@@ -253,7 +255,7 @@ static FIRST_RUNS: [(Devices, Run<'static>); 15] = [
             suffix: "dc=Example,dc=com",
             copy: "",
             changes: "dn: DC=Example, dc=com\nchangetype: add\nobjectClass: domain\n",
-            undo: "version: 1\n\ndn: DC=Example,dc=com\nchangetype: delete\n\n",
+            undo: "version: 1\n\n# undo 1\ndn: DC=Example,dc=com\nchangetype: delete\n\n",
             out: "dn: DC=Example,dc=com\nDC: Example\nobjectClass: domain\n\n",
             back: Some(""),
             ..ACCEPTED
@@ -265,7 +267,7 @@ static FIRST_RUNS: [(Devices, Run<'static>); 15] = [
             shows: "and with its spellings",
             copy: "dn: DC=Com\nDomainComponent: COM\n\ndn: CN=A  b,DC=Com\ncommonName: a B\nsn;lang-EN: X\n\n",
             changes: "dn: cn=a b,dc=com\nchangetype: delete\n",
-            undo: "version: 1\n\ndn: CN=A  b,DC=Com\nchangetype: add\ncommonName: a B\nsn;lang-EN: X\n\n",
+            undo: "version: 1\n\n# undo 1\ndn: CN=A  b,DC=Com\nchangetype: add\ncommonName: a B\nsn;lang-EN: X\n\n",
             out: "dn: DC=Com\nDomainComponent: COM\n\n",
             back: Some(
                 "dn: DC=Com\nDomainComponent: COM\n\ndn: CN=A  b,DC=Com\ncommonName: a B\nsn;lang-EN: X\n\n",
@@ -282,8 +284,8 @@ static FIRST_RUNS: [(Devices, Run<'static>); 15] = [
             changes: "version: 1\n\ndn: cn=x,ou=a,dc=com\nchangetype: delete\n\ndn: ou=a,dc=com\nchangetype: delete\n\n\
             dn: cn=no,dc=com\nchangetype: delete\n\ndn: ou=A,dc=com\nchangetype: add\n\n\
             dn: cn=y,ou=a,dc=com\nchangetype: add\ndescription: new\n",
-            undo: "version: 1\n\ndn: cn=y,ou=A,dc=com\nchangetype: delete\n\ndn: ou=A,dc=com\nchangetype: delete\n\n\
-            dn: ou=a,dc=com\nchangetype: add\nou: a\n\ndn: cn=x,ou=a,dc=com\nchangetype: add\ncn: x\n\n",
+            undo: "version: 1\n\n# undo 1\ndn: cn=y,ou=A,dc=com\nchangetype: delete\n\n# undo 2\ndn: ou=A,dc=com\nchangetype: delete\n\n\
+            # undo 3\ndn: ou=a,dc=com\nchangetype: add\nou: a\n\n# undo 4\ndn: cn=x,ou=a,dc=com\nchangetype: add\ncn: x\n\n",
             out: "dn: dc=com\ndc: com\n\ndn: ou=A,dc=com\nou: A\n\ndn: cn=y,ou=A,dc=com\ncn: y\ndescription: new\n\n",
             report: "line 9: refused, 32 noSuchObject\naccepted 4, refused 1\n",
             answer: "accepted 4, refused 1",
@@ -299,7 +301,7 @@ static FIRST_RUNS: [(Devices, Run<'static>); 15] = [
             shows: "a value of the new RDN is there already, and is lost by the way back",
             copy: "dn: dc=com\ndc: com\n\ndn: cn=x,dc=com\ncn: x\nsn: Z\n\n",
             changes: "dn: cn=x,dc=com\nchangetype: modrdn\nnewrdn: cn=y+sn=z\ndeleteoldrdn: 1\n",
-            undo: "version: 1\n\ndn: cn=y+sn=z,dc=com\nchangetype: modrdn\nnewrdn: cn=x\ndeleteoldrdn: 1\n\n\
+            undo: "version: 1\n\n# undo 1\ndn: cn=y+sn=z,dc=com\nchangetype: modrdn\nnewrdn: cn=x\ndeleteoldrdn: 1\n\n\
             dn: cn=x,dc=com\nchangetype: modify\nadd: sn\nsn: Z\n-\n\n",
             out: "dn: dc=com\ndc: com\n\ndn: cn=y+sn=z,dc=com\ncn: y\nsn: Z\n\n",
             back: Some("dn: dc=com\ndc: com\n\ndn: cn=x,dc=com\ncn: x\nsn: Z\n\n"),
@@ -318,7 +320,7 @@ static MORE_RUNS: [(Devices, Run<'static>); 15] = [
             dn: cn=Kim,ou=Team,ou=A,dc=com\ncn: Kim\n\ndn: cn=desk,cn=Kim,ou=Team,ou=A,dc=com\ncn: desk\n\n\
             dn: ou=B,dc=com\nou: B\n\n",
             changes: "dn: ou=team,ou=a,dc=com\nchangetype: modrdn\nnewrdn: ou=Team\ndeleteoldrdn: 1\nnewsuperior: ou=b,dc=com\n",
-            undo: "version: 1\n\ndn: ou=Team,ou=B,dc=com\nchangetype: modrdn\nnewrdn: ou=Team\ndeleteoldrdn: 1\n\
+            undo: "version: 1\n\n# undo 1\ndn: ou=Team,ou=B,dc=com\nchangetype: modrdn\nnewrdn: ou=Team\ndeleteoldrdn: 1\n\
             newsuperior: ou=A,dc=com\n\n",
             out: "dn: dc=com\ndc: com\n\ndn: ou=A,dc=com\nou: A\n\ndn: ou=B,dc=com\nou: B\n\ndn: ou=Team,ou=B,dc=com\nou: Team\n\n\
             dn: cn=Kim,ou=Team,ou=B,dc=com\ncn: Kim\n\ndn: cn=desk,cn=Kim,ou=Team,ou=B,dc=com\ncn: desk\n\n",
@@ -336,7 +338,7 @@ static MORE_RUNS: [(Devices, Run<'static>); 15] = [
             shows: "a record that is cut within its base64",
             options: GO_ON,
             changes: "dn: cn=e,dc=com\nchangetype: add\nnote: x\n\ndn: cn=f,dc=com\nchangetype: add\nnote:: AAE",
-            undo: "version: 1\n\ndn: cn=e,dc=com\nchangetype: delete\n\n",
+            undo: "version: 1\n\n# undo 1\ndn: cn=e,dc=com\nchangetype: delete\n\n",
             out: "dn: dc=com\ndc: com\n\ndn: cn=e,dc=com\ncn: e\nnote: x\n\n",
             report: "line 5: refused, L2 BadBase64\naccepted 1, refused 1\n",
             answer: "accepted 1, refused 1",
@@ -351,7 +353,7 @@ static MORE_RUNS: [(Devices, Run<'static>); 15] = [
             copy: "dn: dc=com\ndc: com\n\ndn: cn=e,dc=com\ncn: e\nnote: x\n\n",
             changes: "# folded\r\n  comment\r\ndn: cn=e,dc=com\r\nchangetype: modify\r\nadd: description\r\n\
             description: two\r\n  words \r\n",
-            undo: "version: 1\n\ndn: cn=e,dc=com\nchangetype: modify\ndelete: description\n-\n\n",
+            undo: "version: 1\n\n# undo 1\ndn: cn=e,dc=com\nchangetype: modify\ndelete: description\n-\n\n",
             out: "dn: dc=com\ndc: com\n\ndn: cn=e,dc=com\ncn: e\ndescription:: dHdvIHdvcmRzIA==\nnote: x\n\n",
             report: "line 3: accepted\naccepted 1, refused 0\n",
             answer: "accepted 1, refused 0",
@@ -380,10 +382,10 @@ static MORE_RUNS: [(Devices, Run<'static>); 15] = [
             dn: cn=e,dc=com\nchangetype: delete\n\n\
             dn: CN=E,dc=com\nchangetype: add\nsn: C\n\n\
             dn: cn=e,dc=com\nchangetype: modify\nreplace: sn\n-\n",
-            undo: "version: 1\n\ndn: CN=E,dc=com\nchangetype: modify\nadd: sn\nsn: C\n-\n\n\
-            dn: CN=E,dc=com\nchangetype: delete\n\n\
-            dn: cn=e,dc=com\nchangetype: add\ncn: e\nsn: A\nsn: B\n\n\
-            dn: cn=e,dc=com\nchangetype: modify\ndelete: sn\nsn: B\n-\n\n",
+            undo: "version: 1\n\n# undo 1\ndn: CN=E,dc=com\nchangetype: modify\nadd: sn\nsn: C\n-\n\n\
+            # undo 2\ndn: CN=E,dc=com\nchangetype: delete\n\n\
+            # undo 3\ndn: cn=e,dc=com\nchangetype: add\ncn: e\nsn: A\nsn: B\n\n\
+            # undo 4\ndn: cn=e,dc=com\nchangetype: modify\ndelete: sn\nsn: B\n-\n\n",
             out: "dn: dc=com\ndc: com\n\ndn: CN=E,dc=com\nCN: E\n\n",
             report: "accepted 4, refused 0\n",
             answer: "accepted 4, refused 0",
@@ -588,7 +590,7 @@ static LAST_RUNS: [(Devices, Run<'static>); 14] = [
             types: LEVEL,
             copy: LEVELS,
             changes: "dn: cn=e,dc=com\nchangetype: modify\nincrement: level\nlevel: 10\n-\n",
-            undo: "version: 1\n\ndn: cn=e,dc=com\nchangetype: modify\ndelete: Level\nLevel: 10\nLevel: 15\n-\n\
+            undo: "version: 1\n\n# undo 1\ndn: cn=e,dc=com\nchangetype: modify\ndelete: Level\nLevel: 10\nLevel: 15\n-\n\
             add: Level\nLevel: -5\nLevel: 0\n-\n\n",
             out: "dn: dc=com\ndc: com\n\ndn: cn=e,dc=com\ncn: e\nLevel: 10\nLevel: 15\nLevel: 5\n\n",
             report: "accepted 1, refused 0\n",
@@ -603,7 +605,7 @@ static LAST_RUNS: [(Devices, Run<'static>); 14] = [
             shows: "an entry is named by a room with other spaces",
             copy: ROOMS,
             changes: "dn: roomName=a  1,dc=com\nchangetype: delete\n",
-            undo: "version: 1\n\ndn: room=A 1,dc=com\nchangetype: add\nroom: A 1\n\n",
+            undo: "version: 1\n\n# undo 1\ndn: room=A 1,dc=com\nchangetype: add\nroom: A 1\n\n",
             out: "dn: dc=com\ndc: com\n\n",
             report: "accepted 1, refused 0\n",
             answer: "accepted 1, refused 0",
@@ -643,6 +645,222 @@ static LAST_RUNS: [(Devices, Run<'static>); 14] = [
     ),
 ];
 
+/// A copy with two entries that are changed: one is added, then the other is renamed.
+const BEFORE_TWO: &str = copy!("cn=x", "cn: x\nsn: Z\n");
+
+const BETWEEN_TWO: &str =
+    "dn: dc=com\ndc: com\n\ndn: cn=k,dc=com\ncn: k\n\ndn: cn=x,dc=com\ncn: x\nsn: Z\n\n";
+
+const AFTER_TWO: &str =
+    "dn: dc=com\ndc: com\n\ndn: cn=k,dc=com\ncn: k\n\ndn: cn=y+sn=z,dc=com\ncn: y\nsn: Z\n\n";
+
+/// What takes the two changes back: the rename by two records, then the add by one.
+const UNDO_TWO: &str =
+    "version: 1\n\n# undo 1\ndn: cn=y+sn=z,dc=com\nchangetype: modrdn\nnewrdn: cn=x\ndeleteoldrdn: 1\n\n\
+    dn: cn=x,dc=com\nchangetype: modify\nadd: sn\nsn: Z\n-\n\n# undo 2\ndn: cn=k,dc=com\nchangetype: delete\n\n";
+
+/// A run of the first groups of that, on the copy after the two changes.
+const BACK: Run<'static> = Run {
+    copy: AFTER_TWO,
+    changes: UNDO_TWO,
+    back: Some(AFTER_TWO),
+    ..ACCEPTED
+};
+
+/// The same on a copy that the first group does not fit.
+const UNFIT: Run<'static> = Run {
+    changes: UNDO_TWO,
+    report: "line 4: refused, 32 noSuchObject\naccepted 0, refused 1\n",
+    answer: "accepted 0, refused 1",
+    ..ACCEPTED
+};
+
+/// The run of the first so many groups.
+macro_rules! last {
+    ($groups:literal) => {
+        ModifyOptions {
+            last: Some($groups),
+            ..STOP
+        }
+    };
+}
+
+/// Runs of the first groups of an undo text.
+static RUNS_BACK: [(Devices, Run<'static>); 15] = [
+    (
+        IN_EIGHTS,
+        Run {
+            shows: "each accepted change has its mark",
+            copy: BEFORE_TWO,
+            changes: "dn: cn=k,dc=com\nchangetype: add\n\n\
+                dn: cn=x,dc=com\nchangetype: modrdn\nnewrdn: cn=y+sn=z\ndeleteoldrdn: 1\n",
+            undo: UNDO_TWO,
+            out: AFTER_TWO,
+            report: "accepted 2, refused 0\n",
+            answer: "accepted 2, refused 0",
+            back: Some(BEFORE_TWO),
+            ..ACCEPTED
+        },
+    ),
+    (
+        IN_EIGHTS,
+        Run {
+            shows: "the last change is taken back, of two records",
+            options: last!(1),
+            undo: "version: 1\n\n# undo 1\ndn: cn=x,dc=com\nchangetype: modify\ndelete: sn\n-\n\n\
+                # undo 2\ndn: cn=x,dc=com\nchangetype: modrdn\nnewrdn: cn=y+sn=z\ndeleteoldrdn: 1\n\n\
+                dn: cn=y+sn=z,dc=com\nchangetype: modify\ndelete: sn\nsn: z\n-\nadd: sn\nsn: Z\n-\n\n",
+            out: BETWEEN_TWO,
+            report: "accepted 2, refused 0\n",
+            answer: "accepted 2, refused 0",
+            ..BACK
+        },
+    ),
+    (
+        Devices { piece: 1, ..WHOLE },
+        Run {
+            shows: "both are taken back",
+            options: last!(2),
+            undo: "version: 1\n\n# undo 1\ndn: cn=k,dc=com\nchangetype: add\ncn: k\n\n\
+                # undo 2\ndn: cn=x,dc=com\nchangetype: modify\ndelete: sn\n-\n\n\
+                # undo 3\ndn: cn=x,dc=com\nchangetype: modrdn\nnewrdn: cn=y+sn=z\ndeleteoldrdn: 1\n\n\
+                dn: cn=y+sn=z,dc=com\nchangetype: modify\ndelete: sn\nsn: z\n-\nadd: sn\nsn: Z\n-\n\n",
+            out: BEFORE_TWO,
+            report: "accepted 3, refused 0\n",
+            answer: "accepted 3, refused 0",
+            ..BACK
+        },
+    ),
+    (
+        IN_EIGHTS,
+        Run {
+            shows: "none is taken back",
+            options: last!(0),
+            out: AFTER_TWO,
+            report: "accepted 0, refused 0\n",
+            answer: "accepted 0, refused 0",
+            ..BACK
+        },
+    ),
+    (
+        IN_EIGHTS,
+        Run {
+            shows: "there are too few groups",
+            options: last!(3),
+            copy: AFTER_TWO,
+            changes: UNDO_TWO,
+            answer: "cannot go back, only 2 groups",
+            ..FAULTY
+        },
+    ),
+    (
+        IN_EIGHTS,
+        Run {
+            shows: "where a run stops at a refused record of a wanted group, its text has not ended",
+            options: last!(3),
+            ..UNFIT
+        },
+    ),
+    (
+        IN_EIGHTS,
+        Run {
+            shows: "a run that goes on comes to the end of the text",
+            options: ModifyOptions {
+                last: Some(3),
+                ..GO_ON
+            },
+            changes: UNDO_TWO,
+            answer: "cannot go back, only 2 groups",
+            ..FAULTY
+        },
+    ),
+    (
+        IN_EIGHTS,
+        Run {
+            shows: "an empty group",
+            options: last!(1),
+            changes: EMPTY_GROUP,
+            report: "accepted 0, refused 0\n",
+            answer: "accepted 0, refused 0",
+            ..ACCEPTED
+        },
+    ),
+    (
+        IN_EIGHTS,
+        Run {
+            shows: "the first mark is not the first number",
+            options: last!(1),
+            changes: "version: 1\n\n# undo 2\ndn: cn=k,dc=com\nchangetype: add\n\n",
+            answer: "changes: L16 BadMark",
+            ..FAULTY
+        },
+    ),
+    (
+        IN_EIGHTS,
+        Run {
+            shows: "a record before the first mark, where no group is wanted either",
+            options: last!(0),
+            changes: "version: 1\n\ndn: cn=k,dc=com\nchangetype: add\n\n# undo 1\n",
+            answer: "changes: L16 BadMark",
+            ..FAULTY
+        },
+    ),
+    (
+        IN_EIGHTS,
+        Run {
+            shows: "a mark is left out after the last wanted group",
+            options: last!(1),
+            changes: "# undo 1\ndn: cn=a,dc=com\nchangetype: add\n\n# undo 3\n",
+            answer: "changes: L16 BadMark",
+            ..FAULTY
+        },
+    ),
+    (
+        IN_EIGHTS,
+        Run {
+            shows: "what comes after the last wanted group is not judged",
+            options: last!(1),
+            changes: "# undo 1\ndn: cn=a,dc=com\nchangetype: add\nsn: b\n\n# undo 2\nx\n\n# undo 2\nversion: 2\n",
+            undo: UNDO,
+            out: OUT,
+            ..ACCEPTED
+        },
+    ),
+    (
+        Devices { piece: 1, ..WHOLE },
+        Run {
+            shows: "marks are folded, and end in CR LF",
+            options: last!(1),
+            changes: "version: 1\r\n# un\r\n do 1\r\ndn: cn=a,dc=com\r\nchangetype: add\r\nsn: b\r\n\r\n#\n  undo\n  2\nx\n",
+            undo: UNDO,
+            out: OUT,
+            ..ACCEPTED
+        },
+    ),
+    (
+        IN_EIGHTS,
+        Run {
+            shows: "a comment within a record is no mark, nor one of another form",
+            options: last!(1),
+            changes: "# undo 0\n# undo 01\n#undo 1\n# undo  1\n# undo 1 \n# undo 1\ndn: cn=a,dc=com\n# undo 7\n\
+                changetype: add\n# undo 2\nsn: b\n\n",
+            undo: UNDO,
+            out: OUT,
+            ..ACCEPTED
+        },
+    ),
+    (
+        IN_EIGHTS,
+        Run {
+            shows: "without a number of groups, marks are comments",
+            changes: "# undo 2\ndn: cn=a,dc=com\nchangetype: add\nsn: b\n\n# undo 2\n",
+            undo: UNDO,
+            out: OUT,
+            ..ACCEPTED
+        },
+    ),
+];
+
 #[test]
 fn runs_write_their_texts_and_are_taken_back(rt: HostRuntime) {
     for (devices, one) in &FIRST_RUNS {
@@ -660,6 +878,13 @@ fn more_runs_write_their_texts(rt: HostRuntime) {
 #[test]
 fn the_last_runs_write_their_texts(rt: HostRuntime) {
     for (devices, one) in &LAST_RUNS {
+        assert_run(&rt, rt.alloc(), devices, one);
+    }
+}
+
+#[test]
+fn the_first_groups_of_an_undo_text_are_run(rt: HostRuntime) {
+    for (devices, one) in &RUNS_BACK {
         assert_run(&rt, rt.alloc(), devices, one);
     }
 }

@@ -2,4 +2,4 @@ use Rattle.dir_change.proofs.ReadBack.{texts_read_back}
 use Rattle.dir_change.proofs.laws.undo_texts_read_back.Goals as goal
 
 pub returns : goal.returns
-returns c = texts_read_back c.written_records_read_back.ensures
+returns c = texts_read_back c.marked_groups_read_back.ensures

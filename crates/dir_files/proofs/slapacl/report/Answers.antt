@@ -3,6 +3,7 @@ use Rattle.dir_tools.specs.declared.fault.ToolFault.{ToolFault}
 use Rattle.dir_tools.specs.AccessAnswers.{AccessSources, access_sources}
 use Rattle.dir_tools.specs.AccessReport.{AccessTerms, access_terms}
 use Rattle.dir_files.proofs.AccessCalls.{asks_and_ends, asks_over}
+use Rattle.dir_files.specs.Faults.{IsRunFault}
 use Rattle.dir_files.proofs.CallLemmas.{no_report_due, report_refused}
 use Rattle.dir_files.proofs.slapacl.report.Goals as goal
 
@@ -15,7 +16,7 @@ returns-in-Ok-clause-calls g c start known is =
     let told = h.2 start known is in
     asks_and_ends t sources answer c.as_slice.result.now (Err c.not_reported.result) (g.F.FileSystem.disk c.args.files.now) (g.F.FileSystem.disk c.report.new.self)
     (asks_over t sources answer h.0 _ _ c.as_slice.result.now h.1 told.0 told.1 c.new-report.ensures c.as_slice.ensures)
-    (report_refused c.as_slice.result.now c.in-Ok.field-0 c.in-Err-report.why c.not_reported.result (g.F.FileSystem.disk c.args.files.now) (g.F.FileSystem.disk c.report.new.self)
+    (report_refused IsRunFault c.as_slice.result.now c.in-Ok.field-0 c.in-Err-report.why c.not_reported.result (g.F.FileSystem.disk c.args.files.now) (g.F.FileSystem.disk c.report.new.self)
     c.in-Err-report.ensures c.not_reported.ensures)
 
 pub returns-clause-calls : goal.returns-clause-calls
@@ -27,4 +28,4 @@ returns-clause-calls g c start known is =
     let told = h.2 start known is in
     asks_and_ends t sources answer c.run_acl_under.new.report.bytes.items (Err c.run_fault.result) (g.F.FileSystem.disk c.args.files.now) (g.F.FileSystem.disk c.args.files.now)
     (asks_over t sources answer h.0 _ _ c.run_acl_under.new.report.bytes.items h.1 told.0 told.1 c.new-report.ensures refl)
-    (no_report_due Unit c.run_acl_under.new.report.bytes.items c.in-Err.fault c.run_fault.result (g.F.FileSystem.disk c.args.files.now) c.run_fault.ensures)
+    (no_report_due Unit IsRunFault c.run_acl_under.new.report.bytes.items c.in-Err.fault c.run_fault.result (g.F.FileSystem.disk c.args.files.now) c.run_fault.ensures)

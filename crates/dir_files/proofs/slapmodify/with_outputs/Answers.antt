@@ -33,12 +33,12 @@ returns-clause-calls g c =
     let known : Sources = sources (g.R.Source.left c.args.copy.now) (g.R2.Source.left c.args.changes.now) in
     let answer : Result Summary ToolFault = Err c.in-Err-answer.fault in
     let h = c.in-Err-answer.ensures.headline in
-    writes_outputs c.args.paths.now c.args.mode q known (Err c.run_fault.result) answer
+    writes_outputs c.args.paths.now c.args.mode q known (Err c.modify_fault.result) answer
     (g.F.Draft.Sink.taken c.in-Ok.undo) (g.F.Draft.Sink.taken c.with_files-answer.new.undo) (g.F.Draft.Sink.taken c.in-Ok-create.out) (g.F.Draft.Sink.taken c.with_files-answer.new.out)
     c.with_files-answer.new.report.bytes.items
     (g.F.FileSystem.disk c.args.files.now) (g.F.FileSystem.disk c.create.new.self) (g.F.FileSystem.disk c.create-2.new.self) (g.F.FileSystem.disk c.discard-in-Err-answer-2.new.self)
     c.in-Ok.ensures.told c.in-Ok-create.ensures.told c.in-Ok.ensures.empty c.in-Ok-create.ensures.empty
     (runs_over q known answer h.0 _ _ _ _ c.with_files-answer.new.report.bytes.items h.1 h.2 h.3 c.new-report.ensures refl)
-    (ends_in_fault c.args.paths.now (g.F.Draft.Sink.taken c.with_files-answer.new.undo) (g.F.Draft.Sink.taken c.with_files-answer.new.out) c.with_files-answer.new.report.bytes.items
-    c.in-Err-answer.fault c.run_fault.result (g.F.FileSystem.disk c.create-2.new.self) (g.F.FileSystem.disk c.discard-in-Err-answer.new.self)
-    (g.F.FileSystem.disk c.discard-in-Err-answer-2.new.self) c.discard-in-Err-answer.ensures c.discard-in-Err-answer-2.ensures c.run_fault.ensures)
+    (ends_in_fault c.args.words.now.options.last c.args.paths.now (g.F.Draft.Sink.taken c.with_files-answer.new.undo) (g.F.Draft.Sink.taken c.with_files-answer.new.out) c.with_files-answer.new.report.bytes.items
+    c.in-Err-answer.fault c.modify_fault.result (g.F.FileSystem.disk c.create-2.new.self) (g.F.FileSystem.disk c.discard-in-Err-answer.new.self)
+    (g.F.FileSystem.disk c.discard-in-Err-answer-2.new.self) c.discard-in-Err-answer.ensures c.discard-in-Err-answer-2.ensures c.modify_fault.ensures.told)

@@ -1,5 +1,6 @@
 use Rattle.std.proofs.Common.{◌∙◌, ap, subst, rules, Err}
 use Rattle.dir_ldif.specs.Reader.{source_of, turns_left}
+use Rattle.dir_ldif.specs.Records.{records_of}
 use Rattle.dir_tools.specs.ReadCalls.{GaveAtLeast}
 use Rattle.dir_tools.proofs.CopyFaults.{blamed_read, finish_blamed}
 use Rattle.dir_tools.proofs.CopyLemmas.{holds_nothing, if_both, if_ok, read_order, read_whole}
@@ -48,6 +49,6 @@ returns-in-Err-answer-clause-blamed g c =
 pub returns-in-Err-answer-clause-settled : goal.returns-in-Err-answer-clause-settled
 returns-in-Err-answer-clause-settled g c is bare =
     let start = empty_copy (g.D.Directory.state c.args.empty).suffix in
-    from_start c.args.schema.now (λ s. g.R.Source.left s.now) (CompleteRecordsLoad c.args.schema.now start) (taken_so c.args.schema.now start) c.in-Ok.records c.take_records-answer.new.records _ _
+    from_start (records_of c.args.schema.now) (λ s. g.R.Source.left s.now) (CompleteRecordsLoad c.args.schema.now start) (taken_so c.args.schema.now start) c.in-Ok.records c.take_records-answer.new.records _ _
     c.in-Ok.ensures.ahead.0 c.in-Ok.ensures.ahead.1 (ap (λ s. g.R.Source.left s.now) c.in-Ok.ensures.source.0) (search rules)
     (c.in-Err-answer.ensures.settled is start (holds_nothing g.D.Directory.state c.args.empty c.new-loading.result c.new-loading.ensures.directory c.new-loading.ensures.waiting bare))

@@ -4,6 +4,7 @@ use Rattle.dir_tree.specs.WellFormed.{IsWellFormed, IsWithinLimits}
 use Rattle.dir_tools.specs.declared.fault.ToolFault.{ToolFault}
 use Rattle.dir_tools.specs.declared.run.ModifyOptions.{ModifyOptions}
 use Rattle.dir_tools.specs.declared.run.RunTexts.{RunTexts}
+use Rattle.dir_tools.specs.CompleteRecords.{CompleteRecordsAreAccepted, GaveBytes, changes_after}
 use Rattle.dir_tools.specs.CopyOf.{copy_of}
 use Rattle.dir_tools.specs.Headline.{terms}
 use Rattle.dir_tools.specs.Suffix.{suffix_of}
@@ -27,7 +28,7 @@ returns-in-Err-take_all-clause-blamed g c =
     let bare : HasNoEntries c.new.result = ap (λ (d : Dir). d.entries) c.new.ensures in
     let copy = g.R.Source.left c.args.copy.now in
     let reads : IfSome copy (λ text. copy_of c.args.schema.now c.new-run.result.directory.suffix text ≡ Ok c.new-run.result.directory) = read_so c.args.schema.now copy c.new.result.suffix c.in-Ok-read_copy.directory c.new-run.result.directory read begun (c.in-Ok-read_copy.ensures.reads bare) in
-    blamed_so (λ d. d) (terms c.args.schema.now c.args.suffix.now c.args.options) copy (g.R2.Source.left c.args.changes.now) c.new-run.result reads _ _ c.in-Err-take_all.fault c.new-run.ensures.6 key (λ is. c.take_all.ensures.long (c.in-Err-take_all.is ∙ ap Err is)) c.in-Err-take_all.ensures.blamed
+    blamed_so (λ d. d) (terms c.args.schema.now c.args.suffix.now c.args.options) copy (g.R2.Source.left c.args.changes.now) c.new-run.result reads c.marks_are_known.ensures _ _ c.in-Err-take_all.fault c.new-run.ensures.6 key (λ is. c.take_all.ensures.long (c.in-Err-take_all.is ∙ ap Err is)) c.in-Err-take_all.ensures.blamed
 
 pub returns-in-Err-read_copy-clause-first : goal.returns-in-Err-read_copy-clause-first
 returns-in-Err-read_copy-clause-first g c =
@@ -46,7 +47,8 @@ returns-in-Err-take_all-clause-first g c =
     let reads : IfSome copy (λ text. copy_of c.args.schema.now c.new-run.result.directory.suffix text ≡ Ok c.new-run.result.directory) = read_so c.args.schema.now copy c.new.result.suffix c.in-Ok-read_copy.directory c.new-run.result.directory read begun (c.in-Ok-read_copy.ensures.reads bare) in
     let off : c.args.options.go_on ≡ false → c.new-run.result.options.go_on ≡ false = (λ is. ap (λ (o : ModifyOptions). o.go_on) c.new-run.ensures.6 ∙ is) in
     changes_first (λ d. d) (terms c.args.schema.now c.args.suffix.now c.args.options) copy (g.R2.Source.left c.args.changes.now) c.new-run.result reads _ _ _ _ c.in-Err-take_all.fault key
-    c.in-Err-take_all.ensures.blamed (λ is stops. c.in-Err-take_all.ensures.settled is (off stops))
+    c.in-Err-take_all.ensures.blamed (λ is stops. subst (λ (o : ModifyOptions). GaveBytes (g.R2.Source.left c.args.changes.now) (g.R2.Source.left c.take_all.new.changes)
+    (λ bytes. CompleteRecordsAreAccepted c.args.schema.now c.new-run.result.directory (changes_after c.args.schema.now o.last bytes))) c.new-run.ensures.6 (c.in-Err-take_all.ensures.settled is (off stops)))
 
 pub returns-clause-ok : goal.returns-clause-ok
 returns-clause-ok g c =
@@ -61,7 +63,7 @@ returns-clause-ok g c =
     let sound = c.in-Ok-read_copy.ensures.sound bare named in
     by c.finish.result c.finish.ensures.texts (λ texts made.
     told (λ d. d) (terms c.args.schema.now c.args.suffix.now c.args.options) copy (g.R2.Source.left c.args.changes.now) c.new-run.result reads c.in-Ok-read_copy.directory c.take_all.new.self c.new-run.ensures c.in_default.ensures.ok texts
-    c.written_runs_are_taken_back.ensures c.groups_are_undos.ensures key c.in_default.ensures.options made
+    c.written_runs_are_taken_back.ensures c.written_runs_go_back.ensures c.groups_are_undos.ensures key c.in_default.ensures.options made
     (subst (IsWellFormed c.args.schema.now) (sym begun) sound.0) (subst IsWithinLimits (sym begun) sound.1))
   where
     by : {P Q : RunTexts → Type 0} (r : Result RunTexts ToolFault) → IfOk r P → ((texts : RunTexts) → P texts → Q texts) → IfOk r Q

@@ -1,11 +1,11 @@
 use Rattle.std.proofs.Common.{rules, refl, subst, true, Ok, [], ◌∷◌, ◌++◌}
 use Rattle.dir_ldif.specs.Reader.Answers.{GivesFirst}
-use Rattle.dir_ldif.specs.Reader.{IsReading, UsesUp, answers_to_come, schema_of}
+use Rattle.dir_ldif.specs.Reader.{IsReading, UsesUp, answers_to_come, marks_at_end, schema_of}
 use Rattle.dir_ldif.specs.Records.{Found}
 use Rattle.dir_ldif.specs.SoundRecords.{IsSoundFound}
 use Rattle.dir_tools.proofs.CompleteRecords.{comes_begun, comes_further}
 use Rattle.dir_tools.proofs.ReadCalls.{fault_none, reads_on, some_none, spends_more, spends_none}
-use Rattle.dir_tools.proofs.TakingLemmas.{breaks, given_more, given_none, takes_more}
+use Rattle.dir_tools.proofs.TakingLemmas.{breaks, given_more, given_none, keeps_on, keeps_refl, takes_more}
 use Rattle.dir_tools.proofs.taking.take_records.Goals as goal
 
 pub loop-line-init : goal.loop-line-init
@@ -16,6 +16,7 @@ loop-line-init g c = (
   refl,
   g.met.S.Source.same_refl _,
   (λ _. spends_none g.S.Source.left c.args.records.now),
+  keeps_refl (marks_at_end g.S.Source.left c.args.records.now),
   ([], refl, given_none (answers_to_come g.S.Source.left c.args.records.now), λ _. comes_begun g.S.Source.left c.args.records.now),
 )
 
@@ -36,11 +37,12 @@ loop-line-preserved g c =
       search rules,
       g.met.S.Source.same_trans _ _ _ inv.4 c.next.ensures.same,
       (λ reading. spends_more g.S.Source.left c.args.records.now c.loop-line.records c.next.new.self (inv.5 was_reading) (c.in-Ok-Some.ensures.turns reading)),
+      keeps_on (marks_at_end g.S.Source.left c.args.records.now) (marks_at_end g.S.Source.left c.loop-line.records) (marks_at_end g.S.Source.left c.next.new.self) inv.6 c.in-Ok-Some.ensures.marks,
       (
-        inv.6.0 ++ found ∷ [],
-        takes_more c.args.schema.now (g.T.Taker.take_gives c.args.schema.now) inv.6.0 found c.args.taker.now c.loop-line.taker c.take.new.self sound takes inv.6.1,
-        given_more inv.6.0 found (answers_to_come g.S.Source.left c.args.records.now) (answers_to_come g.S.Source.left c.loop-line.records) (answers_to_come g.S.Source.left c.next.new.self) gives inv.6.2,
-        λ reading. comes_further g.S.Source.left c.args.records.now c.loop-line.records c.next.new.self inv.6.0 found c.next.ensures.schema (uses reading) (inv.6.3 was_reading),
+        inv.7.0 ++ found ∷ [],
+        takes_more c.args.schema.now (g.T.Taker.take_gives c.args.schema.now) inv.7.0 found c.args.taker.now c.loop-line.taker c.take.new.self sound takes inv.7.1,
+        given_more inv.7.0 found (answers_to_come g.S.Source.left c.args.records.now) (answers_to_come g.S.Source.left c.loop-line.records) (answers_to_come g.S.Source.left c.next.new.self) gives inv.7.2,
+        λ reading. comes_further g.S.Source.left c.args.records.now c.loop-line.records c.next.new.self inv.7.0 found c.next.ensures.schema (uses reading) (inv.7.3 was_reading),
       ),
     )
 
@@ -48,8 +50,8 @@ pub returns-in-Err-clause-ends : goal.returns-in-Err-clause-ends
 returns-in-Err-clause-ends g c =
     let inv = c.loop-line.invariant in
     let was_reading : IsReading c.loop-line.records = reads_on c.loop-line.records inv.0 (λ at_end. fault_none c.next.result c.in-Err.fault c.in-Err.is (c.next.ensures.at_end at_end)) in (
-      inv.6.0,
-      inv.6.1,
-      breaks c.args.schema.now (g.T.Taker.take_gives c.args.schema.now) g.S.Source.left g.S.Source.failures inv.6.0 c.in-Err.fault c.args.taker.now c.loop-line.taker c.args.records.now c.loop-line.records c.next.new.self
-          inv.0 inv.3 c.in-Err.ensures.err.0 inv.6.1 inv.6.2 (inv.5 was_reading) (inv.6.3 was_reading),
+      inv.7.0,
+      inv.7.1,
+      breaks c.args.schema.now (g.T.Taker.take_gives c.args.schema.now) g.S.Source.left g.S.Source.failures inv.7.0 c.in-Err.fault c.args.taker.now c.loop-line.taker c.args.records.now c.loop-line.records c.next.new.self
+          inv.0 inv.3 c.in-Err.ensures.err.0 inv.7.1 inv.7.2 (inv.5 was_reading) (inv.7.3 was_reading),
     )

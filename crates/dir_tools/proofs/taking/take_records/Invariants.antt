@@ -1,5 +1,6 @@
 use Rattle.std.proofs.Common.{◌≡◌, ◌+◌, ◌≤◌, List}
-use Rattle.dir_ldif.specs.Reader.{IsEnded, IsReading, SpendsTurns, answers_to_come, budget, schema_of, source_of}
+use Rattle.dir_ldif.specs.Reader.{IsEnded, IsReading, SpendsTurns, answers_to_come, budget, marks_at_end, schema_of, source_of}
+use Rattle.dir_ldif.specs.Reader.Answers.{KeepsMarks}
 use Rattle.dir_ldif.specs.Records.{Found}
 use Rattle.dir_tools.specs.Inside.Taking.{TakesAll}
 use Rattle.dir_tools.proofs.CompleteRecords.{ComesFrom}
@@ -15,6 +16,7 @@ invariant-loop-line g l =
     × (g.S.Source.failures (source_of l.records) ≡ g.S.Source.failures (source_of first))
     × (g.S.Source.is_same (source_of first) (source_of l.records))
     × (IsReading l.records → SpendsTurns g.S.Source.left first l.records)
+    × KeepsMarks (marks_at_end g.S.Source.left first) (marks_at_end g.S.Source.left l.records)
     × ((founds : List Found)
     × TakesAll l.schema (g.T.Taker.take_gives l.schema) founds l.initial.taker l.taker
     × HasGiven founds (answers_to_come g.S.Source.left first) (answers_to_come g.S.Source.left l.records)

@@ -1,7 +1,8 @@
 use Rattle.std.proofs.lemmas.Result.{err_from_is_err_and}
-use Rattle.std.proofs.Common.{◌≡◌, ap, ◌∙◌}
+use Rattle.std.proofs.Common.{◌≡◌, true, refl, ap, ◌∙◌, rules}
+use Rattle.dir_ldif.specs.Bytes.{is_empty}
 use Rattle.dir_ldif.specs.Records.{found_of}
-use Rattle.dir_ldif.proofs.AnswerLemmas.{next_faults}
+use Rattle.dir_ldif.proofs.AnswerLemmas.{next_counted, next_faults, next_keeps, next_none}
 use Rattle.dir_ldif.proofs.LongLineSoon.{answer_used, ends_soon}
 use Rattle.dir_ldif.proofs.reader.Core.next_answer.Goals as goal
 
@@ -27,3 +28,13 @@ returns-in_err-block-clause-soon g c =
     rw (e.1, e.2) (
     ends_soon c.in_err-block.field-0.0 c.args.schema.now c.args.self.now _ _ c.in_err-block.ensures.soon
     )
+
+pub returns-then-is_empty-clause-counted : goal.returns-then-is_empty-clause-counted
+returns-then-is_empty-clause-counted g c =
+    let ok = c.in_ok-block.ensures.ok in
+    let old = c.args.self.now in
+    let new = c.next_block.new.self in
+    let block = c.in_ok-block.block.items in
+    let none : is_empty block ≡ true = search rules in
+    let end = (next_none c.args.schema.now old new block _ _ ok.0 _ c.requires ok.1 ok.2 (λ r. (ok.3 r).1) none).1 in
+    next_counted new _ (g.S.Source.left c.next_block.new.source) end (next_keeps old new block (g.S.Source.left c.args.source.now) (g.S.Source.left c.next_block.new.source) ok.0 c.requires ok.1 ok.2)

@@ -8,4 +8,4 @@ returns-then-without_cr-gt-MAX_LINE-clause-err c =
     let j = c.args.self.now in
     let line = c.args.front.items ++ c.args.back.now in
     let same : c.without_cr.result.now ≡ without_last 13 line = c.without_cr.ensures ∙ ap (without_last 13) (c.as_slice.ensures.value ∙ c.in_ok-extend_from_slice.ensures.items) in
-    λ text. long_alone j.begun j.block.items j.number line text c.requires.line (subst (λ t. 2097152 < length t) same c.if-without_cr-gt-MAX_LINE.true)
+    λ text. long_alone j.marks c.requires.going j.begun j.block.items j.number line text c.requires.line (subst (λ t. 2097152 < length t) same c.if-without_cr-gt-MAX_LINE.true)
