@@ -76,7 +76,7 @@ fn request_for<'e>(
         requester: requester_key(alloc, &parts.requester)?,
         target: parts.base.try_clone(alloc).map_err(|_| Memory)?,
         entry: target,
-        asked: clone_of(alloc, asked)?,
+        asked: asked.try_clone(alloc)?,
     })
 }
 
@@ -87,19 +87,6 @@ fn requester_key(alloc: Global, requester: &Option<(Dn, DnKey)>) -> Result<Optio
         None => Ok(None),
         Some((_, key)) => match key.try_clone(alloc) {
             Ok(key) => Ok(Some(key)),
-            Err(_) => Err(Memory),
-        },
-    }
-}
-
-fn clone_of(alloc: Global, asked: &Asked) -> Result<Asked, Memory>
-    ensures { IfOk result (λ clone. clone ≡ asked.now) }
-{
-    match asked {
-        Asked::Entry => Ok(Asked::Entry),
-        Asked::Children => Ok(Asked::Children),
-        Asked::Attribute(key) => match key.try_clone(alloc) {
-            Ok(key) => Ok(Asked::Attribute(key)),
             Err(_) => Err(Memory),
         },
     }

@@ -2,7 +2,8 @@
 
 use crate::acl::make::{key, schema};
 use dir_acl::{
-    Asked, Config, Privileges, Request, cuts_are_found, privileges_under, reading_is_the_grammar,
+    Asked, Config, Privileges, Request, cuts_are_found, privileges_read_back, privileges_under,
+    reading_is_the_grammar,
 };
 use dir_tree::{Directory, FlatDirectory};
 use std::alloc::Global;
@@ -80,4 +81,5 @@ pub(crate) fn assert_text(rt: &impl Abort, alloc: Global, privileges: Privileges
 fn laws_are_called() {
     reading_is_the_grammar();
     cuts_are_found();
+    privileges_read_back();
 }

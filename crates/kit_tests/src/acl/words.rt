@@ -15,6 +15,40 @@ fn a_level_names_and_allows_its_privileges(rt: HostRuntime) {
     assert_text(&rt, rt.alloc(), Privileges::all(), "=mwrscxd");
 }
 
+/// Texts, and whether a set of privileges has them.
+static TEXTS: [(&str, bool); 12] = [
+    ("=mwrscxd", true),
+    ("=azrscxd", false),
+    ("=ar", true),
+    ("=z", true),
+    ("=sc", true),
+    ("=cs", false),
+    ("=0", true),
+    ("=", false),
+    ("+r", false),
+    ("=R", false),
+    ("=rr", false),
+    ("", false),
+];
+
+#[test]
+fn a_text_of_privileges_is_read_as_it_is_written(rt: HostRuntime) {
+    for (text, is_one) in &TEXTS {
+        assert_reads(&rt, rt.alloc(), text, *is_one);
+    }
+}
+
+/// Asserts that a text is that of a set, and is read as that set; or of none.
+fn assert_reads(rt: &impl Abort, alloc: Global, text: &str, is_one: bool) {
+    match Privileges::read(alloc, text.as_bytes()).expect(rt, "memory") {
+        Some(set) => {
+            assert!(rt; is_one, "{text}");
+            assert_text(rt, alloc, set, text);
+        }
+        None => assert!(rt; !is_one, "{text}"),
+    }
+}
+
 static FILTER_FAULTS: [(FilterFault, &str); 3] = [
     (FilterFault::BadFilter, "Q1 BadFilter"),
     (FilterFault::TooDeep, "Q2 TooDeep"),
