@@ -9,9 +9,9 @@ fits.
 
 Each is a file with a line `file:`, pairs of lines `old:` (once in that file) and `new:`, and where the function that the prover must refuse
 isn't the one whose line changes first, a line `fn:` with its path. They are planted in a copy of the crates, and their functions tried by `rt check --only`, with
-all that these call in their crate. Those that are in functions of their own are planted together. One is refused where the edited crate compiles, and the prover
-ends, accepts all that the function calls, and does not accept the function. So one whose function calls another that was refused with it is tried again without that. All other
-functions must be accepted, or refused for what they call alone. That the prover accepts the functions as they stand is seen before. The libraries below are
+all that these call in their crate. Those in different functions, none of which seems to call another, are planted together. One is refused where the edited crate compiles, and
+the prover ends, accepts all that the function calls, and does not accept the function. So one whose function does call another that was refused with it is tried again without that.
+All other functions must be accepted, or refused for what they call alone. That the prover accepts the functions as they stand is seen before. The libraries below are
 taken as `rt lib` or `rt check` have built them in this checkout, and those that are lacking are built.
 
 --after-ci is for the gate, right after `rt ci` has proved all crates of this checkout: so the functions as they stand are not proved once more, and the libraries are taken as
@@ -221,16 +221,46 @@ def try_together(copy, crate, texts, bodies, after_ci, jobs):
     return {body: told for part in (bodies[:half], bodies[half:]) for body, told in try_together(copy, crate, texts, part, after_ci, jobs).items()}
 
 
-def can_stand_beside(one, other):
+@functools.cache
+def called_from(crate):
+    """For each function of the crate, by its name and whether it is a method, those that it may call, also through others. A call is told by these alone, so some are
+    too many."""
+    called = collections.defaultdict(set)
+    for file in (ROOT / "crates" / crate / "src").glob("**/*.rt"):
+        for indent, name, body in re.findall(r"^( *)(?:pub(?:\(\w+\))? )?fn (\w+)(.*?)^\1\}$", file.read_text(), re.M | re.S):
+            for before, other in re.findall(r"([A-Z]\w*(?:<.*?>)?::|\.|)\b(\w+)\(", body):
+                called[bool(indent), name].add((bool(before), other))
+    called = {one: found & called.keys() - {one} for one, found in called.items()}
+    while True:
+        further = {one: found.union(*(called[each] for each in found)) for one, found in called.items()}
+        if further == called:
+            return called
+        called = further
+
+
+def functions_in(body):
+    """The functions of a wrong body, as `called_from` has them: the types that methods are of begin with a capital."""
+    parts = [path.split("::") for path in body.paths]
+    return {(len(names) > 1 and names[-2][0].isupper(), names[-1]) for names in parts}
+
+
+def may_reach(crate, one, other):
+    """Whether a function of a wrong body may call one of another's."""
+    return any(not functions_in(other).isdisjoint(called_from(crate).get(each, ())) for each in functions_in(one))
+
+
+def can_stand_beside(crate, one, other):
     """Whether two wrong bodies can be planted together, so that it is seen of each whether it is refused."""
-    return None not in one.paths | other.paths and one.paths.isdisjoint(other.paths) and are_apart(one.changes, other.changes)
+    if None in one.paths | other.paths or not one.paths.isdisjoint(other.paths) or not are_apart(one.changes, other.changes):
+        return False
+    return not may_reach(crate, one, other) and not may_reach(crate, other, one)
 
 
-def that_stand_together(bodies):
+def that_stand_together(crate, bodies):
     """As many of these wrong bodies, the first among them, as can be planted together."""
     group = []
     for body in bodies:
-        if all(can_stand_beside(body, other) for other in group):
+        if all(can_stand_beside(crate, body, other) for other in group):
             group.append(body)
     return group
 
@@ -246,7 +276,7 @@ def try_all(copy, crate, edits, after_ci, jobs):
             left.append(body)
     together = left
     while left:
-        told = try_together(copy, crate, texts, that_stand_together(together), after_ci, jobs)
+        told = try_together(copy, crate, texts, that_stand_together(crate, together), after_ci, jobs)
         known = {body: outcome for body, outcome in told.items() if outcome}
         for body, outcome in known.items():
             print(f"{crate}/{body.edit.stem}: {outcome}", flush=True)
