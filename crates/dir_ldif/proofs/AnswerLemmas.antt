@@ -1,21 +1,19 @@
 -- Lemmas on the answers that a reader has still to give.
-use Rattle.std.proofs.Common.{◌≡◌, ℕ, true, false, List, [], ◌∷◌, ◌++◌, refl, sym, ap, subst, ◌∙◌, append-nil, Option, None, Some, IfSome, Ok, Err}
+use Rattle.std.proofs.Common.{◌≡◌, ℕ, true, false, List, [], ◌∷◌, ◌++◌, refl, sym, ap, subst, ◌∙◌, Option, None, Some, IfSome, Ok, Err}
 use Rattle.std.specs.Option.{option_and_then, option_map}
-use Rattle.std.specs.Io.KnownBytes.{Consumes, IsAtEnd}
+use Rattle.std.specs.Io.KnownBytes.{Consumes}
 use Rattle.dir_names.specs.declared.schema.TypeRow.{TypeRow}
 use Rattle.dir_ldif.specs.declared.faults.StreamFault.{StreamFault}
 use Rattle.dir_ldif.specs.declared.faults.StreamFault.TheVariants.{LineTooLong, Read, Memory, TooManyTurns, BadVersion, BadMark}
 use Rattle.dir_ldif.specs.declared.faults.StreamFault.TheVariants.{Ended as AfterFault}
 use Rattle.dir_ldif.specs.declared.reader.Core.{Core}
-use Rattle.dir_ldif.specs.declared.reader.unfolder.Unfolder.{Unfolder}
-use Rattle.dir_ldif.specs.Reader.Unfolding.{to_come}
 use Rattle.dir_ldif.specs.declared.reader.Place.{Place}
 use Rattle.dir_ldif.specs.declared.reader.Place.TheVariants.{Reading, AtEnd, Ended}
 use Rattle.dir_ldif.specs.Bytes.{is_empty}
 use Rattle.dir_ldif.specs.LogicalLines.{Line}
 use Rattle.dir_ldif.specs.Remainder.{NoBlock, Remainder, blocks_in, done, fails, holds, marks_in, then_rest}
 use Rattle.dir_ldif.specs.Inside.Reader.{Finds, Stops, MayFail}
-use Rattle.dir_ldif.specs.Reader.Answers.{ExplainsFault, FirstIsComplete, GivesFirst, GivesNone, KeepsMarks, answers_at, answers_left, hand, marks_at, marks_left, to_read}
+use Rattle.dir_ldif.specs.Reader.Answers.{ExplainsFault, FirstIsComplete, GivesFirst, GivesNone, KeepsMarks, answers_at, answers_left, marks_at, marks_left, to_read}
 use Rattle.dir_ldif.specs.Records.{Answer, Found, found_of, answers_on}
 use Rattle.dir_ldif.proofs.RemainderLemmas.{answers_in-then, answers_in-none, marks_in-then}
 

@@ -4,7 +4,6 @@ use Rattle.std.proofs.lemmas.List.{drop-drop, drop-take, length-take, length-dro
 use Rattle.std.proofs.Math.Seq.{drop-append_seam}
 use Rattle.std.specs.Io.KnownBytes.{Consumes}
 use Rattle.dir_ldif.specs.Remainder.{Remainder, done, then_rest}
-use Rattle.dir_ldif.specs.declared.reader.marks.Marks.{Marks}
 use Rattle.dir_ldif.specs.declared.reader.unfolder.Unfolder.{Unfolder}
 use Rattle.dir_ldif.specs.LogicalLines.{Line}
 use Rattle.dir_ldif.specs.Reader.Unfolding.{to_come}

@@ -6,14 +6,14 @@ use Rattle.dir_ldif.specs.Remainder.{NoBlock, Remainder, after_marks, fails, rem
 use Rattle.dir_ldif.specs.Marks.{after_comment, may_have_records}
 use Rattle.dir_ldif.specs.declared.reader.marks.Marks.{Marks}
 use Rattle.dir_ldif.specs.declared.faults.StreamFault.{StreamFault}
-use Rattle.dir_ldif.specs.declared.faults.StreamFault.TheVariants.{LineTooLong, BadVersion}
+use Rattle.dir_ldif.specs.declared.faults.StreamFault.TheVariants.{BadVersion}
 use Rattle.dir_ldif.specs.declared.reader.version.Version.{Version}
 use Rattle.dir_ldif.specs.declared.reader.version.Version.TheVariants.{Absent, One, Other}
 use Rattle.dir_ldif.specs.declared.reader.unfolder.Unfolder.{Unfolder}
 use Rattle.dir_ldif.specs.Bytes.{is_empty, begins_with, without_last}
 use Rattle.dir_ldif.specs.LogicalLines.{Line, cut, is_comment, is_lf, is_long, physical_lines, with_first_line}
 use Rattle.dir_ldif.specs.Inside.Bounds.{may_be_continued}
-use Rattle.dir_ldif.specs.Blocks.{BlockResult, by_version, version_of}
+use Rattle.dir_ldif.specs.Blocks.{by_version, version_of}
 use Rattle.dir_ldif.specs.Reader.Unfolding.{to_come, to_come_with, lines_after}
 use Rattle.dir_ldif.specs.Inside.Reader.{MayFail}
 use Rattle.dir_ldif.proofs.BytesLemmas.{true_or_false}

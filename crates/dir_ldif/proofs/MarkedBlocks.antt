@@ -1,5 +1,5 @@
 -- What a reader that counts groups has left of a text of marked groups.
-use Rattle.std.proofs.Common.{◌≡◌, ℕ, zero, suc, ◌+◌, ◌<◌, ◌≤◌, ◌^◌, Bool, true, false, not, eqb, nat_lt, drop, List, [], ◌∷◌, ◌++◌, length, map, min, take, codes, refl, sym, ap, subst, ◌∙◌, append_assoc, append-nil, if◌then◌else◌, Option, None, Some, Ok, arith}
+use Rattle.std.proofs.Common.{◌≡◌, ℕ, zero, suc, ◌+◌, ◌<◌, ◌≤◌, ◌^◌, Bool, true, false, not, eqb, nat_lt, drop, List, [], ◌∷◌, ◌++◌, length, map, min, take, refl, sym, ap, subst, ◌∙◌, append_assoc, append-nil, if◌then◌else◌, Some, Ok, arith}
 use Rattle.std.specs.List.{flat_map}
 use Rattle.std.proofs.lemmas.Bool.Decides.{nat_tests}
 use Rattle.dir_ldif.specs.declared.reader.marks.Marks.{Marks}

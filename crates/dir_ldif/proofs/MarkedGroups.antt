@@ -1,17 +1,16 @@
 -- The text of marked groups reads back.
-use Rattle.std.proofs.Common.{◌≡◌, ℕ, zero, suc, ◌+◌, ◌<◌, ◌^◌, Bool, true, false, List, [], ◌∷◌, ◌++◌, length, map, min, take, codes, refl, sym, ap, subst, ◌∙◌, append_assoc, Option, None, Some, Ok, arith}
+use Rattle.std.proofs.Common.{◌≡◌, ℕ, zero, suc, ◌+◌, ◌<◌, ◌^◌, true, false, List, [], ◌∷◌, ◌++◌, length, map, min, take, codes, refl, sym, ap, ◌∙◌, Some, Ok, arith}
 use Rattle.std.specs.List.{flat_map}
 use Rattle.dir_names.specs.declared.schema.TypeRow.{TypeRow}
 use Rattle.dir_ldif.specs.declared.reader.marks.Marks.{Marks}
 use Rattle.dir_ldif.specs.declared.records.Record.{Record}
-use Rattle.dir_ldif.specs.Blocks.{BlockResult}
 use Rattle.dir_ldif.specs.LogicalLines.{Line, cut, is_lf, lines_of, logical_lines, physical_lines, with_first_line}
 use Rattle.dir_ldif.specs.MarkedGroups.{AreSoundGroups, MarkedGroupsReadBack, MarksAreKnown, marked_groups, marked_text}
 use Rattle.dir_ldif.specs.MarkText.{mark_line}
 use Rattle.dir_ldif.specs.Marks.{ignored, up_to}
 use Rattle.dir_ldif.specs.Records.{Found, all_found, answers_on, marks_up_to, read_up_to, records_of, records_up_to}
 use Rattle.dir_ldif.specs.Remainder.{Remainder, blocks_in, done, fails, holds, marks_in, remainder_from}
-use Rattle.dir_ldif.specs.RoundTrip.{records_text, without_line}
+use Rattle.dir_ldif.specs.RoundTrip.{without_line}
 use Rattle.dir_ldif.specs.SoundRecords.{AreLegalAndSound}
 use Rattle.dir_ldif.proofs.MarkedBlocks.{AllGroups, blocks_before, groups_left, groups_passed_over, marked_lines, up_at}
 use Rattle.dir_ldif.proofs.RemainderLemmas.{remainder_is_blocks}

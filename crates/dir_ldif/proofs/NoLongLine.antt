@@ -14,7 +14,7 @@ use Rattle.dir_ldif.specs.declared.reader.version.Version.TheVariants.{Absent, O
 use Rattle.dir_ldif.specs.Bytes.{is_empty, begins_with, without_last}
 use Rattle.dir_ldif.specs.LogicalLines.{Line, cut, is_comment, is_lf, is_long, logical_lines, physical_lines}
 use Rattle.dir_ldif.specs.Inside.Bounds.{has_room, may_be_continued}
-use Rattle.dir_ldif.specs.Blocks.{BlockResult, by_version, version_of}
+use Rattle.dir_ldif.specs.Blocks.{by_version, version_of}
 use Rattle.dir_ldif.specs.Reader.Unfolding.{to_come, lines_after}
 use Rattle.dir_ldif.proofs.BytesLemmas.{true_or_false}
 use Rattle.dir_ldif.proofs.LogicalLineLemmas.{line_alone, not_second}

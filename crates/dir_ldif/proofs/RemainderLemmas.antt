@@ -9,7 +9,7 @@ use Rattle.dir_ldif.specs.Marks.{after_comment, ignored}
 use Rattle.dir_ldif.specs.declared.reader.version.Version.{Version}
 use Rattle.dir_ldif.specs.declared.reader.version.Version.TheVariants.{Absent, One, Other}
 use Rattle.dir_ldif.specs.Blocks.{BlockResult, EndsAtOnce, block_then, blocks_from, by_version, version_of}
-use Rattle.dir_ldif.specs.Remainder.{FailsAtOnce, Remainder, after_marks, blocks_in, done, fails, holds, marks_in, remainder_from, then_rest}
+use Rattle.dir_ldif.specs.Remainder.{FailsAtOnce, Remainder, after_marks, blocks_in, done, fails, marks_in, remainder_from, then_rest}
 use Rattle.dir_ldif.specs.Records.{answers_on, found_of}
 use Rattle.dir_ldif.proofs.RecordsLemmas.{answers_on-block_then, answers_on-give-none}
 

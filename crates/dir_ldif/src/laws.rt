@@ -65,7 +65,7 @@ pub fn records_are_sound()
     ensures { RecordsAreSound }
 {}
 
-/// A law: so is each record that is read of the first groups of an undo text.
+/// A law: each record that is read of the first groups of an undo text of bytes is legal and sound.
 pub fn first_records_are_sound()
     ensures { FirstRecordsAreSound }
 {}

@@ -1,5 +1,5 @@
 use Rattle.std.proofs.lemmas.Result.{err_from_is_err_and}
-use Rattle.std.proofs.Common.{◌≡◌, true, refl, ap, ◌∙◌, rules}
+use Rattle.std.proofs.Common.{◌≡◌, true, ap, ◌∙◌, rules}
 use Rattle.dir_ldif.specs.Bytes.{is_empty}
 use Rattle.dir_ldif.specs.Records.{found_of}
 use Rattle.dir_ldif.proofs.AnswerLemmas.{next_counted, next_faults, next_keeps, next_none}
