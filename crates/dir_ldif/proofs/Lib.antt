@@ -19,6 +19,7 @@ pub mod MarkedGroups
 pub mod NoLongLine
 pub mod PartialLines
 pub mod PhysicalLines
+pub mod ReadBlocks
 pub mod ReadIsLegal
 pub mod ReadIsSound
 pub mod RecordsLemmas

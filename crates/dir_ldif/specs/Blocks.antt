@@ -1,5 +1,5 @@
 -- The blocks of a text (RFC 2849, "Formal Syntax Definition of LDIF"), and the fault in which it may end.
-use Rattle.std.specs.Prelude.{◌≡◌, ℕ, Bool, true, false, if◌then◌else◌, List, [], ◌∷◌, ◌++◌, Option, None, Some, Result, Ok, Err}
+use Rattle.std.specs.Prelude.{◌≡◌, ℕ, Bool, true, false, if◌then◌else◌, List, [], ◌∷◌, ◌++◌, ◌<◌, length, map, Option, None, Some, Result, Ok, Err}
 use Rattle.std.specs.Str.{str_eq_ignore_ascii_case, bytes_eq}
 use Rattle.dir_ldif.specs.declared.faults.StreamFault.{StreamFault}
 use Rattle.dir_ldif.specs.declared.faults.StreamFault.TheVariants.{LineTooLong, Read, Memory, Ended, TooManyTurns, BadVersion, BadMark}
@@ -65,3 +65,18 @@ EndsAtOnce Memory blocks = Unit {0}
 EndsAtOnce Read blocks = ⊥
 EndsAtOnce Ended blocks = ⊥
 EndsAtOnce TooManyTurns blocks = ⊥
+
+-- the blocks of a text that ends in no fault
+abbrev pub all_blocks : List (List Line) → List BlockResult
+all_blocks blocks = map (λ (block : List Line). Ok block) blocks
+
+-- why the blocks of a text are not read: a line is too long, after some blocks; it begins with a version other than 1; it has too many bytes to be
+-- read at once; or memory ran out, which says nothing of the text
+abbrev pub BlocksEndIn : StreamFault → List ℕ → Type 0
+BlocksEndIn LineTooLong text = (blocks : List (List Line)) × (blocks_of text ≡ all_blocks blocks ++ Err LineTooLong ∷ [])
+BlocksEndIn BadVersion text = blocks_of text ≡ Err BadVersion ∷ []
+BlocksEndIn TooManyTurns text = 9007199254732800 < length text
+BlocksEndIn Memory text = Unit {0}
+BlocksEndIn BadMark text = ⊥
+BlocksEndIn Read text = ⊥
+BlocksEndIn Ended text = ⊥

@@ -17,7 +17,9 @@ pub use laws::{
     records_are_sound, texts_are_blocks, written_lines_are_folded, written_lines_read_back,
     written_records_read_back,
 };
-pub use reader::{MAX_LINE, MAX_TURNS, MAX_VALUE, RecordReader, read_all};
+pub use reader::{
+    Line, MAX_LINE, MAX_TURNS, MAX_VALUE, RecordReader, line_parts, read_all, read_blocks,
+};
 pub use records::{Change, ChangeKind, Mod, ModOp, Mods, Record};
 pub use writer::{
     push_change, push_end, push_line, push_mark, push_name, push_record, record_text,

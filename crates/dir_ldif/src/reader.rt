@@ -8,6 +8,7 @@ ghost use Rattle.dir_ldif.specs.Records.{EndsIn, all_found, found_of, records_of
 ghost use Rattle.dir_ldif.specs.SoundRecords.{IsLegalFound, IsSoundFound};
 
 mod attrval;
+mod blocks;
 mod bytes;
 mod marks;
 mod parser;
@@ -20,12 +21,13 @@ use crate::faults::{RecordFault, Refusal, StreamFault};
 use crate::reader::marks::Marks;
 use crate::reader::parser::record_of;
 use crate::reader::spare::Spare;
-use crate::reader::unfolder::{Line, Unfolder};
+use crate::reader::unfolder::Unfolder;
 use crate::records::Record;
-pub use attrval::MAX_VALUE;
+pub use attrval::{MAX_VALUE, line_parts};
+pub use blocks::read_blocks;
 use dir_names::{NameReader, Schema};
 use std::alloc::Global;
-pub use unfolder::MAX_LINE;
+pub use unfolder::{Line, MAX_LINE};
 
 /// The greatest number of read calls of one reader.
 pub const MAX_TURNS: u64 = 1_099_511_627_776;

@@ -1,6 +1,6 @@
 //! The name and the value of one line, plain or in base64 (RFC 2849, `attrval-spec`).
 
-ghost use Rattle.std.specs.Prelude.{◌≡◌, ◌<◌, ◌&&◌, ◌++◌, ℕ, List, IfErr, IfOk, length};
+ghost use Rattle.std.specs.Prelude.{◌≡◌, ◌<◌, ◌&&◌, ◌++◌, ℕ, List, Ok, Err, IfErr, IfOk, MatchResult, length};
 ghost use Rattle.std.specs.List.{list_any};
 ghost use Rattle.base64.specs.GeneralPurpose.{IsBytes};
 ghost use Rattle.dir_names.specs.Results.{Meets, and_then};
@@ -13,7 +13,7 @@ use crate::reader::bytes::{cut_near, without_spaces};
 use crate::scan::all_usual;
 use base64::DecodeAllocError;
 use base64::engine::general_purpose::STANDARD;
-use dir_names::Bytes;
+use dir_names::{Bytes, Memory};
 use memchr::memchr2;
 use std::alloc::Global;
 
@@ -50,6 +50,17 @@ impl Value<'_> {
     }
 
     /// The value in its own memory: only a plain one is copied.
+    fn into_vec(self, alloc: Global) -> Result<Vec<u8>, Refusal>
+        ensures ok { IfOk result (λ v. v.items ≡ bytes_of self.entry) }
+        ensures err { IfErr result (λ refusal. refusal ≡ Refusal.Memory) }
+    {
+        match self {
+            Value::Plain(text) => copy_of(alloc, text),
+            Value::Decoded(value) => Ok(value),
+        }
+    }
+
+    /// The same, as bytes.
     pub(crate) fn into_bytes(self, alloc: Global) -> Result<Bytes, Refusal>
         ensures ok { IfOk result (λ v. v ≡ bytes_of self.entry) }
         ensures bytes { IfOk result (λ v. IsBytes v) }
@@ -80,6 +91,32 @@ fn owned(value: Vec<u8>) -> Bytes
     ensures bytes { IsBytes result }
 {
     Bytes::new(value)
+}
+
+/// The name and the value of a line: what comes before its first colon, and what comes after it, plain or in base64 (RFC 2849,
+/// `attrval-spec`). Or the fault of the line, in the inner result: `BadLine` for a line without a name or a colon; then
+/// `UrlValue`, `BadBase64`, or `BadLine` for a NUL or a CR in a plain value; then `ValueTooLong`.
+///
+/// # Errors
+///
+/// Memory ran out. That says nothing of the line.
+pub fn line_parts(
+    alloc: Global,
+    line: &[u8],
+) -> Result<Result<(&[u8], Vec<u8>), RecordFault>, Memory>
+    ensures { IfOk result (λ parts. MatchResult parts
+        (λ p. attrval_of line.now ≡ Ok (p.0.now, p.1.items))
+        (λ fault. attrval_of line.now ≡ Err fault)) }
+{
+    let (name, value) = match attrval_of(alloc, line) {
+        Ok(parts) => parts,
+        Err(Refusal::Fault(fault)) => return Ok(Err(fault)),
+        Err(Refusal::Memory) => return Err(Memory),
+    };
+    match value.into_vec(alloc) {
+        Ok(value) => Ok(Ok((name, value))),
+        Err(_) => Err(Memory),
+    }
 }
 
 /// The name and the value of a line (RFC 2849, `attrval-spec`).

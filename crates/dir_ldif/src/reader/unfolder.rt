@@ -23,9 +23,9 @@ pub const MAX_LINE: usize = 2_097_152;
 /// For at most how many lines room is made at once: as many as the block before had.
 const MAX_ROOM: usize = 64;
 
-/// A logical line, with the number of its first physical line.
+/// A logical line of a text: its physical lines, unfolded (RFC 2849, notes 1 to 3), with the number of the first of them.
 #[derive(Debug, Drop)]
-pub(crate) struct Line {
+pub struct Line {
     number: u64,
     text: Vec<u8>,
 }
@@ -45,13 +45,16 @@ impl Line {
         Line { number, text }
     }
 
-    pub(crate) fn number(&self) -> u64
+    /// The number of its first physical line in the text, from 1. Each physical line counts: comments and empty ones too.
+    pub fn number(&self) -> u64
         ensures { result ≡ self.now.0 }
     {
         self.number
     }
 
-    pub(crate) fn text(&self) -> &[u8]
+    /// Its text, unfolded: its physical lines one after the other, each without its LF and without one CR before that, and
+    /// each continuation without the space that it begins with.
+    pub fn text(&self) -> &[u8]
         ensures { result.now ≡ self.now.1 }
     {
         self.text.as_slice()
