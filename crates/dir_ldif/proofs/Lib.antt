@@ -2,6 +2,7 @@ pub mod AnswerLemmas
 pub mod AttrValLemmas
 pub mod Base64Lemmas
 pub mod BlocksAtOnceLemmas
+pub mod BlocksReadBack
 pub mod BytesLemmas
 pub mod FoldLemmas
 pub mod FoldedLines

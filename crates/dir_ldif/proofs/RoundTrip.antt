@@ -92,7 +92,7 @@ length-base64 value short =
     let symbols = encode_symbols standard.encode_table value in
     omega (arith, length-append symbols (replicate (padding_len (length value)) 61), length-encode_symbols standard.encode_table value, length-padding (padding_len (length value)))
 
-length-value_spec : (value : List ℕ) → length value ≤ 1048576 → length (value_spec value) ≤ 1398210
+pub length-value_spec : (value : List ℕ) → length value ≤ 1048576 → length (value_spec value) ≤ 1398210
 length-value_spec [] short = omega arith
 length-value_spec (b ∷ bs) short =
     ⊎_elim

@@ -39,11 +39,11 @@ all_at (x ∷ xs) (suc i) e = all_at xs i (and_second (is_symbol x) (list_all is
 pub both : (v w : Bool) → v ≡ true → w ≡ true → (v && w) ≡ true
 both v w p q = rw (p, q) refl
 
-not_so : (v : Bool) → not v ≡ true → v ≡ false
+pub not_so : (v : Bool) → not v ≡ true → v ≡ false
 not_so true e = cc
 not_so false e = refl
 
-if_false : {A : Type 0} (v : Bool) (x y : A) → v ≡ false → (if v then x else y) ≡ y
+pub if_false : {A : Type 0} (v : Bool) (x y : A) → v ≡ false → (if v then x else y) ≡ y
 if_false v x y e = rw e refl
 
 symbols : (t m : List ℕ) → list_all is_symbol t ≡ true → list_all is_symbol (encode_symbols t m) ≡ true

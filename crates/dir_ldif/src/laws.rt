@@ -6,6 +6,7 @@ ghost use Rattle.dir_ldif.specs.LineText.{WrittenLinesAreFolded};
 ghost use Rattle.dir_ldif.specs.RoundTrip.{WrittenLineReadsBack, RecordsReadBack};
 ghost use Rattle.dir_ldif.specs.MarkedGroups.{MarkedGroupsReadBack, MarksAreKnown};
 ghost use Rattle.dir_ldif.specs.SoundRecords.{FirstRecordsAreSound, RecordsAreSound};
+ghost use Rattle.dir_ldif.specs.WrittenBlocks.{WrittenBlocksReadBack};
 ghost use Rattle.dir_ldif.specs.ManyCalls.{ReadCallsAreUsed, ReadingEndsSoon, ReadingStopsThere};
 
 /// A law: the blocks of a text are the pieces between its empty lines that have a line, among the lines that
@@ -52,6 +53,12 @@ pub fn written_lines_are_folded()
 /// A law: a written line reads back as one line, with its name and its value.
 pub fn written_lines_read_back()
     ensures { WrittenLineReadsBack }
+{}
+
+/// A law: blocks of lines, written one after the other, read back: as many blocks, whose lines have the names and the values
+/// that were written. The first line may not be a version line, unless one comes before it.
+pub fn written_blocks_read_back()
+    ensures { WrittenBlocksReadBack }
 {}
 
 /// A law: legal and sound records, written one after the other, read back as they are, with or without a

@@ -14,8 +14,8 @@ pub use faults::{RecordFault, StreamFault};
 pub use laws::{
     first_records_are_sound, legal_changes_have_no_fault, long_lines_stay, marked_groups_read_back,
     marks_are_known, read_calls_are_used, reading_ends_soon, reading_stops_there,
-    records_are_sound, texts_are_blocks, written_lines_are_folded, written_lines_read_back,
-    written_records_read_back,
+    records_are_sound, texts_are_blocks, written_blocks_read_back, written_lines_are_folded,
+    written_lines_read_back, written_records_read_back,
 };
 pub use reader::{
     Line, MAX_LINE, MAX_TURNS, MAX_VALUE, RecordReader, line_parts, read_all, read_blocks,
