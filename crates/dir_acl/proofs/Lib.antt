@@ -8,6 +8,7 @@ pub mod KnownRules
 pub mod NoAttributes
 pub mod NoNotes
 pub mod Packing
+pub mod PrivilegeTexts
 pub mod RunningSets
 pub mod Runs
 pub mod SlapdAccess

@@ -5,9 +5,12 @@ pub(crate) mod requester;
 pub(crate) mod target;
 pub(crate) mod target_rules;
 
+ghost use Rattle.std.specs.Prelude.{◌≡◌, IfOk};
+
 use crate::{Filter, Privileges};
-use dir_names::{AttrKey, DnKey, ValueKey};
+use dir_names::{AttrKey, DnKey, Memory, ValueKey};
 use dir_tree::Entry;
+use std::alloc::Global;
 
 /// Which names a name is for.
 #[derive(Clone, Copy, PartialEq, Eq, Debug)]
@@ -31,6 +34,26 @@ pub enum Asked {
     Children,
     /// One of its attributes.
     Attribute(AttrKey),
+}
+
+impl Asked {
+    /// A copy in memory of its own.
+    ///
+    /// # Errors
+    ///
+    /// Memory ran out.
+    pub fn try_clone(&self, alloc: Global) -> Result<Asked, Memory>
+        ensures { IfOk result (λ clone. clone ≡ self.now) }
+    {
+        match self {
+            Asked::Entry => Ok(Asked::Entry),
+            Asked::Children => Ok(Asked::Children),
+            Asked::Attribute(key) => match key.try_clone(alloc) {
+                Ok(key) => Ok(Asked::Attribute(key)),
+                Err(_) => Err(Memory),
+            },
+        }
+    }
 }
 
 /// A part of the `<what>` of a rule. The word `*` is none: it restricts nothing.

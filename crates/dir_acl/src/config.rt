@@ -19,7 +19,7 @@ pub(crate) mod arguments;
 pub(crate) mod directives;
 pub(crate) mod lines;
 mod names;
-mod permissions;
+pub(crate) mod permissions;
 pub(crate) mod types;
 mod whats;
 mod whos;

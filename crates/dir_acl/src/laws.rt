@@ -1,16 +1,19 @@
 //! Laws of the definitions, as contracts of calls that do nothing.
 
-ghost use Rattle.std.specs.Prelude.{◌≡◌, [], ℕ, List, Err, Ok, true};
+ghost use Rattle.std.specs.Prelude.{◌≡◌, [], ℕ, List, Err, Ok, Some, true};
 ghost use Rattle.dir_names.specs.declared.schema.TypeRow.{TypeRow};
 ghost use Rattle.dir_acl.specs.Config.{config_of};
+ghost use Rattle.dir_acl.specs.Config.Permissions.{set_with_text};
 ghost use Rattle.dir_acl.specs.Filters.{IsTooDeep, Spells, Tree, in_parentheses};
 ghost use Rattle.dir_acl.specs.Filters.Reading.{filter_of};
 ghost use Rattle.dir_acl.specs.Notes.{notes_of};
 ghost use Rattle.dir_acl.specs.Notes.Known.{AreUnderstood};
+ghost use Rattle.dir_acl.specs.Privileges.{privileges_text};
 ghost use Rattle.dir_acl.specs.Rules.{Configuration};
 ghost use Rattle.dir_acl.specs.Substrings.{HasPieces, has_pieces};
 ghost use Rattle.dir_acl.specs.declared.fault.FilterFault.TheVariants as FilterFault;
 ghost use Rattle.dir_acl.specs.declared.filter.Pieces.{Pieces};
+ghost use Rattle.dir_acl.specs.declared.privileges.Privileges.{Privileges};
 
 /// What is read is what the grammar spells (RFC 4515, section 3), in both directions, with at most 64 levels; `TooDeep` is told
 /// exactly if a prefix that could begin a filter ends in the `(` of a 65th level.
@@ -31,4 +34,9 @@ pub fn rules_without_notes_are_understood()
 pub fn cuts_are_found()
     ensures found { (text : List ℕ) (pieces : Pieces) → HasPieces text pieces → has_pieces pieces text ≡ true }
     ensures there { (text : List ℕ) (pieces : Pieces) → has_pieces pieces text ≡ true → HasPieces text pieces }
+{}
+
+/// The text of a set of privileges is read back as this set.
+pub fn privileges_read_back()
+    ensures { (set : Privileges) → set_with_text (privileges_text set) ≡ Some set }
 {}

@@ -21,6 +21,9 @@ pub use deciding::{FaultArgument, fault_argument};
 pub use fault::{ConfigCause, ConfigFault, FilterFault};
 pub use filter::truth::Truth;
 pub use filter::{Filter, Matching, Pieces, Test};
-pub use laws::{cuts_are_found, reading_is_the_grammar, rules_without_notes_are_understood};
+pub use laws::{
+    cuts_are_found, privileges_read_back, reading_is_the_grammar,
+    rules_without_notes_are_understood,
+};
 pub use note::{Note, NoteCause};
 pub use privileges::{Level, Privilege, Privileges};

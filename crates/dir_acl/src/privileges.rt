@@ -2,8 +2,10 @@
 
 ghost use Rattle.std.specs.Prelude.{◌≡◌, ◌++◌, [], ◌∷◌, IfOk, cond};
 ghost use Rattle.std.specs.Str.{str_eq_ignore_ascii_case};
+ghost use Rattle.dir_acl.specs.Config.Permissions.{set_with_text};
 ghost use Rattle.dir_acl.specs.Privileges.{all_privileges, is_allowed, is_none, level_of, level_set, no_privileges, privileges_text, write_level, letter_if};
 
+use crate::config::permissions::privileges_of_letters;
 use dir_names::Memory;
 use std::alloc::Global;
 
@@ -205,6 +207,23 @@ impl Privileges {
             | self.compare
             | self.auth
             | self.disclose)
+    }
+
+    /// The set that has this text, as `text` gives it: `=cs` is that of no set, since the letters of `=sc` stand in this order.
+    ///
+    /// # Errors
+    ///
+    /// Memory ran out.
+    pub fn read(alloc: Global, text: &[u8]) -> Result<Option<Privileges>, Memory>
+        ensures { IfOk result (λ set. set ≡ set_with_text text.now) }
+    {
+        let Some((_, letters)) = text.split_first() else {
+            return Ok(None);
+        };
+        match privileges_of_letters(letters) {
+            Some(set) if set.text(alloc)?.as_slice() == text => Ok(Some(set)),
+            _ => Ok(None),
+        }
     }
 
     /// `=` and the letters of the privileges, or `=0`.

@@ -1,6 +1,7 @@
 -- The <access> and the <control> of a clause (slapd.access(5), "THE <ACCESS> FIELD", "THE <CONTROL> FIELD").
 use Rattle.std.specs.Prelude.{ℕ, true, cond, ◌==◌, List, [], ◌∷◌, length, codes, Option, Some, None, option_and_then}
 use Rattle.std.specs.Char.{to_ascii_lowercase}
+use Rattle.std.specs.Str.{bytes_eq}
 use Rattle.dir_names.specs.Ascii.{equals_sign, hyphen, plus}
 use Rattle.dir_acl.specs.declared.access.Control.{Control}
 use Rattle.dir_acl.specs.declared.access.Control.TheVariants.{Stop, Continue, Break}
@@ -10,7 +11,7 @@ use Rattle.dir_acl.specs.declared.privileges.Level.{Level}
 use Rattle.dir_acl.specs.declared.privileges.Privileges.{Privileges}
 use Rattle.dir_acl.specs.Config.Names.{is_word}
 use Rattle.dir_acl.specs.Inside.RunningSet.{joined}
-use Rattle.dir_acl.specs.Privileges.{level_of, level_set, no_privileges}
+use Rattle.dir_acl.specs.Privileges.{level_of, level_set, no_privileges, privileges_text}
 
 -- ---- <access>
 
@@ -38,6 +39,11 @@ joined_letters set (b ∷ bs) = option_and_then (λ more. joined_letters (joined
 -- `0` alone, or one or more letters
 abbrev pub privileges_of_letters : List ℕ → Option Privileges
 privileges_of_letters letters = cond (is_word letters (codes "0")) (Some no_privileges) (cond (length letters == 0) None (joined_letters no_privileges letters))
+
+-- the set that has this text (`privileges_text`): a sign and its letters
+abbrev pub set_with_text : List ℕ → Option Privileges
+set_with_text [] = None
+set_with_text (sign ∷ letters) = option_and_then (λ set. cond (bytes_eq (privileges_text set) (sign ∷ letters)) (Some set) None) (privileges_of_letters letters)
 
 abbrev pub edit_by : ℕ → Privileges → Option Edit
 edit_by sign set = cond (sign == equals_sign) (Some (edit.Set set)) (cond (sign == plus) (Some (edit.Add set)) (cond (sign == hyphen) (Some (edit.Remove set)) None))

@@ -43,7 +43,7 @@ fn edit_by(sign: u8, set: Privileges) -> Option<Edit>
 }
 
 /// The set of `0` alone, or of one or more letters.
-fn privileges_of_letters(letters: &[u8]) -> Option<Privileges>
+pub(crate) fn privileges_of_letters(letters: &[u8]) -> Option<Privileges>
     ensures { result ≡ privileges_of_letters letters.now }
 {
     if letters.eq_ignore_ascii_case(b"0") {
