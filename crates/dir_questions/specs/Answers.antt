@@ -1,6 +1,6 @@
 -- The answers to a file of questions: what slapacl reports for each of them alone, the report on all, and the file written with them.
-use Rattle.std.specs.Prelude.{ℕ, Bool, true, false, cond, List, [], ◌∷◌, ◌++◌, length, map, codes, Option, Some, None, option_map, Result, Ok, Err}
-use Rattle.std.specs.List.{flat_map, filter}
+use Rattle.std.specs.Prelude.{ℕ, Bool, true, false, cond, List, [], ◌∷◌, ◌++◌, map, codes, Option, Some, None, option_map, Result, Ok, Err}
+use Rattle.std.specs.List.{count_by, flat_map}
 use Rattle.std.specs.Fmt.{decimal}
 use Rattle.std.specs.Str.{bytes_eq}
 use Rattle.dir_names.specs.Names.Printing.{printed_name}
@@ -26,16 +26,16 @@ abbrev pub answer_on : Configuration → Dir → QuestionBlock → Result (Optio
 answer_on c d b (Ok target) asked = answer_text asked.word.access (held_by c d (request_for (parts_of_block b) target asked.word.asked))
 answer_on c d b (Err why) asked = no_such_entry
 
-abbrev pub answer_to : Configuration → Dir → QuestionBlock → AskedWord → List ℕ
-answer_to c d b asked = answer_on c d b (target_of b.fake d b.base.name.1) asked
-
 -- a word with its answer
 abbrev pub Answered : Type 0
 Answered = AskedWord × List ℕ
 
+abbrev pub answered_on : Configuration → Dir → QuestionBlock → Result (Option Content) ToolFault → AskedWord → Answered
+answered_on c d b target asked = (asked, answer_on c d b target asked)
+
 -- the words of a block in their order, each with its answer
 abbrev pub answers_to : Configuration → Dir → QuestionBlock → List Answered
-answers_to c d b = map (λ asked. (asked, answer_to c d b asked)) b.words
+answers_to c d b = map (answered_on c d b (target_of b.fake d b.base.name.1)) b.words
 
 -- ---- the report
 
@@ -64,7 +64,7 @@ is_outcome Otherwise Otherwise = true
 is_outcome wanted other = false
 
 abbrev pub count : Outcome → List Outcome → ℕ
-count wanted outcomes = length (filter (is_outcome wanted) outcomes)
+count wanted outcomes = count_by (is_outcome wanted) outcomes
 
 abbrev pub tally_of : List Outcome → Tally
 tally_of outcomes = record { expected = count Expected outcomes; otherwise = count Otherwise outcomes; asked = count Asked outcomes }

@@ -11,7 +11,7 @@ use Rattle.dir_tools.specs.declared.fault.ToolFault.TheVariants.{NoEntry}
 use Rattle.dir_tools.specs.AccessReport.{Configured, access_terms, acl_report_of, configured, target_of}
 use Rattle.dir_tools.specs.CopyOf.{copy_of}
 use Rattle.dir_tools.specs.Headline.{ok_or_bad_copy}
-use Rattle.dir_questions.specs.Answers.{Answered, answer_to, answers_to, written_questions}
+use Rattle.dir_questions.specs.Answers.{Answered, answers_to, written_questions}
 use Rattle.dir_questions.specs.Questions.{AskedWord, GivenName, QuestionBlock, question_blocks}
 
 -- the question of a block, as slapacl is asked it on its command line

@@ -16,6 +16,11 @@ use Rattle.dir_questions.specs.declared.fault.QuestionCause.TheVariants.{Line as
 use Rattle.dir_questions.specs.declared.fault.QuestionsFault.{QuestionsFault}
 use Rattle.dir_questions.specs.declared.fault.QuestionsFault.TheVariants as fault
 
+-- the values of a call on each element, or the first fault
+abbrev pub collect : {A B E : Type 0} → (A → Result B E) → List A → Result (List B) E
+collect f [] = Ok []
+collect f (x ∷ xs) = and_then (f x) (λ y. and_then (collect f xs) (λ ys. Ok (y ∷ ys)))
+
 -- ---- what a block asks
 
 -- a legal name, as it is written in the file, and what it spells
@@ -119,14 +124,10 @@ asked_word rows line parts =
 abbrev pub word_line : List TypeRow → Line → Result AskedWord QuestionsFault
 word_line rows line = and_then (line_parts line) (λ parts. at_line line.0 (asked_word rows line.0 parts))
 
-abbrev pub word_lines : List TypeRow → List Line → Result (List AskedWord) QuestionsFault
-word_lines rows [] = Ok []
-word_lines rows (line ∷ lines) = and_then (word_line rows line) (λ word. and_then (word_lines rows lines) (λ words. Ok (word ∷ words)))
-
 -- a block asks of one word at least
 abbrev pub words_in : List TypeRow → ℕ → List Line → Result (List AskedWord) QuestionsFault
 words_in rows begin [] = Err (fault.Block begin BadBlock)
-words_in rows begin (line ∷ lines) = word_lines rows (line ∷ lines)
+words_in rows begin (line ∷ lines) = collect (word_line rows) (line ∷ lines)
 
 -- ---- blocks
 
@@ -143,9 +144,11 @@ block_of rows begin lines =
     and_then (words_in rows begin target.1) (λ words.
     Ok (record { requester = requester; fake = fake; base = base; words = words }))))))))
 
+abbrev pub read_block : List TypeRow → List Line → Result QuestionBlock QuestionsFault
+read_block rows lines = block_of rows (line_of_first 0 lines) lines
+
 abbrev pub read_lines : List TypeRow → List (List Line) → Result (List QuestionBlock) QuestionsFault
-read_lines rows [] = Ok []
-read_lines rows (lines ∷ rest) = and_then (block_of rows (line_of_first 0 lines) lines) (λ block. and_then (read_lines rows rest) (λ blocks. Ok (block ∷ blocks)))
+read_lines rows blocks = collect (read_block rows) blocks
 
 -- the blocks of a text, if it ends in no fault: one of which a part can't be read is no file of questions
 abbrev pub whole_text : List BlockResult → Result (List (List Line)) QuestionsFault

@@ -1,10 +1,11 @@
 //! The blocks of a file of questions, read as what they ask.
 
-ghost use Rattle.std.specs.Prelude.{◌≡◌, IfOk, List, Ok, map, ℕ};
+ghost use Rattle.std.specs.Prelude.{◌≡◌, IfOk, List, MatchResult, Err, Ok, map, option_map, ℕ};
+ghost use Rattle.dir_tools.specs.Inside.Asking as asking;
 ghost use Rattle.dir_acl.specs.declared.privileges.Level.{Level};
 ghost use Rattle.dir_ldif.specs.LogicalLines.{Line};
-ghost use Rattle.dir_questions.specs.Inside.Reading.{GivesAsked, block_in, given_in, left_in, numbered_in, part_in, word_in};
-ghost use Rattle.dir_questions.specs.Questions.{asked_word, base_in, block_of, fake_in, given_name, is_answer, is_nobody, is_reserved, line_of_first, line_parts, may_be_expected, optional_line, read_blocks, read_lines, requester_in, word_line, words_in};
+ghost use Rattle.dir_questions.specs.Inside.Reading.{GivesAsked, block_in, given_in, left_in, numbered_in, word_in};
+ghost use Rattle.dir_questions.specs.Questions.{asked_word, base_in, collect, fake_in, given_name, is_answer, is_nobody, is_reserved, line_of_first, line_parts, may_be_expected, optional_line, requester_in, word_line, words_in, read_block};
 
 use crate::fault::{QuestionCause, QuestionsFault};
 use dir_acl::{Level, Privileges};
@@ -64,7 +65,7 @@ pub(crate) fn read_questions<'t>(
     schema: &Schema,
     blocks: &'t [Vec<Line>],
 ) -> Result<Vec<Block<'t>>, QuestionsFault>
-    ensures { GivesAsked (λ found. map block_in found.items) result (read_lines schema.now (map (λ block. block.items) blocks.now)) }
+    ensures { GivesAsked (λ found. map block_in found.items) result (collect (λ lines. read_block schema.now lines.items) blocks.now) }
 {
     let mut found = Vec::new(alloc);
     for lines in blocks {
@@ -78,7 +79,7 @@ fn read_block<'t>(
     schema: &Schema,
     lines: &'t [Line],
 ) -> Result<Block<'t>, QuestionsFault>
-    ensures { GivesAsked block_in result (block_of schema.now (line_of_first 0 lines.now) lines.now) }
+    ensures { GivesAsked block_in result (read_block schema.now lines.now) }
 {
     let begin = line_of_first(0, lines);
     let (who, lines) = optional_line(alloc, b"authcDN", lines)?;
@@ -128,7 +129,7 @@ fn optional_line<'t>(
 
 /// The name and the value of a line.
 fn parts_of(alloc: Global, line: &Line) -> Result<(&[u8], Vec<u8>), QuestionsFault>
-    ensures { GivesAsked part_in result (line_parts line.now) }
+    ensures { GivesAsked (λ p. (p.0.now, p.1.items)) result (line_parts line.now) }
 {
     match line_parts(alloc, line.text())? {
         Ok(parts) => Ok(parts),
@@ -142,7 +143,7 @@ fn requester_in(
     schema: &Schema,
     value: Option<Numbered>,
 ) -> Result<Option<GivenName>, QuestionsFault>
-    ensures { GivesAsked (option_map given_in) result (requester_in schema.now (option_map numbered_in value.entry)) }
+    ensures { GivesAsked (option_map given_in) result (requester_in schema.now (option_map numbered_in value)) }
 {
     match value {
         Some(value) if !is_nobody(value.value.as_slice()) => {
@@ -159,7 +160,7 @@ fn is_nobody(value: &[u8]) -> bool
 }
 
 fn given_name(alloc: Global, schema: &Schema, value: Numbered) -> Result<GivenName, QuestionsFault>
-    ensures { GivesAsked given_in result (given_name schema.now (numbered_in value.entry)) }
+    ensures { GivesAsked given_in result (given_name schema.now (numbered_in value)) }
 {
     let Numbered { line, value: text } = value;
     match read_name(alloc, schema, text.as_slice())? {
@@ -170,7 +171,7 @@ fn given_name(alloc: Global, schema: &Schema, value: Numbered) -> Result<GivenNa
 
 /// Whether the entry is made up: `fake: true`.
 fn fake_in(value: Option<Numbered>) -> Result<bool, QuestionsFault>
-    ensures { GivesAsked (λ fake. fake) result (fake_in (option_map numbered_in value.entry)) }
+    ensures { GivesAsked (λ fake. fake) result (fake_in (option_map numbered_in value)) }
 {
     match value {
         None => Ok(false),
@@ -187,7 +188,7 @@ fn base_in(
     value: Option<Numbered>,
     lines: &[Line],
 ) -> Result<GivenName, QuestionsFault>
-    ensures { GivesAsked given_in result (base_in schema.now begin (option_map numbered_in value.entry, lines.now)) }
+    ensures { GivesAsked given_in result (base_in schema.now begin (option_map numbered_in value, lines.now)) }
 {
     match value {
         Some(value) => given_name(alloc, schema, value),
@@ -236,7 +237,9 @@ fn asked_word<'t>(
     text: &'t [u8],
     expected: Vec<u8>,
 ) -> Result<Result<AskedWord<'t>, QuestionCause>, Memory>
-    ensures { IfOk result (λ answer. result_map word_in answer ≡ asked_word schema.now line (text.entry.now, expected.items)) }
+    ensures { IfOk result (λ answer. MatchResult answer
+        (λ word. asked_word schema.now line (text.now, expected.items) ≡ Ok (word_in word))
+        (λ why. asked_word schema.now line (text.now, expected.items) ≡ Err why)) }
 {
     if is_reserved(text) {
         return Ok(Err(QuestionCause::BadBlock));

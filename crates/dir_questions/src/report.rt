@@ -1,9 +1,16 @@
 //! The report on the answers to a file of questions, and the file written with its answers.
 
-use crate::reading::{AskedWord, Block, GivenName};
+ghost use Rattle.std.specs.Prelude.{◌≡◌, ◌++◌, OnOk, map, option_map};
+ghost use Rattle.std.specs.Fmt.{decimal};
+ghost use Rattle.std.specs.List.{flat_map};
+ghost use Rattle.dir_questions.specs.Answers.{answer_line, answered_line, answered_text, block_text, count, line_by, named_line, outcome_of, requester_line, tally_line, tally_of};
+ghost use Rattle.dir_questions.specs.Inside.Answering.{answer_in};
+ghost use Rattle.dir_questions.specs.Inside.Reading.{block_in, given_in};
+
+use crate::answering::Answer;
+use crate::reading::{Block, GivenName};
 use dir_ldif::{push_end, push_line};
 use dir_names::Memory;
-use itoa::Buffer;
 use std::alloc::Global;
 
 /// How many answers are as expected, otherwise, and only asked for.
@@ -23,10 +30,13 @@ pub(crate) enum Outcome {
     Otherwise,
 }
 
-fn outcome_of(asked: &AskedWord<'_>, answer: &[u8]) -> Outcome {
-    if asked.expected.is_empty() {
+fn outcome_of(answer: &Answer<'_, '_>) -> Outcome
+    ensures { result ≡ outcome_of (answer_in answer.now) }
+{
+    let expected = answer.asked.expected.as_slice();
+    if expected.is_empty() {
         Outcome::Asked
-    } else if asked.expected.as_slice() == answer {
+    } else if expected == answer.text.as_slice() {
         Outcome::Expected
     } else {
         Outcome::Otherwise
@@ -34,14 +44,21 @@ fn outcome_of(asked: &AskedWord<'_>, answer: &[u8]) -> Outcome {
 }
 
 /// How many of these outcomes there are.
-fn count(outcomes: &[Outcome], wanted: Outcome) -> u64 {
-    outcomes
-        .iter()
-        .filter(|outcome| **outcome == wanted)
-        .count() as u64
+fn count(outcomes: &[Outcome], wanted: Outcome) -> u64
+    ensures { result ≡ count wanted outcomes.now }
+{
+    let mut n: u64 = 0;
+    for outcome in outcomes {
+        if *outcome == wanted {
+            n += 1;
+        }
+    }
+    n
 }
 
-pub(crate) fn tally_of(outcomes: &[Outcome]) -> Tally {
+pub(crate) fn tally_of(outcomes: &[Outcome]) -> Tally
+    ensures { result ≡ tally_of outcomes.now }
+{
     Tally {
         expected: count(outcomes, Outcome::Expected),
         otherwise: count(outcomes, Outcome::Otherwise),
@@ -49,17 +66,20 @@ pub(crate) fn tally_of(outcomes: &[Outcome]) -> Tally {
     }
 }
 
-/// Appends the lines of a block's answers to a report, and their outcomes to those before.
+/// Appends the lines of answers to a report, and their outcomes to those before.
 pub(crate) fn push_lines(
+    alloc: Global,
     text: &mut Vec<u8>,
     outcomes: &mut Vec<Outcome>,
     verbose: bool,
-    words: &[AskedWord<'_>],
-    answers: &[Vec<u8>],
-) -> Result<(), Memory> {
-    for (asked, answer) in words.iter().zip(answers) {
-        let outcome = outcome_of(asked, answer.as_slice());
-        push_answer_line(text, verbose, outcome, asked, answer.as_slice())?;
+    answers: &[Answer<'_, '_>],
+) -> Result<(), Memory>
+    ensures text { OnOk result (text.new.items ≡ text.old.items ++ flat_map (answer_line verbose) (map answer_in answers.now)) }
+    ensures outcomes { OnOk result (outcomes.new.items ≡ outcomes.old.items ++ map outcome_of (map answer_in answers.now)) }
+{
+    for answer in answers {
+        let outcome = outcome_of(answer);
+        push_answer_line(alloc, text, verbose, outcome, answer)?;
         outcomes.push(outcome)?;
     }
     Ok(())
@@ -67,54 +87,64 @@ pub(crate) fn push_lines(
 
 /// Appends the line of an answer. One that is as expected, or only asked for, is told in a verbose report alone.
 fn push_answer_line(
+    alloc: Global,
     text: &mut Vec<u8>,
     verbose: bool,
     outcome: Outcome,
-    asked: &AskedWord<'_>,
-    answer: &[u8],
-) -> Result<(), Memory> {
-    if !verbose && outcome != Outcome::Otherwise {
-        return Ok(());
-    }
-    push_answered(text, asked, answer)?;
+    answer: &Answer<'_, '_>,
+) -> Result<(), Memory>
+    ensures { OnOk result (text.new.items ≡ text.old.items ++ line_by outcome verbose (answer_in answer.now)) }
+{
     match outcome {
-        Outcome::Asked => {}
-        Outcome::Expected => text.extend_from_slice(b", as expected")?,
+        Outcome::Asked if verbose => push_answered(alloc, text, answer, b"\n"),
+        Outcome::Expected if verbose => push_answered(alloc, text, answer, b", as expected\n"),
         Outcome::Otherwise => {
-            text.extend_from_slice(b", expected ")?;
-            text.extend_from_slice(asked.expected.as_slice())?;
+            push_answered(alloc, text, answer, b", expected ")?;
+            text.extend_from_slice(answer.asked.expected.as_slice())?;
+            text.push(b'\n')?;
+            Ok(())
         }
+        _ => Ok(()),
     }
-    text.push(b'\n')?;
-    Ok(())
 }
 
-/// Appends `line N: WORD: ANSWER`.
-fn push_answered(text: &mut Vec<u8>, asked: &AskedWord<'_>, answer: &[u8]) -> Result<(), Memory> {
-    text.extend_from_slice(b"line ")?;
-    push_number(text, asked.line)?;
+/// Appends `line N: WORD: ANSWER`, and what comes after it.
+fn push_answered(
+    alloc: Global,
+    text: &mut Vec<u8>,
+    answer: &Answer<'_, '_>,
+    after: &[u8],
+) -> Result<(), Memory>
+    ensures { OnOk result (text.new.items ≡ text.old.items ++ answered_text (answer_in answer.now) ++ after.now) }
+{
+    let line = answer.asked.line;
+    let number = format!(in alloc; "line {line}: ")?;
+    text.extend_from_slice(number.as_bytes())?;
+    text.extend_from_slice(answer.asked.text)?;
     text.extend_from_slice(b": ")?;
-    text.extend_from_slice(asked.text)?;
-    text.extend_from_slice(b": ")?;
-    text.extend_from_slice(answer)?;
-    Ok(())
-}
-
-fn push_number(text: &mut Vec<u8>, number: u64) -> Result<(), Memory> {
-    let mut digits = Buffer::new();
-    text.extend_from_slice(digits.format(number).as_bytes())?;
+    text.extend_from_slice(answer.text.as_slice())?;
+    text.extend_from_slice(after)?;
     Ok(())
 }
 
 /// Appends the last line of a report.
-pub(crate) fn push_tally(text: &mut Vec<u8>, tally: Tally) -> Result<(), Memory> {
-    text.extend_from_slice(b"as expected ")?;
-    push_number(text, tally.expected)?;
-    text.extend_from_slice(b", otherwise ")?;
-    push_number(text, tally.otherwise)?;
-    text.extend_from_slice(b", asked ")?;
-    push_number(text, tally.asked)?;
+pub(crate) fn push_tally(alloc: Global, text: &mut Vec<u8>, tally: Tally) -> Result<(), Memory>
+    ensures { OnOk result (text.new.items ≡ text.old.items ++ tally_line tally) }
+{
+    push_count(alloc, text, b"as expected ", tally.expected)?;
+    push_count(alloc, text, b", otherwise ", tally.otherwise)?;
+    push_count(alloc, text, b", asked ", tally.asked)?;
     text.push(b'\n')?;
+    Ok(())
+}
+
+/// Appends words and a number.
+fn push_count(alloc: Global, text: &mut Vec<u8>, words: &[u8], number: u64) -> Result<(), Memory>
+    ensures { OnOk result (text.new.items ≡ text.old.items ++ (words.now ++ decimal number)) }
+{
+    text.extend_from_slice(words)?;
+    let digits = format!(in alloc; "{number}")?;
+    text.extend_from_slice(digits.as_bytes())?;
     Ok(())
 }
 
@@ -123,19 +153,41 @@ pub(crate) fn push_block(
     alloc: Global,
     text: &mut Vec<u8>,
     block: &Block<'_>,
-    answers: &[Vec<u8>],
-) -> Result<(), Memory> {
-    if let Some(given) = &block.requester {
-        push_named(alloc, text, b"authcDN", given)?;
-    }
+    answers: &[Answer<'_, '_>],
+) -> Result<(), Memory>
+    ensures { OnOk result (text.new.items ≡ text.old.items ++ block_text (block_in block.now) (map answer_in answers.now)) }
+{
+    push_requester(alloc, text, &block.requester)?;
     if block.fake {
         push_line(text, b"fake", b"true")?;
     }
     push_named(alloc, text, b"dn", &block.base)?;
-    for (asked, answer) in block.words.iter().zip(answers) {
-        push_line(text, asked.text, answer.as_slice())?;
-    }
+    push_answers(text, answers)?;
     push_end(text)?;
+    Ok(())
+}
+
+/// Appends the line of the requester, if somebody asks.
+fn push_requester(
+    alloc: Global,
+    text: &mut Vec<u8>,
+    requester: &Option<GivenName>,
+) -> Result<(), Memory>
+    ensures { OnOk result (text.new.items ≡ text.old.items ++ requester_line (option_map given_in requester.now)) }
+{
+    match requester {
+        Some(given) => push_named(alloc, text, b"authcDN", given),
+        None => Ok(()),
+    }
+}
+
+/// Appends the lines of words with their answers.
+fn push_answers(text: &mut Vec<u8>, answers: &[Answer<'_, '_>]) -> Result<(), Memory>
+    ensures { OnOk result (text.new.items ≡ text.old.items ++ flat_map answered_line (map answer_in answers.now)) }
+{
+    for answer in answers {
+        push_line(text, answer.asked.text, answer.text.as_slice())?;
+    }
     Ok(())
 }
 
@@ -145,7 +197,9 @@ fn push_named(
     text: &mut Vec<u8>,
     word: &[u8],
     given: &GivenName,
-) -> Result<(), Memory> {
+) -> Result<(), Memory>
+    ensures { OnOk result (text.new.items ≡ text.old.items ++ named_line word.now (given_in given.now).name) }
+{
     let name = given.name.print(alloc).map_err(|_| Memory)?;
     push_line(text, word, name.as_slice())?;
     Ok(())

@@ -1,5 +1,21 @@
 //! `run_questions`: a file of questions answered over a configuration and a copy, which are read once.
 
+ghost use Rattle.std.specs.Io.KnownBytes.{Consumes};
+ghost use Rattle.std.specs.Prelude.{◌≡◌, ◌⊎◌, ◌≤◌, ℕ, Err, IfErr, IfOk, List, Ok, OnOk, OnErr, Option, length, map, true};
+ghost use Rattle.dir_names.specs.declared.schema.TypeRow.{TypeRow};
+ghost use Rattle.dir_acl.specs.Inside.ReadingConfig.{configuration_of};
+ghost use Rattle.dir_ldif.specs.Device.{AppendsPrefix, HasFailed};
+ghost use Rattle.std.specs.Io.KnownBytes.{Appends};
+ghost use Rattle.dir_tools.specs.AccessAnswers.{IsTextOf};
+ghost use Rattle.dir_tools.specs.Inside.Asking.{configured_under};
+ghost use Rattle.dir_tools.specs.declared.fault.Input.TheVariants as Input;
+ghost use Rattle.dir_tools.specs.declared.fault.Output.TheVariants as Output;
+ghost use Rattle.dir_tools.specs.declared.fault.ToolFault.TheVariants as ToolFault;
+ghost use Rattle.dir_questions.specs.Answers.{questions_report, written_questions, all_answers, outcome_of, tally_of};
+ghost use Rattle.dir_questions.specs.Inside.Reading.{block_in};
+ghost use Rattle.dir_questions.specs.Inside.Running.{HasLines, HasNoLines};
+ghost use Rattle.dir_questions.specs.declared.fault.QuestionsFault.TheVariants as QuestionsFault;
+
 use crate::answering::answers_to;
 use crate::fault::QuestionsFault;
 use crate::reading::{Block, MAX_QUESTIONS, read_questions};
@@ -92,7 +108,13 @@ pub fn run_questions_under<R: Source, R2: Source, W: Sink, W2: Sink>(
 }
 
 /// Writes a whole text and flushes it.
-fn write_flushed<W: Sink>(writer: &mut W, text: &[u8]) -> Result<(), DeviceFault> {
+fn write_flushed<W: Sink>(writer: &mut W, text: &[u8]) -> Result<(), DeviceFault>
+    ensures ok { OnOk result (Appends (W.taken writer.old) (W.taken writer.new) text.now) }
+    ensures front { (n : ℕ) × AppendsPrefix (W.taken writer.old) (W.taken writer.new) text.now n }
+    ensures unfailed { OnOk result (W.failures writer.new ≡ W.failures writer.old) }
+    ensures flushed { OnOk result (W.is_flushed writer.new) }
+    ensures err { OnErr result (HasFailed (W.failures writer.old) (W.failures writer.new) ⊎ W.may_stall writer.new) }
+{
     write_whole(writer, text)?;
     writer.flush()
 }
@@ -122,10 +144,12 @@ fn answered<R: Source, R2: Source>(
 }
 
 /// The blocks of lines of the questions.
-fn read_lines<R: Source>(
-    alloc: Global,
-    questions: &mut R,
-) -> Result<Vec<Vec<Line>>, QuestionsFault> {
+fn read_lines<R: Source>(alloc: Global, questions: &mut R) -> Result<Vec<Vec<Line>>, QuestionsFault>
+    ensures ok { IfOk result (λ lines. HasLines (R.left questions.old, R.left questions.new) (map (λ block. block.items) lines.items)) }
+    ensures err { IfErr result (HasNoLines (R.left questions.old, R.left questions.new) (R.failures questions.old) (R.failures questions.new)) }
+    ensures bounded { (bytes : List ℕ) × Consumes (R.left questions.old) (R.left questions.new) bytes × (length bytes ≤ 16785408) }
+    ensures unfailed { OnOk result (R.failures questions.new ≡ R.failures questions.old) }
+{
     let Some(text) = read_bounded(alloc, questions)? else {
         return Err(QuestionsFault::Read);
     };
@@ -146,17 +170,21 @@ fn texts_of<D: Directory>(
     config: &Config,
     directory: &D,
     blocks: &[Block<'_>],
-) -> Result<Texts, Memory> {
+) -> Result<Texts, Memory>
+    ensures answers { IfOk result (λ texts. options.answers ≡ true → texts.answers.items ≡ written_questions (configuration_of config.now) (D.state directory.now) (map block_in blocks.now)) }
+    ensures report { IfOk result (λ texts. texts.report.items ≡ questions_report options.verbose (configuration_of config.now) (D.state directory.now) (map block_in blocks.now)) }
+    ensures tally { IfOk result (λ texts. texts.tally ≡ tally_of (map outcome_of (all_answers (configuration_of config.now) (D.state directory.now) (map block_in blocks.now)))) }
+{
     let mut answers = Vec::new(alloc);
     let mut report = Vec::new(alloc);
     let mut outcomes = Vec::new(alloc);
     for block in blocks {
         let found = answers_to(alloc, config, directory, block)?;
         push_lines(
+            alloc,
             &mut report,
             &mut outcomes,
             options.verbose,
-            block.words.as_slice(),
             found.as_slice(),
         )?;
         if options.answers {
@@ -164,7 +192,7 @@ fn texts_of<D: Directory>(
         }
     }
     let tally = tally_of(outcomes.as_slice());
-    push_tally(&mut report, tally)?;
+    push_tally(alloc, &mut report, tally)?;
     Ok(Texts {
         answers,
         report,

@@ -29,10 +29,6 @@ numbered_in n = (n.line, n.value.items)
 abbrev pub left_in : Option numbered.Numbered × Bor (List Line) → Option Numbered × List Line
 left_in p = (option_map numbered_in p.0, p.1.now)
 
--- the name and the value of a line
-abbrev pub part_in : {V : Type 0} → Bor (List ℕ) × V → List ℕ × V
-part_in p = (p.0.now, p.1)
-
 -- a fault of the text is the one that is wanted; that memory ran out says nothing
 abbrev pub IsAskedFault : {A : Type 0} → QuestionsFault → Result A QuestionsFault → Type 0
 IsAskedFault (fault.Tool Memory) wanted = ⊤
