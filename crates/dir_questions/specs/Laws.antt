@@ -1,13 +1,13 @@
 -- What holds of every file of questions: its answers are those of slapacl, and a file that is written with them is answered as it expects.
-use Rattle.std.specs.Prelude.{◌≡◌, ℕ, ◌++◌, All, Bool, false, cond, List, map, codes, Option, option_map, Result, Ok, Err}
-use Rattle.std.specs.List.{flat_map, list_all}
-use Rattle.std.specs.Str.{bytes_eq}
+use Rattle.std.specs.Prelude.{◌≡◌, ℕ, ◌≤◌, ◌++◌, All, false, List, length, map, codes, option_map, Result, Ok}
+use Rattle.std.specs.List.{flat_map}
+use Rattle.dir_names.specs.Results.{and_then}
 use Rattle.dir_names.specs.declared.schema.TypeRow.{TypeRow}
 use Rattle.dir_ldif.specs.SoundRecords.{IsBytes}
 use Rattle.dir_tree.specs.Dir.{Dir}
+use Rattle.dir_acl.specs.Rules.{Configuration}
 use Rattle.dir_tools.specs.declared.acl.Question.{Question}
 use Rattle.dir_tools.specs.declared.fault.ToolFault.{ToolFault}
-use Rattle.dir_tools.specs.declared.fault.ToolFault.TheVariants.{NoEntry}
 use Rattle.dir_tools.specs.AccessReport.{Configured, access_terms, acl_report_of, configured, target_of}
 use Rattle.dir_tools.specs.CopyOf.{copy_of}
 use Rattle.dir_tools.specs.Headline.{ok_or_bad_copy}
@@ -41,3 +41,26 @@ abbrev pub AnswersAreReports : Type 0
 AnswersAreReports = (rows : List TypeRow) (config copy text : List ℕ) (found : Configured) (d : Dir) (blocks : List QuestionBlock)
     → configured rows config ≡ Ok found → ok_or_bad_copy (copy_of found.rows found.configuration.suffix copy) ≡ Ok d → question_blocks found.rows text ≡ Ok blocks
     → All (λ b. IsReportOf found d b (acl_report_of (access_terms rows (question_of b)) config copy)) blocks
+
+-- ---- a file that is written with its answers, read again
+
+-- the answers that a block expects, and those that it has
+abbrev pub expected_in : QuestionBlock → List (List ℕ)
+expected_in b = map (λ (asked : AskedWord). asked.expected) b.words
+
+abbrev pub answered_in : Configuration → Dir → QuestionBlock → List (List ℕ)
+answered_in c d b = map (λ (answered : Answered). answered.1) (answers_to c d b)
+
+-- what was written reads as blocks that expect what was answered; they are answered so, and written they are the same text, byte for byte
+pub record AreFixed (rows : List TypeRow) (c : Configuration) (d : Dir) (blocks : List QuestionBlock) : Type 0 where
+  pub again : List QuestionBlock
+  pub reads : question_blocks rows (written_questions c d blocks) ≡ Ok again
+  pub expects : map expected_in again ≡ map (answered_in c d) blocks
+  pub answered : map (answered_in c d) again ≡ map (answered_in c d) blocks
+  pub same : written_questions c d again ≡ written_questions c d blocks
+
+-- a law: under the same configuration and directory, a file of questions that is written with its answers, and is not too long, is answered as it
+-- expects, and is written again as it is
+abbrev pub AnswersAreFixed : Type 0
+AnswersAreFixed = (rows : List TypeRow) (c : Configuration) (d : Dir) (text : List ℕ) (blocks : List QuestionBlock)
+    → IsBytes text → question_blocks rows text ≡ Ok blocks → length (written_questions c d blocks) ≤ 16777216 → AreFixed rows c d blocks

@@ -1,5 +1,5 @@
 -- What `run_questions` answers over devices, which may tell their bytes or not.
-use Rattle.std.specs.Prelude.{◌≡◌, ℕ, ⊤, Bool, true, false, List, Option, IfSome, Result, Ok, Err}
+use Rattle.std.specs.Prelude.{◌≡◌, ℕ, ⊤, Bool, true, not, List, map, Option, IfSome, Result, Ok, Err}
 use Rattle.dir_ldif.specs.declared.faults.StreamFault.TheVariants as stream
 use Rattle.dir_names.specs.declared.schema.TypeRow.{TypeRow}
 use Rattle.dir_names.specs.Results.{and_then}
@@ -134,6 +134,12 @@ WroteAnswers wanted (Ok x) texts answers report = TookFile (not wanted) answers 
 WroteAnswers wanted (Err fault.Write) texts answers report = (wanted ≡ true) × TookPrefix answers texts.answers × TookNothing report
 WroteAnswers wanted (Err (fault.Tool (tool.Write output.Report))) texts answers report = TookFile (not wanted) answers texts.answers × TookPrefix report texts.report
 WroteAnswers wanted (Err why) texts answers report = TookNothing answers × TookNothing report
+
+-- a fault of what is read after the configuration, or of a writer, or out of memory
+abbrev pub ComesAfterConfig : QuestionsFault → Type 0
+ComesAfterConfig (fault.Tool (tool.Config why)) = ⊥
+ComesAfterConfig (fault.Tool (tool.Read input.Config)) = ⊥
+ComesAfterConfig why = ⊤
 
 -- ---- reading that stopped
 

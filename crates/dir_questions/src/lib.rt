@@ -4,10 +4,12 @@
 
 mod answering;
 mod fault;
+mod laws;
 mod reading;
 mod report;
 mod run;
 
 pub use fault::{QuestionCause, QuestionsFault};
+pub use laws::{answers_are_fixed, answers_are_reports};
 pub use report::Tally;
 pub use run::{QuestionOptions, run_questions, run_questions_under};

@@ -1,5 +1,5 @@
 -- The views of what is read of a file of questions. No public contract needs this file.
-use Rattle.std.specs.Prelude.{◌≡◌, ℕ, ⊤, List, map, Option, option_map, Result, Ok, Err}
+use Rattle.std.specs.Prelude.{◌≡◌, ⊤, List, map, Option, option_map, Result, Err}
 use Rattle.std.specs.Borrow.{Bor}
 use Rattle.dir_names.specs.Results.{Meets}
 use Rattle.dir_ldif.specs.LogicalLines.{Line}

@@ -1,4 +1,4 @@
-use Rattle.std.proofs.Common.{◌≡◌, ◌∷◌, ◌++◌, [], ap, codes, ◌∙◌}
+use Rattle.std.proofs.Common.{◌∷◌, ◌++◌, [], ap, codes, ◌∙◌}
 use Rattle.std.specs.Fmt.{decimal}
 use Rattle.dir_questions.proofs.Tallies.{three_counts}
 use Rattle.dir_questions.proofs.report.push_tally.Goals as goal
