@@ -11,6 +11,8 @@ Each is a file with a line `file:`, pairs of lines `old:` (once in that file) an
 isn't the one whose line changes first, a line `fn:` with its path. They are planted in a copy of the crates, and their functions tried by `rt check --only`, with
 all that these call in their crate. Those in different functions, none of which seems to call another, are planted together. One is refused where the edited crate compiles, and
 the prover ends, accepts all that the function calls, and does not accept the function. So one whose function does call another that was refused with it is tried again without that.
+Which functions call one another is told by the names in their text. Where that misses a call, and the prover does not name it either, one could be told as refused
+since another is: tried alone, with its name as the pattern, it is refused for itself.
 All other functions must be accepted, or refused for what they call alone. That the prover accepts the functions as they stand is seen before. The libraries below are
 taken as `rt lib` or `rt check` have built them in this checkout, and those that are lacking are built.
 
