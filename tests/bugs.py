@@ -1,5 +1,5 @@
 #!/usr/bin/env python3
-"""Plants wrong bodies: the prover must refuse each.
+"""Plants wrong bodies, one at a time: the prover must refuse each.
 
 usage: bugs.py [--listed] [--after-ci] [--quick] [--tenth SEED] [CRATE[/PATTERN] ...]
 
@@ -8,16 +8,13 @@ tries. Try those of a crate when it has changed; with a pattern, as in 'dir_chan
 fits.
 
 Each is a file with a line `file:`, pairs of lines `old:` (once in that file) and `new:`, and where the function that the prover must refuse
-isn't the one whose line changes first, a line `fn:` with its path. They are planted in a copy of the crates, and their functions tried by `rt check --only`, with
-all that these call in their crate. Those in different functions, none of which seems to call another, are planted together. One is refused where the edited crate compiles, and
-the prover ends, accepts all that the function calls, and does not accept the function. So one whose function does call another that was refused with it is tried again without that.
-Which functions call one another is told by the names in their text. Where that misses a call, and the prover does not name it either, one could be told as refused
-since another is: tried alone, with its name as the pattern, it is refused for itself.
-All other functions must be accepted, or refused for what they call alone. That the prover accepts the functions as they stand is seen before. The libraries below are
+isn't the one whose line changes first, a line `fn:` with its path. One wrong body after the other is planted in a copy of the crates, and its
+function tried by `rt check --only`, with all that it calls in its crate: it is refused where the edited crate compiles, and the prover ends and does not accept
+the function, but all others. That it accepts the functions as they stand is seen before, and what it then checked is kept for the wrong bodies. The libraries below are
 taken as `rt lib` or `rt check` have built them in this checkout, and those that are lacking are built.
 
---after-ci is for the gate, right after `rt ci` has proved all crates of this checkout: so the functions as they stand are not proved once more, and the libraries are taken as
-`rt ci` left them. `rt check` would build these anew, so the prover is called as `rt` calls it.
+--after-ci is for the gate, right after `rt ci` has proved all crates of this checkout: the libraries are taken as `rt ci` left them. `rt check` would build
+these anew, so the prover is called as `rt` calls it.
 
 --quick proves nothing: it looks whether each of bugs/ and must-fail/ still finds the line that it changes, changes code, and compiles. It
 also names those that take away a name which a proof of the changed function may cite: where the prover refuses one of these, that need not show
@@ -116,25 +113,12 @@ def path_of(file, lines, number):
     return "::".join([*module_of(file), *owner, name])
 
 
-def paths_of(crate, changes, texts):
-    """The paths of the functions that these changes are in. Nothing is among them where a change is in none."""
-    folder = ROOT / "crates" / crate
-    return {path_of(change.file.relative_to(folder), texts[change.file].split("\n"), change.line) for change in changes}
-
-
-# A wrong body: its file, what it changes, the functions that this is in, and of these the one that must be refused. That is nothing where it may be any
-# function of the crate.
-Body = collections.namedtuple("Body", "edit changes paths function")
-
-
-def body_of(edit, crate, texts):
-    """The wrong body of an edit, or else why it can't be planted."""
-    changes, fault = changes_of(edit, crate, texts)
-    if fault:
-        return None, f"BAD EDIT: {fault}"
+def function_of(edit, crate, changes, texts):
+    """The path of the function that the prover must refuse with this edit, and nothing where it may be any of the crate's."""
     named = re.search(r"^fn: (\S+)$", edit.read_text(), re.M)
-    function = named[1] if named else next(iter(paths_of(crate, changes[:1], texts)))
-    return Body(edit, tuple(changes), frozenset(paths_of(crate, changes, texts) | {function}), function), None
+    first = changes[0]
+    folder = ROOT / "crates" / crate
+    return named[1] if named else path_of(first.file.relative_to(folder), texts[first.file].split("\n"), first.line)
 
 
 @functools.cache
@@ -151,170 +135,101 @@ def are_left_by_ci():
     return not any((library / "stamp").exists() for library in libraries())
 
 
-def prover(home, after_ci, jobs):
+def prover(home, after_ci):
     """The command that checks the crate of a copy."""
-    jobs = ["--jobs", str(jobs)]
     if after_ci and are_left_by_ci():
         crate = next(it for it in toolchain().crates_below(str(home.parent)) if it.name == home.name)
-        return [toolchain().RATTLE, "check", *crate.words(jobs, keeps=False), "--incremental", KEPT]
-    return ["rt", "check", *jobs]
+        return [toolchain().RATTLE, "check", *crate.words(["--jobs", "1"], keeps=False), "--incremental", KEPT]
+    return ["rt", "check", "--jobs", "1"]
 
 
-def check(home, functions, after_ci, jobs):
+def check(home, functions, after_ci):
     """Has the prover try these functions of a crate, with what they call there, or else all of it, and returns the status and what it said."""
     words = [] if None in functions else [word for function in sorted(functions) for word in ("--only", function)]
     (home / "out").mkdir(exist_ok=True)
     how = {"cwd": home, "stdin": subprocess.DEVNULL, "stdout": subprocess.PIPE, "stderr": subprocess.STDOUT, "text": True, "errors": "replace"}
-    command = [*prover(home, after_ci, jobs), *words]
-    ran = subprocess.run(command, **how)
-    if ran.returncode == -signal.SIGKILL:
-        # most likely for memory
-        ran = subprocess.run(command, **how)
+    ran = subprocess.run([*prover(home, after_ci), *words], **how)
     return ran.returncode, ran.stdout
 
-
-# What the prover says of a function that it does not accept, and how it says that this is so for what the function calls.
-REFUSED = re.compile(r"^fn \w+::(\S+): (?:not proved|no proof)(.*)$", re.M)
-FOR_A_CALL = re.compile(r"it calls `\S+`, which is not proved")
 
 # What a proof says that names what an edit took away: it shows nothing of a contract.
 OF_NAMES = re.compile(r"proofs/.*(has no field|is not in scope|has no `|was not admitted)")
 
 
-def is_within(name, path):
-    """Whether the prover's name of a function is that of the one with this path, or of a closure in it."""
-    return path is None or (name.replace("fn::", "") + "::").startswith(path + "::")
+def names_of(changes, texts):
+    """The names of the functions that these changes are in, and of those that they bring."""
+    names = {function_at(texts[change.file].split("\n"), change.line)[0] for change in changes}
+    return names | {name for change in changes for name in re.findall(r"\bfn (\w+)", change.new)}
 
 
-def is_in(name, body):
-    return any(is_within(name, path) for path in body.paths)
-
-
-def told_of(body, said):
-    """What the prover says of this wrong body, by what it says of all that were planted: that it is refused, or a fault. Nothing where a function that
-    its own calls is refused too."""
-    refused = [(name, why) for name, why in REFUSED.findall(said) if is_in(name, body)]
-    own = [name for name, why in refused if not FOR_A_CALL.search(why)]
-    if own:
-        folder = "proofs/" + own[0].replace("fn::", "").replace("::", "/") + "/"
-        told = [line for line in re.findall(r"^\S+:\d+:\d+: error.*$", said, re.M) if folder in line]
-        is_of_names = bool(told) and all(OF_NAMES.search(line) for line in told)
-        return "refused, as it must be: " + own[0] + (", but only since a proof names what was taken away" if is_of_names else "")
-    if refused:
-        return None
-    proved = [name for name in re.findall(r"^fn \w+::(\S+): proved$", said, re.M) if is_in(name, body)]
-    return "NOT REFUSED" if proved else "NOT TRIED: nothing is said of its function"
-
-
-def try_together(copy, crate, texts, bodies, after_ci, jobs):
-    """What the prover says of each of these wrong bodies, planted together in the copy."""
-    changes = [change for body in bodies for change in body.changes]
-    plant(copy, texts, changes)
-    status, said = check(copy / "crates" / crate, {body.function for body in bodies}, after_ci, jobs)
-    unplant(copy, texts, changes)
-    has_ended = re.search(r"^(only=\d+ proved=\d+|logic=(not-)?proved)", said, re.M)
-    if status in (0, 1) and has_ended:
-        strays = [name for name, why in REFUSED.findall(said) if not FOR_A_CALL.search(why) and not any(is_in(name, body) for body in bodies)]
-        return {body: f"NOT TRIED: {strays[0]} is not proved either" if strays else told_of(body, said) for body in bodies}
-    if len(bodies) == 1:
+def refused_for(status, said, edited):
+    """The function that the prover refuses, which is one of those edited, or why nothing is known of it."""
+    if status == 0:
+        return None, "NOT REFUSED"
+    refused = re.findall(r"^fn (\S+): (?:not proved|no proof)", said, re.M)
+    others = [name for name in refused if None not in edited and edited.isdisjoint(name.split("::"))]
+    if others:
+        return None, f"NOT TRIED: {others[0]} is not proved either"
+    has_ended = re.search(r"^(only=\d+ proved=\d+|logic=not-proved)", said, re.M)
+    if status != 1 or not has_ended or not refused:
         told = re.search(r"^(\S+: )?error[\[:].*$", said, re.M)
-        return {bodies[0]: f"NOT TRIED (status {status}): {told[0] if told else said[-300:]}"}
-    half = len(bodies) // 2
-    return {body: told for part in (bodies[:half], bodies[half:]) for body, told in try_together(copy, crate, texts, part, after_ci, jobs).items()}
+        return None, f"NOT TRIED (status {status}): {told[0] if told else said[-300:]}"
+    told = re.findall(r"^\S+:\d+:\d+: error.*$", said, re.M)
+    is_of_names = bool(told) and all(OF_NAMES.search(line) for line in told)
+    return refused[0] + (", but only since a proof names what was taken away" if is_of_names else ""), None
 
 
-@functools.cache
-def called_from(crate):
-    """For each function of the crate, by its name and whether it is a method, those that it may call, also through others. A call is told by these alone, so some are
-    too many."""
-    called = collections.defaultdict(set)
-    for file in (ROOT / "crates" / crate / "src").glob("**/*.rt"):
-        for indent, name, body in re.findall(r"^( *)(?:pub(?:\(\w+\))? )?fn (\w+)(.*?)^\1\}$", file.read_text(), re.M | re.S):
-            for before, other in re.findall(r"([A-Z]\w*(?:<.*?>)?::|\.|)\b(\w+)\(", body):
-                called[bool(indent), name].add((bool(before), other))
-    called = {one: found & called.keys() - {one} for one, found in called.items()}
-    while True:
-        further = {one: found.union(*(called[each] for each in found)) for one, found in called.items()}
-        if further == called:
-            return called
-        called = further
-
-
-def functions_in(body):
-    """The functions of a wrong body, as `called_from` has them: the types that methods are of begin with a capital."""
-    parts = [path.split("::") for path in body.paths]
-    return {(len(names) > 1 and names[-2][0].isupper(), names[-1]) for names in parts}
-
-
-def may_reach(crate, one, other):
-    """Whether a function of a wrong body may call one of another's."""
-    return any(not functions_in(other).isdisjoint(called_from(crate).get(each, ())) for each in functions_in(one))
-
-
-def can_stand_beside(crate, one, other):
-    """Whether two wrong bodies can be planted together, so that it is seen of each whether it is refused."""
-    if None in one.paths | other.paths or not one.paths.isdisjoint(other.paths) or not are_apart(one.changes, other.changes):
-        return False
-    return not may_reach(crate, one, other) and not may_reach(crate, other, one)
-
-
-def that_stand_together(crate, bodies):
-    """As many of these wrong bodies, the first among them, as can be planted together."""
-    group = []
-    for body in bodies:
-        if all(can_stand_beside(crate, body, other) for other in group):
-            group.append(body)
-    return group
-
-
-def try_all(copy, crate, edits, after_ci, jobs):
-    """How many of these edits of the crate the prover refuses, planted in this copy, in which what it has checked is kept. Each outcome is printed once it is known."""
-    texts, left, count = {}, [], 0
-    for edit in edits:
-        body, fault = body_of(edit, crate, texts)
-        if fault:
-            print(f"{crate}/{edit.stem}: {fault}", flush=True)
-        else:
-            left.append(body)
-    together = left
-    while left:
-        told = try_together(copy, crate, texts, that_stand_together(crate, together), after_ci, jobs)
-        known = {body: outcome for body, outcome in told.items() if outcome}
-        for body, outcome in known.items():
-            print(f"{crate}/{body.edit.stem}: {outcome}", flush=True)
-            count += outcome.startswith("refused")
-        left = [body for body in left if body not in known]
-        together = left if known else left[:1]
-    return count
-
-
-def are_proved(copy, crate, edits, after_ci, jobs):
-    """Whether the prover accepts the functions of these edits as they stand."""
+def functions_of(crate, edits):
+    """The functions that the prover must refuse with these edits, of those that can be planted."""
     texts = {}
-    functions = {body.function for body, _ in (body_of(edit, crate, texts) for edit in edits) if body}
-    status, said = check(copy / "crates" / crate, functions, after_ci, jobs)
+    found = [(edit, *changes_of(edit, crate, texts)) for edit in edits]
+    return {function_of(edit, crate, changes, texts) for edit, changes, fault in found if not fault}
+
+
+def are_proved(crate, edits, folder, after_ci):
+    """Whether the prover accepts the functions of these edits as they stand, in a copy in this folder, where it keeps what it has checked."""
+    status, said = check(copy_of_crates(folder / crate) / "crates" / crate, functions_of(crate, edits), after_ci)
     if status:
         print(f"{crate}: what the wrong bodies change is not proved as it stands:\n{said[-2000:]}", flush=True)
     return status == 0
 
 
-def count_refused(crate, edits, after_ci, jobs):
+def is_refused(crate, edit, folder, after_ci):
+    """Whether the prover refuses this edit of the crate, planted in a copy of the repository, over what it has checked of the crate as that stands."""
+    texts, refused = {}, None
+    changes, fault = changes_of(edit, crate, texts)
+    if fault:
+        fault = f"BAD EDIT: {fault}"
+    else:
+        with tempfile.TemporaryDirectory() as own:
+            copy = copy_of_crates(pathlib.Path(own) / crate)
+            home, function = copy / "crates" / crate, function_of(edit, crate, changes, texts)
+            shutil.copytree(folder / crate / "crates" / crate / KEPT, home / KEPT, copy_function=link_or_copy)
+            plant(copy, texts, changes)
+            status, said = check(home, {function}, after_ci)
+            if status == -signal.SIGKILL:
+                # most likely for memory
+                status, said = check(home, {function}, after_ci)
+            refused, fault = refused_for(status, said, names_of(changes, texts))
+    print(f"{crate}/{edit.stem}: {fault or 'refused, as it must be: ' + refused}", flush=True)
+    return refused is not None
+
+
+def count_refused(crate, edits, folder, after_ci, pool):
     """How many of these edits of the crate the prover refuses."""
-    with tempfile.TemporaryDirectory() as folder:
-        copy = copy_of_crates(pathlib.Path(folder) / crate)
-        if not after_ci and not are_proved(copy, crate, edits, after_ci, jobs):
-            return 0
-        count = try_all(copy, crate, edits, after_ci, jobs)
+    if not pool.submit(are_proved, crate, edits, folder, after_ci).result():
+        return 0
+    tried = [pool.submit(is_refused, crate, edit, folder, after_ci) for edit in edits]
+    count = sum(it.result() for it in tried)
     print(f"{crate}: {count} of {len(edits)} wrong bodies refused", flush=True)
     return count
 
 
 def are_refused(wanted, after_ci):
-    """Whether the prover refuses each of these edits, by their crates. As many crates are tried at a time as there are processors, and as memory holds."""
-    at_once = proofs_at_once()
-    jobs = max(1, at_once // len(wanted))
-    with concurrent.futures.ThreadPoolExecutor(at_once) as pool:
-        tried = [pool.submit(count_refused, crate, edits, after_ci, jobs) for crate, edits in wanted.items()]
+    """Whether the prover refuses each of these edits, by their crates. As many are tried at a time as there are processors, and as memory holds."""
+    threads = concurrent.futures.ThreadPoolExecutor
+    with tempfile.TemporaryDirectory() as folder, threads(proofs_at_once()) as pool, threads(len(wanted)) as crates:
+        tried = [crates.submit(count_refused, crate, edits, pathlib.Path(folder), after_ci, pool) for crate, edits in wanted.items()]
         counts = [it.result() for it in tried]
     return counts == [len(edits) for edits in wanted.values()]
 
@@ -394,17 +309,13 @@ def names_taken_away(crate, changes, texts):
     return gone
 
 
-def are_apart(some, others):
-    """Whether none of these changes is near one of the others."""
-    return all(a.file != b.file or abs(a.line - b.line) > APART for a in some for b in others)
-
-
 def groups_of(found):
-    """The edits with what they change, in groups that can be compiled together."""
+    """The edits with what they change, in groups that can be planted together."""
     groups = []
     for edit in found:
         for group in groups:
-            if all(are_apart(found[edit], changes) for changes in group.values()):
+            taken = [change for changes in group.values() for change in changes]
+            if all(a.file != b.file or abs(a.line - b.line) > APART for a in found[edit] for b in taken):
                 group[edit] = found[edit]
                 break
         else:
