@@ -163,13 +163,19 @@ abbrev pub verdict : Bool → List ℕ
 verdict true = codes "ALLOWED"
 verdict false = codes "DENIED"
 
--- `ATTR: PRIVILEGES`, or `ATTR/ACCESS: ALLOWED` or `ATTR/ACCESS: DENIED`
-abbrev pub answer_line : List ℕ → Option (List ℕ × Level) → Privileges → List ℕ
-answer_line attr None held = attr ++ codes ": " ++ privileges_text held ++ codes "\n"
-answer_line attr (Some (access, level)) held = attr ++ codes "/" ++ access ++ codes ": " ++ verdict (is_allowed held level) ++ codes "\n"
+-- the answer to a word: the privileges that are held, or whether the level of access is allowed
+abbrev pub answer_text : Option (List ℕ × Level) → Privileges → List ℕ
+answer_text None held = privileges_text held
+answer_text (Some (access, level)) held = verdict (is_allowed held level)
 
+-- the word as it is written, without its value
+abbrev pub word_text : List ℕ → Option (List ℕ × Level) → List ℕ
+word_text attr None = attr
+word_text attr (Some (access, level)) = attr ++ codes "/" ++ access
+
+-- `ATTR: PRIVILEGES`, or `ATTR/ACCESS: ALLOWED` or `ATTR/ACCESS: DENIED`
 abbrev pub word_line : Word → Privileges → List ℕ
-word_line word held = answer_line word.attr word.access held
+word_line word held = word_text word.attr word.access ++ codes ": " ++ answer_text word.access held ++ codes "\n"
 
 -- a requester without a name, or with the one without RDNs, is anonymous
 abbrev pub requester_text : Option NamedKey → List ℕ

@@ -20,11 +20,13 @@ ghost use Rattle.dir_tools.specs.declared.fault.Input.TheVariants as Input;
 ghost use Rattle.dir_tools.specs.declared.fault.Output.TheVariants as Output;
 ghost use Rattle.dir_tools.specs.declared.fault.ToolFault.TheVariants as ToolFault;
 
-use crate::acl::configuration::read_config;
 pub use crate::acl::configuration::{
-    FaultWithArgument, NotedConfig, read_config_with_argument, read_config_with_notes, run_schema,
+    FaultWithArgument, NotedConfig, read_bounded, read_config, read_config_with_argument,
+    read_config_with_notes, run_schema,
 };
 use crate::acl::parts::read_parts;
+pub use crate::acl::parts::{Word, read_name, read_word};
+pub use crate::acl::report::push_answer;
 use crate::acl::report::report_text;
 pub use crate::acl::word_notes::with_notes_on_words;
 use crate::copy::read_copy;
@@ -178,8 +180,12 @@ fn report_under<R: Source>(
     }
 }
 
-/// The entry of the base, or none if it is made up.
-fn find_target<'d, D: Directory>(
+/// The entry of a base, or none if it is made up.
+///
+/// # Errors
+///
+/// `NoEntry`, if the base is outside the suffix, or the directory has no such entry and it is not made up.
+pub fn find_target<'d, D: Directory>(
     directory: &'d D,
     base: &DnKey,
     fake: bool,

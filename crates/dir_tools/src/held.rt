@@ -13,7 +13,8 @@ pub enum HeldMemory {
 }
 
 impl HeldMemory {
-    pub(crate) fn let_go<T: Drop>(self, value: T) {
+    /// Gives the memory of a value back, or leaves it.
+    pub fn let_go<T: Drop>(self, value: T) {
         match self {
             HeldMemory::Freed => drop(value),
             HeldMemory::Left => forget(value),

@@ -1,4 +1,4 @@
--- The views of the parts of a question, and how they and the configuration are read. No public contract needs this file.
+-- The views of the parts of a question, and how they and the configuration are read.
 use Rattle.std.specs.Prelude.{◌≡◌, ℕ, ⊤, List, map, Option, option_map, Result, Err}
 use Rattle.std.specs.Borrow.{Bor}
 use Rattle.dir_names.specs.Results.{Meets}

@@ -1,7 +1,7 @@
 //! The configuration read from its source, with the types that it defines, in pieces, and no further than it may be long.
 
 ghost use Rattle.std.specs.Io.KnownBytes.{Consumes, IsAtEnd};
-ghost use Rattle.std.specs.Prelude.{◌≡◌, ◌⊎◌, ◌<◌, ◌≤◌, ℕ, Err, IfErr, IfOk, IfSome, List, None, Ok, OnOk, Some, length};
+ghost use Rattle.std.specs.Prelude.{◌≡◌, ◌⊎◌, ◌<◌, ◌≤◌, ℕ, Err, IfErr, IfNone, IfOk, IfSome, List, None, Ok, OnOk, Some, length};
 ghost use Rattle.dir_acl.specs.Config.{config_types};
 ghost use Rattle.dir_acl.specs.Notes.{notes_of};
 ghost use Rattle.dir_ldif.specs.Device.{HasFailed};
@@ -56,7 +56,7 @@ pub fn run_schema<R: Source>(
 /// # Errors
 ///
 /// A read fault; the configuration's first fault; out of memory.
-pub(super) fn read_config<R: Source>(
+pub fn read_config<R: Source>(
     alloc: Global,
     schema: &Schema,
     source: &mut R,
@@ -231,14 +231,33 @@ fn read_text<R: Source>(alloc: Global, source: &mut R) -> Result<Vec<u8>, ToolFa
     ensures fault { IfErr result (IsReadFault (R.failures source.old) (R.failures source.new)) }
     ensures unfailed { OnOk result (R.failures source.new ≡ R.failures source.old) }
 {
+    match read_bounded(alloc, source)? {
+        Some(text) => Ok(text),
+        None => Err(ToolFault::Read(Input::Config)),
+    }
+}
+
+/// All that a source gives, or more than 16,777,216 bytes of it; none, if the source failed. At most 16,785,408 bytes are read,
+/// whatever it gives.
+///
+/// # Errors
+///
+/// Memory ran out.
+pub fn read_bounded<R: Source>(alloc: Global, source: &mut R) -> Result<Option<Vec<u8>>, Memory>
+    ensures text { IfOk result (λ found. IfSome found (λ text. Consumes (R.left source.old) (R.left source.new) text.items)) }
+    ensures whole { IfOk result (λ found. IfSome found (λ text. (16777216 < length text.items) ⊎ IsAtEnd (R.left source.new))) }
+    ensures bounded { (bytes : List ℕ) × Consumes (R.left source.old) (R.left source.new) bytes × (length bytes ≤ 16785408) }
+    ensures failed { IfOk result (λ found. IfNone found (HasFailed (R.failures source.old) (R.failures source.new))) }
+    ensures unfailed { IfOk result (λ found. IfSome found (λ _. R.failures source.new ≡ R.failures source.old)) }
+{
     let mut text = Vec::new(alloc);
     let mut buffer = [0u8; PIECE];
     while text.len() <= MAX_CONFIG {
         match source.read(&mut buffer) {
-            Ok(0) => return Ok(text),
+            Ok(0) => return Ok(Some(text)),
             Ok(n) => text.extend_from_slice(&buffer[..n])?,
-            Err(_) => return Err(ToolFault::Read(Input::Config)),
+            Err(_) => return Ok(None),
         }
     }
-    Ok(text)
+    Ok(Some(text))
 }

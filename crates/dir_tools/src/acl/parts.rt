@@ -20,12 +20,15 @@ pub(super) struct Parts<'q> {
     pub(super) words: Vec<Word<'q>>,
 }
 
-/// A word of a question. What is written of it is kept for the report.
+/// A word of a question, `attr[/access]`. What is written of it is kept for the report.
 #[derive(Drop)]
-pub(super) struct Word<'q> {
-    pub(super) attr: &'q [u8],
-    pub(super) asked: Asked,
-    pub(super) access: Option<(&'q [u8], Level)>,
+pub struct Word<'q> {
+    /// What it asks for, as it is written.
+    pub attr: &'q [u8],
+    /// What it asks for: the entry, its children, or an attribute.
+    pub asked: Asked,
+    /// The level of access that it asks about, if it names one: as it is written, and what it is.
+    pub access: Option<(&'q [u8], Level)>,
 }
 
 /// Reads the parts of a question, in their order.
@@ -73,7 +76,11 @@ fn read_requester(
 }
 
 /// The name that a text spells, with its key, if it is legal.
-fn read_name(alloc: Global, schema: &Schema, text: &[u8]) -> Result<Option<(Dn, DnKey)>, Memory>
+///
+/// # Errors
+///
+/// Memory ran out.
+pub fn read_name(alloc: Global, schema: &Schema, text: &[u8]) -> Result<Option<(Dn, DnKey)>, Memory>
     ensures { IfOk result (λ name. name ≡ named_key schema.now text.now) }
 {
     let name = match Dn::read(alloc, text) {
@@ -124,7 +131,11 @@ fn read_words<'q>(
 }
 
 /// A word `attr[/access][:value]`, if it is one.
-pub(super) fn read_word<'q>(
+///
+/// # Errors
+///
+/// Memory ran out.
+pub fn read_word<'q>(
     alloc: Global,
     schema: &Schema,
     text: &'q [u8],

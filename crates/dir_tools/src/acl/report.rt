@@ -3,7 +3,7 @@
 ghost use Rattle.std.specs.Prelude.{◌≡◌, ◌++◌, IfOk, OnOk, option_copied, option_map, true};
 ghost use Rattle.dir_acl.specs.Inside.ReadingConfig.{configuration_of};
 ghost use Rattle.dir_acl.specs.Inside.Requests.{question_of};
-ghost use Rattle.dir_tools.specs.AccessReport.{report_on, request_for, requester_line, requester_text, verdict, word_line};
+ghost use Rattle.dir_tools.specs.AccessReport.{answer_text, report_on, request_for, requester_line, requester_text, verdict, word_line};
 ghost use Rattle.dir_tools.specs.Inside.Asking.{parts_in, word_in};
 
 use crate::acl::parts::{Parts, Word};
@@ -92,7 +92,7 @@ fn requester_key(alloc: Global, requester: &Option<(Dn, DnKey)>) -> Result<Optio
     }
 }
 
-/// The line of a word: the privileges, or whether the level is allowed.
+/// The line of a word, with its answer.
 fn push_word(
     alloc: Global,
     text: &mut Vec<u8>,
@@ -102,19 +102,33 @@ fn push_word(
     ensures { OnOk result (text.new.items ≡ text.old.items ++ word_line (word_in word.now) held) }
 {
     text.extend_from_slice(word.attr)?;
-    match &word.access {
-        None => {
-            text.extend_from_slice(b": ")?;
-            text.extend_from_slice(held.text(alloc)?.as_slice())?;
-        }
-        Some((access, level)) => {
-            text.push(b'/')?;
-            text.extend_from_slice(access)?;
-            text.extend_from_slice(b": ")?;
-            text.extend_from_slice(verdict(held.allows(*level)))?;
-        }
+    if let Some((access, _)) = &word.access {
+        text.push(b'/')?;
+        text.extend_from_slice(access)?;
     }
+    text.extend_from_slice(b": ")?;
+    push_answer(alloc, text, word, held)?;
     text.push(b'\n')?;
+    Ok(())
+}
+
+/// Appends the answer to a word: the privileges that are held, or whether the level that it names is allowed.
+///
+/// # Errors
+///
+/// Memory ran out.
+pub fn push_answer(
+    alloc: Global,
+    text: &mut Vec<u8>,
+    word: &Word<'_>,
+    held: Privileges,
+) -> Result<(), Memory>
+    ensures { OnOk result (text.new.items ≡ text.old.items ++ answer_text (word_in word.now).access held) }
+{
+    match &word.access {
+        None => text.extend_from_slice(held.text(alloc)?.as_slice())?,
+        Some((_, level)) => text.extend_from_slice(verdict(held.allows(*level)))?,
+    }
     Ok(())
 }
 

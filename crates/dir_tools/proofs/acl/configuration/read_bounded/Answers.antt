@@ -1,7 +1,7 @@
 use Rattle.std.proofs.Common.{◌≡◌, ◌++◌, ◌≤◌, length, take, rules}
 use Rattle.std.proofs.KnownBytes.{Consumes-trans}
 use Rattle.dir_tools.proofs.AccessParts.{piece_fits}
-use Rattle.dir_tools.proofs.acl.configuration.read_text.Goals as goal
+use Rattle.dir_tools.proofs.acl.configuration.read_bounded.Goals as goal
 
 pub returns-in_err-extend_from_slice-in-Ok-clause-bounded : goal.returns-in_err-extend_from_slice-in-Ok-clause-bounded
 returns-in_err-extend_from_slice-in-Ok-clause-bounded g c =
