@@ -1,0 +1,9 @@
+pub mod AnsweredWords
+pub mod AnswersLaw
+pub mod Collecting
+pub mod FixedLaw
+pub mod QuestionBytes
+pub mod ReadQuestions
+pub mod RunLemmas
+pub mod Sources
+pub mod Tallies
