@@ -66,7 +66,7 @@ still P a None call told h = tt
 still P None (Some after) call told h = absurd (told)
 still P (Some d) (Some after) call told h = subst (λ (x : Disk). P x.text_at x.mode_at x.typed) (sym told) h
 
-at_some : (P : Type 0) (a : Option Disk) (d : Disk) → a ≡ Some d → IfSome a (λ x. P) → P
+pub at_some : (P : Type 0) (a : Option Disk) (d : Disk) → a ≡ Some d → IfSome a (λ x. P) → P
 at_some P a d is = subst (λ (s : Option Disk). IfSome s (λ x. P)) is
 
 -- ---- calls that may be refused

@@ -5,3 +5,5 @@ pub mod EscapeLemmas
 pub mod Examples
 pub mod FaultArgumentLemmas
 pub mod NoteLemmas
+pub mod OneOutputCalls
+pub mod QuestionCalls

@@ -23,15 +23,14 @@ use Rattle.dir_tools.specs.declared.acl.configuration.NotedConfig.{NotedConfig}
 use Rattle.dir_tools.specs.AccessReport.{Configured, configured}
 use Rattle.dir_tools.specs.Inside.Asking.{configured_of}
 use Rattle.dir_tools.specs.WordNotes.{notes_on_words}
-use Rattle.dir_files.specs.declared.words.AccessWords.{AccessWords}
 use Rattle.dir_files.specs.declared.fault.Fault.{Fault}
 use Rattle.dir_files.specs.declared.fault.Fault.TheVariants as fault
-use Rattle.dir_files.specs.AccessRuns.{IsEndOfNotes, asked_for}
+use Rattle.dir_files.specs.AccessRuns.{IsEndOfNotes}
 use Rattle.dir_files.specs.Escape.{escaped}
 use Rattle.dir_files.specs.Faults.{IsRunFault, IsTool}
 use Rattle.dir_files.specs.Files.{Call, Disk, Told, opens}
 use Rattle.dir_files.specs.NoteText.{shown_bytes}
-use Rattle.dir_files.specs.Notes.{EndsIfUntold, AreNotesOf, AreToldBefore, AreToldFor, IsAfterConfig, MayBeAnswered, TellsFor, WereGiven, told_text}
+use Rattle.dir_files.specs.Notes.{EndsIfUntold, AreNotesOf, AreToldBefore, AreToldFor, IsAfterConfig, IsAfterNotes, MayBeAnswered, TellsFor, WereGiven, told_text}
 use Rattle.dir_files.specs.Runs.{Made}
 
 -- ---- texts
@@ -74,9 +73,9 @@ typed rows None found h = tt
 typed rows (Some text) found h = types_in rows text found h
 
 -- the notes on a configuration that was read from the built-in types, and on the words of the question
-pub are_notes : (words : AccessWords) (text : Option (List ℕ)) (rows : List TypeRow) (found : NotedConfig) (notes : List Note) → rows ≡ builtin_rows → IsTextOf rows text (configured_of found)
-    → IfSome text (λ text. found.notes.items ≡ notes_of found.types text) → notes ≡ found.notes.items ++ notes_on_words found.types (asked_for words).words → AreNotesOf words text notes
-are_notes words text rows found notes same config read all = record {
+pub are_notes : (asked : List (List ℕ)) (text : Option (List ℕ)) (rows : List TypeRow) (found : NotedConfig) (notes : List Note) → rows ≡ builtin_rows → IsTextOf rows text (configured_of found)
+    → IfSome text (λ text. found.notes.items ≡ notes_of found.types text) → notes ≡ found.notes.items ++ notes_on_words found.types asked → AreNotesOf asked text notes
+are_notes asked text rows found notes same config read all = record {
   rows = found.types;
   typed = typed builtin_rows text (configured_of found) (subst (λ (r : List TypeRow). IsTextOf r text (configured_of found)) same config);
   found = found.notes.items;
@@ -98,106 +97,124 @@ is_told text (tool.BadChanges why) shown h is = absurd (h)
 is_told text tool.NoEntry shown h is = absurd (h)
 is_told text (tool.TooFewGroups groups) shown h is = absurd (h)
 
-unread : (words : AccessWords) (text : Option (List ℕ)) (e : ToolFault) → IsConfigFault builtin_rows text e → AreToldBefore words text e []
-unread words text (tool.Config why) h = refl
-unread words text (tool.Read input.Config) h = refl
-unread words text (tool.Read input.Copy) h = absurd (h)
-unread words text (tool.Read input.Changes) h = absurd (h)
-unread words text tool.Memory h = inl refl
-unread words text (tool.Write to) h = absurd (h)
-unread words text (tool.BadCopy line why) h = absurd (h)
-unread words text (tool.BadQuestion item) h = absurd (h)
-unread words text (tool.BadChanges why) h = absurd (h)
-unread words text tool.NoEntry h = absurd (h)
-unread words text (tool.TooFewGroups groups) h = absurd (h)
+unread : (asked : List (List ℕ)) (strict : Bool) (text : Option (List ℕ)) (e : ToolFault) → IsConfigFault builtin_rows text e → AreToldBefore asked strict text e []
+unread asked strict text (tool.Config why) h = refl
+unread asked strict text (tool.Read input.Config) h = refl
+unread asked strict text (tool.Read input.Copy) h = absurd (h)
+unread asked strict text (tool.Read input.Changes) h = absurd (h)
+unread asked strict text tool.Memory h = inl refl
+unread asked strict text (tool.Write to) h = absurd (h)
+unread asked strict text (tool.BadCopy line why) h = absurd (h)
+unread asked strict text (tool.BadQuestion item) h = absurd (h)
+unread asked strict text (tool.BadChanges why) h = absurd (h)
+unread asked strict text tool.NoEntry h = absurd (h)
+unread asked strict text (tool.TooFewGroups groups) h = absurd (h)
 
-as_shown : (A : Type 0) (words : AccessWords) (text : Option (List ℕ)) (notes : List Note) (e : ToolFault) (shown : Fault) → AreToldBefore words text e notes → IsTool e shown → AreToldFor {A = A} words text (Err shown) notes
-as_shown A words text notes e (fault.Tool told) h is = subst (λ (f : ToolFault). AreToldBefore words text f notes) (sym is) h
-as_shown A words text notes e (fault.NoWords why) h is = absurd (is)
-as_shown A words text notes e (fault.TooFewGroups wanted groups) h is = absurd (is)
-as_shown A words text notes e (fault.SamePath path) h is = absurd (is)
-as_shown A words text notes e (fault.CannotOpen path) h is = absurd (is)
-as_shown A words text notes e (fault.Exists path) h is = absurd (is)
-as_shown A words text notes e fault.HasNotes h is = absurd (is)
-as_shown A words text notes e fault.NotesUntold h is = absurd (is)
+as_shown : (A : Type 0) (asked : List (List ℕ)) (strict : Bool) (text : Option (List ℕ)) (notes : List Note) (e : ToolFault) (shown : Fault) → AreToldBefore asked strict text e notes → IsTool e shown → AreToldFor {A = A} asked strict text (Err shown) notes
+as_shown A asked strict text notes e (fault.Tool told) h is = subst (λ (f : ToolFault). AreToldBefore asked strict text f notes) (sym is) h
+as_shown A asked strict text notes e (fault.Questions why) h is = absurd (is)
+as_shown A asked strict text notes e (fault.NoWords why) h is = absurd (is)
+as_shown A asked strict text notes e (fault.TooFewGroups wanted groups) h is = absurd (is)
+as_shown A asked strict text notes e (fault.SamePath path) h is = absurd (is)
+as_shown A asked strict text notes e (fault.CannotOpen path) h is = absurd (is)
+as_shown A asked strict text notes e (fault.Exists path) h is = absurd (is)
+as_shown A asked strict text notes e fault.HasNotes h is = absurd (is)
+as_shown A asked strict text notes e fault.NotesUntold h is = absurd (is)
 
 -- no note is told
-pub none_told : (A : Type 0) (words : AccessWords) (text : Option (List ℕ)) (e : ToolFault) (shown : Fault) (a : Option (List Note)) → IsConfigFault builtin_rows text e → IsRunFault e shown
-    → TellsFor {A = A} words text (Err shown) a a
-none_told A words text e shown a h is = ([], none_given a, as_shown A words text [] e shown (unread words text e h) (is_told text e shown h is))
+pub none_told : (A : Type 0) (asked : List (List ℕ)) (strict : Bool) (text : Option (List ℕ)) (e : ToolFault) (shown : Fault) (a : Option (List Note)) → IsConfigFault builtin_rows text e → IsRunFault e shown
+    → TellsFor {A = A} asked strict text (Err shown) a a
+none_told A asked strict text e shown a h is = ([], none_given a, as_shown A asked strict text [] e shown (unread asked strict text e h) (is_told text e shown h is))
 
 -- ---- a configuration that is read
 
-told_before : (words : AccessWords) (text : Option (List ℕ)) (notes : List Note) (e : ToolFault) → ComesAfterConfig e → AreNotesOf words text notes → MayBeAnswered words.strict notes → AreToldBefore words text e notes
-told_before words text notes (tool.Config why) h are may = absurd (h)
-told_before words text notes (tool.Read input.Config) h are may = absurd (h)
-told_before words text notes (tool.Read input.Copy) h are may = (are, may)
-told_before words text notes (tool.Read input.Changes) h are may = (are, may)
-told_before words text notes tool.Memory h are may = inr (are, may)
-told_before words text notes (tool.Write to) h are may = (are, may)
-told_before words text notes (tool.BadCopy line why) h are may = (are, may)
-told_before words text notes (tool.BadQuestion item) h are may = (are, may)
-told_before words text notes (tool.BadChanges why) h are may = (are, may)
-told_before words text notes tool.NoEntry h are may = (are, may)
-told_before words text notes (tool.TooFewGroups groups) h are may = (are, may)
+told_before : (asked : List (List ℕ)) (strict : Bool) (text : Option (List ℕ)) (notes : List Note) (e : ToolFault) → ComesAfterConfig e → AreNotesOf asked text notes → MayBeAnswered strict notes → AreToldBefore asked strict text e notes
+told_before asked strict text notes (tool.Config why) h are may = absurd (h)
+told_before asked strict text notes (tool.Read input.Config) h are may = absurd (h)
+told_before asked strict text notes (tool.Read input.Copy) h are may = (are, may)
+told_before asked strict text notes (tool.Read input.Changes) h are may = (are, may)
+told_before asked strict text notes tool.Memory h are may = inr (are, may)
+told_before asked strict text notes (tool.Write to) h are may = (are, may)
+told_before asked strict text notes (tool.BadCopy line why) h are may = (are, may)
+told_before asked strict text notes (tool.BadQuestion item) h are may = (are, may)
+told_before asked strict text notes (tool.BadChanges why) h are may = (are, may)
+told_before asked strict text notes tool.NoEntry h are may = (are, may)
+told_before asked strict text notes (tool.TooFewGroups groups) h are may = (are, may)
+
+-- where there is no file of questions
+pub after_config : {A : Type 0} (result : Result A Fault) → IfErr result IsAfterConfig → IfErr result IsAfterNotes
+after_config (Ok answer) h = h
+after_config (Err (fault.Tool e)) h = h
+after_config (Err (fault.Questions why)) h = tt
+after_config (Err (fault.NoWords why)) h = h
+after_config (Err (fault.TooFewGroups wanted groups)) h = h
+after_config (Err (fault.SamePath path)) h = h
+after_config (Err (fault.CannotOpen path)) h = h
+after_config (Err (fault.Exists path)) h = h
+after_config (Err fault.HasNotes) h = h
+after_config (Err fault.NotesUntold) h = h
 
 -- they are told before the tool's answer
-pub all_told : {A : Type 0} (words : AccessWords) (text : Option (List ℕ)) (notes : List Note) (result : Result A Fault) → IfErr result IsAfterConfig → AreNotesOf words text notes → MayBeAnswered words.strict notes
-    → AreToldFor words text result notes
-all_told words text notes (Ok answer) h are may = (are, may)
-all_told words text notes (Err (fault.Tool e)) h are may = told_before words text notes e h are may
-all_told words text notes (Err (fault.NoWords why)) h are may = absurd (h)
-all_told words text notes (Err (fault.TooFewGroups wanted groups)) h are may = absurd (h)
-all_told words text notes (Err (fault.SamePath path)) h are may = absurd (h)
-all_told words text notes (Err (fault.CannotOpen path)) h are may = absurd (h)
-all_told words text notes (Err (fault.Exists path)) h are may = absurd (h)
-all_told words text notes (Err fault.HasNotes) h are may = absurd (h)
-all_told words text notes (Err fault.NotesUntold) h are may = absurd (h)
+pub all_told : {A : Type 0} (asked : List (List ℕ)) (strict : Bool) (text : Option (List ℕ)) (notes : List Note) (result : Result A Fault) → IfErr result IsAfterNotes → AreNotesOf asked text notes → MayBeAnswered strict notes
+    → AreToldFor asked strict text result notes
+all_told asked strict text notes (Ok answer) h are may = (are, may)
+all_told asked strict text notes (Err (fault.Tool e)) h are may = told_before asked strict text notes e h are may
+all_told asked strict text notes (Err (fault.Questions why)) h are may = (are, may)
+all_told asked strict text notes (Err (fault.NoWords why)) h are may = absurd (h)
+all_told asked strict text notes (Err (fault.TooFewGroups wanted groups)) h are may = absurd (h)
+all_told asked strict text notes (Err (fault.SamePath path)) h are may = absurd (h)
+all_told asked strict text notes (Err (fault.CannotOpen path)) h are may = absurd (h)
+all_told asked strict text notes (Err (fault.Exists path)) h are may = absurd (h)
+all_told asked strict text notes (Err fault.HasNotes) h are may = absurd (h)
+all_told asked strict text notes (Err fault.NotesUntold) h are may = absurd (h)
 
 -- they end the run
-pub ended : (A : Type 0) (words : AccessWords) (text : Option (List ℕ)) (notes : List Note) (e : Fault) → IsEndOfNotes words.strict e → AreNotesOf words text notes → notes ≢ [] → AreToldFor {A = A} words text (Err e) notes
-ended A words text notes fault.HasNotes h are some = (are, some, h)
-ended A words text notes fault.NotesUntold h are some = (are, some)
-ended A words text notes (fault.Tool e) h are some = absurd (h)
-ended A words text notes (fault.NoWords why) h are some = absurd (h)
-ended A words text notes (fault.TooFewGroups wanted groups) h are some = absurd (h)
-ended A words text notes (fault.SamePath path) h are some = absurd (h)
-ended A words text notes (fault.CannotOpen path) h are some = absurd (h)
-ended A words text notes (fault.Exists path) h are some = absurd (h)
+pub ended : (A : Type 0) (asked : List (List ℕ)) (strict : Bool) (text : Option (List ℕ)) (notes : List Note) (e : Fault) → IsEndOfNotes strict e → AreNotesOf asked text notes → notes ≢ [] → AreToldFor {A = A} asked strict text (Err e) notes
+ended A asked strict text notes fault.HasNotes h are some = (are, some, h)
+ended A asked strict text notes fault.NotesUntold h are some = (are, some)
+ended A asked strict text notes (fault.Tool e) h are some = absurd (h)
+ended A asked strict text notes (fault.Questions why) h are some = absurd (h)
+ended A asked strict text notes (fault.NoWords why) h are some = absurd (h)
+ended A asked strict text notes (fault.TooFewGroups wanted groups) h are some = absurd (h)
+ended A asked strict text notes (fault.SamePath path) h are some = absurd (h)
+ended A asked strict text notes (fault.CannotOpen path) h are some = absurd (h)
+ended A asked strict text notes (fault.Exists path) h are some = absurd (h)
 
 -- ---- the text, where the file system tells its calls until the end
 
-unknown_text : (words : AccessWords) (text : Option (List ℕ)) (notes : List Note) → AreNotesOf words text notes → AreNotesOf words None notes
-unknown_text words text notes h = record { rows = h.rows; typed = tt; found = h.found; read = tt; all = h.all }
+unknown_text : (asked : List (List ℕ)) (text : Option (List ℕ)) (notes : List Note) → AreNotesOf asked text notes → AreNotesOf asked None notes
+unknown_text asked text notes h = record { rows = h.rows; typed = tt; found = h.found; read = tt; all = h.all }
 
-unknown_before : (words : AccessWords) (text : Option (List ℕ)) (notes : List Note) (e : ToolFault) → AreToldBefore words text e notes → AreToldBefore words None e notes
-unknown_before words text notes (tool.Config why) h = h
-unknown_before words text notes (tool.Read input.Config) h = h
-unknown_before words text notes (tool.Read input.Copy) h = (unknown_text words text notes h.0, h.1)
-unknown_before words text notes (tool.Read input.Changes) h = (unknown_text words text notes h.0, h.1)
-unknown_before words text notes tool.Memory (inl none) = inl none
-unknown_before words text notes tool.Memory (inr h) = inr (unknown_text words text notes h.0, h.1)
-unknown_before words text notes (tool.Write to) h = (unknown_text words text notes h.0, h.1)
-unknown_before words text notes (tool.BadCopy line why) h = (unknown_text words text notes h.0, h.1)
-unknown_before words text notes (tool.BadQuestion item) h = (unknown_text words text notes h.0, h.1)
-unknown_before words text notes (tool.BadChanges why) h = (unknown_text words text notes h.0, h.1)
-unknown_before words text notes tool.NoEntry h = (unknown_text words text notes h.0, h.1)
-unknown_before words text notes (tool.TooFewGroups groups) h = (unknown_text words text notes h.0, h.1)
+unknown_before : (asked : List (List ℕ)) (strict : Bool) (text : Option (List ℕ)) (notes : List Note) (e : ToolFault) → AreToldBefore asked strict text e notes → AreToldBefore asked strict None e notes
+unknown_before asked strict text notes (tool.Config why) h = h
+unknown_before asked strict text notes (tool.Read input.Config) h = h
+unknown_before asked strict text notes (tool.Read input.Copy) h = (unknown_text asked text notes h.0, h.1)
+unknown_before asked strict text notes (tool.Read input.Changes) h = (unknown_text asked text notes h.0, h.1)
+unknown_before asked strict text notes tool.Memory (inl none) = inl none
+unknown_before asked strict text notes tool.Memory (inr h) = inr (unknown_text asked text notes h.0, h.1)
+unknown_before asked strict text notes (tool.Write to) h = (unknown_text asked text notes h.0, h.1)
+unknown_before asked strict text notes (tool.BadCopy line why) h = (unknown_text asked text notes h.0, h.1)
+unknown_before asked strict text notes (tool.BadQuestion item) h = (unknown_text asked text notes h.0, h.1)
+unknown_before asked strict text notes (tool.BadChanges why) h = (unknown_text asked text notes h.0, h.1)
+unknown_before asked strict text notes tool.NoEntry h = (unknown_text asked text notes h.0, h.1)
+unknown_before asked strict text notes (tool.TooFewGroups groups) h = (unknown_text asked text notes h.0, h.1)
 
-unknown : {A : Type 0} (words : AccessWords) (text : Option (List ℕ)) (notes : List Note) (result : Result A Fault) → AreToldFor words text result notes → AreToldFor words None result notes
-unknown words text notes (Ok answer) h = (unknown_text words text notes h.0, h.1)
-unknown words text notes (Err fault.HasNotes) h = (unknown_text words text notes h.0, h.1, h.2)
-unknown words text notes (Err fault.NotesUntold) h = (unknown_text words text notes h.0, h.1)
-unknown words text notes (Err (fault.Tool e)) h = unknown_before words text notes e h
-unknown words text notes (Err (fault.NoWords why)) h = h
-unknown words text notes (Err (fault.TooFewGroups wanted groups)) h = h
-unknown words text notes (Err (fault.SamePath path)) h = h
-unknown words text notes (Err (fault.CannotOpen path)) h = h
-unknown words text notes (Err (fault.Exists path)) h = h
+unknown : {A : Type 0} (asked : List (List ℕ)) (strict : Bool) (text : Option (List ℕ)) (notes : List Note) (result : Result A Fault) → AreToldFor asked strict text result notes → AreToldFor asked strict None result notes
+unknown asked strict text notes (Ok answer) h = (unknown_text asked text notes h.0, h.1)
+unknown asked strict text notes (Err fault.HasNotes) h = (unknown_text asked text notes h.0, h.1, h.2)
+unknown asked strict text notes (Err fault.NotesUntold) h = (unknown_text asked text notes h.0, h.1)
+unknown asked strict text notes (Err (fault.Tool e)) h = unknown_before asked strict text notes e h
+unknown asked strict text notes (Err (fault.Questions why)) h = (unknown_text asked text notes h.0, h.1)
+unknown asked strict text notes (Err (fault.NoWords why)) h = h
+unknown asked strict text notes (Err (fault.TooFewGroups wanted groups)) h = h
+unknown asked strict text notes (Err (fault.SamePath path)) h = h
+unknown asked strict text notes (Err (fault.CannotOpen path)) h = h
+unknown asked strict text notes (Err (fault.Exists path)) (inl none) = inl none
+unknown asked strict text notes (Err (fault.Exists path)) (inr h) = inr (unknown_text asked text notes h.0, h.1)
 
 -- before a file was read there is no note
-pub none_yet : (A : Type 0) (words : AccessWords) (text : Option (List ℕ)) (e : Fault) (a : Option (List Note)) → AreToldFor {A = A} words text (Err e) [] → TellsFor {A = A} words text (Err e) a a
-none_yet A words text e a h = ([], none_given a, h)
+pub none_yet : (A : Type 0) (asked : List (List ℕ)) (strict : Bool) (text : Option (List ℕ)) (e : Fault) (a : Option (List Note)) → AreToldFor {A = A} asked strict text (Err e) [] → TellsFor {A = A} asked strict text (Err e) a a
+none_yet A asked strict text e a h = ([], none_given a, h)
 
 -- what holds of the text that the reader of the configuration had, and of an unknown one, holds of that at its path
 pub at_path : (P : Option (List ℕ) → Type 0) (path other : List ℕ) (R : Disk → List Call → Type 0) (a b c e : Option Disk) (text : Option (List ℕ))
@@ -209,18 +226,19 @@ at_path P path other R (Some d) None (Some next) (Some last) text first second m
 at_path P path other R (Some d) (Some opened) (Some next) (Some last) text first second made is unknown h =
     subst P (is ∙ ap (λ (x : Disk). x.text_at path) first) h
 
-pub told_at : {A : Type 0} (words : AccessWords) (path other : List ℕ) (result : Result A Fault) (R : Disk → List Call → Type 0) (a b c e : Option Disk) (text : Option (List ℕ)) (g g' : Option (List Note))
+pub told_at : {A : Type 0} (asked : List (List ℕ)) (strict : Bool) (path other : List ℕ) (result : Result A Fault) (R : Disk → List Call → Type 0) (a b c e : Option Disk) (text : Option (List ℕ)) (g g' : Option (List Note))
     → Told a b (opens path None) → Told b c (opens other None) → Made c e R → IfSome b (λ d. text ≡ d.text_at path)
-    → TellsFor words text result g g' → TellsFor words (told_text a e path) result g g'
-told_at words path other result R a b c e text g g' first second made is h =
-    at_path (λ (t : Option (List ℕ)). TellsFor words t result g g') path other R a b c e text first second made is (h.0, h.1, unknown words text h.0 result h.2) h
+    → TellsFor asked strict text result g g' → TellsFor asked strict (told_text a e path) result g g'
+told_at asked strict path other result R a b c e text g g' first second made is h =
+    at_path (λ (t : Option (List ℕ)). TellsFor asked strict t result g g') path other R a b c e text first second made is (h.0, h.1, unknown asked strict text h.0 result h.2) h
 
 -- ---- a teller that didn't fail
 
 -- the tool's answer
-pub told_well : {A : Type 0} (result : Result A Fault) (failures : ℕ) → IfErr result IsAfterConfig → EndsIfUntold result failures failures
+pub told_well : {A : Type 0} (result : Result A Fault) (failures : ℕ) → IfErr result IsAfterNotes → EndsIfUntold result failures failures
 told_well (Ok answer) failures h = refl
 told_well (Err (fault.Tool e)) failures h = refl
+told_well (Err (fault.Questions why)) failures h = refl
 told_well (Err (fault.NoWords why)) failures h = absurd (h)
 told_well (Err (fault.TooFewGroups wanted groups)) failures h = absurd (h)
 told_well (Err (fault.SamePath path)) failures h = absurd (h)
@@ -232,6 +250,7 @@ told_well (Err fault.NotesUntold) failures h = absurd (h)
 -- a fault of the tool, or a file that isn't opened
 pub not_asked : (A : Type 0) (e : ToolFault) (shown : Fault) (failures : ℕ) → IsTool e shown → EndsIfUntold {A = A} (Err shown) failures failures
 not_asked A e (fault.Tool told) failures is = refl
+not_asked A e (fault.Questions why) failures is = absurd (is)
 not_asked A e (fault.NoWords why) failures is = absurd (is)
 not_asked A e (fault.TooFewGroups wanted groups) failures is = absurd (is)
 not_asked A e (fault.SamePath path) failures is = absurd (is)

@@ -8,32 +8,31 @@ use Rattle.dir_acl.specs.Config.{config_types}
 use Rattle.dir_tools.specs.AccessAnswers.{argument_under}
 use Rattle.dir_tools.specs.declared.fault.ToolFault.{ToolFault}
 use Rattle.dir_tools.specs.declared.fault.ToolFault.TheVariants as tool
-use Rattle.dir_files.specs.declared.words.AccessWords.{AccessWords}
 use Rattle.dir_files.specs.declared.fault.Fault.{Fault}
 use Rattle.dir_files.specs.declared.fault.Fault.TheVariants.{Tool}
 use Rattle.dir_files.specs.Notes.{WereGiven}
 
--- the words ask for more to be told, and this is the argument that the fault is about, with the built-in types and those that the configuration defines
-pub record IsTold (words : AccessWords) (text : Option (List ℕ)) (fault : ConfigFault) (arguments : List FaultArgument) : Type 0 where
-  pub verbose : words.verbose ≡ true
+-- more is to be told, and this is the argument that the fault is about, with the built-in types and those that the configuration defines
+pub record IsTold (verbose : Bool) (text : Option (List ℕ)) (fault : ConfigFault) (arguments : List FaultArgument) : Type 0 where
+  pub asked : verbose ≡ true
   pub argument : FaultArgument
   pub alone : arguments ≡ argument ∷ []
   pub found : IfSome text (λ text. Some argument ≡ argument_under (config_types builtin_rows text) text fault)
 
 -- the arguments that are told of the tool's fault: that of the configuration's fault, or none. There is none, too, where memory ran out as it was sought
-abbrev pub AreArgumentsOf : AccessWords → Option (List ℕ) → ToolFault → List FaultArgument → Type 0
-AreArgumentsOf words text (tool.Config fault) arguments = (arguments ≡ []) ⊎ IsTold words text fault arguments
-AreArgumentsOf words text fault arguments = arguments ≡ []
+abbrev pub AreArgumentsOf : Bool → Option (List ℕ) → ToolFault → List FaultArgument → Type 0
+AreArgumentsOf verbose text (tool.Config fault) arguments = (arguments ≡ []) ⊎ IsTold verbose text fault arguments
+AreArgumentsOf verbose text fault arguments = arguments ≡ []
 
 -- those that are told of this answer
-abbrev pub AreArgumentsFor : {A : Type 0} → AccessWords → Option (List ℕ) → Result A Fault → List FaultArgument → Type 0
-AreArgumentsFor words text (Ok answer) arguments = arguments ≡ []
-AreArgumentsFor words text (Err (Tool fault)) arguments = AreArgumentsOf words text fault arguments
-AreArgumentsFor words text (Err fault) arguments = arguments ≡ []
+abbrev pub AreArgumentsFor : {A : Type 0} → Bool → Option (List ℕ) → Result A Fault → List FaultArgument → Type 0
+AreArgumentsFor verbose text (Ok answer) arguments = arguments ≡ []
+AreArgumentsFor verbose text (Err (Tool fault)) arguments = AreArgumentsOf verbose text fault arguments
+AreArgumentsFor verbose text (Err fault) arguments = arguments ≡ []
 
 -- a teller was handed the arguments that are to be told of this answer, and no others
-abbrev pub TellsArgument : {A : Type 0} → AccessWords → Option (List ℕ) → Result A Fault → Option (List FaultArgument) → Option (List FaultArgument) → Type 0
-TellsArgument words text result before after = (arguments : List FaultArgument) × WereGiven before after arguments × AreArgumentsFor words text result arguments
+abbrev pub TellsArgument : {A : Type 0} → Bool → Option (List ℕ) → Result A Fault → Option (List FaultArgument) → Option (List FaultArgument) → Type 0
+TellsArgument verbose text result before after = (arguments : List FaultArgument) × WereGiven before after arguments × AreArgumentsFor verbose text result arguments
 
 -- ---- how it is handed over
 

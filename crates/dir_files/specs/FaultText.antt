@@ -1,7 +1,8 @@
 -- The texts of the program's faults.
 use Rattle.std.specs.Prelude.{ℕ, List, ◌++◌, codes, decimal, Option, None, Some}
 use Rattle.dir_files.specs.declared.fault.Fault.{Fault}
-use Rattle.dir_files.specs.declared.fault.Fault.TheVariants.{CannotOpen, Exists, HasNotes, NotesUntold, NoWords, SamePath, TooFewGroups, Tool}
+use Rattle.dir_files.specs.declared.fault.Fault.TheVariants.{CannotOpen, Exists, HasNotes, NotesUntold, NoWords, Questions, SamePath, TooFewGroups, Tool}
+use Rattle.dir_questions.specs.FaultText.{questions_fault_text}
 use Rattle.dir_tools.specs.FaultText.{tool_fault_text}
 use Rattle.dir_files.specs.Escape.{escaped}
 
@@ -13,5 +14,6 @@ fault_text (Exists path) = Some (codes "exists already: " ++ escaped path.now)
 fault_text HasNotes = Some (codes "not answered, because there are notes")
 fault_text NotesUntold = Some (codes "cannot write notes")
 fault_text (TooFewGroups wanted groups) = Some (codes "cannot go back " ++ decimal wanted ++ codes ", only " ++ decimal groups ++ codes " groups")
+fault_text (Questions fault) = Some (questions_fault_text fault)
 fault_text (Tool fault) = Some (tool_fault_text fault)
 fault_text (NoWords error) = None

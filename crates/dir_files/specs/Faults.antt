@@ -1,5 +1,7 @@
 -- The fault in which a run ends where a call is refused, or where the tool itself has a fault.
 use Rattle.std.specs.Prelude.{◌≡◌, ℕ, List, Option, None, Some, Result, Ok, Err, ⊤}
+use Rattle.dir_questions.specs.declared.fault.QuestionsFault.{QuestionsFault}
+use Rattle.dir_questions.specs.declared.fault.QuestionsFault.TheVariants as questions
 use Rattle.dir_tools.specs.declared.fault.Output.{Output}
 use Rattle.dir_tools.specs.declared.fault.Output.TheVariants as output
 use Rattle.dir_tools.specs.declared.fault.ToolFault.{ToolFault}
@@ -47,6 +49,11 @@ IsNotReported why e = IsTool (tool.Write output.Report) e
 abbrev pub IsRunFault : ToolFault → Fault → Type 0
 IsRunFault (tool.Write output.Report) e = IsTool tool.Memory e
 IsRunFault told e = IsTool told e
+
+-- the fault of a file of questions: the tool's own, or one of the questions or of the writer of their answers
+abbrev pub IsQuestionsFault : QuestionsFault → Fault → Type 0
+IsQuestionsFault (questions.Tool told) e = IsRunFault told e
+IsQuestionsFault told e = e ≡ fault.Questions told
 
 -- too few groups are told with the number of those that are wanted
 abbrev pub IsTooFew : Option ℕ → ℕ → Fault → Type 0

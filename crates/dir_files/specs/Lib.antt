@@ -6,5 +6,7 @@ pub mod Faults
 pub mod Files
 pub mod NoteText
 pub mod Notes
+pub mod OneOutput
 pub mod Paths
+pub mod QuestionRuns
 pub mod Runs

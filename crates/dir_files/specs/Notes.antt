@@ -11,10 +11,8 @@ use Rattle.dir_tools.specs.declared.fault.ToolFault.{ToolFault}
 use Rattle.dir_tools.specs.declared.fault.ToolFault.TheVariants as tool
 use Rattle.dir_tools.specs.AccessAnswers.{ComesAfterConfig}
 use Rattle.dir_tools.specs.WordNotes.{notes_on_words}
-use Rattle.dir_files.specs.declared.words.AccessWords.{AccessWords}
 use Rattle.dir_files.specs.declared.fault.Fault.{Fault}
-use Rattle.dir_files.specs.declared.fault.Fault.TheVariants.{HasNotes, NotesUntold, Tool}
-use Rattle.dir_files.specs.AccessRuns.{asked_for}
+use Rattle.dir_files.specs.declared.fault.Fault.TheVariants.{Exists, HasNotes, NotesUntold, Questions, Tool}
 use Rattle.dir_files.specs.Files.{Disk}
 
 -- a teller was given these notes, or handed these arguments, and no others; where it says afterwards what it was given, it has said it before
@@ -23,41 +21,49 @@ WereGiven before None notes = ⊤
 WereGiven None (Some after) notes = ⊥
 WereGiven (Some before) (Some after) notes = after ≡ before ++ notes
 
--- they are those on the configuration with this text, and then those on the words of the question, with the built-in types and those that the configuration defines
-pub record AreNotesOf (words : AccessWords) (text : Option (List ℕ)) (notes : List Note) : Type 0 where
+-- they are those on the configuration with this text, and then those on the words that are asked, with the built-in types and those that the configuration defines
+pub record AreNotesOf (asked : List (List ℕ)) (text : Option (List ℕ)) (notes : List Note) : Type 0 where
   pub rows : List TypeRow
   pub typed : IfSome text (λ text. config_types builtin_rows text ≡ Ok rows)
   pub found : List Note
   pub read : IfSome text (λ text. found ≡ notes_of rows text)
-  pub all : notes ≡ found ++ notes_on_words rows (asked_for words).words
+  pub all : notes ≡ found ++ notes_on_words rows asked
 
 -- where a strict answer is wanted, there are none
 abbrev pub MayBeAnswered : Bool → List Note → Type 0
 MayBeAnswered strict notes = strict ≡ true → notes ≡ []
 
 -- the notes that are told before the tool has this fault: none before the configuration was read, and then all of it
-abbrev pub AreToldBefore : AccessWords → Option (List ℕ) → ToolFault → List Note → Type 0
-AreToldBefore words text (tool.Config fault) notes = notes ≡ []
-AreToldBefore words text (tool.Read input.Config) notes = notes ≡ []
-AreToldBefore words text tool.Memory notes = (notes ≡ []) ⊎ (AreNotesOf words text notes × MayBeAnswered words.strict notes)
-AreToldBefore words text fault notes = AreNotesOf words text notes × MayBeAnswered words.strict notes
+abbrev pub AreToldBefore : List (List ℕ) → Bool → Option (List ℕ) → ToolFault → List Note → Type 0
+AreToldBefore asked strict text (tool.Config fault) notes = notes ≡ []
+AreToldBefore asked strict text (tool.Read input.Config) notes = notes ≡ []
+AreToldBefore asked strict text tool.Memory notes = (notes ≡ []) ⊎ (AreNotesOf asked text notes × MayBeAnswered strict notes)
+AreToldBefore asked strict text fault notes = AreNotesOf asked text notes × MayBeAnswered strict notes
 
 -- a fault of the tool after the configuration was read
 abbrev pub IsAfterConfig : Fault → Type 0
 IsAfterConfig (Tool fault) = ComesAfterConfig fault
 IsAfterConfig fault = ⊥
 
--- the notes that are told before this answer. Where a strict one is wanted and there are notes, they are told, and nothing is answered
-abbrev pub AreToldFor : {A : Type 0} → AccessWords → Option (List ℕ) → Result A Fault → List Note → Type 0
-AreToldFor words text (Ok answer) notes = AreNotesOf words text notes × MayBeAnswered words.strict notes
-AreToldFor words text (Err HasNotes) notes = AreNotesOf words text notes × (notes ≢ []) × (words.strict ≡ true)
-AreToldFor words text (Err NotesUntold) notes = AreNotesOf words text notes × (notes ≢ [])
-AreToldFor words text (Err (Tool fault)) notes = AreToldBefore words text fault notes
-AreToldFor words text (Err fault) notes = notes ≡ []
+-- such a fault, or one of a file of questions
+abbrev pub IsAfterNotes : Fault → Type 0
+IsAfterNotes (Questions fault) = ⊤
+IsAfterNotes fault = IsAfterConfig fault
+
+-- the notes that are told before this answer. Where a strict one is wanted and there are notes, they are told, and nothing is answered. That a file exists is told before the
+-- configuration is read, or where one has come since then
+abbrev pub AreToldFor : {A : Type 0} → List (List ℕ) → Bool → Option (List ℕ) → Result A Fault → List Note → Type 0
+AreToldFor asked strict text (Ok answer) notes = AreNotesOf asked text notes × MayBeAnswered strict notes
+AreToldFor asked strict text (Err HasNotes) notes = AreNotesOf asked text notes × (notes ≢ []) × (strict ≡ true)
+AreToldFor asked strict text (Err NotesUntold) notes = AreNotesOf asked text notes × (notes ≢ [])
+AreToldFor asked strict text (Err (Questions fault)) notes = AreNotesOf asked text notes × MayBeAnswered strict notes
+AreToldFor asked strict text (Err (Tool fault)) notes = AreToldBefore asked strict text fault notes
+AreToldFor asked strict text (Err (Exists path)) notes = (notes ≡ []) ⊎ (AreNotesOf asked text notes × MayBeAnswered strict notes)
+AreToldFor asked strict text (Err fault) notes = notes ≡ []
 
 -- a teller was given the notes that are to be told for this answer, and no others
-abbrev pub TellsFor : {A : Type 0} → AccessWords → Option (List ℕ) → Result A Fault → Option (List Note) → Option (List Note) → Type 0
-TellsFor words text result before after = (notes : List Note) × WereGiven before after notes × AreToldFor words text result notes
+abbrev pub TellsFor : {A : Type 0} → List (List ℕ) → Bool → Option (List ℕ) → Result A Fault → Option (List Note) → Option (List Note) → Type 0
+TellsFor asked strict text result before after = (notes : List Note) × WereGiven before after notes × AreToldFor asked strict text result notes
 
 -- the run ends in `NotesUntold` exactly where the teller failed
 abbrev pub EndsIfUntold : {A : Type 0} → Result A Fault → ℕ → ℕ → Type 0

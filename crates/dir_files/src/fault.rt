@@ -6,6 +6,7 @@ ghost use Rattle.dir_files.specs.Escape.{escaped};
 ghost use Rattle.dir_files.specs.FaultText.{fault_text};
 
 use crate::escape::show_escaped;
+use dir_questions::QuestionsFault;
 use dir_tools::{Number, ToolFault};
 use std::fmt::{self, Display};
 use std::io;
@@ -27,6 +28,8 @@ pub enum Fault<'a> {
     NotesUntold,
     /// The undo file has fewer groups than are to be taken back.
     TooFewGroups { wanted: u64, groups: u64 },
+    /// A fault of the questions, or of the writer of their answers.
+    Questions(QuestionsFault),
     /// The tool's own fault.
     Tool(ToolFault),
 }
@@ -49,6 +52,7 @@ impl Display for Fault<'_> {
                 show_number(f, ", only ", *groups)?;
                 f.write_str(" groups")
             }
+            Fault::Questions(fault) => fault.fmt(f),
             Fault::Tool(fault) => fault.fmt(f),
         }
     }

@@ -1,4 +1,5 @@
-//! The two tools over a file system: the files that `slapmodify` opens, makes and publishes, and those that `slapacl` opens.
+//! The two tools over a file system: the files that `slapmodify` opens, makes and publishes, and those that `slapacl` opens, also with a file of
+//! questions, and the one that it makes of their answers.
 #![tactic(auto)]
 
 mod argument;
@@ -9,8 +10,10 @@ mod files;
 mod foreground;
 mod limit;
 mod note;
+mod one_output;
 mod proc;
 mod progress;
+pub mod questions;
 pub mod slapacl;
 pub mod slapmodify;
 mod system;
@@ -22,4 +25,4 @@ pub use files::{FileSystem, Opened, Refusal};
 pub use note::{NoteTeller, ShownNote};
 pub use progress::{Amount, Doing, Progress, ProgressLine};
 pub use system::SystemFiles;
-pub use words::{AccessWords, ModifyWords, OutputPaths};
+pub use words::{AccessWords, ModifyWords, OutputPaths, QuestionWords};

@@ -44,9 +44,9 @@ pub fn run<'a, F: FileSystem, T: NoteTeller>(
 ) -> Result<(), Fault<'a>>
     ensures faults { RefusesSameFile words.now (first_repeated_file words.now) result }
     ensures calls { Made (F.disk files.old) (F.disk files.new) (λ d. AllAccessCalls (first_repeated_file words.now) words.now d result) }
-    ensures notes { TellsFor words.now (told_text (F.disk files.old) (F.disk files.new) words.now.config.now) result (T.given teller.old) (T.given teller.new) }
+    ensures notes { TellsFor (asked_for words.now).words words.now.strict (told_text (F.disk files.old) (F.disk files.new) words.now.config.now) result (T.given teller.old) (T.given teller.new) }
     ensures untold { EndsIfUntold result (T.failures teller.old) (T.failures teller.new) }
-    ensures argument { TellsArgument words.now (told_text (F.disk files.old) (F.disk files.new) words.now.config.now) result (T.arguments teller.old) (T.arguments teller.new) }
+    ensures argument { TellsArgument words.now.verbose (told_text (F.disk files.old) (F.disk files.new) words.now.config.now) result (T.arguments teller.old) (T.arguments teller.new) }
 {
     if words.data == words.config {
         return Err(Fault::SamePath(words.data));
@@ -73,9 +73,9 @@ fn answer<'a, F: FileSystem, T: NoteTeller, R: Source, R2: Source>(
 ) -> Result<(), Fault<'a>>
     ensures faults { IfErr result (NamesItsFile words.now) }
     ensures calls { Made (F.disk files.old) (F.disk files.new) (λ _. AsksOrStops words.now (access_sources (R.left config.old) (R2.left copy.old)) result) }
-    ensures notes { TellsFor words.now (R.left config.old) result (T.given teller.old) (T.given teller.new) }
+    ensures notes { TellsFor (asked_for words.now).words words.now.strict (R.left config.old) result (T.given teller.old) (T.given teller.new) }
     ensures untold { EndsIfUntold result (T.failures teller.old) (T.failures teller.new) }
-    ensures argument { TellsArgument words.now (R.left config.old) result (T.arguments teller.old) (T.arguments teller.new) }
+    ensures argument { TellsArgument words.now.verbose (R.left config.old) result (T.arguments teller.old) (T.arguments teller.new) }
 {
     let Ok(schema) = Schema::builtin(alloc) else {
         return Err(run_fault(ToolFault::Memory));
@@ -100,7 +100,7 @@ fn answer<'a, F: FileSystem, T: NoteTeller, R: Source, R2: Source>(
 }
 
 /// Hands over the argument that a fault is about, where more is to be told than the fault.
-fn hand_over<T: NoteTeller>(
+pub(crate) fn hand_over<T: NoteTeller>(
     teller: &mut T,
     verbose: bool,
     argument: Result<Option<FaultArgument>, Memory>,
@@ -118,7 +118,11 @@ fn hand_over<T: NoteTeller>(
 }
 
 /// Tells the notes, if there are any. Where a strict answer is wanted, that ends the run.
-fn tell<'a, T: NoteTeller>(teller: &mut T, notes: &[Note], strict: bool) -> Result<(), Fault<'a>>
+pub(crate) fn tell<'a, T: NoteTeller>(
+    teller: &mut T,
+    notes: &[Note],
+    strict: bool,
+) -> Result<(), Fault<'a>>
     ensures given { WereGiven (T.given teller.old) (T.given teller.new) notes.now }
     ensures untold { EndsIfUntold result (T.failures teller.old) (T.failures teller.new) }
     ensures ok { OnOk result (MayBeAnswered strict notes.now) }

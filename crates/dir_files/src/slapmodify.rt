@@ -375,7 +375,7 @@ pub(crate) fn not_opened<'a>(path: &'a str, why: Refusal) -> Fault<'a>
 }
 
 /// What it means that a file isn't created.
-fn not_created<'a>(path: &'a str, why: Refusal) -> Fault<'a>
+pub(crate) fn not_created<'a>(path: &'a str, why: Refusal) -> Fault<'a>
     ensures { IsNotCreated path.entry.now why result }
 {
     match why {
@@ -406,7 +406,7 @@ pub(crate) fn not_reported<'a>(why: Refusal) -> Fault<'a>
 }
 
 /// A sink that drops what it takes.
-fn dropped() -> Writer<io::Sink>
+pub(crate) fn dropped() -> Writer<io::Sink>
     ensures { ⟦<Writer<io::Sink> as Sink>⟧.taken result ≡ None }
 {
     Writer::new(io::sink())

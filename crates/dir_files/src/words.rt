@@ -34,6 +34,21 @@ pub struct AccessWords<'a> {
     pub strict: bool,
 }
 
+/// The words of `slapkit slapacl --questions`.
+#[derive(Debug, Drop)]
+pub struct QuestionWords<'a> {
+    pub config: &'a str,
+    /// The file of questions.
+    pub questions: &'a str,
+    pub data: &'a str,
+    /// Where the questions go with their answers, if they are to be written again.
+    pub answers: Option<&'a str>,
+    /// Report each answer, also those that are as expected.
+    pub verbose: bool,
+    /// Where there are notes on the configuration, nothing is answered.
+    pub strict: bool,
+}
+
 /// The files to be written: the new copy and the undo file.
 #[derive(Clone, Copy, PartialEq, Eq, Debug)]
 pub struct OutputPaths<'a> {

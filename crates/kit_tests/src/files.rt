@@ -1,6 +1,7 @@
-//! Tests of `dir_files`: runs and questions over a folder in memory, which tells its calls, paths that must differ, and texts.
+//! Tests of `dir_files`: runs, questions and files of them over a folder in memory, which tells its calls, paths that must differ, and texts.
 
 mod folder;
 mod questions;
 mod runs;
+mod suites;
 mod texts;

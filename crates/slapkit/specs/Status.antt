@@ -1,5 +1,6 @@
 -- The exit status of the program.
 use Rattle.std.specs.Prelude.{ℕ, ◌==◌, cond, Result, Ok, Err}
+use Rattle.dir_questions.specs.declared.report.Tally.{Tally}
 use Rattle.dir_tools.specs.declared.run.Summary.{Summary}
 use Rattle.dir_files.specs.declared.fault.Fault.{Fault}
 
@@ -12,3 +13,8 @@ status_of (Err fault) = 1
 abbrev pub access_status_of : {A : Type 0} → Result A Fault → ℕ
 access_status_of (Ok answer) = 0
 access_status_of (Err fault) = 1
+
+-- of a file of questions: 0 where all were answered, and no answer is another than the one that is expected, else 1
+abbrev pub questions_status_of : Result Tally Fault → ℕ
+questions_status_of (Ok tally) = cond (tally.otherwise == 0) 0 1
+questions_status_of (Err fault) = 1

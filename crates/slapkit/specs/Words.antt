@@ -7,6 +7,7 @@ use Rattle.clap.specs.declared.parser.matches.ArgMatches.{ArgMatches}
 use Rattle.clap.specs.declared.parser.matches.Found.{Found}
 use Rattle.dir_files.specs.declared.words.AccessWords.{AccessWords}
 use Rattle.dir_files.specs.declared.words.ModifyWords.{ModifyWords}
+use Rattle.dir_files.specs.declared.words.QuestionWords.{QuestionWords}
 
 -- ---- the words of `slapmodify`
 
@@ -60,5 +61,16 @@ pub record AreAccessWordsOf (m : ArgMatches) (words : AccessWords) : Type 0 wher
   pub authc : option_copied words.authc ≡ first_value (found_of m) (codes "authc")
   pub asked : map (λ word. word.now) words.words.items ≡ words_or_none (option_map raw_values (matched_of (found_of m) (codes "words")))
   pub fake : IsFlag (found_of m) (codes "fake") words.fake
+  pub verbose : IsFlag (found_of m) (codes "verbose") words.verbose
+  pub strict : IsFlag (found_of m) (codes "strict") words.strict
+
+-- ---- the words of `slapacl` with a file of questions
+
+-- each word is the value of its own argument
+pub record AreQuestionWordsOf (m : ArgMatches) (words : QuestionWords) : Type 0 where
+  pub questions : words.questions.now ≡ text_or_empty (first_value (found_of m) (codes "questions"))
+  pub config : words.config.now ≡ text_or_empty (first_value (found_of m) (codes "config"))
+  pub copy : words.data.now ≡ text_or_empty (first_value (found_of m) (codes "data"))
+  pub answers : option_copied words.answers ≡ first_value (found_of m) (codes "answers")
   pub verbose : IsFlag (found_of m) (codes "verbose") words.verbose
   pub strict : IsFlag (found_of m) (codes "strict") words.strict

@@ -2,11 +2,11 @@
 
 ghost use Rattle.std.specs.Prelude.{IfOk, codes};
 ghost use Rattle.clap.specs.Matches.{found_of};
-ghost use Rattle.slapkit.specs.Words.{AreAccessWordsOf, AreWordsOf, IsNumber};
+ghost use Rattle.slapkit.specs.Words.{AreAccessWordsOf, AreQuestionWordsOf, AreWordsOf, IsNumber};
 
 use clap::error::ErrorKind;
 use clap::{Arg, ArgAction, ArgMatches, Command, Error, value_parser};
-use dir_files::{AccessWords, ModifyWords};
+use dir_files::{AccessWords, ModifyWords, QuestionWords};
 use dir_tools::ModifyOptions;
 use std::alloc::{AllocError, Global};
 use std::convert::AsStr;
@@ -16,6 +16,8 @@ use std::convert::AsStr;
 pub enum Words<'a> {
     Slapmodify(ModifyWords<'a>),
     Slapacl(AccessWords<'a>),
+    /// `slapacl` with a file of questions.
+    Questions(QuestionWords<'a>),
 }
 
 /// Reads the words of a command line, the first of which is the program's name.
@@ -29,10 +31,13 @@ pub fn read_words<'a, S: AsStr>(alloc: Global, words: &'a [S]) -> Result<Words<'
     if let Some(matches) = matches.subcommand_matches("slapmodify") {
         return Ok(Words::Slapmodify(modify_words(matches)));
     }
-    match matches.subcommand_matches("slapacl") {
-        Some(matches) => Ok(Words::Slapacl(access_words(alloc, matches)?)),
-        None => Err(program.error(ErrorKind::MissingSubcommand, "a tool must be named")?),
+    let Some(matches) = matches.subcommand_matches("slapacl") else {
+        return Err(program.error(ErrorKind::MissingSubcommand, "a tool must be named")?);
+    };
+    if matches.get_str("questions").is_some() {
+        return Ok(Words::Questions(question_words(matches)));
     }
+    Ok(Words::Slapacl(access_words(alloc, matches)?))
 }
 
 fn modify_words<'a>(matches: &ArgMatches<'a>) -> ModifyWords<'a>
@@ -72,6 +77,19 @@ fn access_words<'a>(alloc: Global, matches: &ArgMatches<'a>) -> Result<AccessWor
         verbose: matches.get_flag("verbose"),
         strict: matches.get_flag("strict"),
     })
+}
+
+fn question_words<'a>(matches: &ArgMatches<'a>) -> QuestionWords<'a>
+    ensures { AreQuestionWordsOf matches.now result }
+{
+    QuestionWords {
+        config: matches.get_str("config").unwrap_or(""),
+        questions: matches.get_str("questions").unwrap_or(""),
+        data: matches.get_str("data").unwrap_or(""),
+        answers: matches.get_str("answers"),
+        verbose: matches.get_flag("verbose"),
+        strict: matches.get_flag("strict"),
+    }
 }
 
 fn program<'a>(alloc: Global) -> Result<Command<'a>, AllocError> {
@@ -172,7 +190,7 @@ fn slapacl<'a>(alloc: Global) -> Result<Command<'a>, AllocError> {
         .arg(
             path(alloc, "base", "DN", "The name of the entry")
                 .short('b')
-                .required(true),
+                .required_unless_present("questions")?,
         )?
         .arg(
             path(
@@ -211,7 +229,7 @@ fn slapacl<'a>(alloc: Global) -> Result<Command<'a>, AllocError> {
             alloc,
             "verbose",
             'v',
-            "Report the requester's name first, and tell which argument a fault of CONF is about",
+            "Report the requester's name first, or each answer of FILE; and tell which argument a fault of CONF is about",
         ))?
         .arg(
             Arg::new(alloc, "strict")
@@ -219,6 +237,23 @@ fn slapacl<'a>(alloc: Global) -> Result<Command<'a>, AllocError> {
                 .help("Answer nothing where there is a note on the configuration or a word")
                 .action(ArgAction::SetTrue),
         )?
+        .arg(instead_of_a_question(path(
+            alloc,
+            "questions",
+            "FILE",
+            "A file of questions with the answers that are expected, in place of DN, AUTHCDN and WORD",
+        )
+        .long("questions"))?)?
+        .arg(instead_of_a_question(
+            path(
+                alloc,
+                "answers",
+                "OUT",
+                "The file for the questions with their answers, which must not exist yet",
+            )
+            .long("answers")
+            .requires_arg("questions")?,
+        )?)?
         .arg(
             Arg::new(alloc, "words")
                 .value_name("WORD")
@@ -226,6 +261,14 @@ fn slapacl<'a>(alloc: Global) -> Result<Command<'a>, AllocError> {
                 .num_args(0..)
                 .action(ArgAction::Append),
         )
+}
+
+/// An argument that goes with none that says what a single question asks.
+fn instead_of_a_question(arg: Arg<'_>) -> Result<Arg<'_>, AllocError> {
+    arg.conflicts_with("base")?
+        .conflicts_with("authc")?
+        .conflicts_with("fake")?
+        .conflicts_with("words")
 }
 
 fn path<'a>(alloc: Global, id: &'a str, value: &'a str, help: &'a str) -> Arg<'a> {
@@ -262,8 +305,9 @@ const ACCESS_ABOUT: &str = "\
 Reports what a requester may do with an entry of an LDIF copy of a directory, under the access rules of a slapd.conf. \
 For each word the report has the privileges on an attribute, or on the entry (entry) or its children (children); with an \
 access level, as in cn/read, whether it is ALLOWED or DENIED. The exit status is 0 where the question was answered, and \
-else 1.";
+else 1. With --questions it answers a file of questions, reports each answer that is not the expected one, and exits with 0 where there is none.";
 
 const ACCESS_EXAMPLE: &str = "\
 Example:
-  slapkit slapacl -b cn=a,dc=com -f slapd.conf --data copy.ldif -D cn=b,dc=com cn/read entry";
+  slapkit slapacl -b cn=a,dc=com -f slapd.conf --data copy.ldif -D cn=b,dc=com cn/read entry
+  slapkit slapacl -f slapd.conf --data copy.ldif --questions questions.ldif --answers answers.ldif";

@@ -11,7 +11,7 @@ use std::process::Abort;
 
 /// Keeps what each note shows, a line each, and the argument that it is handed.
 #[derive(Drop)]
-struct KeptNotes {
+pub(super) struct KeptNotes {
     alloc: Global,
     text: String,
     argument: Option<FaultArgument>,
@@ -20,6 +20,25 @@ struct KeptNotes {
     /// Memory ran out.
     lacks_memory: bool,
     failures: u64,
+}
+
+impl KeptNotes {
+    pub(super) fn new(alloc: Global) -> KeptNotes {
+        KeptNotes {
+            alloc,
+            text: String::new(alloc),
+            argument: None,
+            is_closed: false,
+            lacks_memory: false,
+            failures: 0,
+        }
+    }
+
+    /// What was told.
+    pub(super) fn told(&mut self, rt: &impl Abort) -> &mut String {
+        assert!(rt; !self.lacks_memory, "memory");
+        &mut self.text
+    }
 }
 
 impl NoteTeller for KeptNotes {
@@ -53,11 +72,11 @@ fn keep(alloc: Global, text: &mut String, notes: &[Note]) -> Result<(), AllocErr
     Ok(())
 }
 
-const COPY: &[u8] = b"dn: dc=com\ndc: com\n\n";
+pub(super) const COPY: &[u8] = b"dn: dc=com\ndc: com\n\n";
 
-const RULES: &[u8] = b"database mdb\nsuffix dc=com\naccess to * by users read\n";
+pub(super) const RULES: &[u8] = b"database mdb\nsuffix dc=com\naccess to * by users read\n";
 
-const INCLUDE: &[u8] =
+pub(super) const INCLUDE: &[u8] =
     b"database mdb\nsuffix dc=com\ninclude acl.conf\naccess to * by users read\n";
 
 const FOLDED: &[u8] =
@@ -189,14 +208,8 @@ fn each_question_makes_its_calls_in_their_order(rt: HostRuntime) {
 
 fn assert_asked(rt: &impl Abort, alloc: Global, question: &Question) {
     let mut folder = Folder::new(alloc, COPY, question.rules, b"", question.good);
-    let mut notes = KeptNotes {
-        alloc,
-        text: String::new(alloc),
-        argument: None,
-        is_closed: question.is_closed,
-        lacks_memory: false,
-        failures: 0,
-    };
+    let mut notes = KeptNotes::new(alloc);
+    notes.is_closed = question.is_closed;
     let answer = ask(rt, alloc, &mut folder, &mut notes, question);
     assert!(rt; !notes.lacks_memory, "memory");
     push_calls(rt, &mut notes.text, &folder);
@@ -232,7 +245,7 @@ fn ask(
 }
 
 /// Appends the fault in which a question ends, and the argument that it is about.
-fn push_end(
+pub(super) fn push_end(
     rt: &impl Abort,
     text: &mut String,
     answer: &Result<(), Fault<'_>>,

@@ -1,6 +1,7 @@
 //! Runs over a folder in memory: what they open, create and write, and in which order.
 
 use crate::files::folder::{Asked, Folder};
+use crate::files::suites::{SUITE, TALLY};
 use dir_files::slapmodify::run;
 use dir_files::{Fault, ModifyWords, Refusal};
 use dir_tools::{ModifyOptions, Summary, ToolFault};
@@ -398,13 +399,15 @@ fn mode_text(mode: u32) -> &'static str {
 }
 
 /// The texts that are written, each with a word for it.
-static WORDS: [(&[u8], &str); 6] = [
+static WORDS: [(&[u8], &str); 8] = [
     (NEW, " NEW"),
     (UNDO, " UNDO"),
     (ACCEPTED, " ACCEPTED"),
     (REFUSED, " REFUSED"),
     (WENT_ON, " WENT_ON"),
     (ANSWER, " ANSWER"),
+    (SUITE, " SUITE"),
+    (TALLY, " TALLY"),
 ];
 
 /// A text that was written, in one word.

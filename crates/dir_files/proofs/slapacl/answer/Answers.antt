@@ -6,14 +6,14 @@ use Rattle.dir_tools.specs.declared.fault.ToolFault.TheVariants as tool
 use Rattle.dir_tools.specs.AccessAnswers.{IsArgumentOf, IsConfigFault, IsTextOf, access_sources}
 use Rattle.dir_tools.specs.AccessReport.{AccessTerms, access_terms}
 use Rattle.dir_tools.specs.Inside.Asking.{configured_of}
-use Rattle.dir_files.specs.AccessRuns.{Asks, access_terms_of}
+use Rattle.dir_files.specs.AccessRuns.{Asks, access_terms_of, asked_for}
 use Rattle.dir_files.specs.declared.fault.Fault.{Fault}
 use Rattle.dir_files.specs.Notes.{AreNotesOf, TellsFor}
 use Rattle.dir_files.specs.Runs.{Made}
 use Rattle.dir_files.proofs.AccessCalls.{answered, unread}
 use Rattle.dir_files.proofs.FaultArgumentLemmas.{found_told, none_told}
 use Rattle.dir_files.proofs.NoteLemmas as note_lemmas
-use Rattle.dir_files.proofs.NoteLemmas.{all_told, are_notes, ended}
+use Rattle.dir_files.proofs.NoteLemmas.{after_config, all_told, are_notes, ended}
 use Rattle.dir_files.proofs.slapacl.answer.Goals as goal
 
 pub returns-in_default-clause-calls : goal.returns-in_default-clause-calls
@@ -51,8 +51,8 @@ returns-clause-notes g c =
     let text = g.R.Source.left c.args.config.now in
     let found = c.in-Ok-read_config_with_argument.ensures in
     let notes = c.as_slice.result.now in
-    let are : AreNotesOf words text notes = are_notes words text c.in-Ok.schema c.in-Ok-read_config_with_argument.noted notes (cc c.in-Ok.ensures) found.config found.notes (c.as_slice.ensures.value ∙ c.in-Ok-noted_question.ensures.notes) in
-    (notes, c.in_ok-tell.ensures.given, all_told words text notes c.report.result c.report.ensures.faults are c.in_ok-tell.ensures.ok)
+    let are : AreNotesOf (asked_for words).words text notes = are_notes (asked_for words).words text c.in-Ok.schema c.in-Ok-read_config_with_argument.noted notes (cc c.in-Ok.ensures) found.config found.notes (c.as_slice.ensures.value ∙ c.in-Ok-noted_question.ensures.notes) in
+    (notes, c.in_ok-tell.ensures.given, all_told (asked_for words).words words.strict text notes c.report.result (after_config c.report.result c.report.ensures.faults) are c.in_ok-tell.ensures.ok)
 
 pub returns-in_err-tell-clause-notes : goal.returns-in_err-tell-clause-notes
 returns-in_err-tell-clause-notes g c =
@@ -61,14 +61,14 @@ returns-in_err-tell-clause-notes g c =
     let found = c.in-Ok-read_config_with_argument.ensures in
     let notes = c.as_slice.result.now in
     let fault = c.in_err-tell.field-0.0 in
-    let are : AreNotesOf words text notes = are_notes words text c.in-Ok.schema c.in-Ok-read_config_with_argument.noted notes (cc c.in-Ok.ensures) found.config found.notes (c.as_slice.ensures.value ∙ c.in-Ok-noted_question.ensures.notes) in
+    let are : AreNotesOf (asked_for words).words text notes = are_notes (asked_for words).words text c.in-Ok.schema c.in-Ok-read_config_with_argument.noted notes (cc c.in-Ok.ensures) found.config found.notes (c.as_slice.ensures.value ∙ c.in-Ok-noted_question.ensures.notes) in
     let result : c.from_residual.result ≡ Err fault = search rules in
-    subst (λ (r : Result Unit Fault). TellsFor words text r (g.T.NoteTeller.given c.args.teller.now) (g.T.NoteTeller.given c.tell.new.teller)) (sym result)
-    (notes, c.in_err-tell.ensures.given, ended Unit words text notes fault c.in_err-tell.ensures.err are c.in_err-tell.ensures.some)
+    subst (λ (r : Result Unit Fault). TellsFor (asked_for words).words words.strict text r (g.T.NoteTeller.given c.args.teller.now) (g.T.NoteTeller.given c.tell.new.teller)) (sym result)
+    (notes, c.in_err-tell.ensures.given, ended Unit (asked_for words).words words.strict text notes fault c.in_err-tell.ensures.err are c.in_err-tell.ensures.some)
 
 pub returns-in-Err-noted_question-clause-notes : goal.returns-in-Err-noted_question-clause-notes
 returns-in-Err-noted_question-clause-notes g c =
-    note_lemmas.none_told Unit c.args.words.now (g.R.Source.left c.args.config.now) tool.Memory c.run_fault-in-Err-noted_question.result (g.T.NoteTeller.given c.args.teller.now) tt c.run_fault-in-Err-noted_question.ensures
+    note_lemmas.none_told Unit (asked_for c.args.words.now).words c.args.words.now.strict (g.R.Source.left c.args.config.now) tool.Memory c.run_fault-in-Err-noted_question.result (g.T.NoteTeller.given c.args.teller.now) tt c.run_fault-in-Err-noted_question.ensures
 
 pub returns-in-Err-clause-argument : goal.returns-in-Err-clause-argument
 returns-in-Err-clause-argument g c =
@@ -77,12 +77,12 @@ returns-in-Err-clause-argument g c =
     let rows : c.in-Ok.schema ≡ builtin_rows = cc c.in-Ok.ensures in
     let fault : IsConfigFault builtin_rows text why.fault = subst (λ (rows : List TypeRow). IsConfigFault rows text why.fault) rows c.in-Err.ensures.fault in
     let about : IfOk why.argument (IsArgumentOf builtin_rows text why.fault) = subst (λ (rows : List TypeRow). IfOk why.argument (IsArgumentOf rows text why.fault)) rows c.in-Err.ensures.argument in
-    found_told Unit c.args.words.now text why.fault c.run_fault-in-Err.result why.argument (g.T.NoteTeller.arguments c.args.teller.now) (g.T.NoteTeller.arguments c.hand_over.new.teller) fault about c.run_fault-in-Err.ensures c.hand_over.ensures.kept
+    found_told Unit c.args.words.now.verbose text why.fault c.run_fault-in-Err.result why.argument (g.T.NoteTeller.arguments c.args.teller.now) (g.T.NoteTeller.arguments c.hand_over.new.teller) fault about c.run_fault-in-Err.ensures c.hand_over.ensures.kept
 
 pub returns-in_err-tell-clause-argument : goal.returns-in_err-tell-clause-argument
 returns-in_err-tell-clause-argument g c =
-    none_told c.args.words.now (g.R.Source.left c.args.config.now) _ (g.T.NoteTeller.arguments c.args.teller.now) (g.T.NoteTeller.arguments c.tell.new.teller) c.in_err-tell.ensures.arguments
+    none_told c.args.words.now.verbose (g.R.Source.left c.args.config.now) _ (g.T.NoteTeller.arguments c.args.teller.now) (g.T.NoteTeller.arguments c.tell.new.teller) c.in_err-tell.ensures.arguments
 
 pub returns-clause-argument : goal.returns-clause-argument
 returns-clause-argument g c =
-    none_told c.args.words.now (g.R.Source.left c.args.config.now) c.report.result (g.T.NoteTeller.arguments c.args.teller.now) (g.T.NoteTeller.arguments c.tell.new.teller) c.in_ok-tell.ensures.arguments
+    none_told c.args.words.now.verbose (g.R.Source.left c.args.config.now) c.report.result (g.T.NoteTeller.arguments c.args.teller.now) (g.T.NoteTeller.arguments c.tell.new.teller) c.in_ok-tell.ensures.arguments

@@ -1,0 +1,276 @@
+-- The calls of slapacl with a file of questions, one after the other.
+use Rattle.std.proofs.Common.{◌≡◌, ℕ, Bool, List, [], ◌∷◌, Option, None, Some, IfErr, IfSome, Result, Ok, Err, inl, inr, refl, sym, subst}
+use Rattle.std.specs.Option.{option_copied}
+use Rattle.std.specs.Prelude.{⊤}
+use Rattle.dir_names.specs.Table.Builtin.{builtin_rows}
+use Rattle.dir_questions.specs.declared.fault.QuestionsFault.{QuestionsFault}
+use Rattle.dir_questions.specs.declared.fault.QuestionsFault.TheVariants as suite
+use Rattle.dir_questions.specs.declared.report.Tally.{Tally}
+use Rattle.dir_questions.specs.Runs as runs
+use Rattle.dir_questions.specs.Runs.{IsFaultOfQuestions, QuestionSources, question_sources}
+use Rattle.dir_questions.proofs.RunLemmas.{config_blamed, fault_answers, no_texts, nothing_written}
+use Rattle.dir_acl.specs.declared.note.Note.{Note}
+use Rattle.dir_tools.specs.declared.fault.Input.TheVariants as input
+use Rattle.dir_tools.specs.declared.fault.Output.TheVariants as output
+use Rattle.dir_tools.specs.declared.fault.ToolFault.{ToolFault}
+use Rattle.dir_tools.specs.declared.fault.ToolFault.TheVariants as tool
+use Rattle.dir_tools.specs.AccessAnswers as access
+use Rattle.dir_tools.specs.AccessAnswers.{IsConfigFault}
+use Rattle.dir_tools.specs.Writing.{TakenBytes}
+use Rattle.dir_files.specs.declared.words.QuestionWords.{QuestionWords}
+use Rattle.dir_files.specs.declared.fault.Fault.{Fault}
+use Rattle.dir_files.specs.declared.fault.Fault.TheVariants as fault
+use Rattle.dir_files.specs.declared.files.Refusal.{Refusal}
+use Rattle.dir_files.specs.Faults.{FailsSo, IsExists, IsNotCreated, IsNotOpened, IsNotReported, IsQuestionsFault, IsRunFault, IsTool}
+use Rattle.dir_files.specs.Files.{Call, Disk, Told, creates, discards, opens, reports}
+use Rattle.dir_files.specs.Notes.{AreNotesOf, AreToldFor, IsAfterNotes, MayBeAnswered, TellsFor}
+use Rattle.dir_files.specs.OneOutput.{IsUnfinished}
+use Rattle.dir_files.specs.QuestionRuns.{AllQuestionCalls, AnswersAll, AnswersIntoDraft, AnswersOrStops, EndsAnswering, EndsWithAnswers, EndsWithReport, NamesItsAnswers, QuestionCalls, ReportsAnswers, WritesAnswers, options_of, question_sources_of}
+use Rattle.dir_files.specs.Runs.{Ends, Made, Opens}
+use Rattle.dir_files.proofs.CallLemmas.{Just, at_some, ends, just_none, just_one, made_as, made_none, made_then, still, tries_on, tries_refused}
+use Rattle.dir_files.proofs.NoteLemmas.{all_told}
+
+-- ---- the answer
+
+-- the configuration has a fault, or is not read
+pub unread : (words : QuestionWords) (config questions copy : Option (List ℕ)) (e : ToolFault) (shown : Fault) (answers report : Option (List ℕ))
+    → IsConfigFault builtin_rows config e → IsRunFault e shown
+    → AnswersOrStops words (question_sources config questions copy) (Err shown) (answers, answers) (report, report)
+unread words config questions copy e shown answers report h is =
+    let known : QuestionSources = question_sources config questions copy in
+    let why : QuestionsFault = suite.Tool e in
+    let blamed : IsFaultOfQuestions builtin_rows known why = config_blamed builtin_rows known e h in
+    let answer = fault_answers builtin_rows (options_of words) config questions copy why no_texts blamed in
+    inr (
+      Err why,
+      record {
+        texts = no_texts;
+        wrote = nothing_written builtin_rows known (options_of words).answers why no_texts answers report blamed;
+        stated = answer.0;
+        whole = answer.1;
+      },
+      is,
+    )
+
+-- what the tool writes into the report is what the buffer has taken
+pub over_report : (words : QuestionWords) (known : QuestionSources) (told : Result Tally Fault) (answers : TakenBytes) (before after : Option (List ℕ)) (report : List ℕ)
+    → AnswersOrStops words known told answers (before, after) → before ≡ Some [] → after ≡ Some report → AnswersOrStops words known told answers (Some [], Some report)
+over_report words known told answers before after report h fresh taken =
+    subst (λ (t : Option (List ℕ)). AnswersOrStops words known told answers (Some [], t)) taken
+    (subst (λ (t : Option (List ℕ)). AnswersOrStops words known told answers (t, after)) fresh h)
+
+-- ---- the faults and the notes
+
+tool_after : (told : ToolFault) (e : Fault) → access.ComesAfterConfig told → IsTool told e → IsAfterNotes e
+tool_after told (fault.Tool shown) h is = subst (λ (f : ToolFault). access.ComesAfterConfig f) (sym is) h
+tool_after told (fault.Questions why) h is = absurd (is)
+tool_after told (fault.NoWords why) h is = absurd (is)
+tool_after told (fault.TooFewGroups wanted groups) h is = absurd (is)
+tool_after told (fault.SamePath path) h is = absurd (is)
+tool_after told (fault.CannotOpen path) h is = absurd (is)
+tool_after told (fault.Exists path) h is = absurd (is)
+tool_after told fault.HasNotes h is = absurd (is)
+tool_after told fault.NotesUntold h is = absurd (is)
+
+run_after : (told : ToolFault) (e : Fault) → runs.ComesAfterConfig (suite.Tool told) → IsRunFault told e → IsAfterNotes e
+run_after (tool.Config why) e h is = absurd (h)
+run_after (tool.Read input.Config) e h is = absurd (h)
+run_after (tool.Read input.Copy) e h is = tool_after (tool.Read input.Copy) e tt is
+run_after (tool.Read input.Changes) e h is = tool_after (tool.Read input.Changes) e tt is
+run_after tool.Memory e h is = tool_after tool.Memory e tt is
+run_after (tool.Write output.Report) e h is = tool_after tool.Memory e tt is
+run_after (tool.Write output.Undo) e h is = tool_after (tool.Write output.Undo) e tt is
+run_after (tool.Write output.Out) e h is = tool_after (tool.Write output.Out) e tt is
+run_after (tool.BadCopy line why) e h is = tool_after (tool.BadCopy line why) e tt is
+run_after (tool.BadQuestion item) e h is = tool_after (tool.BadQuestion item) e tt is
+run_after (tool.BadChanges why) e h is = tool_after (tool.BadChanges why) e tt is
+run_after tool.NoEntry e h is = tool_after tool.NoEntry e tt is
+run_after (tool.TooFewGroups groups) e h is = tool_after (tool.TooFewGroups groups) e tt is
+
+asked_after : (why : QuestionsFault) (e : Fault) → e ≡ fault.Questions why → IsAfterNotes e
+asked_after why e is = subst IsAfterNotes (sym is) tt
+
+-- a fault of the questions, or of what is read after them, comes after the notes
+pub questions_after : (why : QuestionsFault) (e : Fault) → runs.ComesAfterConfig why → IsQuestionsFault why e → IsAfterNotes e
+questions_after (suite.Tool told) e h is = run_after told e h is
+questions_after suite.Read e h is = asked_after suite.Read e is
+questions_after suite.TooLong e h is = asked_after suite.TooLong e is
+questions_after (suite.Stream why) e h is = asked_after (suite.Stream why) e is
+questions_after (suite.Block line why) e h is = asked_after (suite.Block line why) e is
+questions_after suite.Write e h is = asked_after suite.Write e is
+
+-- the notes were told, and then the file of answers or the report could not be written
+pub unfinished : (asked : List (List ℕ)) (strict : Bool) (text : Option (List ℕ)) (path : List ℕ) (notes : List Note) (e : Fault) → IsUnfinished path (fault.Questions suite.Write) e
+    → AreNotesOf asked text notes × MayBeAnswered strict notes → AreToldFor {A = Tally} asked strict text (Err e) notes
+unfinished asked strict text path notes e (inl same) told = subst (λ (f : Fault). AreToldFor {A = Tally} asked strict text (Err f) notes) (sym same) told
+unfinished asked strict text path notes e (inr (inl exists)) told = came e exists
+  where
+    came : (e : Fault) → IsExists path e → AreToldFor {A = Tally} asked strict text (Err e) notes
+    came (fault.Exists named) is = inr told
+    came (fault.Tool shown) is = absurd (is)
+    came (fault.Questions why) is = absurd (is)
+    came (fault.NoWords why) is = absurd (is)
+    came (fault.TooFewGroups wanted groups) is = absurd (is)
+    came (fault.SamePath named) is = absurd (is)
+    came (fault.CannotOpen named) is = absurd (is)
+    came fault.HasNotes is = absurd (is)
+    came fault.NotesUntold is = absurd (is)
+unfinished asked strict text path notes e (inr (inr (inl is))) told = all_told {A = Tally} asked strict text notes (Err e) (tool_after tool.Memory e tt is) told.0 told.1
+unfinished asked strict text path notes e (inr (inr (inr is))) told = all_told {A = Tally} asked strict text notes (Err e) (tool_after (tool.Write output.Report) e tt is) told.0 told.1
+
+-- the answer, or the fault of the end
+pub told_by_end : (asked : List (List ℕ)) (strict : Bool) (text : Option (List ℕ)) (path : List ℕ) (tally : Tally) (result : Result Tally Fault) (a b : Option (List Note))
+    → TellsFor asked strict text (Ok tally) a b → IfErr result (IsUnfinished path (fault.Questions suite.Write)) → TellsFor asked strict text result a b
+told_by_end asked strict text path tally (Ok answer) a b h is = (h.0, h.1, h.2)
+told_by_end asked strict text path tally (Err e) a b h is = (h.0, h.1, unfinished asked strict text path h.0 e is h.2)
+
+-- a fault that names no path
+pub ends_named : (words : QuestionWords) (e : Fault) → EndsAnswering words.strict e → NamesItsAnswers words e
+ends_named words (fault.Tool shown) h = h
+ends_named words (fault.Questions why) h = h
+ends_named words (fault.NoWords why) h = h
+ends_named words (fault.TooFewGroups wanted groups) h = h
+ends_named words (fault.SamePath path) h = h
+ends_named words (fault.CannotOpen path) h = absurd (h)
+ends_named words (fault.Exists path) h = absurd (h)
+ends_named words fault.HasNotes h = h
+ends_named words fault.NotesUntold h = h
+
+-- some calls
+pub later : (P : Disk → List Call → Type 0) (call : Call) (a b c : Option Disk) → Told a b call → Made b c P → Made a c (λ d calls. ⊤)
+later P call a b c told made = made_then a b c call (λ d calls. ⊤) P told made (λ d after is h. tt)
+
+-- ---- with a file of answers
+
+module _ (path : List ℕ) (mode : ℕ) (words : QuestionWords) (known : QuestionSources) (result : Result Tally Fault) where
+  -- its draft is created, and the questions are answered into it
+  pub answers_into : (told : Result Tally Fault) (before answers : Option (List ℕ)) (report : List ℕ) (a b c : Option Disk) → Told a b (creates path mode None)
+      → IfSome b (λ d. before ≡ Some []) → AnswersOrStops words known told (before, answers) (Some [], Some report)
+      → Made b c (λ d. EndsWithAnswers path answers report told result) → Made a c (λ d. WritesAnswers path mode words known result)
+  answers_into told before answers report a b c first fresh over ended =
+      tries_on (creates path mode) (IsNotCreated path) [] result (AnswersIntoDraft path words known result) a b c first
+      (made_as b c (λ d. EndsWithAnswers path answers report told result) (λ d. AnswersIntoDraft path words known result) ended
+      (λ d calls is h. (told, answers, report, from (at_some (before ≡ Some []) b d is fresh), h)))
+    where
+      from : before ≡ Some [] → AnswersOrStops words known told (Some [], answers) (Some [], Some report)
+      from is = subst (λ (t : Option (List ℕ)). AnswersOrStops words known told (t, answers) (Some [], Some report)) is over
+
+  pub not_created : (a b : Option Disk) (why : Refusal) → Told a b (creates path mode (Some why)) → FailsSo (IsNotCreated path why) result
+      → Made a b (λ d. WritesAnswers path mode words known result)
+  not_created a b why told fails = tries_refused (creates path mode) (IsNotCreated path) [] result (λ d. AnswersIntoDraft path words known result) a b b why told (just_none b) fails
+
+-- after a fault the draft is removed
+pub draft_removed : (path : List ℕ) (answers : Option (List ℕ)) (report : List ℕ) (e : Fault) (a b : Option Disk) → Told a b (discards path)
+    → Made a b (λ d. EndsWithAnswers path answers report (Err e) (Err e))
+draft_removed path answers report e a b told =
+    made_as a b (Just (discards path ∷ [])) (λ d. EndsWithAnswers path answers report (Err e) (Err e)) (just_one a b (discards path) told) (λ d calls is same. (same, refl))
+
+-- ---- without one
+
+pub reports_answers : (words : QuestionWords) (known : QuestionSources) (told : Result Tally Fault) (report : List ℕ) (result : Result Tally Fault) (a b : Option Disk)
+    → AnswersOrStops words known told (None, None) (Some [], Some report) → Made a b (λ d. EndsWithReport report told result) → Made a b (λ d. ReportsAnswers words known result)
+reports_answers words known told report result a b over ended =
+    made_as a b (λ d. EndsWithReport report told result) (λ d. ReportsAnswers words known result) ended (λ d calls is h. (told, report, over, h))
+
+pub no_report : (report : List ℕ) (e : Fault) (a : Option Disk) → Made a a (λ d. EndsWithReport report (Err e) (Err e))
+no_report report e a = made_none a (λ d. EndsWithReport report (Err e) (Err e)) (λ d is. (refl, refl))
+
+pub report_refused : (report : List ℕ) (tally : Tally) (why : Refusal) (e : Fault) (a b : Option Disk) → Told a b (reports report (Some why)) → IsNotReported why e
+    → Made a b (λ d. EndsWithReport report (Ok tally) (Err e))
+report_refused report tally why e a b told fails =
+    let failed : Result Tally Fault = Err e in
+    tries_refused (reports report) IsNotReported [] failed (λ d. Ends tally failed) a b b why told (just_none b) fails
+
+pub reported : (report : List ℕ) (tally : Tally) (a b : Option Disk) → Told a b (reports report None) → Made a b (λ d. EndsWithReport report (Ok tally) (Ok tally))
+reported report tally a b told =
+    let done : Result Tally Fault = Ok tally in
+    tries_on (reports report) IsNotReported [] done (Ends tally done) a b b told (ends b tally)
+
+-- ---- the run from its beginning, where no path is given twice
+
+module _ (words : QuestionWords) (repeated : Option (List ℕ)) (result : Result Tally Fault) (none : repeated ≡ None) where
+  abbrev Answering : Disk → List Call → Type 0
+  Answering d calls = AnswersAll (option_copied words.answers) (d.mode_at words.questions.now) words (question_sources_of words d) result calls
+
+  abbrev Copy : Disk → List Call → Type 0
+  Copy d calls = Opens words.data.now result (Answering d) calls
+
+  abbrev Asked : Disk → List Call → Type 0
+  Asked d calls = Opens words.questions.now result (Copy d) calls
+
+  abbrev Whole : Disk → List Call → Type 0
+  Whole d calls = AllQuestionCalls repeated words d result calls
+
+  whole : (d : Disk) (calls : List Call) → QuestionCalls words d result calls → Whole d calls
+  whole d calls h = subst (λ (r : Option (List ℕ)). AllQuestionCalls r words d result calls) (sym none) h
+
+  pub no_config : (a b : Option Disk) (why : Refusal) → Told a b (opens words.config.now (Some why)) → FailsSo (IsNotOpened words.config.now why) result → Made a b Whole
+  no_config a b why told fails =
+      made_as a b (λ d. QuestionCalls words d result) Whole
+      (tries_refused (opens words.config.now) (IsNotOpened words.config.now) [] result Asked a b b why told (just_none b) fails)
+      (λ d calls is h. whole d calls h)
+
+  opened : (a b e : Option Disk) → Told a b (opens words.config.now None) → Made b e Asked → Made a e Whole
+  opened a b e first made =
+      made_then a b e (opens words.config.now None) Whole Asked first made (λ d after is h. whole d (opens words.config.now None ∷ after) (inl (after, refl, h)))
+
+  asked : (b c e : Option Disk) → Told b c (opens words.questions.now None) → Made c e Copy → Made b e Asked
+  asked b c e second made = made_then b c e (opens words.questions.now None) Asked Copy second made (λ d after is h. inl (after, refl, h))
+
+  pub no_questions : (a b c : Option Disk) (why : Refusal) → Told a b (opens words.config.now None) → Told b c (opens words.questions.now (Some why))
+      → FailsSo (IsNotOpened words.questions.now why) result → Made a c Whole
+  no_questions a b c why first second fails =
+      opened a b c first (tries_refused (opens words.questions.now) (IsNotOpened words.questions.now) [] result Copy b c c why second (just_none c) fails)
+
+  pub no_copy : (a b c e : Option Disk) (why : Refusal) → Told a b (opens words.config.now None) → Told b c (opens words.questions.now None) → Told c e (opens words.data.now (Some why))
+      → FailsSo (IsNotOpened words.data.now why) result → Made a e Whole
+  no_copy a b c e why first second third fails =
+      opened a b e first (asked b c e second (tries_refused (opens words.data.now) (IsNotOpened words.data.now) [] result Answering c e e why third (just_none e) fails))
+
+  -- all three are opened, and the questions are answered over their texts
+  module _ (a b c e f : Option Disk) (config questions copy : Option (List ℕ)) (mode : ℕ)
+      (first : Told a b (opens words.config.now None)) (second : Told b c (opens words.questions.now None)) (third : Told c e (opens words.data.now None))
+      (config_text : IfSome b (λ d. config ≡ d.text_at words.config.now)) (questions_text : IfSome c (λ d. questions ≡ d.text_at words.questions.now))
+      (questions_mode : IfSome c (λ d. mode ≡ d.mode_at words.questions.now)) (copy_text : IfSome e (λ d. copy ≡ d.text_at words.data.now)) where
+    config_now : IfSome e (λ d. config ≡ d.text_at words.config.now)
+    config_now = still (λ text_at mode_at typed. config ≡ text_at words.config.now) c e (opens words.data.now None) third
+        (still (λ text_at mode_at typed. config ≡ text_at words.config.now) b c (opens words.questions.now None) second config_text)
+
+    questions_now : IfSome e (λ d. questions ≡ d.text_at words.questions.now)
+    questions_now = still (λ text_at mode_at typed. questions ≡ text_at words.questions.now) c e (opens words.data.now None) third questions_text
+
+    mode_now : IfSome e (λ d. mode ≡ d.mode_at words.questions.now)
+    mode_now = still (λ text_at mode_at typed. mode ≡ mode_at words.questions.now) c e (opens words.data.now None) third questions_mode
+
+    at_disk : (P : Disk → Type 0) (d : Disk) → e ≡ Some d → IfSome e P → P d
+    at_disk P d is h = subst (λ (s : Option Disk). IfSome s P) is h
+
+    same : (d : Disk) → e ≡ Some d → question_sources config questions copy ≡ question_sources_of words d
+    same d is =
+        let config_is : config ≡ d.text_at words.config.now = at_disk (λ x. config ≡ x.text_at words.config.now) d is config_now in
+        let questions_are : questions ≡ d.text_at words.questions.now = at_disk (λ x. questions ≡ x.text_at words.questions.now) d is questions_now in
+        let copy_is : copy ≡ d.text_at words.data.now = at_disk (λ x. copy ≡ x.text_at words.data.now) d is copy_text in
+        λ i. question_sources (config_is i) (questions_are i) (copy_is i)
+
+    pub answers : Made e f (λ d. AnswersAll (option_copied words.answers) mode words (question_sources config questions copy) result) → Made a f Whole
+    answers made =
+        opened a b f first
+        (asked b c f second
+        (made_then c e f (opens words.data.now None) Copy Answering third
+        (made_as e f (λ d. AnswersAll (option_copied words.answers) mode words (question_sources config questions copy) result) Answering made
+        (λ d calls is h. subst (λ (k : QuestionSources). AnswersAll (option_copied words.answers) (d.mode_at words.questions.now) words k result calls) (same d is)
+        (subst (λ (m : ℕ). AnswersAll (option_copied words.answers) m words (question_sources config questions copy) result calls) (at_disk (λ x. mode ≡ x.mode_at words.questions.now) d is mode_now) h)))
+        (λ d after is h. inl (after, refl, h))))
+
+-- one of the two ways to answer
+pub into_file : (words : QuestionWords) (path : List ℕ) (mode : ℕ) (known : QuestionSources) (result : Result Tally Fault) (a b : Option Disk) → option_copied words.answers ≡ Some path
+    → Made a b (λ d. WritesAnswers path mode words known result) → Made a b (λ d. AnswersAll (option_copied words.answers) mode words known result)
+into_file words path mode known result a b is made =
+    made_as a b (λ d. WritesAnswers path mode words known result) (λ d. AnswersAll (option_copied words.answers) mode words known result) made
+    (λ d calls at h. subst (λ (o : Option (List ℕ)). AnswersAll o mode words known result calls) (sym is) h)
+
+pub into_none : (words : QuestionWords) (mode : ℕ) (known : QuestionSources) (result : Result Tally Fault) (a b : Option Disk) → option_copied words.answers ≡ None
+    → Made a b (λ d. ReportsAnswers words known result) → Made a b (λ d. AnswersAll (option_copied words.answers) mode words known result)
+into_none words mode known result a b is made =
+    made_as a b (λ d. ReportsAnswers words known result) (λ d. AnswersAll (option_copied words.answers) mode words known result) made
+    (λ d calls at h. subst (λ (o : Option (List ℕ)). AnswersAll o mode words known result calls) (sym is) h)

@@ -1,0 +1,261 @@
+//! `slapkit slapacl --questions`: the files that a command line names, and the questions over them.
+
+ghost use Rattle.std.specs.Prelude.{◌≡◌, [], IfErr, Some};
+ghost use Rattle.std.specs.Option.{option_copied};
+ghost use Rattle.dir_questions.specs.Runs.{question_sources};
+ghost use Rattle.dir_files.specs.FaultArguments.{TellsArgument};
+ghost use Rattle.dir_files.specs.Faults.{IsQuestionsFault};
+ghost use Rattle.dir_files.specs.Notes.{EndsIfUntold, TellsFor, told_text};
+ghost use Rattle.dir_files.specs.QuestionRuns.{AllQuestionCalls, AnswersOrStops, EndsAnswering, NamesItsAnswers, RefusesRepeated, ReportsAnswers, WritesAnswers, first_repeated_of, options_of};
+ghost use Rattle.dir_files.specs.Runs.{Made};
+
+use crate::fault::Fault;
+use crate::files::FileSystem;
+use crate::note::NoteTeller;
+use crate::one_output::finish;
+use crate::slapacl::{hand_over, tell};
+use crate::slapmodify::{dropped, not_created, not_opened, not_reported, run_fault};
+use crate::words::QuestionWords;
+use dir_ldif::{Sink, Source};
+use dir_names::Schema;
+use dir_questions::{QuestionOptions, QuestionsFault, Tally, run_questions_under};
+use dir_tools::{Buffer, HeldMemory, NotedConfig, ToolFault, read_config_with_argument};
+use std::alloc::Global;
+
+/// Answers the file of questions that the words name. The notes on the configuration are told before anything is answered; where a strict
+/// answer is wanted and there are some, nothing is. Where the words ask for more to be told, the teller is handed the argument that a fault of
+/// the configuration is about; it has none if memory ran out as that was sought.
+///
+/// The file of answers gets its name only when it is whole and synced, and the report is written last. After a fault nothing is left of
+/// what the run has made. It has the mode of the questions. The memory that the copy's entries take is left to the system: a program that
+/// goes on afterwards doesn't get it back.
+///
+/// # Errors
+///
+/// In this order: two paths that are the same; a file that can't be opened, the configuration before the questions and these before the
+/// copy; the file of answers can't be created; the configuration's fault; notes that can't be told, or are there though a strict answer is wanted;
+/// the first fault of the questions, and then of the copy; the file of answers can't be written, synced or published, or the report can't be
+/// written.
+pub fn run<'a, F: FileSystem, T: NoteTeller>(
+    alloc: Global,
+    files: &mut F,
+    teller: &mut T,
+    words: &QuestionWords<'a>,
+) -> Result<Tally, Fault<'a>>
+    ensures faults { RefusesRepeated words.now (first_repeated_of words.now) result }
+    ensures calls { Made (F.disk files.old) (F.disk files.new) (λ d. AllQuestionCalls (first_repeated_of words.now) words.now d result) }
+    ensures notes { TellsFor [] words.now.strict (told_text (F.disk files.old) (F.disk files.new) words.now.config.now) result (T.given teller.old) (T.given teller.new) }
+    ensures untold { EndsIfUntold result (T.failures teller.old) (T.failures teller.new) }
+    ensures argument { TellsArgument words.now.verbose (told_text (F.disk files.old) (F.disk files.new) words.now.config.now) result (T.arguments teller.old) (T.arguments teller.new) }
+{
+    if let Some(path) = first_repeated(words) {
+        return Err(Fault::SamePath(path));
+    }
+    let mut config = match files.open(words.config) {
+        Ok(opened) => opened.file,
+        Err(why) => return Err(not_opened(words.config, why)),
+    };
+    let opened = match files.open(words.questions) {
+        Ok(opened) => opened,
+        Err(why) => return Err(not_opened(words.questions, why)),
+    };
+    let mode = opened.mode;
+    let mut questions = opened.file;
+    let mut copy = match files.open(words.data) {
+        Ok(opened) => opened.file,
+        Err(why) => return Err(not_opened(words.data, why)),
+    };
+    match words.answers {
+        Some(path) => with_answers(
+            alloc,
+            files,
+            teller,
+            words,
+            path,
+            mode,
+            &mut config,
+            &mut questions,
+            &mut copy,
+        ),
+        None => without_answers(
+            alloc,
+            files,
+            teller,
+            words,
+            &mut config,
+            &mut questions,
+            &mut copy,
+        ),
+    }
+}
+
+/// The first path that is the same text as one given before it.
+pub fn first_repeated<'a>(words: &QuestionWords<'a>) -> Option<&'a str>
+    ensures { option_copied result ≡ first_repeated_of words.now }
+{
+    let config = words.config;
+    let questions = words.questions;
+    let data = words.data;
+    let answers = words.answers;
+    if questions == config {
+        return Some(questions);
+    }
+    if data == config || data == questions {
+        return Some(data);
+    }
+    if answers == Some(config) || answers == Some(questions) || answers == Some(data) {
+        return answers;
+    }
+    None
+}
+
+/// Creates the draft of the file of answers, and answers the questions into it.
+fn with_answers<'a, F: FileSystem, T: NoteTeller, R: Source, R2: Source, R3: Source>(
+    alloc: Global,
+    files: &mut F,
+    teller: &mut T,
+    words: &QuestionWords<'a>,
+    path: &'a str,
+    mode: u32,
+    config: &mut R,
+    questions: &mut R2,
+    copy: &mut R3,
+) -> Result<Tally, Fault<'a>>
+    requires { option_copied words.now.answers ≡ Some path.now }
+    ensures faults { IfErr result (NamesItsAnswers words.now) }
+    ensures calls { Made (F.disk files.old) (F.disk files.new) (λ _. WritesAnswers path.entry.now mode words.now (question_sources (R.left config.old) (R2.left questions.old) (R3.left copy.old)) result) }
+    ensures notes { TellsFor [] words.now.strict (R.left config.old) result (T.given teller.old) (T.given teller.new) }
+    ensures untold { EndsIfUntold result (T.failures teller.old) (T.failures teller.new) }
+    ensures argument { TellsArgument words.now.verbose (R.left config.old) result (T.arguments teller.old) (T.arguments teller.new) }
+{
+    let mut draft = match files.create(path, mode) {
+        Ok(draft) => draft,
+        Err(why) => return Err(not_created(path, why)),
+    };
+    let mut report = Buffer::new(alloc);
+    match answered(
+        alloc,
+        teller,
+        words,
+        config,
+        questions,
+        copy,
+        &mut draft,
+        &mut report,
+    ) {
+        Ok(tally) => finish(
+            files,
+            path,
+            draft,
+            report.as_slice(),
+            Fault::Questions(QuestionsFault::Write),
+            tally,
+        ),
+        Err(fault) => {
+            files.discard(path, draft);
+            Err(fault)
+        }
+    }
+}
+
+/// Answers the questions, and writes the report alone.
+fn without_answers<'a, F: FileSystem, T: NoteTeller, R: Source, R2: Source, R3: Source>(
+    alloc: Global,
+    files: &mut F,
+    teller: &mut T,
+    words: &QuestionWords<'a>,
+    config: &mut R,
+    questions: &mut R2,
+    copy: &mut R3,
+) -> Result<Tally, Fault<'a>>
+    ensures faults { IfErr result (NamesItsAnswers words.now) }
+    ensures calls { Made (F.disk files.old) (F.disk files.new) (λ _. ReportsAnswers words.now (question_sources (R.left config.old) (R2.left questions.old) (R3.left copy.old)) result) }
+    ensures notes { TellsFor [] words.now.strict (R.left config.old) result (T.given teller.old) (T.given teller.new) }
+    ensures untold { EndsIfUntold result (T.failures teller.old) (T.failures teller.new) }
+    ensures argument { TellsArgument words.now.verbose (R.left config.old) result (T.arguments teller.old) (T.arguments teller.new) }
+{
+    let mut answers = dropped();
+    let mut report = Buffer::new(alloc);
+    let tally = answered(
+        alloc,
+        teller,
+        words,
+        config,
+        questions,
+        copy,
+        &mut answers,
+        &mut report,
+    )?;
+    match files.report(report.as_slice()) {
+        Ok(()) => Ok(tally),
+        Err(why) => Err(not_reported(why)),
+    }
+}
+
+/// Reads the configuration, tells the notes on it, and answers the questions.
+fn answered<'a, T: NoteTeller, R: Source, R2: Source, R3: Source, W: Sink, W2: Sink>(
+    alloc: Global,
+    teller: &mut T,
+    words: &QuestionWords<'a>,
+    config: &mut R,
+    questions: &mut R2,
+    copy: &mut R3,
+    answers: &mut W,
+    report: &mut W2,
+) -> Result<Tally, Fault<'a>>
+    ensures faults { IfErr result (EndsAnswering words.now.strict) }
+    ensures answer { AnswersOrStops words.now (question_sources (R.left config.old) (R2.left questions.old) (R3.left copy.old)) result (W.taken answers.old, W.taken answers.new) (W2.taken report.old, W2.taken report.new) }
+    ensures notes { TellsFor [] words.now.strict (R.left config.old) result (T.given teller.old) (T.given teller.new) }
+    ensures untold { EndsIfUntold result (T.failures teller.old) (T.failures teller.new) }
+    ensures argument { TellsArgument words.now.verbose (R.left config.old) result (T.arguments teller.old) (T.arguments teller.new) }
+{
+    let Ok(schema) = Schema::builtin(alloc) else {
+        return Err(run_fault(ToolFault::Memory));
+    };
+    let NotedConfig {
+        types,
+        config,
+        notes,
+    } = match read_config_with_argument(alloc, &schema, config) {
+        Ok(noted) => noted,
+        Err(why) => {
+            hand_over(teller, words.verbose, why.argument);
+            return Err(run_fault(why.fault));
+        }
+    };
+    tell(teller, notes.as_slice(), words.strict)?;
+    match run_questions_under(
+        alloc,
+        HeldMemory::Left,
+        &types,
+        options_of(words),
+        &config,
+        questions,
+        copy,
+        answers,
+        report,
+    ) {
+        Ok(tally) => Ok(tally),
+        Err(fault) => Err(questions_fault(fault)),
+    }
+}
+
+/// How the words ask that the questions are answered.
+fn options_of(words: &QuestionWords<'_>) -> QuestionOptions
+    ensures { result ≡ options_of words.now }
+{
+    QuestionOptions {
+        answers: words.answers.is_some(),
+        verbose: words.verbose,
+    }
+}
+
+/// The fault of a file of questions, as the program's. The report is written into memory first.
+fn questions_fault<'a>(fault: QuestionsFault) -> Fault<'a>
+    ensures { IsQuestionsFault fault result }
+{
+    match fault {
+        QuestionsFault::Tool(fault) => run_fault(fault),
+        fault => Fault::Questions(fault),
+    }
+}
