@@ -1,6 +1,6 @@
 #!/bin/sh
 # Applies examples/changes.ldif to examples/company.ldif, takes the run back, and compares. Before the run, after it, and once
-# it is taken back, it asks examples/slapd.conf what some people may do.
+# it is taken back, it asks examples/slapd.conf what some people may do; before the run and after it, all of examples/questions.ldif too.
 # usage: demo.sh PROGRAM
 set -eu
 program=$(realpath "$1")
@@ -20,6 +20,12 @@ ask() {
     "$program" slapacl -b "$zoe" -f slapd.conf --data "$1" -v mail userPassword 2> "$work/notes" || told
 }
 
+# All questions of examples/questions.ldif. The exit status is 1 where an answer is not the expected one, too: then there is a report.
+suite() {
+    "$program" slapacl -f slapd.conf --data "$1" --questions questions.ldif > "$work/report" 2> "$work/notes" || [ -s "$work/report" ] || told
+    cat "$work/report"
+}
+
 # A question that was not answered ends the demo, with what was told.
 told() {
     cat "$work/notes" >&2
@@ -35,6 +41,10 @@ echo "The notes on slapd.conf:"
 cat "$work/notes"
 
 echo
+echo "slapkit slapacl -f slapd.conf --data company.ldif --questions questions.ldif 2> notes"
+suite company.ldif
+
+echo
 echo "slapkit slapmodify -b dc=example,dc=com --data company.ldif -l changes.ldif --out new.ldif --undo undo.ldif -v"
 "$program" slapmodify -b dc=example,dc=com --data company.ldif -l changes.ldif \
     --out "$work/new.ldif" --undo "$work/undo.ldif" -v
@@ -46,6 +56,10 @@ grep '^dn:' "$work/new.ldif"
 echo
 echo "The same questions: Mei administers now, in place of Juergen."
 ask "$work/new.ldif"
+
+echo
+echo "slapkit slapacl -f slapd.conf --data new.ldif --questions questions.ldif 2> notes: what the changes make of the expected answers"
+suite "$work/new.ldif"
 
 echo
 echo "The undo file:"

@@ -11,11 +11,11 @@ _slapkit() {
     fi
     case $prev in
         # no words: then readline completes file names, as it does for any command, those with spaces as one word
-        --data | --out | --undo | -f | -l) compopt -o default; return ;;
+        --data | --out | --undo | --questions | --answers | -f | -l) compopt -o default; return ;;
         -b | -D | --last) return ;;
     esac
     if [ "${COMP_WORDS[1]}" = slapacl ]; then
-        COMPREPLY=($(compgen -W "-b -f --data -D -u -v --strict --help" -- "$cur"))
+        COMPREPLY=($(compgen -W "-b -f --data -D -u -v --strict --questions --answers --help" -- "$cur"))
         return
     fi
     COMPREPLY=($(compgen -W "-b --data --out --undo -l --last -f -c -u -v --help" -- "$cur"))

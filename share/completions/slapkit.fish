@@ -20,5 +20,7 @@ complete -c slapkit -n '__fish_seen_subcommand_from slapacl' -s f -r -d "The sla
 complete -c slapkit -n '__fish_seen_subcommand_from slapacl' -l data -r -d "The copy, in LDIF"
 complete -c slapkit -n '__fish_seen_subcommand_from slapacl' -s D -x -d "The requester's name"
 complete -c slapkit -n '__fish_seen_subcommand_from slapacl' -s u -d "Do not look the entry up"
-complete -c slapkit -n '__fish_seen_subcommand_from slapacl' -s v -d "Report the requester's name first"
+complete -c slapkit -n '__fish_seen_subcommand_from slapacl' -s v -d "Report the requester's name first, or every answer"
 complete -c slapkit -n '__fish_seen_subcommand_from slapacl' -l strict -d "Answer nothing where there is a note on the configuration or a word"
+complete -c slapkit -n '__fish_seen_subcommand_from slapacl' -l questions -r -d "A file of questions with the answers that are expected"
+complete -c slapkit -n '__fish_seen_subcommand_from slapacl' -l answers -r -d "The file for the questions with their answers"
