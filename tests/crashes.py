@@ -4,9 +4,10 @@
 usage: crashes.py PROGRAM [KILLS [ENTRIES]]
 
 The program is killed before and after each of its calls that touch a file, and then at KILLS moments (200, if no number is
-given) of a run on a copy of ENTRIES entries (1000).
+given) of a run on a copy of ENTRIES entries (1000). A run of a file of questions that writes its answers is killed at each call, too.
 """
 import os
+import pathlib
 import resource
 import signal
 import subprocess
@@ -16,13 +17,13 @@ import time
 
 import checks
 from checks import Wrong, expect
-from killing import COMMAND, MODE, Trial, made_shim
+from killing import COMMAND, MODE, SuiteTrial, Trial, made_shim
 
 
 def a_run_is_whole(trial):
     expect(trial.run(), (0, trial.report, ""))
-    expect(trial.look(trial.report), ["new", "undo"])
-    expect(sorted(trial.left()), ["new", "undo"], "left")
+    expect(trial.look(trial.report), sorted(trial.outputs))
+    expect(sorted(trial.left()), sorted(trial.outputs), "left")
     expect({path.stat().st_mode & 0o7777 for path in trial.left().values()}, {MODE})
     trial.clear()
 
@@ -39,8 +40,8 @@ def killed_at_each_call(trial, shim):
         trial.run_again(named)
         at += 1
     trial.clear()
-    # the kills came before the undo file had its name, between the two, and after both had theirs
-    expect((found == sorted(found), set(found)), (True, {0, 1, 2}), "files with their names")
+    # the kills came before the undo file had its name, between the two, and after both had theirs; or before and after the answers had theirs
+    expect((found == sorted(found), set(found)), (True, set(range(len(trial.outputs) + 1))), "files with their names")
     return f"{len(found)} kills"
 
 
@@ -105,6 +106,20 @@ def past_a_limit_of_size(trial):
             expect(told, (1, "", f"slapkit: cannot write {output}\n"), f"a limit of {size} bytes")
             expect(trial.left(), {})
     expect(trial.run(preexec_fn=limit(sizes["new"]))[:2], (0, trial.report), "a limit that is just met")
+    trial.clear()
+
+
+def answers_past_a_limit_of_size(trial):
+    size = len(trial.whole["answers"])
+
+    def limit(size):
+        return lambda: resource.setrlimit(resource.RLIMIT_FSIZE, (size, size))
+
+    for least in (0, size - 1):
+        expect(trial.run(preexec_fn=limit(least)), (1, "", "slapkit: cannot write answers\n"), f"a limit of {least} bytes")
+        expect(trial.left(), {})
+    expect(trial.run(preexec_fn=limit(size)), (0, trial.report, ""), "a limit that is just met")
+    expect(trial.look(trial.report), ["answers"])
     trial.clear()
 
 
@@ -183,8 +198,9 @@ def main():
     kills = int(sys.argv[2]) if len(sys.argv) > 2 else 200
     entries = int(sys.argv[3]) if len(sys.argv) > 3 else 1000
     with tempfile.TemporaryDirectory() as folder, tempfile.TemporaryDirectory() as small, tempfile.TemporaryDirectory() as large:
-        shim = made_shim(folder)
-        few, many = Trial(program, small, 6), Trial(program, large, entries)
+        shim, asked = made_shim(folder), pathlib.Path(folder, "asked")
+        asked.mkdir()
+        few, many, suite = Trial(program, small, 6), Trial(program, large, entries), SuiteTrial(program, asked, 6)
         named = [
             ("a run is whole", lambda: a_run_is_whole(many)),
             ("killed at each call", lambda: killed_at_each_call(few, shim)),
@@ -195,6 +211,9 @@ def main():
             ("with a report past a limit of size", lambda: with_a_report_past_a_limit_of_size(few)),
             ("into folders that take no file", lambda: into_folders_that_take_no_file(few)),
             ("onto full devices", lambda: onto_full_devices(few)),
+            ("a run of questions is whole", lambda: a_run_is_whole(suite)),
+            ("killed at each call of a run of questions", lambda: killed_at_each_call(suite, shim)),
+            ("answers past a limit of size", lambda: answers_past_a_limit_of_size(suite)),
         ]
         sys.exit(checks.run("crashes", named))
 

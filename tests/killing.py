@@ -2,7 +2,7 @@
 
 A run may leave drafts, which have names of their own. But a file under the name that it was to have is whole, there is no new
 copy without its undo file, and no report without both. No file is open to more than the copy is, and the next run with the
-same command goes as if nothing had been.
+same command goes as if nothing had been. The same goes for the file of answers of a file of questions, which has the mode of that.
 """
 import os
 import pathlib
@@ -61,8 +61,15 @@ MODE = 0o640
 COMMAND = ["slapmodify", "-b", "dc=com", "--data", "copy", "-l", "changes", "--out", "new", "--undo", "undo"]
 
 
+SUITE = ["slapacl", "-f", "conf", "--data", "copy", "--questions", "questions", "--answers", "answers"]
+
+
 class Trial:
     """Runs of one command in a folder, and what each must come to."""
+
+    command, inputs = COMMAND, ("copy", "changes")
+    # the files that a run makes, in the order in which they get their names
+    outputs = ("undo", "new")
 
     def __init__(self, program, folder, entries):
         self.program, self.folder = program, pathlib.Path(folder)
@@ -82,16 +89,16 @@ class Trial:
     def write(self, name, text):
         (self.folder / name).write_text(text)
 
-    def start(self, words=COMMAND, **how):
-        return subprocess.Popen([self.program, *words], cwd=self.folder, stdout=subprocess.PIPE, stderr=subprocess.PIPE, text=True, **how)
+    def start(self, words=None, **how):
+        return subprocess.Popen([self.program, *(words or self.command)], cwd=self.folder, stdout=subprocess.PIPE, stderr=subprocess.PIPE, text=True, **how)
 
-    def run(self, words=COMMAND, **how):
+    def run(self, words=None, **how):
         with self.start(words, **how) as run:
             told, said = run.communicate(timeout=120)
         return run.returncode, told, said
 
     def left(self):
-        return {path.name: path for path in self.folder.iterdir() if path.name not in ("copy", "changes")}
+        return {path.name: path for path in self.folder.iterdir() if path.name not in self.inputs}
 
     def clear(self):
         for path in self.left().values():
@@ -102,22 +109,40 @@ class Trial:
         left = self.left()
         for name, path in left.items():
             mode = path.stat().st_mode & 0o7777
-            expect(mode & ~MODE, 0, f"{name}: more than the mode of the copy")
+            expect(mode & ~MODE, 0, f"{name}: more than the mode of what was read")
             if name in self.whole:
                 same(path.read_text(), self.whole[name], name)
-            elif not re.fullmatch(r"(new|undo)\.slapkit-\d+", name):
+            elif not re.fullmatch(rf"({'|'.join(self.outputs)})\.slapkit-\d+", name):
                 raise Wrong(f"left: {name}")
         named = sorted(name for name in left if name in self.whole)
-        if named not in ([], ["undo"], ["new", "undo"]) or (told and named != ["new", "undo"]):
+        in_order = [sorted(self.outputs[:count]) for count in range(len(self.outputs) + 1)]
+        if named not in in_order or (told and named != in_order[-1]):
             raise Wrong(f"left: {named}, told: {told!r}")
         return named
 
     def run_again(self, named):
         """The next run, past the files that have their names and past the drafts."""
         if named:
-            expect(self.run(), (1, "", "slapkit: exists already: undo\n"), "the next run, over files that are whole")
+            expect(self.run(), (1, "", f"slapkit: exists already: {self.outputs[0]}\n"), "the next run, over files that are whole")
             for name in named:
                 (self.folder / name).unlink()
         expect(self.run(), (0, self.report, ""), "the next run")
-        expect(self.look(self.report), ["new", "undo"])
+        expect(self.look(self.report), sorted(self.outputs))
         self.clear()
+
+
+class SuiteTrial(Trial):
+    """Runs of a file of questions, one on each entry but the root, which writes its answers."""
+
+    command, inputs, outputs = SUITE, ("copy", "changes", "conf", "questions"), ("answers",)
+
+    def __init__(self, program, folder, entries):
+        super().__init__(program, folder, entries)
+        asked = "".join(block(("dn", f"cn=Person {n:06},dc=com"), ("cn", "=rscxd"), ("description/write", "DENIED")) for n in range(entries))
+        self.write("conf", "database mdb\nsuffix dc=com\naccess to * by * read\n")
+        self.write("questions", asked)
+        # the copy's mode is no matter
+        (self.folder / "copy").chmod(0o666)
+        (self.folder / "questions").chmod(MODE)
+        self.whole = {"answers": asked}
+        self.report = f"as expected {2 * entries}, otherwise 0, asked 0\n"

@@ -57,12 +57,14 @@ def text_of(completion):
 
 
 def the_manual_pages_have_the_codes(_):
-    """The codes of docs/CODES.md: those of a slapd.conf are on slapacl's page, all others on slapmodify's, with those that its -f may tell."""
-    codes = set(re.findall(r"\b((?:\d+ [a-z]+[A-Z]\w*)|(?:[LNC]\d+ [A-Z]\w+))", (ROOT / "docs/CODES.md").read_text()))
-    of_configurations = {code for code in codes if code.startswith("C")}
+    """The codes of docs/CODES.md: those of a slapd.conf and of questions are on slapacl's page, all others on slapmodify's, with those that its -f may tell."""
+    codes = set(re.findall(r"\b((?:\d+ [a-z]+[A-Z]\w*)|(?:[ALNC]\d+ [A-Z]\w+))", (ROOT / "docs/CODES.md").read_text()))
+    of_slapacl = {code for code in codes if code[0] in "AC"}
+    of_questions = {"A1 BadBlock", "A2 BadName", "A3 BadWord", "A4 BadAnswer", "A5 TooLong"}
+    expect({code for code in codes if code.startswith("A")}, of_questions, "codes of a file of questions in docs/CODES.md")
     of_types = {"C11 ConfigTooLong", "C12 BadType"}
     expect(of_types - codes, set(), "codes of -f that docs/CODES.md lacks")
-    for tool, those in [("slapmodify", codes - of_configurations | of_types), ("slapacl", of_configurations)]:
+    for tool, those in [("slapmodify", codes - of_slapacl | of_types), ("slapacl", of_slapacl)]:
         expect(sorted(code for code in those if code not in page_of(tool)), [], f"codes that the page of {tool} lacks")
 
 

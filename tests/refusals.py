@@ -11,6 +11,8 @@ is told after all of them, and where one can't be written there is no report.
 
 Both tools are also run under the attribute types of a configuration: its opening and reads are refused, and each call for memory from the first read of
 it up to the first of the copy. And the first group of an undo file is run, where each opening, read and call for memory is refused.
+
+A file of questions is answered, which is examples/questions.ldif: its answers are written, and each kind of call is refused.
 """
 import dataclasses
 import os
@@ -25,7 +27,7 @@ from checks import Wrong
 from runs import IN_MEMORY
 
 EXAMPLES = pathlib.Path(__file__).resolve().parent.parent / "examples"
-COPY, CHANGES, CONF = EXAMPLES / "company.ldif", EXAMPLES / "changes.ldif", EXAMPLES / "slapd.conf"
+COPY, CHANGES, CONF, QUESTIONS = (EXAMPLES / name for name in ("company.ldif", "changes.ldif", "slapd.conf", "questions.ldif"))
 NOTES = notes_of(CONF.read_bytes())
 
 # A configuration that defines an attribute type, and a copy with changes that are accepted only where values are compared by it. Its rule names
@@ -172,6 +174,11 @@ def question_in(folder):
     return ["slapacl", "-b", zoe, "-f", CONF, "--data", COPY, "-D", juergen, "-v", "mail/write", "title", "userPassword"]
 
 
+def suite_in(folder):
+    """A file of questions, whose answers are written."""
+    return ["slapacl", "-f", CONF, "--data", COPY, "--questions", QUESTIONS, "--answers", folder / "answers", "-v"]
+
+
 def typed_changes_in(folder):
     """A run under the types of a configuration."""
     words = ["slapmodify", "-b", "dc=com", "--data", "copy", "-l", "changes", "-f", "conf"]
@@ -217,19 +224,19 @@ def memory_is_told(left, whole):
 
 
 def opening_is_told(left, whole):
-    paths = ("/", str(CONF), str(COPY), str(CHANGES), *TYPED, *MARKED, "undo", "new")
+    paths = ("/", str(CONF), str(COPY), str(CHANGES), str(QUESTIONS), *TYPED, *MARKED, "undo", "new", "answers")
     # The folder is opened to be synced.
-    return ends(left, *(f"slapkit: cannot open {path}\n" for path in paths), *NOT_WRITTEN)
+    return ends(left, *(f"slapkit: cannot open {path}\n" for path in paths), *not_written(whole))
 
 
 def read_is_told(left, whole):
-    return ends(left, "slapkit: cannot read config\n", *(f"{whole.message}slapkit: cannot read {text}\n" for text in ("copy", "changes")))
+    return ends(left, "slapkit: cannot read config\n", *(f"{whole.message}slapkit: cannot read {text}\n" for text in ("copy", "changes", "questions")))
 
 
 def write_is_told(left, whole):
     if left.message == f"{whole.message}slapkit: cannot write report\n":
         return left.status == 1 and not left.files and whole.report.startswith(left.report) and left.report != whole.report
-    return ends(left, *NOT_WRITTEN)
+    return ends(left, *not_written(whole))
 
 
 def notes_are_told_in_part(left, whole, told=""):
@@ -242,14 +249,19 @@ def unwritten_notes_are_told(left, whole):
     return notes_are_told_in_part(left, whole, "slapkit: cannot write notes\n")
 
 
+def not_written(whole):
+    """What is told of a file that can't be written: after the notes, if there are some."""
+    return [f"{whole.message}slapkit: cannot write {name}\n" for name in ("undo", "out", "answers")]
+
+
 def a_file_is_not_written(left, whole):
-    return ends(left, *NOT_WRITTEN)
+    return ends(left, *not_written(whole))
 
 
 def files_are_whole_where_they_cannot_be_removed(left, whole):
     named = {name: text for name, text in left.files.items() if ".slapkit-" not in name}
     in_order = "new" not in named or "undo" in named
-    return left.status == 1 and left.message in NOT_WRITTEN and not left.report and in_order and named.items() <= whole.files.items()
+    return left.status == 1 and left.message in not_written(whole) and not left.report and in_order and named.items() <= whole.files.items()
 
 
 def run_is_whole(left, whole):
@@ -257,10 +269,9 @@ def run_is_whole(left, whole):
 
 
 def folders_need_not_be_synced(left, whole):
-    return left == whole or ends(left, *NOT_WRITTEN)
+    return left == whole or ends(left, *not_written(whole))
 
 
-NOT_WRITTEN = ("slapkit: cannot write undo\n", "slapkit: cannot write out\n")
 NO_LINKS = {"NO_LINKS": "1"}
 
 # Each kind of call, what its refusal may leave, and, of the refusal of all calls after it too, the same.
@@ -308,6 +319,9 @@ KINDS_OF_QUESTIONS = {
     "write to standard error, by a signal": (run_is_whole, None),
 }
 
+# A file of questions whose answers are written: as for the files of a run, and for the notes of a question.
+KINDS_OF_SUITES = KINDS | {kind: left for kind, left in KINDS_OF_QUESTIONS.items() if "standard error" in kind}
+
 # Under the types of a configuration: its opening and reading, and each call for memory while the types are read.
 KINDS_UNDER_TYPES = {
     "opening": (opening_is_told, opening_is_told),
@@ -326,6 +340,8 @@ RUNS = [
     ("", changes_in, ["new", "undo"], "", KINDS, {}),
     (", without hard links", changes_in, ["new", "undo"], "", KINDS_WITHOUT_LINKS, NO_LINKS),
     (" of a question", question_in, [], NOTES, KINDS_OF_QUESTIONS, {}),
+    (" of a file of questions", suite_in, ["answers"], NOTES, KINDS_OF_SUITES, {}),
+    (" of a file of questions, without hard links", suite_in, ["answers"], NOTES, KINDS_WITHOUT_LINKS, NO_LINKS),
     (" under types", typed_changes_in, ["new", "undo"], "", KINDS_UNDER_TYPES, {}),
     (" while the types of a run are read", typed_changes_in, ["new", "undo"], "", MEMORY, WHILE_TYPES_ARE_READ),
     (" of the first group of an undo file", way_back_in, ["new", "undo"], "", KINDS_OF_GROUPS, {}),

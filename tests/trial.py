@@ -21,6 +21,7 @@ SCRIPTS = (
     "cut.py",
     "forms.py",
     "questions.py",
+    "suites.py",
     "terminal.py",
     "memory_answers.py",
     "frequent_types.py",
