@@ -10,11 +10,12 @@ fits.
 Each is a file with a line `file:`, pairs of lines `old:` (once in that file) and `new:`, and where the function that the prover must refuse
 isn't the one whose line changes first, a line `fn:` with its path. One wrong body after the other is planted in a copy of the crates, and its
 function tried by `rt check --only`, with all that it calls in its crate: it is refused where the edited crate compiles, and the prover ends and does not accept
-the function, but all others. That it accepts the functions as they stand is seen before, and what it then checked is kept for the wrong bodies. The libraries below are
-taken as `rt lib` or `rt check` have built them in this checkout, and those that are lacking are built.
+the function, but all others. The seconds of a processor that it took are told. That it accepts the functions as they stand is seen before, and what it then checked is
+kept for the wrong bodies. The libraries below are taken as `rt lib` or `rt check` have built them in this checkout, and those that are lacking are built.
 
 --after-ci is for the gate, right after `rt ci` has proved all crates of this checkout: the libraries are taken as `rt ci` left them. `rt check` would build
-these anew, so the prover is called as `rt` calls it.
+these anew, so the prover is called as `rt` calls it. That the functions are proved as they stand has just been seen. So the wrong bodies of a crate are tried one after the
+other, and what was checked for one is kept for the next.
 
 --quick proves nothing: it looks whether each of bugs/ and must-fail/ still finds the line that it changes, changes code, and compiles. It
 also names those that take away a name which a proof of the changed function may cite: where the prover refuses one of these, that need not show
@@ -144,12 +145,15 @@ def prover(home, after_ci):
 
 
 def check(home, functions, after_ci):
-    """Has the prover try these functions of a crate, with what they call there, or else all of it, and returns the status and what it said."""
+    """Has the prover try these functions of a crate, with what they call there, or else all of it, and returns the status, what it said, and the seconds of a processor that it took."""
     words = [] if None in functions else [word for function in sorted(functions) for word in ("--only", function)]
     (home / "out").mkdir(exist_ok=True)
-    how = {"cwd": home, "stdin": subprocess.DEVNULL, "stdout": subprocess.PIPE, "stderr": subprocess.STDOUT, "text": True, "errors": "replace"}
-    ran = subprocess.run([*prover(home, after_ci), *words], **how)
-    return ran.returncode, ran.stdout
+    with tempfile.TemporaryFile() as said:
+        ran = subprocess.Popen([*prover(home, after_ci), *words], cwd=home, stdin=subprocess.DEVNULL, stdout=said, stderr=subprocess.STDOUT)
+        _, status, used = os.wait4(ran.pid, 0)
+        ran.returncode = os.waitstatus_to_exitcode(status)
+        said.seek(0)
+        return ran.returncode, said.read().decode(errors="replace"), used.ru_utime + used.ru_stime
 
 
 # What a proof says that names what an edit took away: it shows nothing of a contract.
@@ -188,39 +192,55 @@ def functions_of(crate, edits):
 
 def are_proved(crate, edits, folder, after_ci):
     """Whether the prover accepts the functions of these edits as they stand, in a copy in this folder, where it keeps what it has checked."""
-    status, said = check(copy_of_crates(folder / crate) / "crates" / crate, functions_of(crate, edits), after_ci)
+    status, said, _ = check(copy_of_crates(folder / crate) / "crates" / crate, functions_of(crate, edits), after_ci)
     if status:
         print(f"{crate}: what the wrong bodies change is not proved as it stands:\n{said[-2000:]}", flush=True)
     return status == 0
 
 
+def keep_new(own, kept):
+    """Keeps the files that a check has made, but for those that are kept already: these are of the crate as it stands, where it has been checked so."""
+    for file in own.rglob("*"):
+        to = kept / file.relative_to(own)
+        if file.is_dir():
+            to.mkdir(parents=True, exist_ok=True)
+        elif not to.exists():
+            link_or_copy(file, to)
+
+
 def is_refused(crate, edit, folder, after_ci):
-    """Whether the prover refuses this edit of the crate, planted in a copy of the repository, over what it has checked of the crate as that stands."""
-    texts, refused = {}, None
+    """Whether the prover refuses this edit of the crate, planted in a copy of the repository, over what it has checked of the crate so far."""
+    texts, refused, took = {}, None, 0
     changes, fault = changes_of(edit, crate, texts)
     if fault:
         fault = f"BAD EDIT: {fault}"
     else:
         with tempfile.TemporaryDirectory() as own:
             copy = copy_of_crates(pathlib.Path(own) / crate)
-            home, function = copy / "crates" / crate, function_of(edit, crate, changes, texts)
-            shutil.copytree(folder / crate / "crates" / crate / KEPT, home / KEPT, copy_function=link_or_copy)
+            home, function, kept = copy / "crates" / crate, function_of(edit, crate, changes, texts), folder / crate / "crates" / crate / KEPT
+            if kept.exists():
+                shutil.copytree(kept, home / KEPT, copy_function=link_or_copy)
             plant(copy, texts, changes)
-            status, said = check(home, {function}, after_ci)
+            status, said, took = check(home, {function}, after_ci)
             if status == -signal.SIGKILL:
                 # most likely for memory
-                status, said = check(home, {function}, after_ci)
+                status, said, took = check(home, {function}, after_ci)
             refused, fault = refused_for(status, said, names_of(changes, texts))
-    print(f"{crate}/{edit.stem}: {fault or 'refused, as it must be: ' + refused}", flush=True)
+            if after_ci:
+                keep_new(home / KEPT, kept)
+    print(f"{crate}/{edit.stem}: {fault or 'refused, as it must be: ' + refused} ({took:.0f} s)", flush=True)
     return refused is not None
 
 
 def count_refused(crate, edits, folder, after_ci, pool):
-    """How many of these edits of the crate the prover refuses."""
-    if not pool.submit(are_proved, crate, edits, folder, after_ci).result():
+    """How many of these edits of the crate the prover refuses. Where `rt ci` has not just proved their functions as they stand, these are proved first, for all edits."""
+    if after_ci:
+        count = sum(pool.submit(is_refused, crate, edit, folder, after_ci).result() for edit in edits)
+    elif pool.submit(are_proved, crate, edits, folder, after_ci).result():
+        tried = [pool.submit(is_refused, crate, edit, folder, after_ci) for edit in edits]
+        count = sum(it.result() for it in tried)
+    else:
         return 0
-    tried = [pool.submit(is_refused, crate, edit, folder, after_ci) for edit in edits]
-    count = sum(it.result() for it in tried)
     print(f"{crate}: {count} of {len(edits)} wrong bodies refused", flush=True)
     return count
 
