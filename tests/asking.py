@@ -167,9 +167,15 @@ def written(block, found):
     return texts.block(*lines, *((word.text, answer) for word, answer in zip(block.words, found, strict=True)))
 
 
-def answer_of(config, questions, copy, is_verbose):
-    """The status, the report and the file of answers, or a fault of the questions, and then of the copy."""
-    blocks = blocks_of(questions)
+def notes_on(blocks):
+    """What is told of the words, in their order: each note as one on a word of a command line, but with its line."""
+    return "".join(
+        access.note_on_word(word.text).replace("note: word", f"note: questions, line {word.line}: word", 1) for block in blocks for word in block.words
+    )
+
+
+def answer_of(config, blocks, copy, is_verbose):
+    """The status, the report and the file of answers, or a fault of the copy."""
     directory = answers.directory_of(config.suffix, copy)
     report, file, as_expected, otherwise, asked = "", "", 0, 0, 0
     for block in blocks:
@@ -193,10 +199,11 @@ def suite_answer(data, questions, copy, *, is_verbose=False, is_strict=False):
     with names.types_of(table):
         try:
             config = access.read_config(data)
-            notes = access.notes_of(data)
+            blocks = blocks_of(questions)
+            notes = access.notes_of(data) + notes_on(blocks)
             if is_strict and notes:
                 raise Fault(access.HAS_NOTES)
-            status, report, file = answer_of(config, questions, copy, is_verbose)
+            status, report, file = answer_of(config, blocks, copy, is_verbose)
             return Suite(status, report, notes, file)
         except access.ConfigFault as fault:
             return Suite(1, "", f"slapkit: {fault}\n{fault.told if is_verbose else ''}")

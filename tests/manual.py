@@ -77,17 +77,19 @@ def notes_told(program):
         (folder / "copy").write_text("")
         for more in (rules, ""):
             (folder / "conf").write_text(f"database mdb\nsuffix dc=com\n{more}")
-            words = [program, "slapacl", "--strict", "-b", "dc=com", "-f", folder / "conf", "--data", folder / "copy", "X-WORD"]
-            told += subprocess.run(words, capture_output=True, text=True, timeout=60).stderr.splitlines()
+            (folder / "questions").write_text("dn: dc=com\nX-WORD:\n")
+            for asked in (["-b", "dc=com", "X-WORD"], ["--questions", folder / "questions"]):
+                words = [program, "slapacl", "--strict", "-f", folder / "conf", "--data", folder / "copy", *asked]
+                told += subprocess.run(words, capture_output=True, text=True, timeout=60).stderr.splitlines()
     return {re.sub(r"^slapkit: (note: )?", "", re.sub(r"line \d+", "line N", line)).replace("X-DESCRIPTION", "DESCRIPTION").replace('"X-WORD": unknown attribute "X-WORD"', '"WORD": unknown attribute "DESCRIPTION"') for line in told}
 
 
 def the_documents_have_the_notes(program):
     notes = notes_told(program)
-    expect(len(notes), 7, f"kinds of notes, and the fault: {notes}")
-    explained = set(re.findall(r"^\| `(config(?:, line N)?: [^`]*|word \"[^`]*|not answered[^`]*)` \|", (ROOT / "docs/CODES.md").read_text(), re.M))
+    expect(len(notes), 8, f"kinds of notes, and the fault: {notes}")
+    explained = set(re.findall(r"^\| `(config(?:, line N)?: [^`]*|(?:questions, line N: )?word \"[^`]*|not answered[^`]*)` \|", (ROOT / "docs/CODES.md").read_text(), re.M))
     expect(explained, notes, "explained by docs/CODES.md")
-    items = re.findall(r"^\.It ((?:config(?:, line N)?: (?!C\d)|word \"|not answered).*)", page_of("slapacl").replace("\\(dq", '"'), re.M)
+    items = re.findall(r"^\.It ((?:config(?:, line N)?: (?!C\d)|(?:questions, line N: )?word \"|not answered).*)", page_of("slapacl").replace("\\(dq", '"'), re.M)
     expect(set(items), notes, "explained by the manual page")
 
 

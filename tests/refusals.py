@@ -230,7 +230,9 @@ def opening_is_told(left, whole):
 
 
 def read_is_told(left, whole):
-    return ends(left, "slapkit: cannot read config\n", *(f"{whole.message}slapkit: cannot read {text}\n" for text in ("copy", "changes", "questions")))
+    # The notes are told once the configuration and the questions were read.
+    before = [f"slapkit: cannot read {text}\n" for text in ("config", "questions")]
+    return ends(left, *before, *(f"{whole.message}slapkit: cannot read {text}\n" for text in ("copy", "changes")))
 
 
 def write_is_told(left, whole):

@@ -43,6 +43,9 @@ STRICT = "slapkit: not answered, because there are notes\n"
 ONE = "dn: cn=t,dc=com\ncn: =rscxd\n"
 ONE_REPORT = "as expected 1, otherwise 0, asked 0\n"
 BAD_COPY = "dn: x\n\n"
+# a word of a type that isn't known
+GN = "dn: cn=t,dc=com\ngn: =rscxd\n"
+GN_NOTE = 'slapkit: note: questions, line 2: word "gn": unknown attribute "gn"\n'
 
 
 def ask(place, questions, *options, conf=CONF, copy=COPY):
@@ -71,13 +74,14 @@ def encoded(value):
 
 @dataclasses.dataclass
 class Form:
-    """A file of questions, the verbose report without its counts, these counts, and the file of answers."""
+    """A file of questions, the verbose report without its counts, these counts, the file of answers, and the notes."""
 
     shows: str
     questions: str
     report: str
     counts: tuple
     answers: str
+    notes: str = ""
 
 
 LONG = "cn=" + "x" * 90
@@ -92,6 +96,7 @@ FORMS = [
         "line 5: ENTRY: =rscxd, expected =0\nline 6: children;x: =rscxd, as expected\nline 7: cn: =rscxd, as expected\nline 8: cn: =rscxd, as expected\n",
         (4, 2, 1),
         "dn: cn=t,dc=com\nCN/Read: ALLOWED\n2.5.4.3/write: DENIED\ncn/NONE: ALLOWED\nENTRY: =rscxd\nchildren;x: =rscxd\ncn: =rscxd\ncn: =rscxd\n\n",
+        'slapkit: note: questions, line 6: word "children;x": unknown attribute "children;x"\n',
     ),
     Form(
         "nobody, in each way, and somebody",
@@ -159,14 +164,14 @@ def check_forms(place):
     for row in FORMS:
         as_expected, otherwise, asked = row.counts
         last, status = f"as expected {as_expected}, otherwise {otherwise}, asked {asked}\n", int(otherwise > 0)
-        wanted = Suite(status, row.report + last, "", row.answers)
+        wanted = Suite(status, row.report + last, row.notes, row.answers)
         expect(ask(place, row.questions, "-v"), wanted, row.shows)
         expect(by_model(row.questions, "-v"), wanted, f"{row.shows}, by the model")
         # without -v, what is otherwise alone has a line; and without a file of answers, nothing else is different
         short = "".join(line for line in row.report.splitlines(keepends=True) if ", expected " in line) + last
-        expect(ask(place, row.questions), Suite(status, short, "", row.answers), f"{row.shows}, without -v")
+        expect(ask(place, row.questions), Suite(status, short, row.notes, row.answers), f"{row.shows}, without -v")
         found = place.run("slapacl", "-f", "conf", "--data", "copy", "--questions", "questions")
-        expect(found, (status, short, ""), f"{row.shows}, without --answers")
+        expect(found, (status, short, row.notes), f"{row.shows}, without --answers")
         # what was written is answered as expected, and written again
         answered_again(place, row.answers, as_expected + otherwise + asked, row.shows)
     return f"{len(FORMS)} files"
@@ -317,8 +322,9 @@ ORDER = [
     Order("then the configuration", "config, line 3: C2 Unsupported", conf=BAD_CONF, questions=NO_BLOCK, copy=BAD_COPY),
     Order("with its argument", "config, line 3: C2 Unsupported\nslapkit: note: line 3: \"peek\"", conf=BAD_CONF, options=("-v",)),
     Order("its types", "config, line 1: C12 BadType", conf="attributetype x\n", questions=NO_BLOCK),
-    Order("then its notes, where they end the run", STRICT[9:-1], conf=NOTED_CONF, questions=NO_BLOCK, copy=BAD_COPY, options=("--strict",), notes=NOTE),
-    Order("then the questions", "questions, line 1: A1 BadBlock", conf=NOTED_CONF, questions=NO_BLOCK, copy=BAD_COPY, notes=NOTE),
+    Order("then the questions, before its notes", "questions, line 1: A1 BadBlock", conf=NOTED_CONF, questions=NO_BLOCK, copy=BAD_COPY, options=("--strict",)),
+    Order("then the notes, where they end the run", STRICT[9:-1], conf=NOTED_CONF, questions=GN, copy=BAD_COPY, options=("--strict",), notes=NOTE + GN_NOTE),
+    Order("those on words too", STRICT[9:-1], questions=GN, copy=BAD_COPY, options=("--strict",), notes=GN_NOTE),
     Order("then the copy", "copy, line 1: L9 N4 BadDn", conf=NOTED_CONF, copy=BAD_COPY, notes=NOTE),
     Order("a folder as the configuration", "cannot read config", paths=("/", "questions", "copy", "out"), questions=NO_BLOCK),
     Order("a folder as the questions", "cannot read questions", paths=("conf", "/", "copy", "out"), copy=BAD_COPY),
@@ -349,9 +355,12 @@ def check_order(place):
 def check_strict(place):
     expect(ask(place, ONE, "--strict"), Suite(0, ONE_REPORT, "", f"{ONE}\n"), "without notes")
     expect(ask(place, ONE, conf=NOTED_CONF), Suite(0, ONE_REPORT, NOTE, f"{ONE}\n"), "with a note")
-    # the words of the questions have no notes
-    gn = "dn: cn=t,dc=com\ngn: =rscxd\n"
-    expect(ask(place, gn, "--strict"), Suite(0, ONE_REPORT, "", f"{gn}\n"), "a word of an unknown type")
+    expect(ask(place, GN), Suite(0, ONE_REPORT, GN_NOTE, f"{GN}\n"), "with a note on a word")
+    expect(ask(place, GN, conf=NOTED_CONF), Suite(0, ONE_REPORT, NOTE + GN_NOTE, f"{GN}\n"), "with both")
+    expect(ask(place, GN, "--strict"), Suite(1, "", GN_NOTE + STRICT), "a note on a word that ends the run")
+    twice = f"{GN}gn/write: DENIED\nentry: =rscxd\n\n{GN}"
+    told = "".join(GN_NOTE.replace("line 2", f"line {line}").replace('"gn"', f'"{word}"', 1) for line, word in ((2, "gn"), (3, "gn/write"), (7, "gn")))
+    expect(ask(place, twice), Suite(0, "as expected 4, otherwise 0, asked 0\n", told, f"{twice}\n"), "a word that comes twice")
 
 
 # ---- the command line

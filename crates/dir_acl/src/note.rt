@@ -17,7 +17,7 @@ use std::alloc::Global;
 /// What a configuration says on a line, or a word of a question, that answers may rest on, and that isn't known or not looked at here.
 #[derive(Debug, Drop)]
 pub struct Note {
-    /// The number, from 1, of the line on which what is noted begins; 0 for `NoRule` and `UnknownInWord`.
+    /// The number, from 1, of the line on which what is noted begins; 0 for `NoRule`, and for a word of a command line.
     pub line: u64,
     pub cause: NoteCause,
 }

@@ -7,7 +7,9 @@ use Rattle.dir_questions.specs.declared.fault.QuestionsFault.{QuestionsFault}
 use Rattle.dir_questions.specs.declared.fault.QuestionsFault.TheVariants as suite
 use Rattle.dir_questions.specs.declared.report.Tally.{Tally}
 use Rattle.dir_questions.specs.Runs as runs
-use Rattle.dir_questions.specs.Runs.{IsFaultOfQuestions, QuestionSources, question_sources}
+use Rattle.dir_questions.specs.declared.run.QuestionOptions.{QuestionOptions}
+use Rattle.dir_questions.specs.Reading.{IsAskedFault}
+use Rattle.dir_questions.specs.Runs.{AnswersQuestions, HasNoLines, IsFaultOfQuestions, IsWholeAnswer, QuestionSources, QuestionTexts, WroteAnswers, question_sources}
 use Rattle.dir_questions.proofs.RunLemmas.{config_blamed, fault_answers, no_texts, nothing_written}
 use Rattle.dir_acl.specs.declared.note.Note.{Note}
 use Rattle.dir_tools.specs.declared.fault.Input.TheVariants as input
@@ -23,23 +25,21 @@ use Rattle.dir_files.specs.declared.fault.Fault.TheVariants as fault
 use Rattle.dir_files.specs.declared.files.Refusal.{Refusal}
 use Rattle.dir_files.specs.Faults.{FailsSo, IsExists, IsNotCreated, IsNotOpened, IsNotReported, IsQuestionsFault, IsRunFault, IsTool}
 use Rattle.dir_files.specs.Files.{Call, Disk, Told, creates, discards, opens, reports}
-use Rattle.dir_files.specs.Notes.{AreNotesOf, AreToldFor, IsAfterNotes, MayBeAnswered, TellsFor}
+use Rattle.dir_files.specs.Notes.{AreNotesOf, AreToldFor, AreToldOfQuestions, IsAfterNotes, MayBeAnswered, NotesOnAsked, TellsFor}
 use Rattle.dir_files.specs.OneOutput.{IsUnfinished}
-use Rattle.dir_files.specs.QuestionRuns.{AllQuestionCalls, AnswersAll, AnswersIntoDraft, AnswersOrStops, EndsAnswering, EndsWithAnswers, EndsWithReport, NamesItsAnswers, QuestionCalls, ReportsAnswers, WritesAnswers, options_of, question_sources_of}
+use Rattle.dir_files.specs.QuestionRuns.{AllQuestionCalls, AnswersAll, AnswersIntoDraft, AnswersOrStops, AnswersOver, EndsAnswering, EndsWithAnswers, EndsWithReport, IsToldAs, NamesItsAnswers, QuestionCalls, ReportsAnswers, WritesAnswers, options_of, question_sources_of}
 use Rattle.dir_files.specs.Runs.{Ends, Made, Opens}
 use Rattle.dir_files.proofs.CallLemmas.{Just, at_some, ends, just_none, just_one, made_as, made_none, made_then, still, tries_on, tries_refused}
-use Rattle.dir_files.proofs.NoteLemmas.{all_told}
+use Rattle.dir_files.proofs.NoteLemmas.{all_told, none_given, none_told}
 
 -- ---- the answer
 
--- the configuration has a fault, or is not read
-pub unread : (words : QuestionWords) (config questions copy : Option (List ℕ)) (e : ToolFault) (shown : Fault) (answers report : Option (List ℕ))
-    → IsConfigFault builtin_rows config e → IsRunFault e shown
+-- what is read is at fault, or memory ran out
+pub at_fault : (words : QuestionWords) (config questions copy : Option (List ℕ)) (why : QuestionsFault) (shown : Fault) (answers report : Option (List ℕ))
+    → IsFaultOfQuestions builtin_rows (question_sources config questions copy) why → IsQuestionsFault why shown
     → AnswersOrStops words (question_sources config questions copy) (Err shown) (answers, answers) (report, report)
-unread words config questions copy e shown answers report h is =
+at_fault words config questions copy why shown answers report blamed is =
     let known : QuestionSources = question_sources config questions copy in
-    let why : QuestionsFault = suite.Tool e in
-    let blamed : IsFaultOfQuestions builtin_rows known why = config_blamed builtin_rows known e h in
     let answer = fault_answers builtin_rows (options_of words) config questions copy why no_texts blamed in
     inr (
       Err why,
@@ -51,6 +51,21 @@ unread words config questions copy e shown answers report h is =
       },
       is,
     )
+
+-- the configuration has a fault, or is not read
+pub unread : (words : QuestionWords) (config questions copy : Option (List ℕ)) (e : ToolFault) (shown : Fault) (answers report : Option (List ℕ))
+    → IsConfigFault builtin_rows config e → IsRunFault e shown
+    → AnswersOrStops words (question_sources config questions copy) (Err shown) (answers, answers) (report, report)
+unread words config questions copy e shown answers report h is =
+    at_fault words config questions copy (suite.Tool e) shown answers report (config_blamed builtin_rows (question_sources config questions copy) e h) is
+
+-- the tool answers
+pub answers_over : (words : QuestionWords) (known : QuestionSources) (options : QuestionOptions) (answer : Result Tally QuestionsFault) (texts : QuestionTexts) (told : Result Tally Fault) (answers report : TakenBytes)
+    → options ≡ options_of words → WroteAnswers options.answers answer texts answers report
+    → AnswersQuestions builtin_rows options known answer texts × IsWholeAnswer builtin_rows options known answer texts → IsToldAs answer told → AnswersOrStops words known told answers report
+answers_over words known options answer texts told answers report same wrote stated is =
+    let over : AnswersOver options known answer answers report = record { texts = texts; wrote = wrote; stated = stated.0; whole = stated.1 } in
+    inr (answer, subst (λ (o : QuestionOptions). AnswersOver o known answer answers report) same over, is)
 
 -- what the tool writes into the report is what the buffer has taken
 pub over_report : (words : QuestionWords) (known : QuestionSources) (told : Result Tally Fault) (answers : TakenBytes) (before after : Option (List ℕ)) (report : List ℕ)
@@ -87,20 +102,76 @@ run_after (tool.BadChanges why) e h is = tool_after (tool.BadChanges why) e tt i
 run_after tool.NoEntry e h is = tool_after tool.NoEntry e tt is
 run_after (tool.TooFewGroups groups) e h is = tool_after (tool.TooFewGroups groups) e tt is
 
-asked_after : (why : QuestionsFault) (e : Fault) → e ≡ fault.Questions why → IsAfterNotes e
-asked_after why e is = subst IsAfterNotes (sym is) tt
-
--- a fault of the questions, or of what is read after them, comes after the notes
-pub questions_after : (why : QuestionsFault) (e : Fault) → runs.ComesAfterConfig why → IsQuestionsFault why e → IsAfterNotes e
+-- a fault of what is read after the questions, or of the writing, comes after the notes
+pub questions_after : (why : QuestionsFault) (e : Fault) → runs.ComesAfterQuestions why → IsQuestionsFault why e → IsAfterNotes e
 questions_after (suite.Tool told) e h is = run_after told e h is
-questions_after suite.Read e h is = asked_after suite.Read e is
-questions_after suite.TooLong e h is = asked_after suite.TooLong e is
-questions_after (suite.Stream why) e h is = asked_after (suite.Stream why) e is
-questions_after (suite.Block line why) e h is = asked_after (suite.Block line why) e is
-questions_after suite.Write e h is = asked_after suite.Write e is
+questions_after suite.Write e h is = subst IsAfterNotes (sym is) tt
+questions_after suite.Read e h is = absurd (h)
+questions_after suite.TooLong e h is = absurd (h)
+questions_after (suite.Stream why) e h is = absurd (h)
+questions_after (suite.Block line why) e h is = absurd (h)
+
+-- a fault of the questions comes before them; so does that memory ran out as they were read
+abbrev IsBeforeNotes : QuestionsFault → Type 0
+IsBeforeNotes suite.Write = ⊥
+IsBeforeNotes (suite.Tool tool.Memory) = ⊤
+IsBeforeNotes (suite.Tool why) = ⊥
+IsBeforeNotes why = ⊤
+
+pub lines_before : (text : Option (List ℕ)) (failures failures' : ℕ) (why : QuestionsFault) → HasNoLines text failures failures' why → IsBeforeNotes why
+lines_before text failures failures' suite.Read h = tt
+lines_before text failures failures' suite.TooLong h = tt
+lines_before text failures failures' (suite.Stream why) h = tt
+lines_before text failures failures' (suite.Block line why) h = tt
+lines_before text failures failures' suite.Write h = absurd (h)
+lines_before text failures failures' (suite.Tool tool.Memory) h = tt
+lines_before text failures failures' (suite.Tool (tool.BadCopy line why)) h = absurd (h)
+lines_before text failures failures' (suite.Tool (tool.Read from)) h = absurd (h)
+lines_before text failures failures' (suite.Tool (tool.Write to)) h = absurd (h)
+lines_before text failures failures' (suite.Tool (tool.BadQuestion item)) h = absurd (h)
+lines_before text failures failures' (suite.Tool (tool.BadChanges why)) h = absurd (h)
+lines_before text failures failures' (suite.Tool (tool.Config why)) h = absurd (h)
+lines_before text failures failures' (suite.Tool tool.NoEntry) h = absurd (h)
+lines_before text failures failures' (suite.Tool (tool.TooFewGroups groups)) h = absurd (h)
+
+pub blocks_before : {A : Type 0} (wanted : Result A QuestionsFault) (why : QuestionsFault) → IsAskedFault why wanted → IsBeforeNotes why
+blocks_before wanted (suite.Block line why) h = tt
+blocks_before wanted (suite.Tool tool.Memory) h = tt
+blocks_before wanted suite.Read h = absurd (h)
+blocks_before wanted suite.TooLong h = absurd (h)
+blocks_before wanted (suite.Stream why) h = absurd (h)
+blocks_before wanted suite.Write h = absurd (h)
+blocks_before wanted (suite.Tool (tool.BadCopy line why)) h = absurd (h)
+blocks_before wanted (suite.Tool (tool.Read from)) h = absurd (h)
+blocks_before wanted (suite.Tool (tool.Write to)) h = absurd (h)
+blocks_before wanted (suite.Tool (tool.BadQuestion item)) h = absurd (h)
+blocks_before wanted (suite.Tool (tool.BadChanges why)) h = absurd (h)
+blocks_before wanted (suite.Tool (tool.Config why)) h = absurd (h)
+blocks_before wanted (suite.Tool tool.NoEntry) h = absurd (h)
+blocks_before wanted (suite.Tool (tool.TooFewGroups groups)) h = absurd (h)
+
+module _ (asked : NotesOnAsked) (strict : Bool) (text : Option (List ℕ)) (e : Fault) (given : Option (List Note)) where
+  untold_of : (why : QuestionsFault) → e ≡ fault.Questions why → AreToldOfQuestions asked strict text why [] → TellsFor {A = Tally} asked strict text (Err e) given given
+  untold_of why is h = ([], none_given given, subst (λ (f : Fault). AreToldFor {A = Tally} asked strict text (Err f) []) (sym is) h)
+
+  pub untold : (why : QuestionsFault) → IsBeforeNotes why → IsQuestionsFault why e → TellsFor {A = Tally} asked strict text (Err e) given given
+  untold suite.Read h is = untold_of suite.Read is refl
+  untold suite.TooLong h is = untold_of suite.TooLong is refl
+  untold (suite.Stream why) h is = untold_of (suite.Stream why) is refl
+  untold (suite.Block line why) h is = untold_of (suite.Block line why) is refl
+  untold suite.Write h is = absurd (h)
+  untold (suite.Tool tool.Memory) h is = none_told Tally asked strict text tool.Memory e given tt is
+  untold (suite.Tool (tool.BadCopy line why)) h is = absurd (h)
+  untold (suite.Tool (tool.Read from)) h is = absurd (h)
+  untold (suite.Tool (tool.Write to)) h is = absurd (h)
+  untold (suite.Tool (tool.BadQuestion item)) h is = absurd (h)
+  untold (suite.Tool (tool.BadChanges why)) h is = absurd (h)
+  untold (suite.Tool (tool.Config why)) h is = absurd (h)
+  untold (suite.Tool tool.NoEntry) h is = absurd (h)
+  untold (suite.Tool (tool.TooFewGroups groups)) h is = absurd (h)
 
 -- the notes were told, and then the file of answers or the report could not be written
-pub unfinished : (asked : List (List ℕ)) (strict : Bool) (text : Option (List ℕ)) (path : List ℕ) (notes : List Note) (e : Fault) → IsUnfinished path (fault.Questions suite.Write) e
+pub unfinished : (asked : NotesOnAsked) (strict : Bool) (text : Option (List ℕ)) (path : List ℕ) (notes : List Note) (e : Fault) → IsUnfinished path (fault.Questions suite.Write) e
     → AreNotesOf asked text notes × MayBeAnswered strict notes → AreToldFor {A = Tally} asked strict text (Err e) notes
 unfinished asked strict text path notes e (inl same) told = subst (λ (f : Fault). AreToldFor {A = Tally} asked strict text (Err f) notes) (sym same) told
 unfinished asked strict text path notes e (inr (inl exists)) told = came e exists
@@ -119,7 +190,7 @@ unfinished asked strict text path notes e (inr (inr (inl is))) told = all_told {
 unfinished asked strict text path notes e (inr (inr (inr is))) told = all_told {A = Tally} asked strict text notes (Err e) (tool_after (tool.Write output.Report) e tt is) told.0 told.1
 
 -- the answer, or the fault of the end
-pub told_by_end : (asked : List (List ℕ)) (strict : Bool) (text : Option (List ℕ)) (path : List ℕ) (tally : Tally) (result : Result Tally Fault) (a b : Option (List Note))
+pub told_by_end : (asked : NotesOnAsked) (strict : Bool) (text : Option (List ℕ)) (path : List ℕ) (tally : Tally) (result : Result Tally Fault) (a b : Option (List Note))
     → TellsFor asked strict text (Ok tally) a b → IfErr result (IsUnfinished path (fault.Questions suite.Write)) → TellsFor asked strict text result a b
 told_by_end asked strict text path tally (Ok answer) a b h is = (h.0, h.1, h.2)
 told_by_end asked strict text path tally (Err e) a b h is = (h.0, h.1, unfinished asked strict text path h.0 e is h.2)

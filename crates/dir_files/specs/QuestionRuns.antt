@@ -37,7 +37,7 @@ abbrev pub IsToldAs : Result Tally QuestionsFault → Result Tally Fault → Typ
 IsToldAs (Ok tally) told = told ≡ Ok tally
 IsToldAs (Err why) told = FailsSo (IsQuestionsFault why) told
 
--- the notes on the configuration end the run, and nothing is written; or the tool answers
+-- the notes end the run, and nothing is written; or the tool answers
 abbrev pub AnswersOrStops : QuestionWords → QuestionSources → Result Tally Fault → TakenBytes → TakenBytes → Type 0
 AnswersOrStops words known told answers report = (FailsSo (IsEndOfNotes words.strict) told × TookNothing answers × TookNothing report)
     ⊎ ((answer : Result Tally QuestionsFault) × AnswersOver (options_of words) known answer answers report × IsToldAs answer told)

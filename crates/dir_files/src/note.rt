@@ -1,11 +1,11 @@
-//! The notes on a configuration and on a question: how they are shown, and whoever tells them.
+//! The notes on a configuration and on questions: how they are shown, and whoever tells them.
 
 ghost use Rattle.std.specs.Prelude.{◌≡◌, [], ◌∷◌, ◌++◌, ℕ, Option, List, Some};
 ghost use Rattle.std.specs.Fmt.{WritesOnOk, WritesStyledOnOk};
 ghost use Rattle.dir_acl.specs.declared.deciding.FaultArgument.{FaultArgument};
 ghost use Rattle.dir_acl.specs.declared.note.Note.{Note};
 ghost use Rattle.dir_ldif.specs.Device.{Counts};
-ghost use Rattle.dir_files.specs.NoteText.{note_text, place_text, shown_bytes, unknown_text};
+ghost use Rattle.dir_files.specs.NoteText.{at_line, note_text, place_text, shown_bytes, unknown_text, word_place, word_text};
 ghost use Rattle.dir_files.specs.Notes.{WereGiven};
 
 use crate::escape::show_escaped;
@@ -74,7 +74,7 @@ impl Display for ShownNote<'_> {
                 f.write_str("access rule of database config or monitor is passed over")
             }
             NoteCause::UnknownInWord(word, description) => {
-                show_between(f, "note: word \"", word.as_slice(), "\": ")?;
+                show_word(f, *line, word.as_slice())?;
                 show_unknown(f, description.as_slice())
             }
         }
@@ -86,7 +86,39 @@ fn show_place<W: fmt::Write>(f: &mut fmt::Formatter<W>, line: u64) -> fmt::Resul
     ensures writes { WritesOnOk W.write_str_gives f.old result (place_text line) f.new }
     ensures styled { WritesStyledOnOk W.write_str_gives f.old result (place_text line) f.new }
 {
-    f.write_str("note: config, line ")?;
+    show_line(f, "note: config, line ", line)
+}
+
+/// Shows which word of a question it is, and on which line of a file of questions. Line 0 is for a word of a command line.
+fn show_word<W: fmt::Write>(f: &mut fmt::Formatter<W>, line: u64, word: &[u8]) -> fmt::Result
+    ensures writes { WritesOnOk W.write_str_gives f.old result (word_text line word.now) f.new }
+    ensures styled { WritesStyledOnOk W.write_str_gives f.old result (word_text line word.now) f.new }
+{
+    show_word_place(f, line)?;
+    show_between(f, "word \"", word, "\": ")
+}
+
+fn show_word_place<W: fmt::Write>(f: &mut fmt::Formatter<W>, line: u64) -> fmt::Result
+    ensures writes { WritesOnOk W.write_str_gives f.old result (word_place line) f.new }
+    ensures styled { WritesStyledOnOk W.write_str_gives f.old result (word_place line) f.new }
+{
+    if line > 0 {
+        show_line(f, "note: questions, line ", line)
+    } else {
+        f.write_str("note: ")
+    }
+}
+
+/// Shows on which line it is, after these words.
+pub(crate) fn show_line<W: fmt::Write>(
+    f: &mut fmt::Formatter<W>,
+    before: &str,
+    line: u64,
+) -> fmt::Result
+    ensures writes { WritesOnOk W.write_str_gives f.old result (at_line before.now line) f.new }
+    ensures styled { WritesStyledOnOk W.write_str_gives f.old result (at_line before.now line) f.new }
+{
+    f.write_str(before)?;
     Number(line).fmt(f)?;
     f.write_str(": ")
 }

@@ -1,11 +1,15 @@
 //! `slapkit slapacl --questions`: the files that a command line names, and the questions over them.
 
-ghost use Rattle.std.specs.Prelude.{◌≡◌, [], IfErr, Some};
+ghost use Rattle.std.specs.Prelude.{◌≡◌, ℕ, IfErr, IfSome, List, Option, Some};
 ghost use Rattle.std.specs.Option.{option_copied};
+ghost use Rattle.dir_acl.specs.Notes.{notes_of};
+ghost use Rattle.dir_names.specs.Table.Builtin.{builtin_rows};
 ghost use Rattle.dir_questions.specs.Runs.{question_sources};
+ghost use Rattle.dir_tools.specs.AccessAnswers.{IsTextOf};
+ghost use Rattle.dir_tools.specs.Inside.Asking.{configured_of};
 ghost use Rattle.dir_files.specs.FaultArguments.{TellsArgument};
 ghost use Rattle.dir_files.specs.Faults.{IsQuestionsFault};
-ghost use Rattle.dir_files.specs.Notes.{EndsIfUntold, TellsFor, told_text};
+ghost use Rattle.dir_files.specs.Notes.{AreOnQuestions, EndsIfUntold, TellsFor, told_text};
 ghost use Rattle.dir_files.specs.QuestionRuns.{AllQuestionCalls, AnswersOrStops, EndsAnswering, NamesItsAnswers, RefusesRepeated, ReportsAnswers, WritesAnswers, first_repeated_of, options_of};
 ghost use Rattle.dir_files.specs.Runs.{Made};
 
@@ -18,13 +22,17 @@ use crate::slapmodify::{dropped, not_created, not_opened, not_reported, run_faul
 use crate::words::QuestionWords;
 use dir_ldif::{Sink, Source};
 use dir_names::Schema;
-use dir_questions::{QuestionOptions, QuestionsFault, Tally, run_questions_under};
+use dir_questions::{
+    QuestionOptions, QuestionsFault, Tally, answer_questions, read_lines, read_questions,
+    with_notes_on_questions,
+};
 use dir_tools::{Buffer, HeldMemory, NotedConfig, ToolFault, read_config_with_argument};
 use std::alloc::Global;
 
-/// Answers the file of questions that the words name. The notes on the configuration are told before anything is answered; where a strict
-/// answer is wanted and there are some, nothing is. Where the words ask for more to be told, the teller is handed the argument that a fault of
-/// the configuration is about; it has none if memory ran out as that was sought.
+/// Answers the file of questions that the words name. The notes on the configuration, and then those on the words of the questions, are told
+/// once both were read, before anything is answered; where a strict answer is wanted and there are some, nothing is. Where the words ask for
+/// more to be told, the teller is handed the argument that a fault of the configuration is about; it has none if memory ran out as that was
+/// sought.
 ///
 /// The file of answers gets its name only when it is whole and synced, and the report is written last. After a fault nothing is left of
 /// what the run has made. It has the mode of the questions. The memory that the copy's entries take is left to the system: a program that
@@ -33,9 +41,9 @@ use std::alloc::Global;
 /// # Errors
 ///
 /// In this order: two paths that are the same; a file that can't be opened, the configuration before the questions and these before the
-/// copy; the file of answers can't be created; the configuration's fault; notes that can't be told, or are there though a strict answer is wanted;
-/// the first fault of the questions, and then of the copy; the file of answers can't be written, synced or published, or the report can't be
-/// written.
+/// copy; the file of answers can't be created; the configuration's fault; the first fault of the questions; notes that can't be told, or are
+/// there though a strict answer is wanted; the first fault of the copy; the file of answers can't be written, synced or published, or the
+/// report can't be written.
 pub fn run<'a, F: FileSystem, T: NoteTeller>(
     alloc: Global,
     files: &mut F,
@@ -44,7 +52,7 @@ pub fn run<'a, F: FileSystem, T: NoteTeller>(
 ) -> Result<Tally, Fault<'a>>
     ensures faults { RefusesRepeated words.now (first_repeated_of words.now) result }
     ensures calls { Made (F.disk files.old) (F.disk files.new) (λ d. AllQuestionCalls (first_repeated_of words.now) words.now d result) }
-    ensures notes { TellsFor [] words.now.strict (told_text (F.disk files.old) (F.disk files.new) words.now.config.now) result (T.given teller.old) (T.given teller.new) }
+    ensures notes { TellsFor (AreOnQuestions (told_text (F.disk files.old) (F.disk files.new) words.now.questions.now)) words.now.strict (told_text (F.disk files.old) (F.disk files.new) words.now.config.now) result (T.given teller.old) (T.given teller.new) }
     ensures untold { EndsIfUntold result (T.failures teller.old) (T.failures teller.new) }
     ensures argument { TellsArgument words.now.verbose (told_text (F.disk files.old) (F.disk files.new) words.now.config.now) result (T.arguments teller.old) (T.arguments teller.new) }
 {
@@ -124,7 +132,7 @@ fn with_answers<'a, F: FileSystem, T: NoteTeller, R: Source, R2: Source, R3: Sou
     requires { option_copied words.now.answers ≡ Some path.now }
     ensures faults { IfErr result (NamesItsAnswers words.now) }
     ensures calls { Made (F.disk files.old) (F.disk files.new) (λ _. WritesAnswers path.entry.now mode words.now (question_sources (R.left config.old) (R2.left questions.old) (R3.left copy.old)) result) }
-    ensures notes { TellsFor [] words.now.strict (R.left config.old) result (T.given teller.old) (T.given teller.new) }
+    ensures notes { TellsFor (AreOnQuestions (R2.left questions.old)) words.now.strict (R.left config.old) result (T.given teller.old) (T.given teller.new) }
     ensures untold { EndsIfUntold result (T.failures teller.old) (T.failures teller.new) }
     ensures argument { TellsArgument words.now.verbose (R.left config.old) result (T.arguments teller.old) (T.arguments teller.new) }
 {
@@ -170,7 +178,7 @@ fn without_answers<'a, F: FileSystem, T: NoteTeller, R: Source, R2: Source, R3: 
 ) -> Result<Tally, Fault<'a>>
     ensures faults { IfErr result (NamesItsAnswers words.now) }
     ensures calls { Made (F.disk files.old) (F.disk files.new) (λ _. ReportsAnswers words.now (question_sources (R.left config.old) (R2.left questions.old) (R3.left copy.old)) result) }
-    ensures notes { TellsFor [] words.now.strict (R.left config.old) result (T.given teller.old) (T.given teller.new) }
+    ensures notes { TellsFor (AreOnQuestions (R2.left questions.old)) words.now.strict (R.left config.old) result (T.given teller.old) (T.given teller.new) }
     ensures untold { EndsIfUntold result (T.failures teller.old) (T.failures teller.new) }
     ensures argument { TellsArgument words.now.verbose (R.left config.old) result (T.arguments teller.old) (T.arguments teller.new) }
 {
@@ -192,7 +200,7 @@ fn without_answers<'a, F: FileSystem, T: NoteTeller, R: Source, R2: Source, R3: 
     }
 }
 
-/// Reads the configuration, tells the notes on it, and answers the questions.
+/// Reads the configuration, and answers the questions under it.
 fn answered<'a, T: NoteTeller, R: Source, R2: Source, R3: Source, W: Sink, W2: Sink>(
     alloc: Global,
     teller: &mut T,
@@ -205,32 +213,68 @@ fn answered<'a, T: NoteTeller, R: Source, R2: Source, R3: Source, W: Sink, W2: S
 ) -> Result<Tally, Fault<'a>>
     ensures faults { IfErr result (EndsAnswering words.now.strict) }
     ensures answer { AnswersOrStops words.now (question_sources (R.left config.old) (R2.left questions.old) (R3.left copy.old)) result (W.taken answers.old, W.taken answers.new) (W2.taken report.old, W2.taken report.new) }
-    ensures notes { TellsFor [] words.now.strict (R.left config.old) result (T.given teller.old) (T.given teller.new) }
+    ensures notes { TellsFor (AreOnQuestions (R2.left questions.old)) words.now.strict (R.left config.old) result (T.given teller.old) (T.given teller.new) }
     ensures untold { EndsIfUntold result (T.failures teller.old) (T.failures teller.new) }
     ensures argument { TellsArgument words.now.verbose (R.left config.old) result (T.arguments teller.old) (T.arguments teller.new) }
 {
     let Ok(schema) = Schema::builtin(alloc) else {
         return Err(run_fault(ToolFault::Memory));
     };
-    let NotedConfig {
-        types,
-        config,
-        notes,
-    } = match read_config_with_argument(alloc, &schema, config) {
+    let noted = match read_config_with_argument(alloc, &schema, config) {
         Ok(noted) => noted,
         Err(why) => {
             hand_over(teller, words.verbose, why.argument);
             return Err(run_fault(why.fault));
         }
     };
+    answered_under(
+        alloc, teller, words, noted, questions, copy, answers, report,
+    )
+}
+
+/// Reads the questions under a configuration, tells the notes on both, and answers.
+fn answered_under<'a, T: NoteTeller, R: Source, R2: Source, W: Sink, W2: Sink>(
+    alloc: Global,
+    teller: &mut T,
+    words: &QuestionWords<'a>,
+    noted: NotedConfig,
+    questions: &mut R,
+    copy: &mut R2,
+    answers: &mut W,
+    report: &mut W2,
+) -> Result<Tally, Fault<'a>>
+    ensures faults { IfErr result (EndsAnswering words.now.strict) }
+    ensures answer { (known : Option (List ℕ)) → IsTextOf builtin_rows known (configured_of noted)
+        → AnswersOrStops words.now (question_sources known (R.left questions.old) (R2.left copy.old)) result (W.taken answers.old, W.taken answers.new) (W2.taken report.old, W2.taken report.new) }
+    ensures notes { (known : Option (List ℕ)) → IsTextOf builtin_rows known (configured_of noted) → IfSome known (λ text. noted.notes.items ≡ notes_of noted.types text)
+        → TellsFor (AreOnQuestions (R.left questions.old)) words.now.strict known result (T.given teller.old) (T.given teller.new) }
+    ensures untold { EndsIfUntold result (T.failures teller.old) (T.failures teller.new) }
+    ensures argument { T.arguments teller.new ≡ T.arguments teller.old }
+{
+    let NotedConfig {
+        types,
+        config,
+        notes,
+    } = noted;
+    let lines = match read_lines(alloc, questions) {
+        Ok(lines) => lines,
+        Err(fault) => return Err(questions_fault(fault)),
+    };
+    let blocks = match read_questions(alloc, &types, lines.as_slice()) {
+        Ok(blocks) => blocks,
+        Err(fault) => return Err(questions_fault(fault)),
+    };
+    let Ok(notes) = with_notes_on_questions(alloc, &types, notes, blocks.as_slice()) else {
+        return Err(run_fault(ToolFault::Memory));
+    };
     tell(teller, notes.as_slice(), words.strict)?;
-    match run_questions_under(
+    match answer_questions(
         alloc,
         HeldMemory::Left,
         &types,
         options_of(words),
         &config,
-        questions,
+        blocks.as_slice(),
         copy,
         answers,
         report,

@@ -8,7 +8,7 @@ ghost use Rattle.dir_tools.specs.AccessReport.{access_terms};
 ghost use Rattle.dir_tools.specs.WordNotes.{notes_on_words};
 ghost use Rattle.dir_files.specs.AccessRuns.{AllAccessCalls, Asks, AsksOrStops, IsEndOfNotes, NamesItsFile, RefusesSameFile, asked_for, first_repeated_file};
 ghost use Rattle.dir_files.specs.FaultArguments.{TellsArgument, handed_over};
-ghost use Rattle.dir_files.specs.Notes.{EndsIfUntold, IsAfterConfig, MayBeAnswered, TellsFor, WereGiven, told_text};
+ghost use Rattle.dir_files.specs.Notes.{AreOnWords, EndsIfUntold, IsAfterConfig, MayBeAnswered, TellsFor, WereGiven, told_text};
 ghost use Rattle.dir_files.specs.Runs.{Made};
 
 use crate::fault::Fault;
@@ -44,7 +44,7 @@ pub fn run<'a, F: FileSystem, T: NoteTeller>(
 ) -> Result<(), Fault<'a>>
     ensures faults { RefusesSameFile words.now (first_repeated_file words.now) result }
     ensures calls { Made (F.disk files.old) (F.disk files.new) (λ d. AllAccessCalls (first_repeated_file words.now) words.now d result) }
-    ensures notes { TellsFor (asked_for words.now).words words.now.strict (told_text (F.disk files.old) (F.disk files.new) words.now.config.now) result (T.given teller.old) (T.given teller.new) }
+    ensures notes { TellsFor (AreOnWords (asked_for words.now).words) words.now.strict (told_text (F.disk files.old) (F.disk files.new) words.now.config.now) result (T.given teller.old) (T.given teller.new) }
     ensures untold { EndsIfUntold result (T.failures teller.old) (T.failures teller.new) }
     ensures argument { TellsArgument words.now.verbose (told_text (F.disk files.old) (F.disk files.new) words.now.config.now) result (T.arguments teller.old) (T.arguments teller.new) }
 {
@@ -73,7 +73,7 @@ fn answer<'a, F: FileSystem, T: NoteTeller, R: Source, R2: Source>(
 ) -> Result<(), Fault<'a>>
     ensures faults { IfErr result (NamesItsFile words.now) }
     ensures calls { Made (F.disk files.old) (F.disk files.new) (λ _. AsksOrStops words.now (access_sources (R.left config.old) (R2.left copy.old)) result) }
-    ensures notes { TellsFor (asked_for words.now).words words.now.strict (R.left config.old) result (T.given teller.old) (T.given teller.new) }
+    ensures notes { TellsFor (AreOnWords (asked_for words.now).words) words.now.strict (R.left config.old) result (T.given teller.old) (T.given teller.new) }
     ensures untold { EndsIfUntold result (T.failures teller.old) (T.failures teller.new) }
     ensures argument { TellsArgument words.now.verbose (R.left config.old) result (T.arguments teller.old) (T.arguments teller.new) }
 {

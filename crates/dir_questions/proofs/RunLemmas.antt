@@ -1,10 +1,10 @@
 -- What `run_questions` answers, in the words of its definition.
-use Rattle.std.proofs.Common.{◌≡◌, ◌≢◌, ℕ, Bool, List, [], Option, None, Some, IfSome, IfErr, IfOk, Result, Ok, Err, refl, sym, ap, subst, ◌∙◌}
+use Rattle.std.proofs.Common.{◌≡◌, ◌≢◌, ℕ, Bool, List, [], map, Option, None, Some, IfSome, IfErr, IfOk, Result, Ok, Err, refl, sym, ap, subst, ◌∙◌, Vec, Global}
 use Rattle.dir_names.specs.Keys.{DnKeys}
 use Rattle.dir_names.specs.Results.{and_then}
 use Rattle.dir_names.specs.declared.schema.TypeRow.{TypeRow}
 use Rattle.dir_acl.specs.declared.fault.ConfigFault.{ConfigFault}
-use Rattle.dir_ldif.specs.LogicalLines.{Line}
+use Rattle.dir_ldif.specs.declared.reader.unfolder.Line.{Line}
 use Rattle.dir_ldif.specs.declared.faults.StreamFault.TheVariants as stream
 use Rattle.dir_tree.specs.Dir.{Dir}
 use Rattle.dir_tools.specs.declared.fault.Cause.{Cause}
@@ -24,11 +24,11 @@ use Rattle.dir_questions.specs.declared.fault.QuestionsFault.TheVariants as faul
 use Rattle.dir_questions.specs.declared.report.Tally.{Tally}
 use Rattle.dir_questions.specs.declared.run.QuestionOptions.{QuestionOptions}
 use Rattle.dir_questions.specs.declared.run.Texts.{Texts}
-use Rattle.dir_questions.specs.Inside.Reading.{IsAskedFault}
-use Rattle.dir_questions.specs.Inside.Running.{CopyHeldBefore, HasLines, HasNoLines, HasTexts, IsCopyFault, IsFaultOfAsked, IsFaultOfCopy, IsWriterFault, MadeOf}
-use Rattle.dir_questions.specs.Questions.{QuestionBlock, question_blocks, read_lines}
-use Rattle.dir_questions.specs.Runs.{AnswersQuestions, AreAsked, AreBadQuestions, AreStatedTexts, ComesAfterConfig, IsAnswerOf, IsFaultOfQuestions, IsWholeAnswer, QuestionSources, QuestionTexts, QuestionsHeldBefore, WroteAnswers, question_sources, questions_of, texts_on, texts_under, tool_faults}
-use Rattle.dir_questions.proofs.Sources.{as_all}
+use Rattle.dir_questions.specs.Reading.{IsAskedFault}
+use Rattle.dir_questions.specs.Inside.Running.{CopyHeldBefore, IsCopyFault, IsFaultOfCopy, IsWriterFault, MadeOver}
+use Rattle.dir_questions.specs.Questions.{QuestionBlock, collect, question_blocks, read_block}
+use Rattle.dir_questions.specs.Runs.{AnswersQuestions, AreAsked, AreBadQuestions, AreStatedTexts, AsksThese, ComesAfterConfig, ComesAfterQuestions, HasLines, HasNoLines, IsAnswerOf, IsFaultOfQuestions, IsWholeAnswer, QuestionSources, QuestionTexts, QuestionsHeldBefore, WroteAnswers, question_sources, questions_of, texts_on, texts_under, tool_faults}
+use Rattle.dir_questions.proofs.Sources.{lines_ask, under}
 
 -- ---- the copy
 
@@ -80,48 +80,21 @@ fault_of_copy found empty copy copy' failures failures' why named bare h settled
     before tool.NoEntry h settled = tt
     before (tool.TooFewGroups groups) h settled = tt
 
--- a fault of the copy, after blocks that are right
-pub after_blocks : (found : Configured) (copy : Option (List ℕ) × Option (List ℕ)) (asked : Result (List QuestionBlock) QuestionsFault) (blocks : List QuestionBlock) (why : ToolFault)
-    → asked ≡ Ok blocks → IsFaultOfCopy found copy why → IsFaultOfAsked found copy asked (fault.Tool why)
-after_blocks found copy asked blocks tool.Memory is h = tt
-after_blocks found copy asked blocks (tool.BadCopy line why) is h = (blocks, is, h)
-after_blocks found copy asked blocks (tool.Read from) is h = (blocks, is, h)
-after_blocks found copy asked blocks (tool.Write to) is h = (blocks, is, h)
-after_blocks found copy asked blocks (tool.BadQuestion item) is h = (blocks, is, h)
-after_blocks found copy asked blocks (tool.BadChanges why) is h = (blocks, is, h)
-after_blocks found copy asked blocks (tool.Config why) is h = (blocks, is, h)
-after_blocks found copy asked blocks tool.NoEntry is h = (blocks, is, h)
-after_blocks found copy asked blocks (tool.TooFewGroups groups) is h = (blocks, is, h)
+-- ---- what a fault says
 
--- a fault of the blocks
-pub of_asked : (found : Configured) (copy : Option (List ℕ) × Option (List ℕ)) (asked : Result (List QuestionBlock) QuestionsFault) (why : QuestionsFault) → IsAskedFault why asked → IsFaultOfAsked found copy asked why
-of_asked found copy asked fault.Read h = absurd h
-of_asked found copy asked fault.TooLong h = absurd h
-of_asked found copy asked (fault.Stream why) h = absurd h
-of_asked found copy asked fault.Write h = absurd h
-of_asked found copy asked (fault.Block line why) h = h
-of_asked found copy asked (fault.Tool tool.Memory) h = tt
-of_asked found copy asked (fault.Tool (tool.BadCopy line why)) h = absurd h
-of_asked found copy asked (fault.Tool (tool.Read from)) h = absurd h
-of_asked found copy asked (fault.Tool (tool.Write to)) h = absurd h
-of_asked found copy asked (fault.Tool (tool.BadQuestion item)) h = absurd h
-of_asked found copy asked (fault.Tool (tool.BadChanges why)) h = absurd h
-of_asked found copy asked (fault.Tool (tool.Config why)) h = absurd h
-of_asked found copy asked (fault.Tool tool.NoEntry) h = absurd h
-of_asked found copy asked (fault.Tool (tool.TooFewGroups groups)) h = absurd h
-
--- ---- the questions
-
--- what a fault says of the texts, and of the complete records before it, under each text of the configuration
+-- of the texts, of the complete records before it, and of when it comes
 abbrev pub SaysOf : List TypeRow → QuestionSources → Option (List ℕ) → QuestionsFault → Type 0
 SaysOf start known copy' why = IsFaultOfQuestions start known why × QuestionsHeldBefore start known.config known.questions (known.copy, copy') why × ComesAfterConfig why
 
-module _ (start : List TypeRow) (config questions questions' copy copy' : Option (List ℕ)) (found : Configured) (is : IsTextOf start config found) where
+module _ (start : List TypeRow) (config questions copy copy' : Option (List ℕ)) (found : Configured) (is : IsTextOf start config found) where
+  abbrev bad : (why : QuestionsFault) → IfSome questions (λ text. question_blocks found.rows text ≡ Err why) → AreBadQuestions start config questions why
+  bad why h = record { found = found; reads = is; blamed = h }
+
   -- no blocks of lines
-  pub of_no_lines : (failures failures' : ℕ) (why : QuestionsFault) → HasNoLines (questions, questions') failures failures' why → SaysOf start (question_sources config questions copy) copy' why
+  pub of_no_lines : (failures failures' : ℕ) (why : QuestionsFault) → HasNoLines questions failures failures' why → SaysOf start (question_sources config questions copy) copy' why
   of_no_lines failures failures' fault.Read h = (tt, tt, tt)
-  of_no_lines failures failures' fault.TooLong h = (record { found = found; reads = is; blamed = as_all questions questions' (λ rows. Err fault.TooLong) h found.rows }, tt, tt)
-  of_no_lines failures failures' (fault.Stream why) h = (record { found = found; reads = is; blamed = as_all questions questions' (λ rows. Err (fault.Stream why)) h found.rows }, tt, tt)
+  of_no_lines failures failures' fault.TooLong h = (bad fault.TooLong (under found.rows questions (λ rows. Err fault.TooLong) h), tt, tt)
+  of_no_lines failures failures' (fault.Stream why) h = (bad (fault.Stream why) (under found.rows questions (λ rows. Err (fault.Stream why)) h), tt, tt)
   of_no_lines failures failures' (fault.Block line why) h = absurd h
   of_no_lines failures failures' fault.Write h = absurd h
   of_no_lines failures failures' (fault.Tool tool.Memory) h = (tt, tt, tt)
@@ -134,76 +107,54 @@ module _ (start : List TypeRow) (config questions questions' copy copy' : Option
   of_no_lines failures failures' (fault.Tool tool.NoEntry) h = absurd h
   of_no_lines failures failures' (fault.Tool (tool.TooFewGroups groups)) h = absurd h
 
-  module _ (lines : List (List Line)) (has : HasLines (questions, questions') lines) where
-    lines_are : IfSome questions (λ text. question_blocks found.rows text ≡ read_lines found.rows lines)
-    lines_are = as_all questions questions' (λ rows. read_lines rows lines) has found.rows
+  -- blocks of lines that ask nothing
+  pub of_lines : (lines : List (Vec Line Global)) (why : QuestionsFault) → HasLines questions (map (λ block. block.items) lines)
+      → IsAskedFault why (collect (λ (block : Vec Line Global). read_block found.rows block.items) lines) → SaysOf start (question_sources config questions copy) copy' why
+  of_lines lines (fault.Block line why) has h = (bad (fault.Block line why) (lines_ask found.rows questions lines (Err (fault.Block line why)) has h), tt, tt)
+  of_lines lines (fault.Tool tool.Memory) has h = (tt, tt, tt)
+  of_lines lines fault.Read has h = absurd h
+  of_lines lines fault.TooLong has h = absurd h
+  of_lines lines (fault.Stream why) has h = absurd h
+  of_lines lines fault.Write has h = absurd h
+  of_lines lines (fault.Tool (tool.BadCopy line why)) has h = absurd h
+  of_lines lines (fault.Tool (tool.Read from)) has h = absurd h
+  of_lines lines (fault.Tool (tool.Write to)) has h = absurd h
+  of_lines lines (fault.Tool (tool.BadQuestion item)) has h = absurd h
+  of_lines lines (fault.Tool (tool.BadChanges why)) has h = absurd h
+  of_lines lines (fault.Tool (tool.Config why)) has h = absurd h
+  of_lines lines (fault.Tool tool.NoEntry) has h = absurd h
+  of_lines lines (fault.Tool (tool.TooFewGroups groups)) has h = absurd h
 
-    asked_are : (asked : Result (List QuestionBlock) QuestionsFault) → read_lines found.rows lines ≡ asked → IfSome questions (λ text. question_blocks found.rows text ≡ asked)
-    asked_are asked h = subst (λ (r : Result (List QuestionBlock) QuestionsFault). IfSome questions (λ text. question_blocks found.rows text ≡ r)) h lines_are
+  module _ (blocks : List QuestionBlock) (asks : AsksThese found.rows questions blocks) where
+    abbrev asking : AreAsked start config questions
+    asking = record { found = found; reads = is; blocks = blocks; asked = asks }
 
-    abbrev asking : (blocks : List QuestionBlock) → read_lines found.rows lines ≡ Ok blocks → AreAsked start config questions
-    asking blocks h = record { found = found; reads = is; blocks = blocks; asked = asked_are (Ok blocks) h }
+    -- a fault of the copy
+    pub of_copy : (why : ToolFault) → IsFaultOfCopy found (copy, copy') why → SaysOf start (question_sources config questions copy) copy' (fault.Tool why)
+    of_copy tool.Memory h = (tt, tt, tt)
+    of_copy (tool.Read input.Copy) h = (tt, (asking, h.before), tt)
+    of_copy (tool.Read input.Changes) h = absurd h.blamed
+    of_copy (tool.Read input.Config) h = absurd h.blamed
+    of_copy (tool.BadCopy line (cause.Code code)) h = ((asking, h.blamed), tt, tt)
+    of_copy (tool.BadCopy line (cause.Fault why)) h = ((asking, h.blamed), tt, tt)
+    of_copy (tool.BadCopy line (cause.Ended stream.TooManyTurns)) h = ((asking, h.blamed), (asking, h.before), tt)
+    of_copy (tool.BadCopy line (cause.Ended stream.LineTooLong)) h = ((asking, h.blamed), tt, tt)
+    of_copy (tool.BadCopy line (cause.Ended stream.Read)) h = ((asking, h.blamed), tt, tt)
+    of_copy (tool.BadCopy line (cause.Ended stream.Memory)) h = ((asking, h.blamed), tt, tt)
+    of_copy (tool.BadCopy line (cause.Ended stream.Ended)) h = ((asking, h.blamed), tt, tt)
+    of_copy (tool.BadCopy line (cause.Ended stream.BadVersion)) h = ((asking, h.blamed), tt, tt)
+    of_copy (tool.BadCopy line (cause.Ended stream.BadMark)) h = ((asking, h.blamed), tt, tt)
+    of_copy (tool.Write to) h = absurd h.blamed
+    of_copy (tool.BadQuestion item) h = absurd h.blamed
+    of_copy (tool.BadChanges why) h = absurd h.blamed
+    of_copy (tool.Config why) h = absurd h.blamed
+    of_copy tool.NoEntry h = absurd h.blamed
+    of_copy (tool.TooFewGroups groups) h = absurd h.blamed
 
-    -- blocks of lines for which nothing was made
-    pub of_lines : (why : QuestionsFault) → IsFaultOfAsked found (copy, copy') (read_lines found.rows lines) why → SaysOf start (question_sources config questions copy) copy' why
-    of_lines fault.Read h = absurd h
-    of_lines fault.TooLong h = absurd h
-    of_lines (fault.Stream why) h = absurd h
-    of_lines fault.Write h = absurd h
-    of_lines (fault.Block line why) h = (record { found = found; reads = is; blamed = asked_are (Err (fault.Block line why)) h }, tt, tt)
-    of_lines (fault.Tool tool.Memory) h = (tt, tt, tt)
-    of_lines (fault.Tool (tool.Read input.Copy)) h = (tt, (asking h.0 h.1, h.2.before), tt)
-    of_lines (fault.Tool (tool.Read input.Changes)) h = absurd h.2.blamed
-    of_lines (fault.Tool (tool.Read input.Config)) h = absurd h.2.blamed
-    of_lines (fault.Tool (tool.BadCopy line (cause.Code code))) h = ((asking h.0 h.1, h.2.blamed), tt, tt)
-    of_lines (fault.Tool (tool.BadCopy line (cause.Fault why))) h = ((asking h.0 h.1, h.2.blamed), tt, tt)
-    of_lines (fault.Tool (tool.BadCopy line (cause.Ended stream.TooManyTurns))) h = ((asking h.0 h.1, h.2.blamed), (asking h.0 h.1, h.2.before), tt)
-    of_lines (fault.Tool (tool.BadCopy line (cause.Ended stream.LineTooLong))) h = ((asking h.0 h.1, h.2.blamed), tt, tt)
-    of_lines (fault.Tool (tool.BadCopy line (cause.Ended stream.Read))) h = ((asking h.0 h.1, h.2.blamed), tt, tt)
-    of_lines (fault.Tool (tool.BadCopy line (cause.Ended stream.Memory))) h = ((asking h.0 h.1, h.2.blamed), tt, tt)
-    of_lines (fault.Tool (tool.BadCopy line (cause.Ended stream.Ended))) h = ((asking h.0 h.1, h.2.blamed), tt, tt)
-    of_lines (fault.Tool (tool.BadCopy line (cause.Ended stream.BadVersion))) h = ((asking h.0 h.1, h.2.blamed), tt, tt)
-    of_lines (fault.Tool (tool.BadCopy line (cause.Ended stream.BadMark))) h = ((asking h.0 h.1, h.2.blamed), tt, tt)
-    of_lines (fault.Tool (tool.Write to)) h = absurd h.2.blamed
-    of_lines (fault.Tool (tool.BadQuestion item)) h = absurd h.2.blamed
-    of_lines (fault.Tool (tool.BadChanges why)) h = absurd h.2.blamed
-    of_lines (fault.Tool (tool.Config why)) h = absurd h.2.blamed
-    of_lines (fault.Tool tool.NoEntry) h = absurd h.2.blamed
-    of_lines (fault.Tool (tool.TooFewGroups groups)) h = absurd h.2.blamed
-
-    -- and those for which texts were made
-    pub stated_of : (options : QuestionOptions) (made : Texts) (h : MadeOf found options copy (read_lines found.rows lines) made)
-        → AreStatedTexts start options (question_sources config questions copy) (texts_on options found.configuration h.over.directory h.blocks)
-    stated_of options made h = record { asking = asking h.blocks h.are; directory = h.over.directory; copy = h.over.copy_is; texts_are = refl }
-
--- the same of what was made of the lines, or of its fault
-module _ (questions questions' copy copy' : Option (List ℕ)) (found : Configured) (lines : List (List Line)) (has : HasLines (questions, questions') lines) (result : Result Texts QuestionsFault) where
-  pub all_stated : (options : QuestionOptions) → IfOk result (MadeOf found options copy (read_lines found.rows lines))
-      → IfOk result (λ made. (texts : QuestionTexts) × HasTexts options.answers made texts × ((start : List TypeRow) (known : Option (List ℕ)) → IsTextOf start known found → AreStatedTexts start options (question_sources known questions copy) texts))
-  all_stated = by result
-    where
-      by : (result : Result Texts QuestionsFault) (options : QuestionOptions) → IfOk result (MadeOf found options copy (read_lines found.rows lines))
-          → IfOk result (λ made. (texts : QuestionTexts) × HasTexts options.answers made texts × ((start : List TypeRow) (known : Option (List ℕ)) → IsTextOf start known found → AreStatedTexts start options (question_sources known questions copy) texts))
-      by (Err why) options h = tt
-      by (Ok made) options h = (texts_on options found.configuration h.over.directory h.blocks, h.over.texts, λ start known is. stated_of start known questions questions' copy copy' found is lines has options made h)
-
-  pub all_blamed : IfErr result (IsFaultOfAsked found (copy, copy') (read_lines found.rows lines))
-      → IfErr result (λ why. (start : List TypeRow) (known : Option (List ℕ)) → IsTextOf start known found → IsFaultOfQuestions start (question_sources known questions copy) why)
-  all_blamed = by result
-    where
-      by : (result : Result Texts QuestionsFault) → IfErr result (IsFaultOfAsked found (copy, copy') (read_lines found.rows lines))
-          → IfErr result (λ why. (start : List TypeRow) (known : Option (List ℕ)) → IsTextOf start known found → IsFaultOfQuestions start (question_sources known questions copy) why)
-      by (Ok made) h = tt
-      by (Err why) h = λ start known is. (of_lines start known questions questions' copy copy' found is lines has why h).0
-
-  pub all_first : IfErr result (IsFaultOfAsked found (copy, copy') (read_lines found.rows lines))
-      → IfErr result (λ why. (start : List TypeRow) (known : Option (List ℕ)) → IsTextOf start known found → QuestionsHeldBefore start known questions (copy, copy') why)
-  all_first = by result
-    where
-      by : (result : Result Texts QuestionsFault) → IfErr result (IsFaultOfAsked found (copy, copy') (read_lines found.rows lines))
-          → IfErr result (λ why. (start : List TypeRow) (known : Option (List ℕ)) → IsTextOf start known found → QuestionsHeldBefore start known questions (copy, copy') why)
-      by (Ok made) h = tt
-      by (Err why) h = λ start known is. (of_lines start known questions questions' copy copy' found is lines has why h).1
+    -- the texts that were made
+    pub stated_of : (options : QuestionOptions) (made : Texts) (h : MadeOver found options copy blocks made)
+        → AreStatedTexts start options (question_sources config questions copy) (texts_on options found.configuration h.directory blocks)
+    stated_of options made h = record { asking = asking; directory = h.directory; copy = h.copy_is; texts_are = refl }
 
 -- ---- a fault before the writing
 
@@ -349,25 +300,24 @@ texts_answer start options config questions copy texts (Err (fault.Stream why)) 
 texts_answer start options config questions copy texts (Err (fault.Block line why)) is same h = absurd is
 
 -- a writer's fault says nothing of what was read
-pub says_nothing : (start : List TypeRow) (config questions copy copy' : Option (List ℕ)) (result : Result Tally QuestionsFault) → IfErr result IsWriterFault
-    → IfErr result (λ why. QuestionsHeldBefore start config questions (copy, copy') why × ComesAfterConfig why)
-says_nothing start config questions copy copy' (Ok tally) is = tt
-says_nothing start config questions copy copy' (Err fault.Write) is = (tt, tt)
-says_nothing start config questions copy copy' (Err (fault.Tool (tool.Write output.Report))) is = (tt, tt)
-says_nothing start config questions copy copy' (Err (fault.Tool (tool.Write output.Undo))) is = absurd is
-says_nothing start config questions copy copy' (Err (fault.Tool (tool.Write output.Out))) is = absurd is
-says_nothing start config questions copy copy' (Err (fault.Tool tool.Memory)) is = absurd is
-says_nothing start config questions copy copy' (Err (fault.Tool (tool.BadCopy line why))) is = absurd is
-says_nothing start config questions copy copy' (Err (fault.Tool (tool.Read from))) is = absurd is
-says_nothing start config questions copy copy' (Err (fault.Tool (tool.BadQuestion item))) is = absurd is
-says_nothing start config questions copy copy' (Err (fault.Tool (tool.BadChanges why))) is = absurd is
-says_nothing start config questions copy copy' (Err (fault.Tool (tool.Config why))) is = absurd is
-says_nothing start config questions copy copy' (Err (fault.Tool tool.NoEntry)) is = absurd is
-says_nothing start config questions copy copy' (Err (fault.Tool (tool.TooFewGroups groups))) is = absurd is
-says_nothing start config questions copy copy' (Err fault.Read) is = absurd is
-says_nothing start config questions copy copy' (Err fault.TooLong) is = absurd is
-says_nothing start config questions copy copy' (Err (fault.Stream why)) is = absurd is
-says_nothing start config questions copy copy' (Err (fault.Block line why)) is = absurd is
+pub says_nothing : (P : QuestionsFault → Type 0) (result : Result Tally QuestionsFault) → P fault.Write → P (fault.Tool (tool.Write output.Report)) → IfErr result IsWriterFault → IfErr result P
+says_nothing P (Ok tally) write report is = tt
+says_nothing P (Err fault.Write) write report is = write
+says_nothing P (Err (fault.Tool (tool.Write output.Report))) write report is = report
+says_nothing P (Err (fault.Tool (tool.Write output.Undo))) write report is = absurd is
+says_nothing P (Err (fault.Tool (tool.Write output.Out))) write report is = absurd is
+says_nothing P (Err (fault.Tool tool.Memory)) write report is = absurd is
+says_nothing P (Err (fault.Tool (tool.BadCopy line why))) write report is = absurd is
+says_nothing P (Err (fault.Tool (tool.Read from))) write report is = absurd is
+says_nothing P (Err (fault.Tool (tool.BadQuestion item))) write report is = absurd is
+says_nothing P (Err (fault.Tool (tool.BadChanges why))) write report is = absurd is
+says_nothing P (Err (fault.Tool (tool.Config why))) write report is = absurd is
+says_nothing P (Err (fault.Tool tool.NoEntry)) write report is = absurd is
+says_nothing P (Err (fault.Tool (tool.TooFewGroups groups))) write report is = absurd is
+says_nothing P (Err fault.Read) write report is = absurd is
+says_nothing P (Err fault.TooLong) write report is = absurd is
+says_nothing P (Err (fault.Stream why)) write report is = absurd is
+says_nothing P (Err (fault.Block line why)) write report is = absurd is
 
 -- it is no fault of a reader
 pub not_reading : (result : Result Tally QuestionsFault) → IfErr result IsWriterFault → (result ≢ Err fault.Read) × (result ≢ Err (fault.Tool (tool.Read input.Copy)))
@@ -408,6 +358,27 @@ pub held_before : (start : List TypeRow) (config questions copy copy' : Option (
     → IfErr result (λ why. (start : List TypeRow) (known : Option (List ℕ)) → IsTextOf start known found → QuestionsHeldBefore start known questions (copy, copy') why) → IfErr result (QuestionsHeldBefore start config questions (copy, copy'))
 held_before start config questions copy copy' found (Ok tally) is h = tt
 held_before start config questions copy copy' found (Err why) is h = h start config is
+
+-- where a text of the questions asks this
+pub first_of : (questions copy copy' : Option (List ℕ)) (found : Configured) (blocks : List QuestionBlock) → AsksThese found.rows questions blocks → (result : Result Tally QuestionsFault)
+    → IfErr result (λ why. (start : List TypeRow) (known questions : Option (List ℕ)) → IsTextOf start known found → AsksThese found.rows questions blocks → QuestionsHeldBefore start known questions (copy, copy') why)
+    → IfErr result (λ why. (start : List TypeRow) (known : Option (List ℕ)) → IsTextOf start known found → QuestionsHeldBefore start known questions (copy, copy') why)
+first_of questions copy copy' found blocks asks (Ok tally) h = tt
+first_of questions copy copy' found blocks asks (Err why) h = λ start known is. h start known questions is asks
+
+-- what comes after the questions comes after the configuration
+pub after_both : (result : Result Tally QuestionsFault) → IfErr result ComesAfterQuestions → IfErr result ComesAfterConfig
+after_both (Ok tally) h = tt
+after_both (Err (fault.Tool why)) h = h
+after_both (Err fault.Write) h = tt
+after_both (Err fault.Read) h = tt
+after_both (Err fault.TooLong) h = tt
+after_both (Err (fault.Stream why)) h = tt
+after_both (Err (fault.Block line why)) h = tt
+
+-- the questions' reader has not failed
+pub not_of_questions : (result : Result Tally QuestionsFault) → IfErr result ComesAfterQuestions → result ≢ Err fault.Read
+not_of_questions result after is = subst (λ (r : Result Tally QuestionsFault). IfErr r ComesAfterQuestions) is after
 
 -- the configuration's reader has not failed
 pub not_before : (result : Result Tally QuestionsFault) → IfErr result ComesAfterConfig → result ≢ Err (fault.Tool (tool.Read input.Config))

@@ -1,6 +1,8 @@
 -- What `run_questions` answers over devices, which may tell their bytes or not.
 use Rattle.std.specs.Prelude.{◌≡◌, ℕ, ⊤, Bool, true, not, List, map, Option, IfSome, Result, Ok, Err}
 use Rattle.dir_ldif.specs.declared.faults.StreamFault.TheVariants as stream
+use Rattle.dir_ldif.specs.Device.{HasFailed}
+use Rattle.dir_ldif.specs.LogicalLines.{Line}
 use Rattle.dir_names.specs.declared.schema.TypeRow.{TypeRow}
 use Rattle.dir_names.specs.Results.{and_then}
 use Rattle.dir_tree.specs.Dir.{Dir}
@@ -23,7 +25,7 @@ use Rattle.dir_questions.specs.declared.fault.QuestionsFault.TheVariants as faul
 use Rattle.dir_questions.specs.declared.report.Tally.{Tally}
 use Rattle.dir_questions.specs.declared.run.QuestionOptions.{QuestionOptions}
 use Rattle.dir_questions.specs.Answers.{all_answers, outcome_of, questions_report, tally_of, written_questions}
-use Rattle.dir_questions.specs.Questions.{QuestionBlock, question_blocks}
+use Rattle.dir_questions.specs.Questions.{QuestionBlock, question_blocks, read_lines}
 
 -- ---- the whole
 
@@ -67,12 +69,16 @@ pub record QuestionSources : Type 0 where
 abbrev pub question_sources : Option (List ℕ) → Option (List ℕ) → Option (List ℕ) → QuestionSources
 question_sources config questions copy = record { config = config; questions = questions; copy = copy }
 
+-- the text of the questions, where it is known, asks this under these types
+abbrev pub AsksThese : List TypeRow → Option (List ℕ) → List QuestionBlock → Type 0
+AsksThese rows text blocks = IfSome text (λ text. question_blocks rows text ≡ Ok blocks)
+
 -- the text of the configuration is that of this one, and the questions ask this under its types
 pub record AreAsked (rows : List TypeRow) (config questions : Option (List ℕ)) : Type 0 where
   pub found : Configured
   pub reads : IsTextOf rows config found
   pub blocks : List QuestionBlock
-  pub asked : IfSome questions (λ text. question_blocks found.rows text ≡ Ok blocks)
+  pub asked : AsksThese found.rows questions blocks
 
 -- these are the texts on a directory that the copy is the text of
 pub record AreStatedTexts (rows : List TypeRow) (options : QuestionOptions) (known : QuestionSources) (texts : QuestionTexts) : Type 0 where
@@ -140,6 +146,29 @@ abbrev pub ComesAfterConfig : QuestionsFault → Type 0
 ComesAfterConfig (fault.Tool (tool.Config why)) = ⊥
 ComesAfterConfig (fault.Tool (tool.Read input.Config)) = ⊥
 ComesAfterConfig why = ⊤
+
+-- a fault of what is read after the questions, or of a writer, or out of memory
+abbrev pub ComesAfterQuestions : QuestionsFault → Type 0
+ComesAfterQuestions (fault.Tool why) = ComesAfterConfig (fault.Tool why)
+ComesAfterQuestions fault.Write = ⊤
+ComesAfterQuestions why = ⊥
+
+-- ---- the questions alone, before it is known under which types they are asked
+
+-- under all types, the text is read as these blocks of lines are; or as this fault
+abbrev pub IsReadAs : Option (List ℕ) → (List TypeRow → Result (List QuestionBlock) QuestionsFault) → Type 0
+IsReadAs text wanted = IfSome text (λ text. (rows : List TypeRow) → question_blocks rows text ≡ wanted rows)
+
+abbrev pub HasLines : Option (List ℕ) → List (List Line) → Type 0
+HasLines text lines = IsReadAs text (λ rows. read_lines rows lines)
+
+-- why there are no blocks of lines: the source failed, or memory ran out; or the text has this fault, whatever its lines say
+abbrev pub HasNoLines : Option (List ℕ) → ℕ → ℕ → QuestionsFault → Type 0
+HasNoLines text failures failures' fault.Read = HasFailed failures failures'
+HasNoLines text failures failures' (fault.Tool tool.Memory) = ⊤
+HasNoLines text failures failures' fault.TooLong = IsReadAs text (λ rows. Err fault.TooLong)
+HasNoLines text failures failures' (fault.Stream why) = IsReadAs text (λ rows. Err (fault.Stream why))
+HasNoLines text failures failures' why = ⊥
 
 -- ---- reading that stopped
 

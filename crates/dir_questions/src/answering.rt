@@ -8,7 +8,7 @@ ghost use Rattle.dir_tools.specs.AccessReport.{request_for};
 ghost use Rattle.dir_questions.specs.Answers.{answered_on, answers_to, parts_of_block};
 ghost use Rattle.dir_questions.specs.Inside.Answering.{answer_in, missing};
 ghost use Rattle.dir_questions.specs.Questions.{no_such_entry};
-ghost use Rattle.dir_questions.specs.Inside.Reading.{block_in};
+ghost use Rattle.dir_questions.specs.Reading.{block_in};
 
 use crate::reading::{AskedWord, Block, NO_SUCH_ENTRY};
 use dir_acl::{Asked, Config, Request};

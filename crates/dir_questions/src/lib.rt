@@ -5,11 +5,14 @@
 mod answering;
 mod fault;
 mod laws;
+mod notes;
 mod reading;
 mod report;
 mod run;
 
 pub use fault::{QuestionCause, QuestionsFault};
 pub use laws::{answers_are_fixed, answers_are_reports};
+pub use notes::with_notes_on_questions;
+pub use reading::{Block, read_lines, read_questions};
 pub use report::Tally;
-pub use run::{QuestionOptions, run_questions, run_questions_under};
+pub use run::{QuestionOptions, answer_questions, run_questions};

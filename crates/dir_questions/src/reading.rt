@@ -1,21 +1,24 @@
-//! The blocks of a file of questions, read as what they ask.
+//! A file of questions, read as blocks of lines, and these as what they ask.
 
-ghost use Rattle.std.specs.Prelude.{◌≡◌, IfOk, List, MatchResult, Err, Ok, map, option_map, ℕ};
+ghost use Rattle.std.specs.Io.KnownBytes.{Consumes};
+ghost use Rattle.std.specs.Prelude.{◌≡◌, ◌≤◌, IfErr, IfOk, List, MatchResult, Err, Ok, OnOk, length, map, option_map, ℕ};
 ghost use Rattle.dir_tools.specs.Inside.Asking as asking;
 ghost use Rattle.dir_acl.specs.declared.privileges.Level.{Level};
 ghost use Rattle.dir_ldif.specs.LogicalLines.{Line};
-ghost use Rattle.dir_questions.specs.Inside.Reading.{GivesAsked, block_in, given_in, left_in, numbered_in, word_in};
+ghost use Rattle.dir_questions.specs.Inside.Reading.{left_in, lines_fault, numbered_in};
+ghost use Rattle.dir_questions.specs.Reading.{GivesAsked, block_in, given_in, word_in};
 ghost use Rattle.dir_questions.specs.Questions.{asked_word, base_in, collect, fake_in, given_name, is_answer, is_nobody, is_reserved, line_of_first, line_parts, may_be_expected, optional_line, requester_in, word_line, words_in, read_block};
+ghost use Rattle.dir_questions.specs.Runs.{HasLines, HasNoLines};
 
 use crate::fault::{QuestionCause, QuestionsFault};
 use dir_acl::{Level, Privileges};
-use dir_ldif::{Line, line_parts};
+use dir_ldif::{Line, Source, StreamFault, line_parts, read_blocks};
 use dir_names::{Dn, DnKey, Memory, Schema};
-use dir_tools::{Word, read_name, read_word};
+use dir_tools::{ToolFault, Word, read_bounded, read_name, read_word};
 use std::alloc::Global;
 
 /// The greatest length of a file of questions, in bytes.
-pub(crate) const MAX_QUESTIONS: usize = 16_777_216;
+const MAX_QUESTIONS: usize = 16_777_216;
 
 /// The answer where the copy has no such entry.
 pub(crate) const NO_SUCH_ENTRY: &[u8] = b"no such entry";
@@ -37,9 +40,9 @@ pub(crate) struct AskedWord<'t> {
     pub(crate) expected: Vec<u8>,
 }
 
-/// What a block asks.
+/// What a block of a file of questions asks.
 #[derive(Drop)]
-pub(crate) struct Block<'t> {
+pub struct Block<'t> {
     /// Who asks, if somebody does.
     pub(crate) requester: Option<GivenName>,
     /// The entry is not looked up: it has no attributes.
@@ -55,12 +58,50 @@ struct Numbered {
     value: Vec<u8>,
 }
 
-/// Reads what the blocks of a text ask, in their order.
+/// The lines of a file of questions, in blocks.
+///
+/// At most 16,785,408 bytes are read.
+///
+/// # Errors
+///
+/// The questions can't be read; they have more than 16,777,216 bytes; the fault in which their text ends; memory ran out.
+pub fn read_lines<R: Source>(
+    alloc: Global,
+    questions: &mut R,
+) -> Result<Vec<Vec<Line>>, QuestionsFault>
+    ensures ok { IfOk result (λ lines. HasLines (R.left questions.old) (map (λ block. block.items) lines.items)) }
+    ensures err { IfErr result (HasNoLines (R.left questions.old) (R.failures questions.old) (R.failures questions.new)) }
+    ensures bounded { (bytes : List ℕ) × Consumes (R.left questions.old) (R.left questions.new) bytes × (length bytes ≤ 16785408) }
+    ensures unfailed { OnOk result (R.failures questions.new ≡ R.failures questions.old) }
+{
+    let Some(text) = read_bounded(alloc, questions)? else {
+        return Err(QuestionsFault::Read);
+    };
+    if text.len() > MAX_QUESTIONS {
+        return Err(QuestionsFault::TooLong);
+    }
+    match read_blocks(alloc, text.as_slice()) {
+        Ok(blocks) => Ok(blocks),
+        Err(fault) => Err(lines_fault(fault)),
+    }
+}
+
+/// The fault in which a text of questions ends, as a fault of the questions.
+fn lines_fault(fault: StreamFault) -> QuestionsFault
+    ensures { result ≡ lines_fault fault }
+{
+    match fault {
+        StreamFault::Memory => QuestionsFault::Tool(ToolFault::Memory),
+        _ => QuestionsFault::Stream(fault),
+    }
+}
+
+/// Reads what blocks of lines ask, in their order, with these attribute types.
 ///
 /// # Errors
 ///
 /// The first line that is at fault, and why; memory ran out.
-pub(crate) fn read_questions<'t>(
+pub fn read_questions<'t>(
     alloc: Global,
     schema: &Schema,
     blocks: &'t [Vec<Line>],

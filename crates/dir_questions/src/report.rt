@@ -5,7 +5,7 @@ ghost use Rattle.std.specs.Fmt.{decimal};
 ghost use Rattle.std.specs.List.{flat_map};
 ghost use Rattle.dir_questions.specs.Answers.{answer_line, answered_line, answered_text, block_text, count, line_by, named_line, outcome_of, requester_line, tally_line, tally_of};
 ghost use Rattle.dir_questions.specs.Inside.Answering.{answer_in};
-ghost use Rattle.dir_questions.specs.Inside.Reading.{block_in, given_in};
+ghost use Rattle.dir_questions.specs.Reading.{block_in, given_in};
 
 use crate::answering::Answer;
 use crate::reading::{Block, GivenName};

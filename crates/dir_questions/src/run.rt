@@ -12,21 +12,20 @@ ghost use Rattle.dir_tools.specs.declared.fault.Input.TheVariants as Input;
 ghost use Rattle.dir_tools.specs.declared.fault.Output.TheVariants as Output;
 ghost use Rattle.dir_tools.specs.declared.fault.ToolFault.TheVariants as ToolFault;
 ghost use Rattle.dir_questions.specs.Answers.{questions_report, written_questions, all_answers, outcome_of, tally_of};
-ghost use Rattle.dir_questions.specs.Inside.Reading.{block_in};
-ghost use Rattle.dir_questions.specs.Inside.Running.{HasLines, HasNoLines, HasTexts, IsFaultOfAsked, IsFaultOfCopy, IsWriterFault, MadeOf, MadeOver, lines_fault};
+ghost use Rattle.dir_questions.specs.Reading.{block_in};
+ghost use Rattle.dir_questions.specs.Inside.Running.{HasTexts, IsFaultOfCopy, IsWriterFault, MadeOver};
 ghost use Rattle.dir_questions.specs.Laws.{AnswersAreFixed, AnswersAreReports};
-ghost use Rattle.dir_questions.specs.Questions.{read_lines};
-ghost use Rattle.dir_questions.specs.Runs.{AnswersQuestions, AreStatedTexts, ComesAfterConfig, IsFaultOfQuestions, IsWholeAnswer, QuestionTexts, QuestionsHeldBefore, WroteAnswers, question_sources};
+ghost use Rattle.dir_questions.specs.Runs.{AnswersQuestions, AsksThese, ComesAfterConfig, ComesAfterQuestions, IsWholeAnswer, QuestionTexts, QuestionsHeldBefore, WroteAnswers, question_sources};
 ghost use Rattle.dir_questions.specs.declared.fault.QuestionsFault.TheVariants as QuestionsFault;
 
 use crate::answering::answers_to;
 use crate::fault::QuestionsFault;
-use crate::reading::{Block, MAX_QUESTIONS, read_questions};
+use crate::reading::{Block, read_lines, read_questions};
 use crate::report::{Tally, push_block, push_lines, push_tally, tally_of};
 use dir_acl::Config;
-use dir_ldif::{DeviceFault, Line, Sink, Source, StreamFault, read_blocks, write_whole};
+use dir_ldif::{DeviceFault, Sink, Source, write_whole};
 use dir_names::{Memory, Schema};
-use dir_tools::{HeldMemory, Output, ToolFault, read_bounded, read_config, read_copy};
+use dir_tools::{HeldMemory, Output, ToolFault, read_config, read_copy};
 use dir_tree::{Directory, TreeDirectory};
 use std::alloc::Global;
 
@@ -90,30 +89,16 @@ pub fn run_questions<R: Source, R2: Source, R3: Source, W: Sink, W2: Sink>(
     ensures write_answers { result ≡ Err QuestionsFault.Write → HasFailed (W.failures answers.old) (W.failures answers.new) ⊎ W.may_stall answers.new }
 {
     match read_config(alloc, schema, config) {
-        Ok((types, config)) => run_questions_under(
-            alloc,
-            HeldMemory::Freed,
-            &types,
-            options,
-            &config,
-            questions,
-            copy,
-            answers,
-            report,
+        Ok((types, config)) => run_under(
+            alloc, &types, options, &config, questions, copy, answers, report,
         ),
         Err(fault) => Err(QuestionsFault::Tool(fault)),
     }
 }
 
-/// Answers a file of questions as `run_questions` does, under a configuration that was read, and its types, and says what becomes of the
-/// memory that the directory takes.
-///
-/// # Errors
-///
-/// Those of `run_questions` that come after the configuration's.
-pub fn run_questions_under<R: Source, R2: Source, W: Sink, W2: Sink>(
+/// Reads the questions, and answers them under a configuration and its types.
+fn run_under<R: Source, R2: Source, W: Sink, W2: Sink>(
     alloc: Global,
-    held: HeldMemory,
     schema: &Schema,
     options: QuestionOptions,
     config: &Config,
@@ -142,9 +127,63 @@ pub fn run_questions_under<R: Source, R2: Source, W: Sink, W2: Sink>(
     ensures write_report { result ≡ Err (QuestionsFault.Tool (ToolFault.Write Output.Report)) → HasFailed (W2.failures report.old) (W2.failures report.new) ⊎ W2.may_stall report.new }
     ensures write_answers { result ≡ Err QuestionsFault.Write → HasFailed (W.failures answers.old) (W.failures answers.new) ⊎ W.may_stall answers.new }
 {
-    match answered(alloc, held, schema, options, config, questions, copy) {
-        Ok(texts) => write_texts(options.answers, &texts, answers, report),
+    let lines = match read_lines(alloc, questions) {
+        Ok(lines) => lines,
+        Err(fault) => return Err(fault),
+    };
+    match read_questions(alloc, schema, lines.as_slice()) {
+        Ok(blocks) => answer_questions(
+            alloc,
+            HeldMemory::Freed,
+            schema,
+            options,
+            config,
+            blocks.as_slice(),
+            copy,
+            answers,
+            report,
+        ),
         Err(fault) => Err(fault),
+    }
+}
+
+/// Answers questions that were read, under a configuration and its types: reads the copy, and writes the answers, if they are wanted, and
+/// then the report. Says what becomes of the memory that the directory takes.
+///
+/// # Errors
+///
+/// Those of `run_questions` that come after the questions'.
+pub fn answer_questions<R: Source, W: Sink, W2: Sink>(
+    alloc: Global,
+    held: HeldMemory,
+    schema: &Schema,
+    options: QuestionOptions,
+    config: &Config,
+    blocks: &[Block<'_>],
+    copy: &mut R,
+    answers: &mut W,
+    report: &mut W2,
+) -> Result<Tally, QuestionsFault>
+    ensures answer { (texts : QuestionTexts)
+        × WroteAnswers options.answers result texts (W.taken answers.old, W.taken answers.new) (W2.taken report.old, W2.taken report.new)
+        × ((start : List TypeRow) (known questions : Option (List ℕ)) → IsTextOf start known (configured_under schema.now config.now) → AsksThese schema.now questions (map block_in blocks.now)
+        → AnswersQuestions start options (question_sources known questions (R.left copy.old)) result texts
+        × IsWholeAnswer start options (question_sources known questions (R.left copy.old)) result texts) }
+    ensures first { IfErr result (λ fault. (start : List TypeRow) (known questions : Option (List ℕ)) → IsTextOf start known (configured_under schema.now config.now) → AsksThese schema.now questions (map block_in blocks.now)
+        → QuestionsHeldBefore start known questions (R.left copy.old, R.left copy.new) fault) }
+    ensures unfailed { OnOk result (W2.failures report.new ≡ W2.failures report.old) }
+    ensures unfailed_answers { OnOk result (W.failures answers.new ≡ W.failures answers.old) }
+    ensures unfailed_copy { OnOk result (R.failures copy.new ≡ R.failures copy.old) }
+    ensures after { IfErr result ComesAfterQuestions }
+    ensures read_copy { result ≡ Err (QuestionsFault.Tool (ToolFault.Read Input.Copy)) → HasFailed (R.failures copy.old) (R.failures copy.new) }
+    ensures flushed { OnOk result (W2.is_flushed report.new) }
+    ensures flushed_answers { OnOk result (options.answers ≡ true → W.is_flushed answers.new) }
+    ensures write_report { result ≡ Err (QuestionsFault.Tool (ToolFault.Write Output.Report)) → HasFailed (W2.failures report.old) (W2.failures report.new) ⊎ W2.may_stall report.new }
+    ensures write_answers { result ≡ Err QuestionsFault.Write → HasFailed (W.failures answers.old) (W.failures answers.new) ⊎ W.may_stall answers.new }
+{
+    match answered(alloc, held, schema, options, config, blocks, copy) {
+        Ok(texts) => write_texts(options.answers, &texts, answers, report),
+        Err(fault) => Err(QuestionsFault::Tool(fault)),
     }
 }
 
@@ -203,71 +242,7 @@ fn write_flushed<W: Sink>(writer: &mut W, text: &[u8]) -> Result<(), DeviceFault
 }
 
 /// What is to be written.
-fn answered<R: Source, R2: Source>(
-    alloc: Global,
-    held: HeldMemory,
-    schema: &Schema,
-    options: QuestionOptions,
-    config: &Config,
-    questions: &mut R,
-    copy: &mut R2,
-) -> Result<Texts, QuestionsFault>
-    ensures ok { IfOk result (λ made. (texts : QuestionTexts) × HasTexts options.answers made texts
-        × ((start : List TypeRow) (known : Option (List ℕ)) → IsTextOf start known (configured_under schema.now config.now)
-        → AreStatedTexts start options (question_sources known (R.left questions.old) (R2.left copy.old)) texts)) }
-    ensures blamed { IfErr result (λ fault. (start : List TypeRow) (known : Option (List ℕ)) → IsTextOf start known (configured_under schema.now config.now)
-        → IsFaultOfQuestions start (question_sources known (R.left questions.old) (R2.left copy.old)) fault) }
-    ensures first { IfErr result (λ fault. (start : List TypeRow) (known : Option (List ℕ)) → IsTextOf start known (configured_under schema.now config.now)
-        → QuestionsHeldBefore start known (R.left questions.old) (R2.left copy.old, R2.left copy.new) fault) }
-    ensures after { IfErr result ComesAfterConfig }
-    ensures bounded { (bytes : List ℕ) × Consumes (R.left questions.old) (R.left questions.new) bytes × (length bytes ≤ 16785408) }
-    ensures unfailed_questions { OnOk result (R.failures questions.new ≡ R.failures questions.old) }
-    ensures unfailed_copy { OnOk result (R2.failures copy.new ≡ R2.failures copy.old) }
-    ensures read_questions { result ≡ Err QuestionsFault.Read → HasFailed (R.failures questions.old) (R.failures questions.new) }
-    ensures read_copy { result ≡ Err (QuestionsFault.Tool (ToolFault.Read Input.Copy)) → HasFailed (R2.failures copy.old) (R2.failures copy.new) }
-{
-    match read_lines(alloc, questions) {
-        Ok(lines) => answered_lines(alloc, held, schema, options, config, lines.as_slice(), copy),
-        Err(fault) => Err(fault),
-    }
-}
-
-/// What is to be written for these blocks of lines.
-fn answered_lines<R: Source>(
-    alloc: Global,
-    held: HeldMemory,
-    schema: &Schema,
-    options: QuestionOptions,
-    config: &Config,
-    lines: &[Vec<Line>],
-    copy: &mut R,
-) -> Result<Texts, QuestionsFault>
-    ensures ok { IfOk result (MadeOf (configured_under schema.now config.now) options (R.left copy.old) (read_lines schema.now (map (λ block. block.items) lines.now))) }
-    ensures blamed { IfErr result (IsFaultOfAsked (configured_under schema.now config.now) (R.left copy.old, R.left copy.new) (read_lines schema.now (map (λ block. block.items) lines.now))) }
-    ensures unfailed { OnOk result (R.failures copy.new ≡ R.failures copy.old) }
-    ensures read { result ≡ Err (QuestionsFault.Tool (ToolFault.Read Input.Copy)) → HasFailed (R.failures copy.old) (R.failures copy.new) }
-{
-    match read_questions(alloc, schema, lines) {
-        Ok(blocks) => {
-            match answered_blocks(
-                alloc,
-                held,
-                schema,
-                options,
-                config,
-                blocks.as_slice(),
-                copy,
-            ) {
-                Ok(texts) => Ok(texts),
-                Err(fault) => Err(QuestionsFault::Tool(fault)),
-            }
-        }
-        Err(fault) => Err(fault),
-    }
-}
-
-/// What is to be written for these blocks.
-fn answered_blocks<R: Source>(
+fn answered<R: Source>(
     alloc: Global,
     held: HeldMemory,
     schema: &Schema,
@@ -294,35 +269,6 @@ fn answered_blocks<R: Source>(
             Ok(texts)
         }
         Err(_) => Err(ToolFault::Memory),
-    }
-}
-
-/// The blocks of lines of the questions.
-fn read_lines<R: Source>(alloc: Global, questions: &mut R) -> Result<Vec<Vec<Line>>, QuestionsFault>
-    ensures ok { IfOk result (λ lines. HasLines (R.left questions.old, R.left questions.new) (map (λ block. block.items) lines.items)) }
-    ensures err { IfErr result (HasNoLines (R.left questions.old, R.left questions.new) (R.failures questions.old) (R.failures questions.new)) }
-    ensures bounded { (bytes : List ℕ) × Consumes (R.left questions.old) (R.left questions.new) bytes × (length bytes ≤ 16785408) }
-    ensures unfailed { OnOk result (R.failures questions.new ≡ R.failures questions.old) }
-{
-    let Some(text) = read_bounded(alloc, questions)? else {
-        return Err(QuestionsFault::Read);
-    };
-    if text.len() > MAX_QUESTIONS {
-        return Err(QuestionsFault::TooLong);
-    }
-    match read_blocks(alloc, text.as_slice()) {
-        Ok(blocks) => Ok(blocks),
-        Err(fault) => Err(lines_fault(fault)),
-    }
-}
-
-/// The fault in which a text of questions ends, as a fault of the questions.
-fn lines_fault(fault: StreamFault) -> QuestionsFault
-    ensures { result ≡ lines_fault fault }
-{
-    match fault {
-        StreamFault::Memory => QuestionsFault::Tool(ToolFault::Memory),
-        _ => QuestionsFault::Stream(fault),
     }
 }
 

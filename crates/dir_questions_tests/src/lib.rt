@@ -10,3 +10,5 @@ mod devices;
 mod faults;
 #[cfg(test)]
 mod make;
+#[cfg(test)]
+mod notes;

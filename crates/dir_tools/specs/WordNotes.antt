@@ -16,16 +16,16 @@ asks_for_unknown rows asked.Children = false
 asks_for_unknown rows (asked.Attribute attr) = not (is_known rows attr)
 
 -- the note names the word, and the description in it, both as they are written
-abbrev pub note_on : List ℕ → List ℕ → Note
-note_on text attr = note_at 0 (UnknownInWord text attr)
+abbrev pub note_on : ℕ → List ℕ → List ℕ → Note
+note_on line text attr = note_at line (UnknownInWord text attr)
 
-abbrev pub noted_word : List TypeRow → List ℕ → Word → List Note
-noted_word rows text word = cond (asks_for_unknown rows word.asked) (note_on text word.attr ∷ []) []
+abbrev pub noted_word : List TypeRow → ℕ → List ℕ → Word → List Note
+noted_word rows line text word = cond (asks_for_unknown rows word.asked) (note_on line text word.attr ∷ []) []
 
--- a text that is no word has no note
+-- a word of a command line stands on no line; a text that is no word has no note
 abbrev pub noted : List TypeRow → List ℕ → Option Word → List Note
 noted rows text None = []
-noted rows text (Some word) = noted_word rows text word
+noted rows text (Some word) = noted_word rows 0 text word
 
 abbrev pub notes_on_word : List TypeRow → List ℕ → List Note
 notes_on_word rows text = noted rows text (word_of rows text)

@@ -28,7 +28,7 @@ use crate::acl::parts::read_parts;
 pub use crate::acl::parts::{Word, read_name, read_word};
 pub use crate::acl::report::push_answer;
 use crate::acl::report::report_text;
-pub use crate::acl::word_notes::with_notes_on_words;
+pub use crate::acl::word_notes::{with_note_on_word, with_notes_on_words};
 use crate::copy::read_copy;
 use crate::held::HeldMemory;
 use crate::write::write_text;

@@ -2,7 +2,7 @@
 use Rattle.dir_questions.specs.declared.answering.Answer.{Answer}
 use Rattle.dir_questions.specs.Questions.{AskedWord, no_such_entry}
 use Rattle.dir_questions.specs.Answers.{Answered}
-use Rattle.dir_questions.specs.Inside.Reading.{word_in}
+use Rattle.dir_questions.specs.Reading.{word_in}
 
 abbrev pub answer_in : Answer → Answered
 answer_in a = (word_in a.asked.now, a.text.items)

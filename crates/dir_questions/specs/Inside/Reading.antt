@@ -1,26 +1,19 @@
--- The views of what is read of a file of questions. No public contract needs this file.
-use Rattle.std.specs.Prelude.{◌≡◌, ⊤, List, map, Option, option_map, Result, Err}
+-- How the parts of a file of questions are read. No public contract needs this file.
+use Rattle.std.specs.Prelude.{List, Option, option_map}
 use Rattle.std.specs.Borrow.{Bor}
-use Rattle.dir_names.specs.Results.{Meets}
 use Rattle.dir_ldif.specs.LogicalLines.{Line}
+use Rattle.dir_ldif.specs.declared.faults.StreamFault.{StreamFault}
+use Rattle.dir_ldif.specs.declared.faults.StreamFault.TheVariants as stream
 use Rattle.dir_tools.specs.declared.fault.ToolFault.TheVariants.{Memory}
-use Rattle.dir_tools.specs.Inside.Asking as asking
 use Rattle.dir_questions.specs.declared.fault.QuestionsFault.{QuestionsFault}
 use Rattle.dir_questions.specs.declared.fault.QuestionsFault.TheVariants as fault
-use Rattle.dir_questions.specs.declared.reading.AskedWord as word
-use Rattle.dir_questions.specs.declared.reading.Block as block
-use Rattle.dir_questions.specs.declared.reading.GivenName as given
 use Rattle.dir_questions.specs.declared.reading.Numbered as numbered
-use Rattle.dir_questions.specs.Questions.{AskedWord, GivenName, Numbered, QuestionBlock}
+use Rattle.dir_questions.specs.Questions.{Numbered}
 
-abbrev pub given_in : given.GivenName → GivenName
-given_in g = record { text = g.text.items; name = (g.name, g.key) }
-
-abbrev pub word_in : word.AskedWord → AskedWord
-word_in w = record { line = w.line; text = w.text.now; word = asking.word_in w.word; expected = w.expected.items }
-
-abbrev pub block_in : block.Block → QuestionBlock
-block_in b = record { requester = option_map given_in b.requester; fake = b.fake; base = given_in b.base; words = map word_in b.words.items }
+-- the fault in which a text of questions ends. That memory ran out is no fault of the text
+abbrev pub lines_fault : StreamFault → QuestionsFault
+lines_fault stream.Memory = fault.Tool Memory
+lines_fault why = fault.Stream why
 
 abbrev pub numbered_in : numbered.Numbered → Numbered
 numbered_in n = (n.line, n.value.items)
@@ -28,12 +21,3 @@ numbered_in n = (n.line, n.value.items)
 -- the value of a line, if it is there, and the lines that are left
 abbrev pub left_in : Option numbered.Numbered × Bor (List Line) → Option Numbered × List Line
 left_in p = (option_map numbered_in p.0, p.1.now)
-
--- a fault of the text is the one that is wanted; that memory ran out says nothing
-abbrev pub IsAskedFault : {A : Type 0} → QuestionsFault → Result A QuestionsFault → Type 0
-IsAskedFault (fault.Tool Memory) wanted = ⊤
-IsAskedFault (fault.Block line why) wanted = wanted ≡ Err (fault.Block line why)
-IsAskedFault fault wanted = ⊥
-
-abbrev pub GivesAsked : {A T : Type 0} → (T → A) → Result T QuestionsFault → Result A QuestionsFault → Type 0
-GivesAsked view result wanted = Meets IsAskedFault view result wanted

@@ -1,11 +1,6 @@
--- How the questions are read from their source, and answered over a copy. No public contract needs this file.
-use Rattle.std.specs.Prelude.{◌≡◌, ◌⊎◌, ℕ, ◌<◌, ⊤, Bool, true, List, length, Option, IfSome, Result, Ok, Err}
-use Rattle.std.specs.Io.KnownBytes.{Consumes, IsAtEnd}
-use Rattle.dir_ldif.specs.Device.{HasFailed}
-use Rattle.dir_ldif.specs.LogicalLines.{Line}
-use Rattle.dir_ldif.specs.declared.faults.StreamFault.{StreamFault}
+-- How questions are answered over a copy. No public contract needs this file.
+use Rattle.std.specs.Prelude.{◌≡◌, ℕ, ⊤, Bool, true, List, Option, IfSome, Ok}
 use Rattle.dir_ldif.specs.declared.faults.StreamFault.TheVariants as stream
-use Rattle.dir_names.specs.declared.schema.TypeRow.{TypeRow}
 use Rattle.dir_tree.specs.Dir.{Dir}
 use Rattle.dir_tools.specs.declared.fault.Cause.TheVariants as cause
 use Rattle.dir_tools.specs.declared.fault.Input.TheVariants as input
@@ -21,32 +16,8 @@ use Rattle.dir_questions.specs.declared.fault.QuestionsFault.{QuestionsFault}
 use Rattle.dir_questions.specs.declared.fault.QuestionsFault.TheVariants as fault
 use Rattle.dir_questions.specs.declared.run.QuestionOptions.{QuestionOptions}
 use Rattle.dir_questions.specs.declared.run.Texts.{Texts}
-use Rattle.dir_questions.specs.Questions.{QuestionBlock, question_blocks, read_lines}
+use Rattle.dir_questions.specs.Questions.{QuestionBlock}
 use Rattle.dir_questions.specs.Runs.{QuestionTexts, texts_on}
-
--- ---- the questions
-
--- what a source gave of these bytes, to its end or past what a file of questions may have, is read so under all types
-abbrev pub ReadAs : KnownBytes → (List TypeRow → Result (List QuestionBlock) QuestionsFault) → Type 0
-ReadAs known wanted =
-    (text : List ℕ) × Consumes known.0 known.1 text × ((16777216 < length text) ⊎ IsAtEnd known.1) × ((rows : List TypeRow) → question_blocks rows text ≡ wanted rows)
-
--- the questions have these blocks of lines
-abbrev pub HasLines : KnownBytes → List (List Line) → Type 0
-HasLines known lines = ReadAs known (λ rows. read_lines rows lines)
-
--- why there are no blocks of lines: the source failed, or memory ran out; or the questions have this fault, whatever their lines say
-abbrev pub HasNoLines : KnownBytes → ℕ → ℕ → QuestionsFault → Type 0
-HasNoLines known failures failures' fault.Read = HasFailed failures failures'
-HasNoLines known failures failures' (fault.Tool tool.Memory) = ⊤
-HasNoLines known failures failures' fault.TooLong = ReadAs known (λ rows. Err fault.TooLong)
-HasNoLines known failures failures' (fault.Stream why) = ReadAs known (λ rows. Err (fault.Stream why))
-HasNoLines known failures failures' why = ⊥
-
--- the fault in which a text of questions ends. That memory ran out is no fault of the text
-abbrev pub lines_fault : StreamFault → QuestionsFault
-lines_fault stream.Memory = fault.Tool tool.Memory
-lines_fault why = fault.Stream why
 
 -- ---- the copy
 
@@ -83,21 +54,6 @@ CopyHeldBefore found copy why = ⊤
 pub record IsFaultOfCopy (found : Configured) (copy : KnownBytes) (why : ToolFault) : Type 0 where
   pub blamed : IsCopyFault found copy.0 why
   pub before : CopyHeldBefore found copy why
-
--- ---- what was asked, over a copy
-
--- the blocks are these, and what was made has the texts on them
-pub record MadeOf (found : Configured) (options : QuestionOptions) (copy : Option (List ℕ)) (asked : Result (List QuestionBlock) QuestionsFault) (made : Texts) : Type 0 where
-  pub blocks : List QuestionBlock
-  pub are : asked ≡ Ok blocks
-  pub over : MadeOver found options copy blocks made
-
--- why nothing was made of it: a block is at fault; or memory ran out; or all are right, and the copy is at fault
-abbrev pub IsFaultOfAsked : Configured → KnownBytes → Result (List QuestionBlock) QuestionsFault → QuestionsFault → Type 0
-IsFaultOfAsked found copy asked (fault.Tool tool.Memory) = ⊤
-IsFaultOfAsked found copy asked (fault.Tool why) = (blocks : List QuestionBlock) × (asked ≡ Ok blocks) × IsFaultOfCopy found copy why
-IsFaultOfAsked found copy asked (fault.Block line why) = asked ≡ Err (fault.Block line why)
-IsFaultOfAsked found copy asked why = ⊥
 
 -- ---- writing
 

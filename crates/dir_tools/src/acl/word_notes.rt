@@ -39,24 +39,30 @@ fn with_notes_on_word(
     ensures { IfOk result (λ noted. noted.items ≡ notes.items ++ notes_on_word schema.now text.now) }
 {
     match read_word(alloc, schema, text)? {
-        Some(word) => with_word(alloc, schema, notes, text, &word),
+        Some(word) => with_note_on_word(alloc, schema, notes, 0, text, &word),
         None => Ok(notes),
     }
 }
 
-/// The notes with the one on this word, if it asks for an attribute of an unknown type.
-fn with_word(
+/// The notes with the one on this word, if it asks for an attribute of a type that the schema doesn't know. `text` is the word as it is
+/// written, and `line` the number, from 1, of the line on which it stands; 0 is for a word of a command line.
+///
+/// # Errors
+///
+/// Memory ran out.
+pub fn with_note_on_word(
     alloc: Global,
     schema: &Schema,
     notes: Vec<Note>,
+    line: u64,
     text: &[u8],
     word: &Word<'_>,
 ) -> Result<Vec<Note>, Memory>
-    ensures { IfOk result (λ noted. noted.items ≡ notes.items ++ noted_word schema.now text.now (word_in word.now)) }
+    ensures { IfOk result (λ noted. noted.items ≡ notes.items ++ noted_word schema.now line text.now (word_in word.now)) }
 {
     let mut notes = notes;
     if asks_for_unknown(schema, &word.asked) {
-        notes.push(note_on(alloc, text, word.attr)?)?;
+        notes.push(note_on(alloc, line, text, word.attr)?)?;
     }
     Ok(notes)
 }
@@ -70,13 +76,13 @@ fn asks_for_unknown(schema: &Schema, asked: &Asked) -> bool
     }
 }
 
-fn note_on(alloc: Global, text: &[u8], attr: &[u8]) -> Result<Note, Memory>
-    ensures { IfOk result (λ note. note ≡ note_on text.now attr.now) }
+fn note_on(alloc: Global, line: u64, text: &[u8], attr: &[u8]) -> Result<Note, Memory>
+    ensures { IfOk result (λ note. note ≡ note_on line text.now attr.now) }
 {
     let text = text.to_vec(alloc)?;
     let attr = attr.to_vec(alloc)?;
     Ok(Note {
-        line: 0,
+        line,
         cause: NoteCause::UnknownInWord(Bytes::new(text), Bytes::new(attr)),
     })
 }

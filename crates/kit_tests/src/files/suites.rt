@@ -19,6 +19,9 @@ const QUESTIONS: &[u8] = b"authcDN: cn=u,dc=com\ndn: dc=com\ndc:\ndc/write: ALLO
 
 const NO_WORD: &[u8] = b"dn: dc=com\n";
 
+/// Two words ask for an attribute of a type that isn't known.
+const UNKNOWN: &[u8] = b"dn: dc=com\ngn:\nentry:\n\ndn: dc=com\ncn:\ngn/read: DENIED\n";
+
 const NO_SUFFIX: &[u8] = b"database mdb\n";
 
 /// A run over a folder with a configuration at `config`, questions at `changes` and a copy, and what must come of it.
@@ -49,7 +52,7 @@ const ASKED: Suite = Suite {
     told: "",
 };
 
-static SUITES: [Suite; 14] = [
+static SUITES: [Suite; 17] = [
     Suite {
         shows: "the configuration is opened, the questions, and the copy; the answers are published, and then the report is written",
         told: "open config;open changes;open copy;create out 644;sync out SUITE;publish out SUITE;report TALLY;",
@@ -108,6 +111,28 @@ static SUITES: [Suite; 14] = [
         shows: "else they are told, and the questions are answered",
         rules: INCLUDE,
         told: "note: config, line 3: include \"acl.conf\" is not read;open config;open changes;open copy;create out 644;sync out SUITE;publish out SUITE;report TALLY;",
+        ..ASKED
+    },
+    Suite {
+        shows: "words have notes on their lines, after those on the configuration",
+        rules: INCLUDE,
+        text: UNKNOWN,
+        strict: true,
+        told: "note: config, line 3: include \"acl.conf\" is not read;note: questions, line 2: word \"gn\": unknown attribute \"gn\";note: questions, line 7: word \"gn/read\": unknown attribute \"gn\";open config;open changes;open copy;create out 644;discard out;not answered, because there are notes",
+        ..ASKED
+    },
+    Suite {
+        shows: "they are told without others",
+        text: UNKNOWN,
+        strict: true,
+        told: "note: questions, line 2: word \"gn\": unknown attribute \"gn\";note: questions, line 7: word \"gn/read\": unknown attribute \"gn\";open config;open changes;open copy;create out 644;discard out;not answered, because there are notes",
+        ..ASKED
+    },
+    Suite {
+        shows: "questions with a fault have no notes, nor has the configuration then",
+        rules: INCLUDE,
+        text: NO_WORD,
+        told: "open config;open changes;open copy;create out 644;discard out;questions, line 1: A1 BadBlock",
         ..ASKED
     },
     Suite {

@@ -1,10 +1,10 @@
-use Rattle.std.proofs.Common.{[], None, ap, sym}
+use Rattle.std.proofs.Common.{None, ap, sym}
 use Rattle.std.specs.Prelude.{⊤}
 use Rattle.std.specs.Option.{option_copied}
 use Rattle.dir_questions.specs.Runs.{QuestionSources, question_sources}
 use Rattle.dir_files.specs.Files.{opens}
 use Rattle.dir_files.specs.QuestionRuns.{ReportsAnswers, WritesAnswers, first_repeated_of}
-use Rattle.dir_files.proofs.NoteLemmas.{told_at}
+use Rattle.dir_files.proofs.NoteLemmas.{told_at_both}
 use Rattle.dir_files.proofs.QuestionCalls.{answers, into_file, into_none, later, no_copy, no_questions}
 use Rattle.dir_files.proofs.questions.run.Goals as goal
 
@@ -40,12 +40,12 @@ returns-in-Some-answers-clause-notes g c =
     let known : QuestionSources = question_sources (g.F.Input.Source.left c.in-Ok.opened.file) (g.F.Input.Source.left c.in-Ok-open.opened.file) (g.F.Input.Source.left c.in-Ok-open-2.opened.file) in
     let e = g.F.FileSystem.disk c.open-3.new.self in
     let f = g.F.FileSystem.disk c.with_answers.new.files in
-    told_at [] words.strict words.config.now words.questions.now c.with_answers.result (λ d calls. ⊤)
+    told_at_both words.strict words.config.now words.questions.now c.with_answers.result (λ d calls. ⊤)
     (g.F.FileSystem.disk c.args.files.now) (g.F.FileSystem.disk c.open.new.self) (g.F.FileSystem.disk c.open-2.new.self) f
-    (g.F.Input.Source.left c.in-Ok.opened.file) (g.T.NoteTeller.given c.args.teller.now) (g.T.NoteTeller.given c.with_answers.new.teller) c.in-Ok.ensures.told c.in-Ok-open.ensures.told
+    (g.F.Input.Source.left c.in-Ok.opened.file) (g.F.Input.Source.left c.in-Ok-open.opened.file) (g.T.NoteTeller.given c.args.teller.now) (g.T.NoteTeller.given c.with_answers.new.teller) c.in-Ok.ensures.told c.in-Ok-open.ensures.told
     (later (λ d. WritesAnswers c.in-Some-answers.path.now c.in-Ok-open.opened.mode words known c.with_answers.result) (opens words.data.now None)
     (g.F.FileSystem.disk c.open-2.new.self) e f c.in-Ok-open-2.ensures.told c.with_answers.ensures.calls)
-    c.in-Ok.ensures.text c.with_answers.ensures.notes
+    c.in-Ok.ensures.text c.in-Ok-open.ensures.text c.with_answers.ensures.notes
 
 pub returns-clause-calls : goal.returns-clause-calls
 returns-clause-calls g c =
@@ -67,9 +67,9 @@ returns-clause-notes g c =
     let known : QuestionSources = question_sources (g.F.Input.Source.left c.in-Ok.opened.file) (g.F.Input.Source.left c.in-Ok-open.opened.file) (g.F.Input.Source.left c.in-Ok-open-2.opened.file) in
     let e = g.F.FileSystem.disk c.open-3.new.self in
     let f = g.F.FileSystem.disk c.without_answers.new.files in
-    told_at [] words.strict words.config.now words.questions.now c.without_answers.result (λ d calls. ⊤)
+    told_at_both words.strict words.config.now words.questions.now c.without_answers.result (λ d calls. ⊤)
     (g.F.FileSystem.disk c.args.files.now) (g.F.FileSystem.disk c.open.new.self) (g.F.FileSystem.disk c.open-2.new.self) f
-    (g.F.Input.Source.left c.in-Ok.opened.file) (g.T.NoteTeller.given c.args.teller.now) (g.T.NoteTeller.given c.without_answers.new.teller) c.in-Ok.ensures.told c.in-Ok-open.ensures.told
+    (g.F.Input.Source.left c.in-Ok.opened.file) (g.F.Input.Source.left c.in-Ok-open.opened.file) (g.T.NoteTeller.given c.args.teller.now) (g.T.NoteTeller.given c.without_answers.new.teller) c.in-Ok.ensures.told c.in-Ok-open.ensures.told
     (later (λ d. ReportsAnswers words known c.without_answers.result) (opens words.data.now None)
     (g.F.FileSystem.disk c.open-2.new.self) e f c.in-Ok-open-2.ensures.told c.without_answers.ensures.calls)
-    c.in-Ok.ensures.text c.without_answers.ensures.notes
+    c.in-Ok.ensures.text c.in-Ok-open.ensures.text c.without_answers.ensures.notes

@@ -1,4 +1,4 @@
-use Rattle.std.proofs.Common.{◌≡◌, Err, IfOk, List, Result, ap, rules, subst, sym, ◌∙◌}
+use Rattle.std.proofs.Common.{◌≡◌, Err, IfOk, List, Result, ap, refl, rules, subst, sym, ◌∙◌}
 use Rattle.dir_names.specs.Table.Builtin.{builtin_rows}
 use Rattle.dir_names.specs.declared.schema.TypeRow.{TypeRow}
 use Rattle.dir_tools.specs.declared.acl.Question.{Question}
@@ -6,9 +6,10 @@ use Rattle.dir_tools.specs.declared.fault.ToolFault.TheVariants as tool
 use Rattle.dir_tools.specs.AccessAnswers.{IsArgumentOf, IsConfigFault, IsTextOf, access_sources}
 use Rattle.dir_tools.specs.AccessReport.{AccessTerms, access_terms}
 use Rattle.dir_tools.specs.Inside.Asking.{configured_of}
+use Rattle.dir_tools.specs.WordNotes.{notes_on_words}
 use Rattle.dir_files.specs.AccessRuns.{Asks, access_terms_of, asked_for}
 use Rattle.dir_files.specs.declared.fault.Fault.{Fault}
-use Rattle.dir_files.specs.Notes.{AreNotesOf, TellsFor}
+use Rattle.dir_files.specs.Notes.{AreNotesOf, AreOnWords, TellsFor}
 use Rattle.dir_files.specs.Runs.{Made}
 use Rattle.dir_files.proofs.AccessCalls.{answered, unread}
 use Rattle.dir_files.proofs.FaultArgumentLemmas.{found_told, none_told}
@@ -51,8 +52,10 @@ returns-clause-notes g c =
     let text = g.R.Source.left c.args.config.now in
     let found = c.in-Ok-read_config_with_argument.ensures in
     let notes = c.as_slice.result.now in
-    let are : AreNotesOf (asked_for words).words text notes = are_notes (asked_for words).words text c.in-Ok.schema c.in-Ok-read_config_with_argument.noted notes (cc c.in-Ok.ensures) found.config found.notes (c.as_slice.ensures.value ∙ c.in-Ok-noted_question.ensures.notes) in
-    (notes, c.in_ok-tell.ensures.given, all_told (asked_for words).words words.strict text notes c.report.result (after_config c.report.result c.report.ensures.faults) are c.in_ok-tell.ensures.ok)
+    let noted = c.in-Ok-read_config_with_argument.noted in
+    let asked = AreOnWords (asked_for words).words in
+    let are : AreNotesOf asked text notes = are_notes asked text c.in-Ok.schema noted (notes_on_words noted.types (asked_for words).words) notes (cc c.in-Ok.ensures) found.config found.notes refl (c.as_slice.ensures.value ∙ c.in-Ok-noted_question.ensures.notes) in
+    (notes, c.in_ok-tell.ensures.given, all_told asked words.strict text notes c.report.result (after_config c.report.result c.report.ensures.faults) are c.in_ok-tell.ensures.ok)
 
 pub returns-in_err-tell-clause-notes : goal.returns-in_err-tell-clause-notes
 returns-in_err-tell-clause-notes g c =
@@ -61,14 +64,16 @@ returns-in_err-tell-clause-notes g c =
     let found = c.in-Ok-read_config_with_argument.ensures in
     let notes = c.as_slice.result.now in
     let fault = c.in_err-tell.field-0.0 in
-    let are : AreNotesOf (asked_for words).words text notes = are_notes (asked_for words).words text c.in-Ok.schema c.in-Ok-read_config_with_argument.noted notes (cc c.in-Ok.ensures) found.config found.notes (c.as_slice.ensures.value ∙ c.in-Ok-noted_question.ensures.notes) in
+    let noted = c.in-Ok-read_config_with_argument.noted in
+    let asked = AreOnWords (asked_for words).words in
+    let are : AreNotesOf asked text notes = are_notes asked text c.in-Ok.schema noted (notes_on_words noted.types (asked_for words).words) notes (cc c.in-Ok.ensures) found.config found.notes refl (c.as_slice.ensures.value ∙ c.in-Ok-noted_question.ensures.notes) in
     let result : c.from_residual.result ≡ Err fault = search rules in
-    subst (λ (r : Result Unit Fault). TellsFor (asked_for words).words words.strict text r (g.T.NoteTeller.given c.args.teller.now) (g.T.NoteTeller.given c.tell.new.teller)) (sym result)
-    (notes, c.in_err-tell.ensures.given, ended Unit (asked_for words).words words.strict text notes fault c.in_err-tell.ensures.err are c.in_err-tell.ensures.some)
+    subst (λ (r : Result Unit Fault). TellsFor asked words.strict text r (g.T.NoteTeller.given c.args.teller.now) (g.T.NoteTeller.given c.tell.new.teller)) (sym result)
+    (notes, c.in_err-tell.ensures.given, ended Unit asked words.strict text notes fault c.in_err-tell.ensures.err are c.in_err-tell.ensures.some)
 
 pub returns-in-Err-noted_question-clause-notes : goal.returns-in-Err-noted_question-clause-notes
 returns-in-Err-noted_question-clause-notes g c =
-    note_lemmas.none_told Unit (asked_for c.args.words.now).words c.args.words.now.strict (g.R.Source.left c.args.config.now) tool.Memory c.run_fault-in-Err-noted_question.result (g.T.NoteTeller.given c.args.teller.now) tt c.run_fault-in-Err-noted_question.ensures
+    note_lemmas.none_told Unit (AreOnWords (asked_for c.args.words.now).words) c.args.words.now.strict (g.R.Source.left c.args.config.now) tool.Memory c.run_fault-in-Err-noted_question.result (g.T.NoteTeller.given c.args.teller.now) tt c.run_fault-in-Err-noted_question.ensures
 
 pub returns-in-Err-clause-argument : goal.returns-in-Err-clause-argument
 returns-in-Err-clause-argument g c =

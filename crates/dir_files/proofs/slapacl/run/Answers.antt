@@ -1,6 +1,7 @@
 use Rattle.std.proofs.Common.{◌≡◌, None, rules}
 use Rattle.dir_tools.specs.AccessAnswers.{access_sources}
 use Rattle.dir_files.specs.AccessRuns.{AsksOrStops, asked_for, first_repeated_file}
+use Rattle.dir_files.specs.Notes.{AreOnWords}
 use Rattle.dir_files.proofs.AccessCalls.{asks, no_copy, none_repeated}
 use Rattle.dir_files.proofs.FaultArgumentLemmas.{argument_told_at}
 use Rattle.dir_files.proofs.NoteLemmas.{told_at}
@@ -23,7 +24,7 @@ returns-clause-calls g c =
 pub returns-clause-notes : goal.returns-clause-notes
 returns-clause-notes g c =
     let words = c.args.words.now in
-    told_at (asked_for words).words words.strict words.config.now words.data.now c.answer.result
+    told_at (AreOnWords (asked_for words).words) words.strict words.config.now words.data.now c.answer.result
     (λ d. AsksOrStops words (access_sources (g.F.Input.Source.left c.in-Ok.opened.file) (g.F.Input.Source.left c.in-Ok-open.opened.file)) c.answer.result)
     (g.F.FileSystem.disk c.args.files.now) (g.F.FileSystem.disk c.open.new.self) (g.F.FileSystem.disk c.open-2.new.self) (g.F.FileSystem.disk c.answer.new.files)
     (g.F.Input.Source.left c.in-Ok.opened.file) (g.T.NoteTeller.given c.args.teller.now) (g.T.NoteTeller.given c.answer.new.teller)

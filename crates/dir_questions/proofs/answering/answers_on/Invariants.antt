@@ -5,7 +5,7 @@ use Rattle.dir_acl.specs.Inside.ReadingConfig.{configuration_of}
 use Rattle.dir_acl.specs.RulesFor.{IsRulesFor}
 use Rattle.dir_questions.specs.Answers.{answered_on}
 use Rattle.dir_questions.specs.Inside.Answering.{answer_in}
-use Rattle.dir_questions.specs.Inside.Reading.{block_in, word_in}
+use Rattle.dir_questions.specs.Reading.{block_in, word_in}
 use Rattle.dir_questions.proofs.answering.answers_on.Given as goal
 
 abbrev pub invariant-loop-asked : goal.invariant-loop-asked

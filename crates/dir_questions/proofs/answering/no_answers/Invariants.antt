@@ -1,6 +1,6 @@
 use Rattle.std.proofs.Common.{◌≡◌, ◌++◌, drop, map}
 use Rattle.dir_questions.specs.Inside.Answering.{answer_in, missing}
-use Rattle.dir_questions.specs.Inside.Reading.{word_in}
+use Rattle.dir_questions.specs.Reading.{word_in}
 use Rattle.dir_questions.proofs.answering.no_answers.Given as goal
 
 abbrev pub invariant-loop-asked : goal.invariant-loop-asked

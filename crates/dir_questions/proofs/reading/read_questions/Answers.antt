@@ -2,7 +2,7 @@ use Rattle.std.proofs.Common.{◌≡◌, ◌+◌, ◌<◌, List, [], ◌∷◌, 
 use Rattle.std.proofs.lemmas.List.{drop_more, map-append}
 use Rattle.dir_ldif.specs.declared.reader.unfolder.Line.{Line}
 use Rattle.dir_questions.specs.declared.fault.QuestionsFault.{QuestionsFault}
-use Rattle.dir_questions.specs.Inside.Reading.{block_in}
+use Rattle.dir_questions.specs.Reading.{block_in}
 use Rattle.dir_questions.specs.Questions.{QuestionBlock, collect, read_block}
 use Rattle.dir_questions.proofs.Collecting.{after, one_more}
 use Rattle.dir_questions.proofs.reading.read_questions.Goals as goal

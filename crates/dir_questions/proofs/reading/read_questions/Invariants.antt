@@ -1,5 +1,5 @@
 use Rattle.std.proofs.Common.{◌≡◌, drop, map}
-use Rattle.dir_questions.specs.Inside.Reading.{block_in}
+use Rattle.dir_questions.specs.Reading.{block_in}
 use Rattle.dir_questions.specs.Questions.{collect, read_block}
 use Rattle.dir_questions.proofs.Collecting.{after}
 use Rattle.dir_questions.proofs.reading.read_questions.Given as goal

@@ -1,5 +1,5 @@
 use Rattle.std.proofs.Common.{◌≡◌, drop, map}
-use Rattle.dir_questions.specs.Inside.Reading.{word_in}
+use Rattle.dir_questions.specs.Reading.{word_in}
 use Rattle.dir_questions.specs.Questions.{collect, word_line, words_in}
 use Rattle.dir_questions.proofs.Collecting.{after}
 use Rattle.dir_questions.proofs.reading.words_in.Given as goal

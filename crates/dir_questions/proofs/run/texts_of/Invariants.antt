@@ -2,7 +2,7 @@ use Rattle.std.proofs.Common.{◌≡◌, ◌++◌, drop, map, true}
 use Rattle.std.specs.List.{flat_map}
 use Rattle.dir_acl.specs.Inside.ReadingConfig.{configuration_of}
 use Rattle.dir_questions.specs.Answers.{all_answers, answer_line, outcome_of, written_questions}
-use Rattle.dir_questions.specs.Inside.Reading.{block_in}
+use Rattle.dir_questions.specs.Reading.{block_in}
 use Rattle.dir_questions.proofs.run.texts_of.Given as goal
 
 abbrev pub invariant-loop-block : goal.invariant-loop-block

@@ -1,7 +1,6 @@
 use Rattle.std.proofs.Common.{◌++◌, Ok, Result, codes, decimal, refl, sym, ap, append_assoc}
 use Rattle.std.specs.declared.fmt.Error.{Error}
 use Rattle.dir_tools.proofs.Shown.{two_shown}
-use Rattle.dir_files.specs.FaultText.{fault_text}
 use Rattle.dir_files.proofs.fault.FaultDisplay.fmt.Goals as goal
 
 pub returns-in_ok-show_number-in-TooFewGroups-2-clause-styled : goal.returns-in_ok-show_number-in-TooFewGroups-2-clause-styled

@@ -47,10 +47,11 @@ returns-in_ok-show_place-in-OtherDatabase-clause-styled g c =
     two_shown g.W.Write.write_str_gives c.args.f.now c.show_place-in-OtherDatabase.new.f c.write_str-in-OtherDatabase.new.self ok c.write_str-in-OtherDatabase.result
     (place_text line) (codes "access rule of database config or monitor is passed over") (note_text c.args.self.now.0.now) c.in_ok-show_place-in-OtherDatabase.ensures.styled refl c.write_str-in-OtherDatabase.ensures.styled (rw c.in-OtherDatabase.is refl)
 
-pub returns-in_ok-show_between-in-UnknownInWord-clause-styled : goal.returns-in_ok-show_between-in-UnknownInWord-clause-styled
-returns-in_ok-show_between-in-UnknownInWord-clause-styled g c =
+pub returns-in_ok-show_word-in-UnknownInWord-clause-styled : goal.returns-in_ok-show_word-in-UnknownInWord-clause-styled
+returns-in_ok-show_word-in-UnknownInWord-clause-styled g c =
     let ok : Result (Unit {0}) Error = Ok tt in
+    let line = c.args.self.now.0.now.line in
     let description = c.as_slice-in-UnknownInWord-2.result.now in
-    two_shown g.W.Write.write_str_gives c.args.f.now c.show_between-in-UnknownInWord.new.f c.show_unknown-in-UnknownInWord.new.f ok c.show_unknown-in-UnknownInWord.result
-    (word_text c.as_slice-in-UnknownInWord.result.now) (unknown_text description) (note_text c.args.self.now.0.now) c.in_ok-show_between-in-UnknownInWord.ensures.styled refl c.show_unknown-in-UnknownInWord.ensures.styled
-    (rw c.in-UnknownInWord.is (ap (λ (t : List ℕ). word_text t ++ unknown_text description) c.as_slice-in-UnknownInWord.ensures ∙ ap (λ (t : List ℕ). word_text c.in-UnknownInWord.word ++ unknown_text t) c.as_slice-in-UnknownInWord-2.ensures))
+    two_shown g.W.Write.write_str_gives c.args.f.now c.show_word.new.f c.show_unknown-in-UnknownInWord.new.f ok c.show_unknown-in-UnknownInWord.result
+    (word_text line c.as_slice-in-UnknownInWord.result.now) (unknown_text description) (note_text c.args.self.now.0.now) c.in_ok-show_word-in-UnknownInWord.ensures.styled refl c.show_unknown-in-UnknownInWord.ensures.styled
+    (rw c.in-UnknownInWord.is (ap (λ (t : List ℕ). word_text line t ++ unknown_text description) c.as_slice-in-UnknownInWord.ensures ∙ ap (λ (t : List ℕ). word_text line c.in-UnknownInWord.word ++ unknown_text t) c.as_slice-in-UnknownInWord-2.ensures))
