@@ -1,21 +1,20 @@
 #!/usr/bin/env python3
-"""Plants wrong bodies, one at a time: the prover must refuse each.
+"""Plants wrong bodies: the prover must refuse each.
 
 usage: bugs.py [--listed] [--after-ci] [--quick] [--tenth SEED] [CRATE[/PATTERN] ...]
 
 They are those of bugs/, which the gate leaves out (docs/CONTRIBUTING.md says which), or with --listed those of must-fail/, which the gate
 tries. Try those of a crate when it has changed; with a pattern, as in 'dir_change/*rename*', only those whose names it
-fits.
+fits. tests/edits.py says what such a file has.
 
-Each is a file with a line `file:`, pairs of lines `old:` (once in that file) and `new:`, and where the function that the prover must refuse
-isn't the one whose line changes first, a line `fn:` with its path. One wrong body after the other is planted in a copy of the crates, and its
-function tried by `rt check --only`, with all that it calls in its crate: it is refused where the edited crate compiles, and the prover ends and does not accept
-the function, but all others. The seconds of a processor that it took are told. That it accepts the functions as they stand is seen before, and what it then checked is
-kept for the wrong bodies. The libraries below are taken as `rt lib` or `rt check` have built them in this checkout, and those that are lacking are built.
+They are planted in a copy of the crates, several in one check where none calls what another changes, and the prover tries the functions that must be refused
+(`rt check --only`). The functions that these call are taken at their word (tests/stubs.py). A wrong body is refused where the edited crate compiles, and the
+prover ends and does not accept its function, but all others. That it accepts the functions as they stand, with what they call taken at its word too, is seen
+before, and what it then checked is kept for the wrong bodies. The seconds of a processor that a check took are told. The libraries below are taken as `rt lib` or
+`rt check` have built them in this checkout, and those that are lacking are built.
 
---after-ci is for the gate, right after `rt ci` has proved all crates of this checkout: the libraries are taken as `rt ci` left them. `rt check` would build
-these anew, so the prover is called as `rt` calls it. That the functions are proved as they stand has just been seen. So the wrong bodies of a crate are tried one after the
-other, and what was checked for one is kept for the next.
+--after-ci is for the gate, right after `rt ci` has proved all crates of this checkout, and with them these functions as they stand: so that isn't seen again.
+The libraries are taken as `rt ci` left them. `rt check` would build these anew, so the prover is called as `rt` calls it.
 
 --quick proves nothing: it looks whether each of bugs/ and must-fail/ still finds the line that it changes, changes code, and compiles. It
 also names those that take away a name which a proof of the changed function may cite: where the prover refuses one of these, that need not show
@@ -25,7 +24,6 @@ drawn by the seed, and says which.
 import argparse
 import collections
 import concurrent.futures
-import functools
 import os
 import pathlib
 import random
@@ -36,117 +34,19 @@ import subprocess
 import sys
 import tempfile
 
+from compiling import all_compile
+from copies import KEPT, copy_of_crates, link_or_copy, prover
+from edits import ROOT, TOGETHER, WrongBody, edits_of, folder_of, in_groups, plant, read
 from machine import proofs_at_once
+from stubs import take_away
 
-ROOT = pathlib.Path(__file__).resolve().parent.parent
-
-# Where the prover keeps what it has checked of a crate.
-KEPT = "out/incremental"
-
-# Edits that are planted together are as many lines apart, so that none stands in the code of another.
-APART = 4
-
-
-def libraries():
-    """The folders of the libraries that were built in this checkout."""
-    return (ROOT / "crates").glob("*/out/rlib")
-
-
-def link_or_copy(one, other):
-    """Gives a file of a library a second name: such a file is replaced, and never written into."""
-    try:
-        os.link(one, other)
-    except OSError:
-        shutil.copy2(one, other)
-
-
-def copy_of_crates(folder):
-    """A copy of the sources, and of the libraries that rt has built of them: of what it made no more is needed."""
-    copy = pathlib.Path(folder)
-    shutil.copytree(ROOT / "crates", copy / "crates", ignore=shutil.ignore_patterns("out"))
-    for library in libraries():
-        shutil.copytree(library, copy / library.relative_to(ROOT), copy_function=link_or_copy)
-    for name in ("crates.txt", "HANDLES"):
-        shutil.copy(ROOT / name, copy)
-    return copy
-
-
-def folder_of(crate, is_listed):
-    return ROOT / ("must-fail" if is_listed else "bugs") / crate
-
-
-def edits_of(wanted, is_listed):
-    """The edits of a crate, or those of them whose names fit a pattern."""
-    crate, _, pattern = wanted.partition("/")
-    edits = sorted(folder_of(crate, is_listed).glob(f"{pattern or '*'}.edit"))
-    if not edits:
-        sys.exit(f"no such edit: {wanted}")
-    return crate, edits
-
-
-# ---- with proofs
-
-
-def module_of(file):
-    """The path of a source file's module below its crate: `history` of src/history.rt, nothing of src/lib.rt."""
-    names = list(pathlib.PurePath(file).with_suffix("").parts[1:])
-    return names[:-1] if names[-1] in ("lib", "main", "mod") else names
-
-
-def owner_of(header):
-    """How the prover names the methods of an impl: by their type, or by the type, the trait and its types."""
-    header = re.sub(r"'\w+,? ?", "", header)
-    name = re.match(r"impl(?:<.*?>)? (.*?)(?: where .*)?\{", header)[1].strip()
-    trait, _, of = name.rpartition(" for ")
-    return "".join(re.findall(r"\w+", re.sub(r"<.*", "", of) + trait if trait else re.sub(r"<.*", "", of)))
-
-
-def path_of(file, lines, number):
-    """The path of the function that has a line of a source file, below its crate."""
-    name, begin, _ = function_at(lines, number)
-    if name is None:
-        return None
-    owner = []
-    if lines[begin].startswith(" "):
-        header = next((n for n in range(begin, -1, -1) if re.match(r"(impl|trait|pub trait|pub\(crate\) trait)\b", lines[n])), None)
-        if header is not None and lines[header].startswith("impl"):
-            owner = [owner_of(" ".join(lines[header : header + 4]))]
-    return "::".join([*module_of(file), *owner, name])
-
-
-def function_of(edit, crate, changes, texts):
-    """The path of the function that the prover must refuse with this edit, and nothing where it may be any of the crate's."""
-    named = re.search(r"^fn: (\S+)$", edit.read_text(), re.M)
-    first = changes[0]
-    folder = ROOT / "crates" / crate
-    return named[1] if named else path_of(first.file.relative_to(folder), texts[first.file].split("\n"), first.line)
-
-
-@functools.cache
-def toolchain():
-    """What `rt` is made of: how it calls the prover stands there alone."""
-    sys.path.insert(0, str(pathlib.Path(shutil.which("rt")).resolve().parent))
-    import rtlib
-
-    return rtlib
-
-
-def are_left_by_ci():
-    """Whether the libraries here are those that `rt ci` left. Those that `rt check` built have a stamp, and where there were some, `rt ci` put them back."""
-    return not any((library / "stamp").exists() for library in libraries())
-
-
-def prover(home, after_ci):
-    """The command that checks the crate of a copy."""
-    if after_ci and are_left_by_ci():
-        crate = next(it for it in toolchain().crates_below(str(home.parent)) if it.name == home.name)
-        return [toolchain().RATTLE, "check", *crate.words(["--jobs", "1"], keeps=False), "--incremental", KEPT]
-    return ["rt", "check", "--jobs", "1"]
+# What a proof says that names what an edit took away: it shows nothing of a contract.
+OF_NAMES = re.compile(r"proofs/.*(has no field|is not in scope|has no `|was not admitted)")
 
 
 def check(home, functions, after_ci):
-    """Has the prover try these functions of a crate, with what they call there, or else all of it, and returns the status, what it said, and the seconds of a processor that it took."""
-    words = [] if None in functions else [word for function in sorted(functions) for word in ("--only", function)]
+    """Has the prover try these functions of a crate, or else all of it, and returns the status, what it said, and the seconds of a processor that it took."""
+    words = [] if None in functions else ["--allow-holes", *(word for function in sorted(functions) for word in ("--only", function))]
     (home / "out").mkdir(exist_ok=True)
     with tempfile.TemporaryFile() as said:
         ran = subprocess.Popen([*prover(home, after_ci), *words], cwd=home, stdin=subprocess.DEVNULL, stdout=said, stderr=subprocess.STDOUT)
@@ -156,265 +56,112 @@ def check(home, functions, after_ci):
         return ran.returncode, said.read().decode(errors="replace"), used.ru_utime + used.ru_stime
 
 
-# What a proof says that names what an edit took away: it shows nothing of a contract.
-OF_NAMES = re.compile(r"proofs/.*(has no field|is not in scope|has no `|was not admitted)")
+def is_accepted(said, function):
+    """Whether the prover accepts a function, given what is said of those that it calls."""
+    accepted = re.findall(r"^fn \w+::(\S+): (?:proved|no holes|depends on a hole)", said, re.M)
+    return any(name == function or name.endswith(f"::{function}") for name in accepted)
 
 
-def names_of(changes, texts):
-    """The names of the functions that these changes are in, and of those that they bring."""
-    names = {function_at(texts[change.file].split("\n"), change.line)[0] for change in changes}
-    return names | {name for change in changes for name in re.findall(r"\bfn (\w+)", change.new)}
-
-
-def refused_for(status, said, edited):
-    """The function that the prover refuses, which is one of those edited, or why nothing is known of it."""
-    if status == 0:
-        return None, "NOT REFUSED"
+def refused_of(body, group, status, said):
+    """The function of a wrong body that the prover refuses, of a group that was tried together, or why nothing is known of it."""
     refused = re.findall(r"^fn (\S+): (?:not proved|no proof)", said, re.M)
-    others = [name for name in refused if None not in edited and edited.isdisjoint(name.split("::"))]
+    others = [name for name in refused if body.function and not any(it.has(name) for it in group)]
     if others:
         return None, f"NOT TRIED: {others[0]} is not proved either"
-    has_ended = re.search(r"^(only=\d+ proved=\d+|logic=not-proved)", said, re.M)
-    if status != 1 or not has_ended or not refused:
-        told = re.search(r"^(\S+: )?error[\[:].*$", said, re.M)
+    has_ended = re.search(r"^(only=\d+ (proved|holes)=\d+|logic=(not-)?proved)", said, re.M)
+    own = [name for name in refused if body.function is None or body.has(name)]
+    if has_ended and not own and (status == 0 or is_accepted(said, body.function)):
+        return None, "NOT REFUSED"
+    told = re.findall(r"^(?:\S+: )?error[\[:].*$", said, re.M)
+    if status != 1 or not has_ended or not own:
         return None, f"NOT TRIED (status {status}): {told[0] if told else said[-300:]}"
-    told = re.findall(r"^\S+:\d+:\d+: error.*$", said, re.M)
+    told = [line for line in re.findall(r"^\S+:\d+:\d+: error.*$", said, re.M) if len(group) == 1 or any(f"proofs/{path.replace('::', '/')}/" in line for path in body.paths)]
     is_of_names = bool(told) and all(OF_NAMES.search(line) for line in told)
-    return refused[0] + (", but only since a proof names what was taken away" if is_of_names else ""), None
+    return own[0] + (", but only since a proof names what was taken away" if is_of_names else ""), None
 
 
-def functions_of(crate, edits):
-    """The functions that the prover must refuse with these edits, of those that can be planted."""
-    texts = {}
-    found = [(edit, *changes_of(edit, crate, texts)) for edit in edits]
-    return {function_of(edit, crate, changes, texts) for edit, changes, fault in found if not fault}
+def in_copy(folder, crate, kept_names):
+    """A copy of a crate, in this folder, with the bodies of all functions but these taken away, or of none."""
+    home = copy_of_crates(folder) / "crates" / crate
+    if None not in kept_names:
+        take_away(home, kept_names)
+    return home
 
 
-def are_proved(crate, edits, folder, after_ci):
-    """Whether the prover accepts the functions of these edits as they stand, in a copy in this folder, where it keeps what it has checked."""
-    status, said, _ = check(copy_of_crates(folder / crate) / "crates" / crate, functions_of(crate, edits), after_ci)
-    if status:
+def are_proved(crate, bodies, folder, after_ci):
+    """Whether the prover accepts the functions of these wrong bodies as they stand, in a copy in this folder, where it keeps what it has checked."""
+    functions = {body.function for body in bodies}
+    is_whole = None in functions
+    home = in_copy(folder, crate, {None} if is_whole else {name for body in bodies for name in body.kept()})
+    status, said, took = check(home, functions, after_ci)
+    is_proved = status == 0 if is_whole else all(is_accepted(said, function) for function in functions)
+    if not is_proved:
         print(f"{crate}: what the wrong bodies change is not proved as it stands:\n{said[-2000:]}", flush=True)
-    return status == 0
+    print(f"{crate}: {len(functions)} functions, as they stand ({took:.0f} s)", flush=True)
+    return is_proved
 
 
-def keep_new(own, kept):
-    """Keeps the files that a check has made, but for those that are kept already: these are of the crate as it stands, where it has been checked so."""
-    for file in own.rglob("*"):
-        to = kept / file.relative_to(own)
-        if file.is_dir():
-            to.mkdir(parents=True, exist_ok=True)
-        elif not to.exists():
-            link_or_copy(file, to)
+def try_group(group, kept, after_ci):
+    """Has the prover try these wrong bodies in one check, over what it has kept of the functions as they stand. Returns what it said of each."""
+    crate = group[0].crate
+    with tempfile.TemporaryDirectory() as folder:
+        home = copy_of_crates(folder) / "crates" / crate
+        if kept.exists():
+            shutil.copytree(kept, home / KEPT, copy_function=link_or_copy)
+        plant(pathlib.Path(folder), [change for body in group for change in body.changes])
+        functions = {body.function for body in group}
+        if None not in functions:
+            take_away(home, {name for body in group for name in body.kept()})
+        status, said, took = check(home, functions, after_ci)
+        if status == -signal.SIGKILL:
+            # most likely for memory
+            status, said, took = check(home, functions, after_ci)
+    return [refused_of(body, group, status, said) for body in group], took
 
 
-def is_refused(crate, edit, folder, after_ci):
-    """Whether the prover refuses this edit of the crate, planted in a copy of the repository, over what it has checked of the crate so far."""
-    texts, refused, took = {}, None, 0
-    changes, fault = changes_of(edit, crate, texts)
-    if fault:
-        fault = f"BAD EDIT: {fault}"
-    else:
-        with tempfile.TemporaryDirectory() as own:
-            copy = copy_of_crates(pathlib.Path(own) / crate)
-            home, function, kept = copy / "crates" / crate, function_of(edit, crate, changes, texts), folder / crate / "crates" / crate / KEPT
-            if kept.exists():
-                shutil.copytree(kept, home / KEPT, copy_function=link_or_copy)
-            plant(copy, texts, changes)
-            status, said, took = check(home, {function}, after_ci)
-            if status == -signal.SIGKILL:
-                # most likely for memory
-                status, said, took = check(home, {function}, after_ci)
-            refused, fault = refused_for(status, said, names_of(changes, texts))
-            if after_ci:
-                keep_new(home / KEPT, kept)
-    print(f"{crate}/{edit.stem}: {fault or 'refused, as it must be: ' + refused} ({took:.0f} s)", flush=True)
-    return refused is not None
+def count_refused(group, kept, after_ci):
+    """How many of these wrong bodies the prover refuses, tried in one check. Where that tells nothing of some, it tries each alone."""
+    found, took = try_group(group, kept, after_ci)
+    if len(group) > 1 and any(fault and fault.startswith("NOT TRIED") for _, fault in found):
+        return sum(count_refused([body], kept, after_ci) for body in group)
+    for body, (refused, fault) in zip(group, found):
+        print(f"{body}: {fault or 'refused, as it must be: ' + refused}", flush=True)
+    print(f"{group[0].crate}: {len(group)} in one check ({took:.0f} s)", flush=True)
+    return sum(refused is not None for refused, _ in found)
 
 
-def count_refused(crate, edits, folder, after_ci, pool):
-    """How many of these edits of the crate the prover refuses. Where `rt ci` has not just proved their functions as they stand, these are proved first, for all edits."""
-    if after_ci:
-        count = sum(pool.submit(is_refused, crate, edit, folder, after_ci).result() for edit in edits)
-    elif pool.submit(are_proved, crate, edits, folder, after_ci).result():
-        tried = [pool.submit(is_refused, crate, edit, folder, after_ci) for edit in edits]
-        count = sum(it.result() for it in tried)
-    else:
+def count_all_refused(crate, bodies, folder, after_ci, pool):
+    """How many of these wrong bodies of a crate the prover refuses. But for the gate, their functions are tried as they stand before."""
+    if not after_ci and bodies and not pool.submit(are_proved, crate, bodies, folder, after_ci).result():
         return 0
+    kept = folder / "crates" / crate / KEPT
+    tried = [pool.submit(count_refused, group, kept, after_ci) for group in in_groups(bodies, WrongBody.goes_with, TOGETHER)]
+    return sum(it.result() for it in tried)
+
+
+def are_all_refused(crate, edits, folder, after_ci, pool):
+    """Whether the prover refuses each of these edits of a crate."""
+    bodies = []
+    for edit in edits:
+        body, fault = read(edit, crate)
+        if fault:
+            print(f"{crate}/{edit.stem}: BAD EDIT: {fault}", flush=True)
+        else:
+            bodies.append(body)
+    # where an edit changes no function's code, as that of a constant, any function may be refused
+    of_functions = [body for body in bodies if body.function]
+    of_others = [body for body in bodies if not body.function]
+    count = sum(count_all_refused(crate, some, folder / name, after_ci, pool) for name, some in (("functions", of_functions), ("others", of_others)))
     print(f"{crate}: {count} of {len(edits)} wrong bodies refused", flush=True)
-    return count
+    return count == len(edits)
 
 
 def are_refused(wanted, after_ci):
-    """Whether the prover refuses each of these edits, by their crates. As many are tried at a time as there are processors, and as memory holds."""
+    """Whether the prover refuses each of these edits, by their crates. As many checks are made at a time as there are processors, and as memory holds."""
     threads = concurrent.futures.ThreadPoolExecutor
     with tempfile.TemporaryDirectory() as folder, threads(proofs_at_once()) as pool, threads(len(wanted)) as crates:
-        tried = [crates.submit(count_refused, crate, edits, pathlib.Path(folder), after_ci, pool) for crate, edits in wanted.items()]
-        counts = [it.result() for it in tried]
-    return counts == [len(edits) for edits in wanted.values()]
-
-
-# ---- without proofs
-
-
-Change = collections.namedtuple("Change", "file line old new")
-
-
-def changes_of(edit, crate, texts):
-    """The lines that an edit changes: none comes or goes. Tells why it can't be planted, if so."""
-    after, name, old = {}, None, None
-    for line in edit.read_text().split("\n"):
-        if line.startswith("file:"):
-            name = line[5:].strip()
-        elif line.startswith("old:"):
-            old = line[4:].removeprefix(" ")
-        elif line.startswith("new:"):
-            path = ROOT / "crates" / crate / name
-            text = after.setdefault(path, texts.setdefault(path, path.read_text()))
-            if text.count(old) != 1:
-                return None, f"its line stands {text.count(old)} times in {name}: {old.strip()}"
-            after[path] = text.replace(old, line[4:].removeprefix(" "))
-    changes = [
-        Change(path, number, old, new)
-        for path, text in after.items()
-        for number, (old, new) in enumerate(zip(texts[path].split("\n"), text.split("\n")))
-        if old != new
-    ]
-    return changes, None if changes else "it changes nothing"
-
-
-def code(text):
-    """A line without its comment and its spaces."""
-    return re.sub(r"\s", "", text.split("//")[0])
-
-
-def why_no_code(changes):
-    """Why an edit is no wrong body: each of its changes must be of code, and not of a clause, a comment or a definition."""
-    for change in changes:
-        if change.file.suffix != ".rt":
-            return f"it changes {change.file.name}, which is no code"
-        if re.match(r"\s*(requires|ensures)\b", change.old) and not change.new.startswith(change.old):
-            return "it changes a clause"
-    if all(code(change.old) == code(change.new) for change in changes):
-        return "it changes no code"
-    return None
-
-
-def words(text):
-    return set(re.findall(r"[A-Za-z_]\w*", text))
-
-
-def function_at(lines, number):
-    """The name of the function in which a line stands, and where its lines begin and end."""
-    begin = next((n for n in range(number, -1, -1) if re.search(r"\bfn \w+", lines[n])), None)
-    if begin is None:
-        return None, 0, 0
-    end = next((n for n in range(number, len(lines)) if re.match(r" {0,4}\}$", lines[n])), len(lines))
-    return re.search(r"\bfn (\w+)", lines[begin])[1], begin, end
-
-
-def names_taken_away(crate, changes, texts):
-    """Names that the proofs of a changed function cite, and that the function has no more."""
-    gone = set()
-    for change in changes:
-        before = texts[change.file].split("\n")
-        name, begin, end = function_at(before, change.line)
-        if name is None:
-            continue
-        after = [next((c.new for c in changes if (c.file, c.line) == (change.file, n)), before[n]) for n in range(begin, end)]
-        cited = set()
-        for proof in (ROOT / "crates" / crate / "proofs").glob(f"**/{name}/*.antt"):
-            cited |= words(proof.read_text())
-        gone |= (words("\n".join(before[begin:end])) - words("\n".join(after))) & cited
-    return gone
-
-
-def groups_of(found):
-    """The edits with what they change, in groups that can be planted together."""
-    groups = []
-    for edit in found:
-        for group in groups:
-            taken = [change for changes in group.values() for change in changes]
-            if all(a.file != b.file or abs(a.line - b.line) > APART for a in found[edit] for b in taken):
-                group[edit] = found[edit]
-                break
-        else:
-            groups.append({edit: found[edit]})
-    return groups
-
-
-def plant(copy, texts, changes):
-    """Has the copy's files say what these changes make of them."""
-    after = {change.file: texts[change.file].split("\n") for change in changes}
-    for change in changes:
-        after[change.file][change.line] = change.new
-    for path, lines in after.items():
-        (copy / path.relative_to(ROOT)).write_text("\n".join(lines))
-
-
-def unplant(copy, texts, changes):
-    """Gives the copy's files their texts back."""
-    for path in {change.file for change in changes}:
-        (copy / path.relative_to(ROOT)).write_text(texts[path])
-
-
-def compile_together(copy, crate, texts, edits):
-    """Whether the crate compiles with these edits, and what was said."""
-    changes = [change for edit in edits for change in edit]
-    plant(copy, texts, changes)
-    home = copy / "crates" / crate
-    (home / "out").mkdir(exist_ok=True)
-    # over the libraries that `rt ci` left, where it did: `rt check` would prove them anew
-    ran = subprocess.run([*prover(home, True), "--only", ""], cwd=home, capture_output=True, text=True)
-    unplant(copy, texts, changes)
-    said = ran.stdout + ran.stderr
-    return not re.search(r"^(\S+: )?error[\[:]", said, re.M) and "only=0" in said, said
-
-
-def that_do_not_compile(copy, crate, texts, found, edits):
-    """Those of some edits that do not compile."""
-    ok, said = compile_together(copy, crate, texts, [found[edit] for edit in edits])
-    if ok:
-        return {}
-    if len(edits) == 1:
-        told = re.search(r"^.*error[\[:].*$", said, re.M)
-        return {edits[0]: f"it does not compile: {told[0] if told else said[-200:]}"}
-    half = len(edits) // 2
-    return {
-        **that_do_not_compile(copy, crate, texts, found, edits[:half]),
-        **that_do_not_compile(copy, crate, texts, found, edits[half:]),
-    }
-
-
-def quick(crates):
-    """Whether all edits of these crates can be planted, and compile."""
-    bad = doubtful = count = 0
-    with tempfile.TemporaryDirectory() as folder:
-        copy = copy_of_crates(folder)
-        for crate in crates:
-            texts, found, faults = {}, {}, {}
-            edits = [edit for is_listed in (False, True) for edit in sorted(folder_of(crate, is_listed).glob("*.edit"))]
-            for edit in edits:
-                changes, fault = changes_of(edit, crate, texts)
-                fault = fault or why_no_code(changes)
-                if fault:
-                    faults[edit] = fault
-                else:
-                    found[edit] = changes
-            for group in groups_of(found):
-                faults.update(that_do_not_compile(copy, crate, texts, found, list(group)))
-            for edit, fault in sorted(faults.items()):
-                print(f"BAD {edit.relative_to(ROOT)}: {fault}", flush=True)
-            for edit, changes in found.items():
-                gone = names_taken_away(crate, changes, texts)
-                if gone:
-                    doubtful += 1
-                    print(f"doubtful {edit.relative_to(ROOT)}: proofs may cite {', '.join(sorted(gone))}", flush=True)
-            bad += len(faults)
-            count += len(edits)
-            print(f"{crate}: {len(edits)} edits, {len(faults)} bad", flush=True)
-    print(f"{count} edits, {bad} bad, {doubtful} doubtful")
-    return bad == 0
+        tried = [crates.submit(are_all_refused, crate, edits, pathlib.Path(folder) / crate, after_ci, pool) for crate, edits in wanted.items()]
+        return all([it.result() for it in tried])
 
 
 def main():
@@ -428,7 +175,7 @@ def main():
     crates = sorted(folder.name for folder in (ROOT / "crates").iterdir())
     wanted = args.wanted or [crate for crate in crates if folder_of(crate, args.listed).is_dir()]
     if args.quick:
-        sys.exit(0 if quick([each.partition("/")[0] for each in wanted]) else 1)
+        sys.exit(0 if all_compile([each.partition("/")[0] for each in wanted]) else 1)
     edits = collections.defaultdict(set)
     for each in wanted:
         crate, found = edits_of(each, args.listed)
