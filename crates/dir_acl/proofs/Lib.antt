@@ -17,3 +17,4 @@ pub mod Stacks
 pub mod Tested
 pub mod Truths
 pub mod Wanted
+pub mod WrittenArguments

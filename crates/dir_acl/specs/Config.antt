@@ -6,6 +6,7 @@ pub mod Arguments
 pub mod Lines
 pub mod Names
 pub mod Permissions
+pub mod Quoting
 pub mod Types
 pub mod Whats
 pub mod Whos

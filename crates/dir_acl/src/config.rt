@@ -1,6 +1,6 @@
 //! The configuration of a slapd.conf (slapd.conf(5)): the suffix and the rootdn of its database, and its access rules.
 //! `lines` cuts the text, `arguments` its lines, `directives` reads these, and `access_rules` the rules among them; `types` reads
-//! the attribute types that it defines.
+//! the attribute types that it defines, and `quoting` writes arguments.
 
 ghost use Rattle.std.specs.Prelude.{◌≡◌, IfOk, option_copied};
 ghost use Rattle.dir_acl.specs.Config.{config_of, of_suffix};
@@ -20,6 +20,7 @@ pub(crate) mod directives;
 pub(crate) mod lines;
 mod names;
 pub(crate) mod permissions;
+pub(crate) mod quoting;
 pub(crate) mod types;
 mod whats;
 mod whos;

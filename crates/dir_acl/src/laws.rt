@@ -4,6 +4,7 @@ ghost use Rattle.std.specs.Prelude.{◌≡◌, [], ℕ, List, Err, Ok, Some, tru
 ghost use Rattle.dir_names.specs.declared.schema.TypeRow.{TypeRow};
 ghost use Rattle.dir_acl.specs.Config.{config_of};
 ghost use Rattle.dir_acl.specs.Config.Permissions.{set_with_text};
+ghost use Rattle.dir_acl.specs.Config.Quoting.{WrittenArgumentsAreRead};
 ghost use Rattle.dir_acl.specs.Filters.{IsTooDeep, Spells, Tree, in_parentheses};
 ghost use Rattle.dir_acl.specs.Filters.Reading.{filter_of};
 ghost use Rattle.dir_acl.specs.Notes.{notes_of};
@@ -39,4 +40,9 @@ pub fn cuts_are_found()
 /// The text of a set of privileges is read back as this set.
 pub fn privileges_read_back()
     ensures { (set : Privileges) → set_with_text (privileges_text set) ≡ Some set }
+{}
+
+/// Arguments that were written are read as they were.
+pub fn written_arguments_are_read()
+    ensures { WrittenArgumentsAreRead }
 {}

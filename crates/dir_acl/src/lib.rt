@@ -15,6 +15,7 @@ mod privileges;
 pub use access::decision::privileges_under;
 pub use access::target_rules::TargetRules;
 pub use access::{Asked, Clause, Control, Edit, Request, Rule, Style, What, Who};
+pub use config::quoting::push_argument;
 pub use config::types::read_schema;
 pub use config::{Config, MAX_CONFIG};
 pub use deciding::{FaultArgument, fault_argument};
@@ -23,7 +24,7 @@ pub use filter::truth::Truth;
 pub use filter::{Filter, Matching, Pieces, Test};
 pub use laws::{
     cuts_are_found, privileges_read_back, reading_is_the_grammar,
-    rules_without_notes_are_understood,
+    rules_without_notes_are_understood, written_arguments_are_read,
 };
 pub use note::{Note, NoteCause};
 pub use privileges::{Level, Privilege, Privileges};

@@ -1,0 +1,54 @@
+-- What a flat configuration says: it is read as what its site has, and as nothing else.
+use Rattle.std.specs.Prelude.{◌≡◌, ℕ, ◌+◌, ◌≤◌, Bool, true, not, ◌&&◌, ◌==◌, List, [], ◌∷◌, length, map, Some, Result, Ok}
+use Rattle.std.specs.List.{list_all}
+use Rattle.dir_names.specs.Ascii.{space, line_feed, carriage_return}
+use Rattle.dir_names.specs.Results.{and_then}
+use Rattle.dir_names.specs.declared.schema.TypeRow.{TypeRow}
+use Rattle.dir_acl.specs.declared.fault.ConfigFault.{ConfigFault}
+use Rattle.dir_acl.specs.Config.{Settings, at_line, config_of, config_types, directive, no_settings, of_suffix, types_with}
+use Rattle.dir_conf.specs.declared.site.Line.{Line}
+use Rattle.dir_conf.specs.declared.site.Site.{Site}
+use Rattle.dir_conf.specs.Flat.{flat_text, name_of}
+
+-- ---- a site whose lines are lines
+
+abbrev pub is_no_feed : ℕ → Bool
+is_no_feed b = not (b == line_feed)
+
+abbrev pub is_no_end : ℕ → Bool
+is_no_end b = is_no_feed b && not (b == carriage_return)
+
+abbrev pub has_one_line : Line → Bool
+has_one_line line = list_all (list_all is_no_feed) line.arguments
+
+-- no definition has the end of a line, and no argument a line feed; the text is one that a configuration may have
+pub record IsFlat (site : Site) : Type 0 where
+  pub types : list_all (list_all is_no_end) site.types ≡ true
+  pub lines : list_all has_one_line site.lines.items ≡ true
+  pub bound : length (flat_text site) ≤ 16777216
+
+-- ---- what it says
+
+-- the table with all of these definitions, the first one at line n; or the first that adds nothing to it
+abbrev pub types_at : List TypeRow → ℕ → List (List ℕ) → Result (List TypeRow) ConfigFault
+types_at rows n [] = Ok rows
+types_at rows n (definition ∷ more) = and_then (at_line n (types_with rows (Some (space ∷ definition)))) (λ now. types_at now (n + 1) more)
+
+abbrev pub in_database : Settings
+in_database = record no_settings { has_database = true }
+
+-- the settings after these directives, the first one at line n; or the first fault
+abbrev pub directives_at : List TypeRow → Settings → ℕ → List Line → Result Settings ConfigFault
+directives_at rows settings n [] = Ok settings
+directives_at rows settings n (line ∷ more) =
+    and_then (at_line n (directive rows settings (name_of line.directive) (map Some line.arguments))) (λ now. directives_at rows now (n + 1) more)
+
+-- the line of a site's first directive: before it are a comment, the definitions and `database`
+abbrev pub first_directive : Site → ℕ
+first_directive site = length site.types + 3
+
+-- a law: the text of a flat configuration defines exactly these types, and has exactly these directives with these arguments
+abbrev pub FlatReads : Type 0
+FlatReads = (site : Site) → IsFlat site
+    → ((rows : List TypeRow) → config_types rows (flat_text site) ≡ types_at rows 2 site.types)
+    × ((rows : List TypeRow) → config_of rows (flat_text site) ≡ and_then (directives_at rows in_database (first_directive site) site.lines.items) (λ settings. of_suffix settings settings.suffix))

@@ -1,0 +1,11 @@
+//! One flat slapd.conf (slapd.conf(5)) of what a site's configuration says of one database: its attribute types, suffixes, rootdn and access
+//! rules.
+#![tactic(auto)]
+
+mod flat;
+mod laws;
+mod site;
+
+pub use flat::flat_text;
+pub use laws::flat_texts_are_read;
+pub use site::{Directive, Line, Site};
