@@ -26,7 +26,7 @@ def body_at(lines, begin):
         if line == f"{indent}{{" or (line.endswith("{") and not has_clauses):
             end = next((it for it in range(number + 1, len(lines)) if lines[it] == f"{indent}}}"), None)
             return end and (number, end)
-        if line.endswith((";", "}")) and not has_clauses:
+        if line == f"{indent}{{}}" or (line.endswith((";", "}")) and not has_clauses):
             return None
     return None
 
