@@ -1,27 +1,15 @@
 -- Arguments that were written are read as they were.
-use Rattle.std.proofs.Common.{◌≡◌, ℕ, Bool, true, false, cond, not, ◌&&◌, ◌||◌, ◌==◌, nat_lt, List, [], ◌∷◌, ◌++◌, map, Option, Some, None, refl, sym, ap, ◌∙◌, true≢false, arith}
+use Rattle.std.proofs.Common.{◌≡◌, ℕ, Bool, true, false, cond, ◌||◌, ◌==◌, nat_lt, List, [], ◌∷◌, ◌++◌, map, Some, refl, sym, ap, ◌∙◌, true≢false, arith}
 use Rattle.std.specs.List.{flat_map, list_all}
 use Rattle.std.proofs.lemmas.Bool.Decides.{nat_tests}
 use Rattle.std.proofs.lemmas.List.{append_assoc, append-nil}
-use Rattle.dir_acl.specs.Config.Arguments.{after_step, arguments_from, arguments_of, last_argument, step_in_argument, step_of}
+use Rattle.dir_names.proofs.Both.{left, right}
+use Rattle.dir_acl.specs.Config.Arguments.{after_step, arguments_from, arguments_of, step_in_argument, step_of}
 use Rattle.dir_acl.specs.Config.Lines.{is_white}
 use Rattle.dir_acl.specs.Config.Quoting.{escaped, is_bare, is_bare_byte, is_escaped, preceded, quoted}
-use Rattle.dir_acl.specs.declared.config.arguments.Spot.{Spot}
 use Rattle.dir_acl.specs.declared.config.arguments.Spot.TheVariants.{Between, Plain, Quoted, PlainEscape, QuotedEscape}
-use Rattle.dir_acl.specs.declared.config.arguments.Step.{Step}
 use Rattle.dir_acl.specs.declared.config.arguments.Step.TheVariants.{Skip, Take, Close}
-
-and_left : (a b : Bool) → (a && b) ≡ true → a ≡ true
-and_left true b e = refl
-and_left false b e = e
-
-and_right : (a b : Bool) → (a && b) ≡ true → b ≡ true
-and_right true b e = e
-and_right false b e = absurd (true≢false (sym e))
-
-not_true : (a : Bool) → not a ≡ true → a ≡ false
-not_true true e = sym e
-not_true false e = refl
+use Rattle.dir_acl.proofs.Grammar.Sound.{not_true}
 
 neither_left : (a b : Bool) → (a || b) ≡ false → a ≡ false
 neither_left true b e = e
@@ -37,7 +25,7 @@ not_white b e = grind (arith, nat_tests)
 
 bare_inside : (b : ℕ) → is_bare_byte b ≡ true → step_in_argument b ≡ Take Plain
 bare_inside b e =
-    let free : is_escaped b ≡ false = not_true _ (and_right (nat_lt 32 b) _ e) in
+    let free : is_escaped b ≡ false = not_true _ (right (nat_lt 32 b) _ e) in
     ap (λ t. cond t (Skip PlainEscape) (cond (b == 34) (Skip Quoted) (Take Plain))) (neither_right (b == 34) (b == 92) free)
     ∙ ap (λ t. cond t (Skip Quoted) (Take Plain)) (neither_left (b == 34) (b == 92) free)
 
@@ -50,8 +38,8 @@ bare_next b e = ap (λ t. cond t Close (step_in_argument b)) (not_white b e) ∙
 bare_reads : (item argument rest : List ℕ) → list_all is_bare_byte argument ≡ true → arguments_from Plain item (argument ++ rest) ≡ arguments_from Plain (item ++ argument) rest
 bare_reads item [] rest e = ap (λ bytes. arguments_from Plain bytes rest) (sym (append-nil item))
 bare_reads item (b ∷ bs) rest e =
-    ap (λ s. after_step s b item (λ next bytes. arguments_from next bytes (bs ++ rest))) (bare_next b (and_left _ _ e))
-    ∙ bare_reads (item ++ b ∷ []) bs rest (and_right (is_bare_byte b) _ e)
+    ap (λ s. after_step s b item (λ next bytes. arguments_from next bytes (bs ++ rest))) (bare_next b (left _ _ e))
+    ∙ bare_reads (item ++ b ∷ []) bs rest (right (is_bare_byte b) _ e)
     ∙ ap (λ bytes. arguments_from Plain bytes rest) (append_assoc item (b ∷ []) bs)
 
 escaped_reads : (item argument rest : List ℕ) → arguments_from Quoted item (flat_map escaped argument ++ 34 ∷ rest) ≡ arguments_from Plain (item ++ argument) rest
@@ -74,8 +62,8 @@ quoted_reads (b ∷ bs) rest = by (is_bare (b ∷ bs)) refl
   where
     by : (t : Bool) → is_bare (b ∷ bs) ≡ t → arguments_from Between [] (cond t (b ∷ bs) (34 ∷ flat_map escaped (b ∷ bs) ++ 34 ∷ []) ++ rest) ≡ arguments_from Plain (b ∷ bs) rest
     by true e =
-        ap (λ s. after_step s b [] (λ next bytes. arguments_from next bytes (bs ++ rest))) (bare_first b (and_left _ _ e))
-        ∙ bare_reads (b ∷ []) bs rest (and_right (is_bare_byte b) _ e)
+        ap (λ s. after_step s b [] (λ next bytes. arguments_from next bytes (bs ++ rest))) (bare_first b (left _ _ e))
+        ∙ bare_reads (b ∷ []) bs rest (right (is_bare_byte b) _ e)
     by false e = quotes_read (b ∷ bs) rest
 
 preceded_read : (item : List ℕ) (arguments : List (List ℕ)) → arguments_from Plain item (flat_map preceded arguments) ≡ Some item ∷ map Some arguments

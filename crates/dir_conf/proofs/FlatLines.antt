@@ -1,14 +1,16 @@
 -- The lines of a flat configuration, and the arguments of each.
-use Rattle.std.proofs.Common.{◌≡◌, ℕ, ◌-◌, Bool, true, false, cond, not, ◌&&◌, ◌==◌, List, [], ◌∷◌, ◌++◌, length, take, map, codes, Some, None, refl, sym, ap, ◌∙◌, true≢false, arith}
+use Rattle.std.proofs.Common.{◌≡◌, ℕ, ◌-◌, Bool, true, false, cond, ◌&&◌, ◌==◌, List, [], ◌∷◌, ◌++◌, length, take, map, codes, Some, None, refl, sym, ap, ◌∙◌, true≢false, arith}
 use Rattle.std.specs.List.{flat_map, list_all, onto_first, slice_get}
 use native.Mathlib.Numerals.{unary_clauses}
 use Rattle.std.proofs.lemmas.Bool.Decides.{nat_tests}
 use Rattle.std.proofs.lemmas.List.{append_assoc, append-nil}
+use Rattle.dir_names.proofs.Both.{left, right}
 use Rattle.dir_names.specs.Cut.{parts_at}
 use Rattle.dir_acl.specs.Config.Arguments.{words_of}
 use Rattle.dir_acl.specs.Config.Lines.{is_return, physical_lines, without_return}
 use Rattle.dir_acl.specs.Config.Quoting.{escaped, is_bare, is_bare_byte, is_escaped, preceded, quoted}
 use Rattle.dir_acl.specs.Config.Types.{definition_in}
+use Rattle.dir_acl.proofs.Grammar.Sound.{not_true}
 use Rattle.dir_acl.proofs.WrittenArguments.{written_arguments}
 use Rattle.dir_conf.specs.declared.site.Directive.{Directive}
 use Rattle.dir_conf.specs.declared.site.Directive.TheVariants.{Suffix, RootDn, Access}
@@ -17,21 +19,9 @@ use Rattle.dir_conf.specs.declared.site.Site.{Site}
 use Rattle.dir_conf.specs.Flat.{directive_line, directive_text, flat_text, name_of, type_line, type_text}
 use Rattle.dir_conf.specs.Laws.{IsFlat, has_one_line, is_no_end, is_no_feed}
 
-pub and_left : (a b : Bool) → (a && b) ≡ true → a ≡ true
-and_left true b e = refl
-and_left false b e = e
-
-pub and_right : (a b : Bool) → (a && b) ≡ true → b ≡ true
-and_right true b e = e
-and_right false b e = absurd (true≢false (sym e))
-
 pub both : (a b : Bool) → a ≡ true → b ≡ true → (a && b) ≡ true
 both true b e f = f
 both false b e f = absurd (true≢false (sym e))
-
-not_true : (a : Bool) → not a ≡ true → a ≡ false
-not_true true e = sym e
-not_true false e = refl
 
 -- ---- lines
 
@@ -39,12 +29,12 @@ not_true false e = refl
 pub line_cut : (line rest : List ℕ) → list_all is_no_feed line ≡ true → parts_at 10 (line ++ 10 ∷ rest) ≡ line ∷ parts_at 10 rest
 line_cut [] rest e = refl
 line_cut (b ∷ bs) rest e =
-    ap (λ t. cond t ([] ∷ parts_at 10 (bs ++ 10 ∷ rest)) (onto_first b (parts_at 10 (bs ++ 10 ∷ rest)))) (not_true _ (and_left _ _ e))
-    ∙ ap (onto_first b) (line_cut bs rest (and_right (is_no_feed b) _ e))
+    ap (λ t. cond t ([] ∷ parts_at 10 (bs ++ 10 ∷ rest)) (onto_first b (parts_at 10 (bs ++ 10 ∷ rest)))) (not_true _ (left _ _ e))
+    ∙ ap (onto_first b) (line_cut bs rest (right (is_no_feed b) _ e))
 
 pub all_joined : (p : ℕ → Bool) (xs ys : List ℕ) → list_all p xs ≡ true → list_all p ys ≡ true → list_all p (xs ++ ys) ≡ true
 all_joined p [] ys e f = f
-all_joined p (x ∷ xs) ys e f = both (p x) _ (and_left _ _ e) (all_joined p xs ys (and_right (p x) _ e) f)
+all_joined p (x ∷ xs) ys e f = both (p x) _ (left _ _ e) (all_joined p xs ys (right (p x) _ e) f)
 
 -- whether a line ends in a carriage return
 abbrev pub ends_in_return : List ℕ → Bool
@@ -68,12 +58,12 @@ ends_as (x ∷ y ∷ ys) b bs = ends_as (y ∷ ys) b bs
 -- no byte of a line is a carriage return
 pub no_return : (line : List ℕ) → list_all is_no_end line ≡ true → ends_in_return line ≡ false
 no_return [] e = refl
-no_return (b ∷ []) e = not_true _ (and_right (is_no_feed b) _ (and_left _ _ e))
-no_return (b ∷ c ∷ cs) e = no_return (c ∷ cs) (and_right (is_no_end b) _ e)
+no_return (b ∷ []) e = not_true _ (right (is_no_feed b) _ (left _ _ e))
+no_return (b ∷ c ∷ cs) e = no_return (c ∷ cs) (right (is_no_end b) _ e)
 
 no_feed : (line : List ℕ) → list_all is_no_end line ≡ true → list_all is_no_feed line ≡ true
 no_feed [] e = refl
-no_feed (b ∷ bs) e = both (is_no_feed b) _ (and_left _ _ (and_left _ _ e)) (no_feed bs (and_right (is_no_end b) _ e))
+no_feed (b ∷ bs) e = both (is_no_feed b) _ (left _ _ (left _ _ e)) (no_feed bs (right (is_no_end b) _ e))
 
 -- ---- directives
 
@@ -103,7 +93,7 @@ name_free Access = refl
 
 escaped_free : (argument : List ℕ) → list_all is_no_feed argument ≡ true → list_all is_no_feed (flat_map escaped argument) ≡ true
 escaped_free [] e = refl
-escaped_free (b ∷ bs) e = by (is_escaped b) (both (is_no_feed b) _ (and_left _ _ e) (escaped_free bs (and_right (is_no_feed b) _ e)))
+escaped_free (b ∷ bs) e = by (is_escaped b) (both (is_no_feed b) _ (left _ _ e) (escaped_free bs (right (is_no_feed b) _ e)))
   where
     by : (t : Bool) → list_all is_no_feed (b ∷ flat_map escaped bs) ≡ true → list_all is_no_feed (cond t (92 ∷ b ∷ []) (b ∷ []) ++ flat_map escaped bs) ≡ true
     by true rest = rest
@@ -119,18 +109,18 @@ quoted_free argument e = by (is_bare argument)
 arguments_free : (arguments : List (List ℕ)) → list_all (list_all is_no_feed) arguments ≡ true → list_all is_no_feed (flat_map preceded arguments) ≡ true
 arguments_free [] e = refl
 arguments_free (argument ∷ more) e =
-    all_joined is_no_feed (preceded argument) (flat_map preceded more) (quoted_free argument (and_left _ _ e)) (arguments_free more (and_right (list_all is_no_feed argument) _ e))
+    all_joined is_no_feed (preceded argument) (flat_map preceded more) (quoted_free argument (left _ _ e)) (arguments_free more (right (list_all is_no_feed argument) _ e))
 
 -- no line feed is in a directive's line
 pub directive_free : (directive : Directive) (arguments : List (List ℕ)) → list_all (list_all is_no_feed) arguments ≡ true → list_all is_no_feed (name_of directive ++ flat_map preceded arguments) ≡ true
 directive_free directive arguments e = all_joined is_no_feed (name_of directive) (flat_map preceded arguments) (name_free directive) (arguments_free arguments e)
 
 bare_end : (b : ℕ) (bs : List ℕ) → list_all is_bare_byte (b ∷ bs) ≡ true → ends_in_return (b ∷ bs) ≡ false
-bare_end b [] e = bare_no_return b (and_left _ _ e)
+bare_end b [] e = bare_no_return b (left _ _ e)
   where
     bare_no_return : (b : ℕ) → is_bare_byte b ≡ true → (b == 13) ≡ false
     bare_no_return b e = grind (arith, nat_tests)
-bare_end b (c ∷ cs) e = bare_end c cs (and_right (is_bare_byte b) _ e)
+bare_end b (c ∷ cs) e = bare_end c cs (right (is_bare_byte b) _ e)
 
 quotes_end : (argument : List ℕ) → ends_in_return (32 ∷ 34 ∷ flat_map escaped argument ++ 34 ∷ []) ≡ false
 quotes_end argument = ends_as (32 ∷ 34 ∷ flat_map escaped argument) 34 []
@@ -177,17 +167,17 @@ type_end definition e = no_return (type_text definition) (all_joined is_no_end (
 pub types_cut : (types : List (List ℕ)) (rest : List ℕ) → list_all (list_all is_no_end) types ≡ true → physical_lines (flat_map type_line types ++ rest) ≡ map type_text types ++ physical_lines rest
 types_cut [] rest e = refl
 types_cut (definition ∷ more) rest e =
-    let plain : list_all is_no_end definition ≡ true = and_left _ _ e in
+    let plain : list_all is_no_end definition ≡ true = left _ _ e in
     ap physical_lines (moved (type_text definition) (flat_map type_line more) rest)
     ∙ physical_cut (type_text definition) (flat_map type_line more ++ rest) (type_free definition plain) (type_end definition plain)
-    ∙ ap (λ lines. type_text definition ∷ lines) (types_cut more rest (and_right (list_all is_no_end definition) _ e))
+    ∙ ap (λ lines. type_text definition ∷ lines) (types_cut more rest (right (list_all is_no_end definition) _ e))
 
 pub directives_cut : (lines : List Line) → list_all has_one_line lines ≡ true → physical_lines (flat_map directive_line lines) ≡ map directive_text lines ++ [] ∷ []
 directives_cut [] e = refl
 directives_cut (line ∷ more) e =
     ap physical_lines (append_assoc (directive_text line) (10 ∷ []) (flat_map directive_line more))
-    ∙ physical_cut (directive_text line) (flat_map directive_line more) (directive_free line.directive line.arguments (and_left _ _ e)) (directive_end line.directive line.arguments)
-    ∙ ap (λ lines. directive_text line ∷ lines) (directives_cut more (and_right (has_one_line line) _ e))
+    ∙ physical_cut (directive_text line) (flat_map directive_line more) (directive_free line.directive line.arguments (left _ _ e)) (directive_end line.directive line.arguments)
+    ∙ ap (λ lines. directive_text line ∷ lines) (directives_cut more (right (has_one_line line) _ e))
 
 -- a site's lines after the first, which is a comment
 abbrev pub lines_of : Site → List (List ℕ)
