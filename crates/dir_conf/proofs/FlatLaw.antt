@@ -10,7 +10,6 @@ use Rattle.dir_acl.specs.Config.Lines.{begins_with_white, lines_after, logical_l
 use Rattle.dir_conf.specs.declared.site.Directive.{Directive}
 use Rattle.dir_conf.specs.declared.site.Directive.TheVariants.{Suffix, RootDn, Access}
 use Rattle.dir_conf.specs.declared.site.Line.{Line}
-use Rattle.dir_conf.specs.declared.site.Site.{Site}
 use Rattle.dir_conf.specs.Flat.{directive_text, flat_text, name_of, type_text}
 use Rattle.dir_conf.specs.Laws.{FlatReads, IsFlat, directives_at, first_directive, in_database, types_at}
 use Rattle.dir_conf.proofs.FlatLines.{both, directive_defines, directive_words, flat_cut, lines_of}
@@ -60,10 +59,10 @@ unfolding type_text
 own_types [] lines e = e
 own_types (definition ∷ more) lines e = own_types more lines e
 
-flat_lines : (site : Site) → IsFlat site → logical_lines (flat_text site) ≡ (1, codes "# slapkit slapconf") ∷ numbered 2 (lines_of site)
-flat_lines site flat =
-    ap unfolded (flat_cut site flat)
-    ∙ own_lines (1, codes "# slapkit slapconf") 2 (lines_of site) (own_types site.types (codes "database mdb" ∷ map directive_text site.lines.items ++ [] ∷ []) (own_directives site.lines.items))
+flat_lines : (types : List (List ℕ)) (lines : List Line) → IsFlat types lines → logical_lines (flat_text types lines) ≡ (1, codes "# slapkit slapconf") ∷ numbered 2 (lines_of types lines)
+flat_lines types lines flat =
+    ap unfolded (flat_cut types lines flat)
+    ∙ own_lines (1, codes "# slapkit slapconf") 2 (lines_of types lines) (own_types types (codes "database mdb" ∷ map directive_text lines ++ [] ∷ []) (own_directives lines))
 
 within_limit : (n : ℕ) → n ≤ 16777216 → nat_lt 16777216 n ≡ false
 within_limit n e = grind (arith, nat_tests)
@@ -91,13 +90,13 @@ directives_define rows n (line ∷ more) =
     ap (λ found. and_then (at_line n (types_with rows found)) (λ now. types_after now (numbered (n + 1) (map directive_text more ++ [] ∷ [])))) (directive_defines line.directive line.arguments)
     ∙ directives_define rows (n + 1) more
 
-types_of : (site : Site) → IsFlat site → (rows : List TypeRow) → config_types rows (flat_text site) ≡ types_at rows 2 site.types
-types_of site flat rows =
-    ap (λ t. cond t (Err (record { line = 0; cause = ConfigTooLong })) (types_after rows (logical_lines (flat_text site)))) (within_limit (length (flat_text site)) flat.bound)
-    ∙ ap (types_after rows) (flat_lines site flat)
-    ∙ types_read rows 2 site.types (codes "database mdb" ∷ map directive_text site.lines.items ++ [] ∷ [])
-    ∙ same_after (types_at rows 2 site.types) _ (λ now. Ok now) (λ now. directives_define now (2 + length site.types + 1) site.lines.items)
-    ∙ nothing_after (types_at rows 2 site.types)
+types_of : (types : List (List ℕ)) (lines : List Line) → IsFlat types lines → (rows : List TypeRow) → config_types rows (flat_text types lines) ≡ types_at rows 2 types
+types_of types lines flat rows =
+    ap (λ t. cond t (Err (record { line = 0; cause = ConfigTooLong })) (types_after rows (logical_lines (flat_text types lines)))) (within_limit (length (flat_text types lines)) flat.bound)
+    ∙ ap (types_after rows) (flat_lines types lines flat)
+    ∙ types_read rows 2 types (codes "database mdb" ∷ map directive_text lines ++ [] ∷ [])
+    ∙ same_after (types_at rows 2 types) _ (λ now. Ok now) (λ now. directives_define now (2 + length types + 1) lines)
+    ∙ nothing_after (types_at rows 2 types)
 
 -- ---- the directives
 
@@ -118,15 +117,15 @@ directives_read rows settings n (line ∷ more) =
 third : (k : ℕ) → 2 + k + 1 ≡ k + 3
 third k = omega arith
 
-directives_of : (site : Site) → IsFlat site → (rows : List TypeRow)
-    → config_of rows (flat_text site) ≡ and_then (directives_at rows in_database (first_directive site) site.lines.items) (λ settings. of_suffix settings settings.suffix)
-directives_of site flat rows =
-    ap (λ t. cond t (Err (record { line = 0; cause = ConfigTooLong })) (and_then (after_lines rows no_settings (logical_lines (flat_text site))) (λ settings. of_suffix settings settings.suffix))) (within_limit (length (flat_text site)) flat.bound)
+directives_of : (types : List (List ℕ)) (lines : List Line) → IsFlat types lines → (rows : List TypeRow)
+    → config_of rows (flat_text types lines) ≡ and_then (directives_at rows in_database (first_directive types) lines) (λ settings. of_suffix settings settings.suffix)
+directives_of types lines flat rows =
+    ap (λ t. cond t (Err (record { line = 0; cause = ConfigTooLong })) (and_then (after_lines rows no_settings (logical_lines (flat_text types lines))) (λ settings. of_suffix settings settings.suffix))) (within_limit (length (flat_text types lines)) flat.bound)
     ∙ ap (λ found. and_then found (λ settings. of_suffix settings settings.suffix))
-    (ap (after_lines rows no_settings) (flat_lines site flat)
-    ∙ types_say_nothing rows no_settings 2 site.types (codes "database mdb" ∷ map directive_text site.lines.items ++ [] ∷ [])
-    ∙ directives_read rows in_database (2 + length site.types + 1) site.lines.items
-    ∙ ap (λ n. directives_at rows in_database n site.lines.items) (third (length site.types)))
+    (ap (after_lines rows no_settings) (flat_lines types lines flat)
+    ∙ types_say_nothing rows no_settings 2 types (codes "database mdb" ∷ map directive_text lines ++ [] ∷ [])
+    ∙ directives_read rows in_database (2 + length types + 1) lines
+    ∙ ap (λ n. directives_at rows in_database n lines) (third (length types)))
 
 pub flat_reads : FlatReads
-flat_reads site flat = (types_of site flat, directives_of site flat)
+flat_reads types lines flat = record { defined = types_of types lines flat; directed = directives_of types lines flat }

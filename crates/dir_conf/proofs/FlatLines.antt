@@ -15,9 +15,8 @@ use Rattle.dir_acl.proofs.WrittenArguments.{written_arguments}
 use Rattle.dir_conf.specs.declared.site.Directive.{Directive}
 use Rattle.dir_conf.specs.declared.site.Directive.TheVariants.{Suffix, RootDn, Access}
 use Rattle.dir_conf.specs.declared.site.Line.{Line}
-use Rattle.dir_conf.specs.declared.site.Site.{Site}
-use Rattle.dir_conf.specs.Flat.{directive_line, directive_text, flat_text, name_of, type_line, type_text}
-use Rattle.dir_conf.specs.Laws.{IsFlat, has_one_line, is_no_end, is_no_feed}
+use Rattle.dir_conf.specs.Flat.{directive_line, directive_text, flat_text, is_no_feed, name_of, type_line, type_text}
+use Rattle.dir_conf.specs.Laws.{IsFlat, has_one_line, is_no_end}
 
 pub both : (a b : Bool) → a ≡ true → b ≡ true → (a && b) ≡ true
 both true b e f = f
@@ -180,16 +179,16 @@ directives_cut (line ∷ more) e =
     ∙ ap (λ lines. directive_text line ∷ lines) (directives_cut more (right (has_one_line line) _ e))
 
 -- a site's lines after the first, which is a comment
-abbrev pub lines_of : Site → List (List ℕ)
-lines_of site = map type_text site.types ++ (codes "database mdb" ∷ map directive_text site.lines.items ++ [] ∷ [])
+abbrev pub lines_of : List (List ℕ) → List Line → List (List ℕ)
+lines_of types lines = map type_text types ++ (codes "database mdb" ∷ map directive_text lines ++ [] ∷ [])
 
-pub flat_cut : (site : Site) → IsFlat site → physical_lines (flat_text site) ≡ codes "# slapkit slapconf" ∷ lines_of site
-flat_cut site flat =
-    let rest : List ℕ = codes "database mdb\n" ++ flat_map directive_line site.lines.items in
-    ap physical_lines (append_assoc (codes "# slapkit slapconf\n" ++ flat_map type_line site.types) (codes "database mdb\n") (flat_map directive_line site.lines.items))
-    ∙ physical_cut (codes "# slapkit slapconf") (flat_map type_line site.types ++ rest) refl refl
+pub flat_cut : (types : List (List ℕ)) (lines : List Line) → IsFlat types lines → physical_lines (flat_text types lines) ≡ codes "# slapkit slapconf" ∷ lines_of types lines
+flat_cut types lines flat =
+    let rest : List ℕ = codes "database mdb\n" ++ flat_map directive_line lines in
+    ap physical_lines (append_assoc (codes "# slapkit slapconf\n" ++ flat_map type_line types) (codes "database mdb\n") (flat_map directive_line lines))
+    ∙ physical_cut (codes "# slapkit slapconf") (flat_map type_line types ++ rest) refl refl
     ∙ ap (λ lines. codes "# slapkit slapconf" ∷ lines)
-    (types_cut site.types rest flat.types
-    ∙ ap (λ lines. map type_text site.types ++ lines)
-    (physical_cut (codes "database mdb") (flat_map directive_line site.lines.items) refl refl ∙ ap (λ lines. codes "database mdb" ∷ lines) (directives_cut site.lines.items flat.lines))
+    (types_cut types rest flat.defined
+    ∙ ap (λ lines. map type_text types ++ lines)
+    (physical_cut (codes "database mdb") (flat_map directive_line lines) refl refl ∙ ap (λ lines. codes "database mdb" ∷ lines) (directives_cut lines flat.directed))
     )

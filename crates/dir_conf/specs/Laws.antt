@@ -1,19 +1,17 @@
 -- What a flat configuration says: it is read as what its site has, and as nothing else.
 use Rattle.std.specs.Prelude.{◌≡◌, ℕ, ◌+◌, ◌≤◌, Bool, true, not, ◌&&◌, ◌==◌, List, [], ◌∷◌, length, map, Some, Result, Ok}
 use Rattle.std.specs.List.{list_all}
-use Rattle.dir_names.specs.Ascii.{space, line_feed, carriage_return}
+use Rattle.dir_names.specs.Ascii.{space, carriage_return}
+use Rattle.dir_names.specs.Keys.{DnKeys}
 use Rattle.dir_names.specs.Results.{and_then}
 use Rattle.dir_names.specs.declared.schema.TypeRow.{TypeRow}
 use Rattle.dir_acl.specs.declared.fault.ConfigFault.{ConfigFault}
 use Rattle.dir_acl.specs.Config.{Settings, at_line, config_of, config_types, directive, no_settings, of_suffix, types_with}
 use Rattle.dir_conf.specs.declared.site.Line.{Line}
-use Rattle.dir_conf.specs.declared.site.Site.{Site}
-use Rattle.dir_conf.specs.Flat.{flat_text, name_of}
+use Rattle.dir_conf.specs.CnConfig.{flat_of_config, site_of_text}
+use Rattle.dir_conf.specs.Flat.{flat_text, is_no_feed, name_of}
 
 -- ---- a site whose lines are lines
-
-abbrev pub is_no_feed : ℕ → Bool
-is_no_feed b = not (b == line_feed)
 
 abbrev pub is_no_end : ℕ → Bool
 is_no_end b = is_no_feed b && not (b == carriage_return)
@@ -22,10 +20,10 @@ abbrev pub has_one_line : Line → Bool
 has_one_line line = list_all (list_all is_no_feed) line.arguments
 
 -- no definition has the end of a line, and no argument a line feed; the text is one that a configuration may have
-pub record IsFlat (site : Site) : Type 0 where
-  pub types : list_all (list_all is_no_end) site.types ≡ true
-  pub lines : list_all has_one_line site.lines.items ≡ true
-  pub bound : length (flat_text site) ≤ 16777216
+pub record IsFlat (types : List (List ℕ)) (lines : List Line) : Type 0 where
+  pub defined : list_all (list_all is_no_end) types ≡ true
+  pub directed : list_all has_one_line lines ≡ true
+  pub bound : length (flat_text types lines) ≤ 16777216
 
 -- ---- what it says
 
@@ -43,12 +41,28 @@ directives_at rows settings n [] = Ok settings
 directives_at rows settings n (line ∷ more) =
     and_then (at_line n (directive rows settings (name_of line.directive) (map Some line.arguments))) (λ now. directives_at rows now (n + 1) more)
 
--- the line of a site's first directive: before it are a comment, the definitions and `database`
-abbrev pub first_directive : Site → ℕ
-first_directive site = length site.types + 3
+-- the line of the first directive: before it are a comment, the definitions and `database`
+abbrev pub first_directive : List (List ℕ) → ℕ
+first_directive types = length types + 3
 
--- a law: the text of a flat configuration defines exactly these types, and has exactly these directives with these arguments
+-- a flat configuration defines exactly these types, and has exactly these directives with these arguments
+pub record IsReadAs (types : List (List ℕ)) (lines : List Line) (text : List ℕ) : Type 0 where
+  pub defined : (rows : List TypeRow) → config_types rows text ≡ types_at rows 2 types
+  pub directed : (rows : List TypeRow) → config_of rows text ≡ and_then (directives_at rows in_database (first_directive types) lines) (λ settings. of_suffix settings settings.suffix)
+
+-- a law
 abbrev pub FlatReads : Type 0
-FlatReads = (site : Site) → IsFlat site
-    → ((rows : List TypeRow) → config_types rows (flat_text site) ≡ types_at rows 2 site.types)
-    × ((rows : List TypeRow) → config_of rows (flat_text site) ≡ and_then (directives_at rows in_database (first_directive site) site.lines.items) (λ settings. of_suffix settings settings.suffix))
+FlatReads = (types : List (List ℕ)) (lines : List Line) → IsFlat types lines → IsReadAs types lines (flat_text types lines)
+
+-- ---- what is read of cn=config
+
+-- the flat configuration that the text of cn=config comes to is read as the site that this text says
+pub record ReadsSite (rows : List TypeRow) (wanted : DnKeys) (text flat : List ℕ) : Type 0 where
+  pub types : List (List ℕ)
+  pub lines : List Line
+  pub site : site_of_text rows wanted text ≡ Ok (types, lines)
+  pub reads : IsReadAs types lines flat
+
+-- a law
+abbrev pub FlatConfigsAreRead : Type 0
+FlatConfigsAreRead = (rows : List TypeRow) (wanted : DnKeys) (text flat : List ℕ) → flat_of_config rows wanted text ≡ Ok flat → ReadsSite rows wanted text flat

@@ -1,2 +1,6 @@
+pub mod CnConfig
+pub mod FaultText
 pub mod Flat
+pub mod Inside
 pub mod Laws
+pub mod Outcome

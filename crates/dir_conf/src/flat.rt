@@ -13,7 +13,7 @@ use std::alloc::Global;
 /// The text of a slapd.conf that says what a site has, and nothing else: each definition in a line of `attributetype`, then `database mdb`, and its
 /// lines. Where an argument is empty or has white space, a quote or a backslash, it stands in quotes.
 pub fn flat_text(alloc: Global, site: &Site) -> Result<Vec<u8>, Memory>
-    ensures { IfOk result (λ text. text.items ≡ flat_text site.now) }
+    ensures { IfOk result (λ text. text.items ≡ flat_text site.now.types site.now.lines.items) }
 {
     let mut text = Vec::new(alloc);
     text.extend_from_slice(b"# slapkit slapconf\n")?;

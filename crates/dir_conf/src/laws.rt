@@ -1,9 +1,15 @@
 //! Laws of the definitions, which no code needs.
 
-ghost use Rattle.dir_conf.specs.Laws.{FlatReads};
+ghost use Rattle.dir_conf.specs.Laws.{FlatConfigsAreRead, FlatReads};
 
 /// A flat configuration says what its site has: its text defines these attribute types, in their order and each at its line, and is read as
 /// these directives with these arguments, in their order and each at its line.
 pub fn flat_texts_are_read()
     ensures { FlatReads }
+{}
+
+/// The flat configuration of a database is read as what cn=config says of it: these attribute types, and these directives with these arguments, in
+/// their order.
+pub fn flat_configs_are_read()
+    ensures { FlatConfigsAreRead }
 {}

@@ -2,10 +2,14 @@
 //! rules.
 #![tactic(auto)]
 
+mod cn_config;
+mod fault;
 mod flat;
 mod laws;
 mod site;
 
+pub use cn_config::flat_of_config;
+pub use fault::ConfFault;
 pub use flat::flat_text;
-pub use laws::flat_texts_are_read;
+pub use laws::{flat_configs_are_read, flat_texts_are_read};
 pub use site::{Directive, Line, Site};

@@ -5,4 +5,6 @@
 #[cfg(test)]
 mod arguments;
 #[cfg(test)]
+mod configs;
+#[cfg(test)]
 mod flat;
