@@ -17,4 +17,5 @@ pub mod Stacks
 pub mod Tested
 pub mod Truths
 pub mod Wanted
+pub mod WholeWords
 pub mod WrittenArguments

@@ -15,6 +15,7 @@ mod privileges;
 pub use access::decision::privileges_under;
 pub use access::target_rules::TargetRules;
 pub use access::{Asked, Clause, Control, Edit, Request, Rule, Style, What, Who};
+pub use config::arguments::line_words;
 pub use config::quoting::push_argument;
 pub use config::types::read_schema;
 pub use config::{Config, MAX_CONFIG};

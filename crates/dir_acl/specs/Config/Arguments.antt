@@ -1,5 +1,5 @@
 -- The arguments of a line (slapd.conf(5), "GENERAL FORMAT").
-use Rattle.std.specs.Prelude.{ℕ, cond, ◌||◌, ◌==◌, List, [], ◌∷◌, ◌++◌, Option, Some, None, is_some}
+use Rattle.std.specs.Prelude.{ℕ, cond, ◌||◌, ◌==◌, List, [], ◌∷◌, ◌++◌, Option, Some, None, is_some, option_map}
 use Rattle.dir_names.specs.Ascii.{double_quote, backslash}
 use Rattle.dir_acl.specs.declared.config.arguments.Spot.{Spot}
 use Rattle.dir_acl.specs.declared.config.arguments.Spot.TheVariants.{Between, Plain, Quoted, PlainEscape, QuotedEscape}
@@ -45,3 +45,12 @@ arguments_of line = arguments_from Between [] line
 -- the words of a line: its arguments. A comment has none, nor has the definition of a type, which is not cut
 abbrev pub words_of : List ℕ → List (Option (List ℕ))
 words_of line = cond (is_comment line || is_some (definition_in line)) [] (arguments_of line)
+
+abbrev pub all_whole : List (Option (List ℕ)) → Option (List (List ℕ))
+all_whole [] = Some []
+all_whole (None ∷ more) = None
+all_whole (Some word ∷ more) = option_map (λ rest. word ∷ rest) (all_whole more)
+
+-- the words of a line, if none has an open quote or a final backslash
+abbrev pub whole_words : List ℕ → Option (List (List ℕ))
+whole_words line = all_whole (words_of line)

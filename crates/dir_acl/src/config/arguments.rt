@@ -1,14 +1,14 @@
 //! The arguments of a line (slapd.conf(5), "GENERAL FORMAT").
 
-ghost use Rattle.std.specs.Prelude.{◌≡◌, ◌≤◌, ◌++◌, ℕ, List, Ok, drop, length, take, true};
-ghost use Rattle.dir_acl.specs.Config.Arguments.{arguments_from, arguments_of, last_argument, step_in_argument, step_of, words_of};
+ghost use Rattle.std.specs.Prelude.{◌≡◌, ◌≤◌, ◌++◌, ℕ, IfOk, List, Ok, drop, length, take, true};
+ghost use Rattle.dir_acl.specs.Config.Arguments.{all_whole, arguments_from, arguments_of, last_argument, step_in_argument, step_of, whole_words, words_of};
 ghost use Rattle.dir_acl.specs.Config.Lines.{is_comment};
 ghost use Rattle.dir_acl.specs.Outcome.{GivesPart};
 
 use crate::ConfigCause;
 use crate::config::lines::is_white;
 use crate::config::types::definition_in;
-use dir_names::Bytes;
+use dir_names::{Bytes, Memory, Texts};
 use std::alloc::Global;
 
 /// Where in a line the reader is.
@@ -45,6 +45,35 @@ pub(crate) fn read_words(alloc: Global, line: &[u8]) -> Result<Vec<Option<Bytes>
         return Ok(Vec::new(alloc));
     }
     read_arguments(alloc, line)
+}
+
+/// The words of a line of a configuration (slapd.conf(5), "GENERAL FORMAT"), if none has an open quote or a backslash at the line's end. A comment
+/// has none, nor has the definition of an attribute type by `attributetype`.
+///
+/// # Errors
+///
+/// Memory runs out.
+pub fn line_words(alloc: Global, line: &[u8]) -> Result<Option<Texts>, Memory>
+    ensures { IfOk result (λ words. words ≡ whole_words line.now) }
+{
+    match read_words(alloc, line) {
+        Ok(words) => all_whole(alloc, words),
+        Err(_) => Err(Memory),
+    }
+}
+
+/// The words, if there is none that could not be read.
+fn all_whole(alloc: Global, words: Vec<Option<Bytes>>) -> Result<Option<Texts>, Memory>
+    ensures { IfOk result (λ found. found ≡ all_whole words.items) }
+{
+    let mut found = Vec::new(alloc);
+    for word in words {
+        let Some(word) = word else {
+            return Ok(None);
+        };
+        found.push(word)?;
+    }
+    Ok(Some(Texts::new(found)))
 }
 
 fn is_comment(line: &[u8]) -> bool
