@@ -30,6 +30,6 @@ pub use laws::{
     written_runs_go_back,
 };
 pub use memory::Buffer;
-pub use modify::{run_modify, run_modify_holding};
+pub use modify::{run_modify, run_modify_holding, suffix_key};
 pub use round_trip::{RoundTrip, run_there_and_back};
 pub use run::{ModifyOptions, Summary};

@@ -184,7 +184,11 @@ fn make_texts<R: Source, R2: Source>(
 }
 
 /// The key of the suffix, which has at least one RDN.
-fn suffix_key(alloc: Global, schema: &Schema, text: &[u8]) -> Result<DnKey, ToolFault>
+///
+/// # Errors
+///
+/// `BadQuestion` of the suffix, if it is no legal name (RFC 4514) or has no RDN. `Memory` if memory runs out.
+pub fn suffix_key(alloc: Global, schema: &Schema, text: &[u8]) -> Result<DnKey, ToolFault>
     ensures ok { IfOk result (λ key. suffix_of schema.now text.now ≡ Some key) }
     ensures blamed { IfErr result (IsNoSuffix (suffix_of schema.now text.now)) }
 {
