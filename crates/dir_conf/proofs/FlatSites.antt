@@ -23,11 +23,11 @@ use Rattle.dir_conf.specs.CnConfig.Databases.{database_of, is_frontend}
 use Rattle.dir_conf.specs.CnConfig.Macros.{by_first, definition, plain_byte, without_white}
 use Rattle.dir_conf.specs.CnConfig.Records.{gather, values_of}
 use Rattle.dir_conf.specs.CnConfig.Values.{Numbered}
-use Rattle.dir_conf.specs.Flat.{is_no_feed}
+use Rattle.dir_conf.specs.Flat.{Content, is_no_feed}
 use Rattle.dir_conf.specs.Laws.{has_one_line, is_no_end}
 use Rattle.dir_conf.proofs.FlatLines.{both}
 
-joined_all : {A : Type 0} (p : A → Bool) (xs ys : List A) → list_all p xs ≡ true → list_all p ys ≡ true → list_all p (xs ++ ys) ≡ true
+pub joined_all : {A : Type 0} (p : A → Bool) (xs ys : List A) → list_all p xs ≡ true → list_all p ys ≡ true → list_all p (xs ++ ys) ≡ true
 joined_all p xs ys e f = list_all-append p xs ys ∙ both _ _ e f
 
 -- ---- results
@@ -63,7 +63,7 @@ plain_no_end b = by (is_white b) refl
     by true e = refl
     by false e = grind (arith, nat_tests)
 
-plain_no_ends : (text : List ℕ) → list_all is_no_end (map plain_byte text) ≡ true
+pub plain_no_ends : (text : List ℕ) → list_all is_no_end (map plain_byte text) ≡ true
 plain_no_ends [] = refl
 plain_no_ends (b ∷ bs) = both (is_no_end (plain_byte b)) _ (plain_no_end b) (plain_no_ends bs)
 
@@ -103,7 +103,7 @@ black_no_feed b e = grind (arith, nat_tests)
 other_no_feed : (b : ℕ) → (b == 10) ≡ false → is_no_feed b ≡ true
 other_no_feed b e = ap not e
 
-longer : (item : List ℕ) (b : ℕ) → list_all is_no_feed item ≡ true → is_no_feed b ≡ true → list_all is_no_feed (item ++ b ∷ []) ≡ true
+pub longer : (item : List ℕ) (b : ℕ) → list_all is_no_feed item ≡ true → is_no_feed b ≡ true → list_all is_no_feed (item ++ b ∷ []) ≡ true
 longer item b e f = joined_all is_no_feed item (b ∷ []) e (both (is_no_feed b) _ f refl)
 
 module _ (b : ℕ) (bs item : List ℕ) (flat : list_all is_no_feed item ≡ true) (rest : (next : Spot) (bytes : List ℕ) → list_all is_no_feed bytes ≡ true → AreFlat (arguments_from next bytes bs)) where
@@ -182,20 +182,20 @@ lines_flat entry = three_values _ _ _ (whole_lines_flat Suffix (codes "olcSuffix
 
 -- ---- the site
 
-abbrev pub IsFlatSite : List (List ℕ) × List Line → Type 0
-IsFlatSite site = (list_all (list_all is_no_end) site.0 ≡ true) × (list_all has_one_line site.1 ≡ true)
+abbrev pub IsFlatSite : Content → Type 0
+IsFlatSite site = (list_all (list_all is_no_end) site.types ≡ true) × (list_all has_one_line site.own ≡ true) × (list_all has_one_line site.frontend ≡ true)
 
 pub site_flat : (rows : List TypeRow) (wanted : DnKeys) (entries : List (List Attribute)) → OfValue IsFlatSite (site_of rows wanted entries)
 site_flat rows wanted entries = by (types_of [] entries) (types_flat [] entries) (database_of rows wanted entries) (gather rules_if_frontend entries) (gathered_all has_one_line rules_if_frontend frontend_flat entries)
   where
     with_lines : (types : List (List ℕ)) → list_all (list_all is_no_end) types ≡ true → (own more : Result (List Line) ConfFault) → OfValue (λ lines. list_all has_one_line lines ≡ true) own → OfValue (λ lines. list_all has_one_line lines ≡ true) more
-        → OfValue IsFlatSite (and_then own (λ own. and_then more (λ more. Ok (types, own ++ more))))
-    with_lines types e (Ok own) (Ok more) f g = (e, joined_all has_one_line own more f g)
+        → OfValue IsFlatSite (and_then own (λ own. and_then more (λ more. Ok (record { types = types; own = own; frontend = more }))))
+    with_lines types e (Ok own) (Ok more) f g = (e, f, g)
     with_lines types e (Ok own) (Err why) f g = tt
     with_lines types e (Err why) more f g = tt
 
     by : (r : Result (List (List ℕ)) ConfFault) → OfValue (λ types. list_all (list_all is_no_end) types ≡ true) r → (d : Result (List Attribute) ConfFault) → (more : Result (List Line) ConfFault) → OfValue (λ lines. list_all has_one_line lines ≡ true) more
-        → OfValue IsFlatSite (and_then r (λ types. and_then d (λ database. and_then (lines_in database) (λ own. and_then more (λ more. Ok (types, own ++ more))))))
+        → OfValue IsFlatSite (and_then r (λ types. and_then d (λ database. and_then (lines_in database) (λ own. and_then more (λ more. Ok (record { types = types; own = own; frontend = more }))))))
     by (Ok types) e (Ok database) more f = with_lines types e (lines_in database) more (lines_flat database) f
     by (Ok types) e (Err why) more f = tt
     by (Err why) e d more f = tt

@@ -1,7 +1,10 @@
 pub mod Below
 pub mod ConfigLaw
+pub mod FilesLaw
 pub mod FlatLaw
 pub mod FlatLines
 pub mod FlatSites
+pub mod Included
+pub mod Lines
 pub mod Turns
 pub mod WholeTexts

@@ -4,7 +4,7 @@ pub mod Databases
 pub mod Macros
 pub mod Records
 pub mod Values
-use Rattle.std.specs.Prelude.{ℕ, Bool, cond, not, nat_lt, length, List, [], ◌∷◌, ◌++◌, map, codes, Option, None, Some, Result, Ok, Err}
+use Rattle.std.specs.Prelude.{ℕ, Bool, cond, List, [], ◌∷◌, ◌++◌, map, codes, Option, None, Some, Result, Ok, Err}
 use Rattle.std.specs.List.{list_all}
 use Rattle.dir_names.specs.Keys.{DnKeys}
 use Rattle.dir_names.specs.Results.{and_then}
@@ -18,12 +18,13 @@ use Rattle.dir_conf.specs.declared.fault.ConfFault.TheVariants.{BadArguments, En
 use Rattle.dir_conf.specs.declared.site.Directive.{Directive}
 use Rattle.dir_conf.specs.declared.site.Directive.TheVariants.{Suffix, RootDn, Access}
 use Rattle.dir_conf.specs.declared.site.Line.{Line as SiteLine}
+use Rattle.dir_conf.specs.declared.site.Tally.{Tally}
 use Rattle.dir_conf.specs.CnConfig.Arguments.{arguments_of}
 use Rattle.dir_conf.specs.CnConfig.Databases.{database_of, is_frontend}
 use Rattle.dir_conf.specs.CnConfig.Macros.{definition, with_macros}
 use Rattle.dir_conf.specs.CnConfig.Records.{gather, record_of, values_of}
 use Rattle.dir_conf.specs.CnConfig.Values.{Numbered}
-use Rattle.dir_conf.specs.Flat.{flat_text, is_no_feed}
+use Rattle.dir_conf.specs.Flat.{Content, flat_of_site, is_long, is_no_feed}
 
 -- ---- attribute types
 
@@ -78,12 +79,12 @@ lines_in entry =
 -- ---- the whole
 
 -- the definitions, and the lines of the database of a suffix with the rules of the frontend after its own
-abbrev pub site_of : List TypeRow → DnKeys → List (List Attribute) → Result (List (List ℕ) × List SiteLine) ConfFault
+abbrev pub site_of : List TypeRow → DnKeys → List (List Attribute) → Result Content ConfFault
 site_of rows wanted entries =
     and_then (types_of [] entries) (λ types.
     and_then (database_of rows wanted entries) (λ database.
     and_then (lines_in database) (λ own.
-    and_then (gather rules_if_frontend entries) (λ more. Ok (types, own ++ more)))))
+    and_then (gather rules_if_frontend entries) (λ more. Ok (record { types = types; own = own; frontend = more })))))
 
 -- ---- the text
 
@@ -100,15 +101,9 @@ abbrev pub entries_of : List ℕ → Result (List (List Attribute)) ConfFault
 entries_of text = and_then (whole_text (blocks_of text)) (gather entry_of)
 
 -- what the text of cn=config says of the database of a suffix, or its first fault
-abbrev pub site_of_text : List TypeRow → DnKeys → List ℕ → Result (List (List ℕ) × List SiteLine) ConfFault
+abbrev pub site_of_text : List TypeRow → DnKeys → List ℕ → Result Content ConfFault
 site_of_text rows wanted text = and_then (entries_of text) (site_of rows wanted)
 
-abbrev pub is_long : List ℕ → Bool
-is_long text = nat_lt 16777216 (length text)
-
-abbrev pub if_short : List ℕ → Result (List ℕ) ConfFault
-if_short text = cond (is_long text) (Err TooLong) (Ok text)
-
 -- the flat configuration of a text of at most 16,777,216 bytes, which has no more itself
-abbrev pub flat_of_config : List TypeRow → DnKeys → List ℕ → Result (List ℕ) ConfFault
-flat_of_config rows wanted text = cond (is_long text) (Err TooLong) (and_then (site_of_text rows wanted text) (λ site. if_short (flat_text site.0 site.1)))
+abbrev pub flat_of_config : List TypeRow → DnKeys → List ℕ → Result (List ℕ × Tally) ConfFault
+flat_of_config rows wanted text = cond (is_long text) (Err TooLong) (and_then (site_of_text rows wanted text) flat_of_site)

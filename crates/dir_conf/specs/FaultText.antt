@@ -7,6 +7,7 @@ use Rattle.dir_conf.specs.declared.fault.ConfFault.TheVariants as fault
 abbrev pub conf_fault_text : ConfFault → List ℕ
 conf_fault_text (fault.BadLine line why) = record_fault_text why
 conf_fault_text (fault.Ended why) = stream_fault_text why
+conf_fault_text (fault.BadInclude line) = codes "K1 BadInclude"
 conf_fault_text (fault.BadOrder line) = codes "K2 BadOrder"
 conf_fault_text (fault.BadArguments line) = codes "K3 BadArguments"
 conf_fault_text fault.NoDatabase = codes "K4 NoDatabase"
@@ -18,6 +19,7 @@ conf_fault_text fault.Memory = codes "out of memory"
 
 abbrev pub line_of : ConfFault → Option ℕ
 line_of (fault.BadLine line why) = Some line
+line_of (fault.BadInclude line) = Some line
 line_of (fault.BadOrder line) = Some line
 line_of (fault.BadArguments line) = Some line
 line_of (fault.BadName line) = Some line

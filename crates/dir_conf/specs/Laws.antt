@@ -1,5 +1,5 @@
 -- What a flat configuration says: it is read as what its site has, and as nothing else.
-use Rattle.std.specs.Prelude.{◌≡◌, ℕ, ◌+◌, ◌≤◌, Bool, true, not, ◌&&◌, ◌==◌, List, [], ◌∷◌, length, map, Some, Result, Ok}
+use Rattle.std.specs.Prelude.{◌≡◌, ℕ, ◌+◌, ◌≤◌, Bool, true, not, ◌&&◌, ◌==◌, List, [], ◌∷◌, ◌++◌, length, map, Some, Result, Ok}
 use Rattle.std.specs.List.{list_all}
 use Rattle.dir_names.specs.Ascii.{space, carriage_return}
 use Rattle.dir_names.specs.Keys.{DnKeys}
@@ -8,8 +8,12 @@ use Rattle.dir_names.specs.declared.schema.TypeRow.{TypeRow}
 use Rattle.dir_acl.specs.declared.fault.ConfigFault.{ConfigFault}
 use Rattle.dir_acl.specs.Config.{Settings, at_line, config_of, config_types, directive, no_settings, of_suffix, types_with}
 use Rattle.dir_conf.specs.declared.site.Line.{Line}
+use Rattle.dir_conf.specs.declared.site.Tally.{Tally}
 use Rattle.dir_conf.specs.CnConfig.{flat_of_config, site_of_text}
-use Rattle.dir_conf.specs.Flat.{flat_text, is_no_feed, name_of}
+use Rattle.dir_conf.specs.Flat.{Content, flat_text, is_no_feed, name_of, tally_of}
+use Rattle.dir_conf.specs.OwnTypes.{own_types}
+use Rattle.dir_conf.specs.SlapdConf.{flat_of_files, site_of_lines}
+use Rattle.dir_conf.specs.SlapdConf.Files.{File, Placed, lines_of_files}
 
 -- ---- a site whose lines are lines
 
@@ -54,15 +58,19 @@ pub record IsReadAs (types : List (List ℕ)) (lines : List Line) (text : List �
 abbrev pub FlatReads : Type 0
 FlatReads = (types : List (List ℕ)) (lines : List Line) → IsFlat types lines → IsReadAs types lines (flat_text types lines)
 
--- ---- what is read of cn=config
+-- ---- what is read of a site
 
--- the flat configuration that the text of cn=config comes to is read as the site that this text says
-pub record ReadsSite (rows : List TypeRow) (wanted : DnKeys) (text flat : List ℕ) : Type 0 where
-  pub types : List (List ℕ)
-  pub lines : List Line
-  pub site : site_of_text rows wanted text ≡ Ok (types, lines)
-  pub reads : IsReadAs types lines flat
+-- a flat text is read as a site with slapd's own types before its own, and the rules of the frontend after those of the database; and it is counted as that
+pub record ReadsSite (site : Content) (flat : List ℕ) (tally : Tally) : Type 0 where
+  pub reads : IsReadAs (own_types ++ site.types) (site.own ++ site.frontend) flat
+  pub counted : tally ≡ tally_of site
 
--- a law
+-- a law: the flat configuration that the text of cn=config comes to is read as the site that this text says
 abbrev pub FlatConfigsAreRead : Type 0
-FlatConfigsAreRead = (rows : List TypeRow) (wanted : DnKeys) (text flat : List ℕ) → flat_of_config rows wanted text ≡ Ok flat → ReadsSite rows wanted text flat
+FlatConfigsAreRead = (rows : List TypeRow) (wanted : DnKeys) (text flat : List ℕ) (tally : Tally) → flat_of_config rows wanted text ≡ Ok (flat, tally)
+    → (site : Content) × (site_of_text rows wanted text ≡ Ok site) × ReadsSite site flat tally
+
+-- a law: the flat configuration that files of a slapd.conf come to is read as the site that their lines say
+abbrev pub FlatFilesAreRead : Type 0
+FlatFilesAreRead = (rows : List TypeRow) (wanted : DnKeys) (files : List File) (flat : List ℕ) (tally : Tally) → flat_of_files rows wanted files ≡ Ok (flat, tally)
+    → (lines : List Placed) × (site : Content) × (lines_of_files files ≡ Ok lines) × (site_of_lines rows wanted lines ≡ Ok site) × ReadsSite site flat tally

@@ -4,3 +4,5 @@ pub mod Flat
 pub mod Inside
 pub mod Laws
 pub mod Outcome
+pub mod OwnTypes
+pub mod SlapdConf

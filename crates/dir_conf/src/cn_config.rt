@@ -6,14 +6,14 @@ ghost use Rattle.dir_conf.specs.Inside.{ended};
 ghost use Rattle.dir_conf.specs.CnConfig.{definitions, entries_of, entry_of, flat_of_config, lines_in, macros_after, rule_line, rules_if_frontend, rules_in, site_of, types_in, types_of, whole_line, whole_lines};
 ghost use Rattle.dir_conf.specs.CnConfig.Records.{gather};
 ghost use Rattle.dir_conf.specs.CnConfig.Values.{numbered};
-ghost use Rattle.dir_conf.specs.Flat.{is_no_feed};
+ghost use Rattle.dir_conf.specs.Flat.{content_of, flat_parts, is_no_feed};
 ghost use Rattle.dir_conf.specs.Outcome.{GivesConf};
 ghost use Rattle.std.specs.List.{list_all};
 
-mod arguments;
-mod cut;
-mod databases;
-mod macros;
+pub(crate) mod arguments;
+pub(crate) mod cut;
+pub(crate) mod databases;
+pub(crate) mod macros;
 mod records;
 mod values;
 
@@ -23,14 +23,11 @@ use crate::cn_config::macros::{Macro, definition, with_macros};
 use crate::cn_config::records::{Attribute, read_record, values_of};
 use crate::cn_config::values::Value;
 use crate::fault::ConfFault;
-use crate::flat::flat_text;
+use crate::flat::{Flat, MAX_TEXT, flat_of_site};
 use crate::site::{Directive, Line, Site};
 use dir_ldif::{Line as LdifLine, StreamFault, read_blocks};
 use dir_names::{Bytes, DnKey, Schema, Texts};
 use std::alloc::Global;
-
-/// The greatest number of bytes of a configuration, and of a flat one.
-const MAX_TEXT: usize = 16_777_216;
 
 /// The flat slapd.conf of the database of a suffix, by the LDIF of cn=config: its attribute types, its suffixes, rootdn and access rules, and the
 /// frontend's rules after these. Passwords are not in it.
@@ -46,19 +43,15 @@ pub fn flat_of_config(
     schema: &Schema,
     suffix: &DnKey,
     text: &[u8],
-) -> Result<Vec<u8>, ConfFault>
-    ensures { GivesConf (λ flat. flat.items) result (flat_of_config schema.now suffix.now text.now) }
+) -> Result<Flat, ConfFault>
+    ensures { GivesConf flat_parts result (flat_of_config schema.now suffix.now text.now) }
 {
     if text.len() > MAX_TEXT {
         return Err(ConfFault::TooLong);
     }
     let entries = entries_of(alloc, text)?;
     let site = site_of(alloc, schema, suffix, entries.as_slice())?;
-    let flat = flat_text(alloc, &site)?;
-    if flat.len() > MAX_TEXT {
-        return Err(ConfFault::TooLong);
-    }
-    Ok(flat)
+    flat_of_site(alloc, &site)
 }
 
 fn entries_of(alloc: Global, text: &[u8]) -> Result<Vec<Vec<Attribute>>, ConfFault>
@@ -98,14 +91,17 @@ fn site_of(
     wanted: &DnKey,
     entries: &[Vec<Attribute>],
 ) -> Result<Site, ConfFault>
-    ensures { GivesConf (λ site. (site.types, site.lines.items)) result (site_of schema.now wanted.now (map (λ entry. entry.items) entries.now)) }
+    ensures { GivesConf content_of result (site_of schema.now wanted.now (map (λ entry. entry.items) entries.now)) }
 {
     let types = types_of(alloc, entries)?;
     let database = database_of(alloc, schema, wanted, entries)?;
-    let mut lines = lines_in(alloc, database)?;
-    let mut more = frontend_rules(alloc, entries)?;
-    lines.append(&mut more)?;
-    Ok(Site { types, lines })
+    let own = lines_in(alloc, database)?;
+    let frontend = frontend_rules(alloc, entries)?;
+    Ok(Site {
+        types,
+        own,
+        frontend,
+    })
 }
 
 fn types_of(alloc: Global, entries: &[Vec<Attribute>]) -> Result<Texts, ConfFault>
@@ -223,7 +219,7 @@ fn whole_line(alloc: Global, directive: Directive, value: &Value) -> Result<Line
     })
 }
 
-fn is_one_line(text: &[u8]) -> bool
+pub(crate) fn is_one_line(text: &[u8]) -> bool
     ensures { result ≡ list_all is_no_feed text.now }
 {
     text.iter().all(|b| *b != b'\n')

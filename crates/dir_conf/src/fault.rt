@@ -17,6 +17,8 @@ pub enum ConfFault {
     BadLine(u64, RecordFault),
     /// The fault in which a text of LDIF ends.
     Ended(StreamFault),
+    /// A file that can't be included: it isn't given, can't be read, or is more than 16 files deep.
+    BadInclude(u64),
     /// A value that does not begin with its place in braces, after one that does.
     BadOrder(u64),
     /// A value that can't be cut into arguments.
@@ -45,6 +47,7 @@ impl ConfFault {
     {
         match self {
             ConfFault::BadLine(line, _)
+            | ConfFault::BadInclude(line)
             | ConfFault::BadOrder(line)
             | ConfFault::BadArguments(line)
             | ConfFault::BadName(line)
@@ -66,6 +69,7 @@ impl Display for ConfFault {
         match self {
             ConfFault::BadLine(_, fault) => fault.fmt(f),
             ConfFault::Ended(fault) => fault.fmt(f),
+            ConfFault::BadInclude(_) => f.write_str("K1 BadInclude"),
             ConfFault::BadOrder(_) => f.write_str("K2 BadOrder"),
             ConfFault::BadArguments(_) => f.write_str("K3 BadArguments"),
             ConfFault::NoDatabase => f.write_str("K4 NoDatabase"),

@@ -6,10 +6,14 @@ mod cn_config;
 mod fault;
 mod flat;
 mod laws;
+mod own_types;
 mod site;
+mod slapd_conf;
 
 pub use cn_config::flat_of_config;
 pub use fault::ConfFault;
-pub use flat::flat_text;
-pub use laws::{flat_configs_are_read, flat_texts_are_read};
-pub use site::{Directive, Line, Site};
+pub use flat::{Flat, flat_text};
+pub use laws::{flat_configs_are_read, flat_files_are_read, flat_texts_are_read};
+pub use site::{Directive, Line, Site, Tally};
+pub use slapd_conf::files::{ConfFile, includes_in};
+pub use slapd_conf::{FileFault, flat_of_files};

@@ -35,10 +35,22 @@ pub struct Line {
     pub arguments: Texts,
 }
 
-/// What a configuration says of one database: the definitions of attribute types (RFC 4512, section 4.1.2), and the lines of the database with the
-/// rules that hold everywhere after its own.
+/// What a configuration says of one database: the definitions of attribute types (RFC 4512, section 4.1.2), the lines of the database, and the
+/// frontend's rules, which hold in all databases after their own.
 #[derive(Debug, Drop)]
 pub struct Site {
     pub types: Texts,
-    pub lines: Vec<Line>,
+    pub own: Vec<Line>,
+    pub frontend: Vec<Line>,
+}
+
+/// How much a configuration says of one database.
+#[derive(Clone, Copy, PartialEq, Eq, Debug)]
+pub struct Tally {
+    /// Attribute types that it defines.
+    pub types: usize,
+    /// Access rules of the database.
+    pub rules: usize,
+    /// Access rules of the frontend.
+    pub frontend: usize,
 }

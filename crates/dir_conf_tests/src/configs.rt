@@ -1,5 +1,6 @@
 //! Flat configurations of texts of cn=config (slapd-config(5)), and the faults of such texts.
 
+use crate::flat::after_own_types;
 use dir_conf::{ConfFault, flat_of_config};
 use dir_names::{Dn, Schema};
 use std::alloc::Global;
@@ -10,8 +11,6 @@ struct Row {
     config: &'static str,
     flat: &'static str,
 }
-
-const HEAD: &str = "# slapkit slapconf\n";
 
 static FLAT: [Row; 6] = [
     // the rules of the database come first, whatever the order of the records; passwords are left out
@@ -59,15 +58,18 @@ fn texts_have_flat_configurations(rt: HostRuntime) {
 
 fn assert_flat(rt: &impl Abort, alloc: Global, row: &Row) {
     let flat = flat(rt, alloc, row.config.as_bytes()).expect(rt, row.config);
-    let head = flat.as_slice().strip_prefix(HEAD.as_bytes());
-    assert!(rt; head == Some(row.flat.as_bytes()), "{}", row.config);
+    assert!(rt;
+        after_own_types(rt, flat.as_slice()) == row.flat.as_bytes(),
+        "{}",
+        row.config
+    );
 }
 
 fn flat(rt: &impl Abort, alloc: Global, config: &[u8]) -> Result<Vec<u8>, ConfFault> {
     let schema = Schema::builtin(alloc).expect(rt, "memory");
     let name = Dn::read(alloc, b"dc=com").expect(rt, "a name");
     let suffix = name.key(alloc, &schema).expect(rt, "a key");
-    flat_of_config(alloc, &schema, &suffix, config)
+    Ok(flat_of_config(alloc, &schema, &suffix, config)?.text)
 }
 
 /// Texts of cn=config, and their faults with the numbers of the lines.

@@ -7,4 +7,6 @@ mod arguments;
 #[cfg(test)]
 mod configs;
 #[cfg(test)]
+mod files;
+#[cfg(test)]
 mod flat;

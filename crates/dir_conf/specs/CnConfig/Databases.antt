@@ -42,7 +42,7 @@ line_of_first test (suffix ∷ more) = cond (test suffix) (Some suffix.line) (li
 -- ---- the database of a suffix
 
 -- a record is the database of the suffix, by the line of its own suffix that is this one; else it has none below it
-abbrev pub by_suffixes : Option (List Attribute) → List Attribute → Option ℕ → Option ℕ → Result (Option (List Attribute)) ConfFault
+abbrev pub by_suffixes : {A : Type 0} → Option A → A → Option ℕ → Option ℕ → Result (Option A) ConfFault
 by_suffixes found entry (Some line) within = cond (is_some found) (Err (SecondDatabase line)) (Ok (Some entry))
 by_suffixes found entry None (Some line) = Err (Subordinate line)
 by_suffixes found entry None None = Ok found

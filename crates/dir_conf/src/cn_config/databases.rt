@@ -4,7 +4,7 @@ ghost use Rattle.std.specs.Prelude.{◌≡◌, ◌∷◌, ◌&&◌, [], Ok, map,
 ghost use Rattle.std.specs.List.{list_any};
 ghost use Rattle.dir_names.specs.Below.{is_at_or_below};
 ghost use Rattle.dir_names.specs.NameKeys.{name_key, name_value_key};
-ghost use Rattle.dir_conf.specs.CnConfig.Databases.{after_record, after_records, by_suffixes, database_of, is_at, is_frontend, is_frontend_name, is_within, line_of_first, suffix_in, suffixes_of, without_number};
+ghost use Rattle.dir_conf.specs.CnConfig.Databases.{after_record, after_records, by_suffixes, database_of, is_at, is_frontend, is_frontend_name, is_within, line_of_first, suffix_by, suffix_in, suffixes_of, without_number};
 ghost use Rattle.dir_conf.specs.CnConfig.Records.{gather};
 ghost use Rattle.dir_conf.specs.CnConfig.Values.{numbered};
 ghost use Rattle.dir_conf.specs.Outcome.{GivesConf};
@@ -62,7 +62,7 @@ fn after_record<'r>(
 }
 
 /// The line of the first suffix that is the wanted one.
-fn first_at(wanted: &DnKey, suffixes: &[Suffix]) -> Option<u64>
+pub(crate) fn first_at(wanted: &DnKey, suffixes: &[Suffix]) -> Option<u64>
     ensures { result ≡ line_of_first (is_at wanted.now) suffixes.now }
 {
     for suffix in suffixes {
@@ -74,7 +74,7 @@ fn first_at(wanted: &DnKey, suffixes: &[Suffix]) -> Option<u64>
 }
 
 /// The line of the first suffix that is the wanted one, or is below it.
-fn first_within(wanted: &DnKey, suffixes: &[Suffix]) -> Option<u64>
+pub(crate) fn first_within(wanted: &DnKey, suffixes: &[Suffix]) -> Option<u64>
     ensures { result ≡ line_of_first (is_within wanted.now) suffixes.now }
 {
     for suffix in suffixes {
@@ -121,12 +121,21 @@ fn suffixes_in(alloc: Global, schema: &Schema, values: &[Value]) -> Result<Vec<S
 fn suffix_in(alloc: Global, schema: &Schema, value: &Value) -> Result<Suffix, ConfFault>
     ensures { GivesConf (λ suffix. suffix ∷ []) result (suffix_in schema.now (numbered value.now)) }
 {
-    match name_in(alloc, schema, value.text.as_slice())? {
-        Some(key) => Ok(Suffix {
-            line: value.line,
-            key,
-        }),
-        None => Err(ConfFault::BadName(value.line)),
+    suffix_of(alloc, schema, value.line, value.text.as_slice())
+}
+
+/// The suffix that a text of this line spells.
+pub(crate) fn suffix_of(
+    alloc: Global,
+    schema: &Schema,
+    line: u64,
+    text: &[u8],
+) -> Result<Suffix, ConfFault>
+    ensures { GivesConf (λ suffix. suffix ∷ []) result (suffix_by line (name_value_key schema.now text.now)) }
+{
+    match name_in(alloc, schema, text)? {
+        Some(key) => Ok(Suffix { line, key }),
+        None => Err(ConfFault::BadName(line)),
     }
 }
 

@@ -1,9 +1,9 @@
 //! Object identifiers that have names (slapd-config(5), `olcObjectIdentifier`), in definitions of attribute types.
 
 ghost use Rattle.std.specs.List.{before_first, position_or_len};
-ghost use Rattle.std.specs.Prelude.{◌≡◌, Ok, drop, map, option_copied, position};
+ghost use Rattle.std.specs.Prelude.{◌≡◌, Ok, Some, drop, map, option_copied, position};
 ghost use Rattle.dir_conf.specs.CnConfig.Arguments.{is_white};
-ghost use Rattle.dir_conf.specs.CnConfig.Macros.{by_first, definition, expanded, oid_named, plain_byte, with_first_word, with_macro, with_macros, without_white};
+ghost use Rattle.dir_conf.specs.CnConfig.Macros.{by_first, definition, expanded, macro_by, oid_named, plain_byte, with_first_word, with_macro, with_macros, without_white};
 ghost use Rattle.dir_conf.specs.CnConfig.Values.{numbered};
 ghost use Rattle.dir_conf.specs.Outcome.{GivesConf};
 
@@ -42,8 +42,20 @@ fn with_macro(alloc: Global, macros: Vec<Macro>, value: &Value) -> Result<Vec<Ma
     let Some(arguments) = read_arguments(alloc, value.text.as_slice())? else {
         return Err(ConfFault::BadArguments(value.line));
     };
-    let [name, word] = arguments.as_slice() else {
-        return Err(ConfFault::BadArguments(value.line));
+    with_macro_of(alloc, macros, value.line, arguments.as_slice())
+}
+
+/// The macros with the one that the arguments of a line say.
+pub(crate) fn with_macro_of(
+    alloc: Global,
+    macros: Vec<Macro>,
+    line: u64,
+    arguments: &[Bytes],
+) -> Result<Vec<Macro>, ConfFault>
+    ensures { GivesConf (λ found. found.items) result (macro_by macros.items line (Some arguments.now)) }
+{
+    let [name, word] = arguments else {
+        return Err(ConfFault::BadArguments(line));
     };
     let oid = expanded(alloc, macros.as_slice(), word.as_slice())?;
     let name = Bytes::new(name.as_slice().to_vec(alloc)?);
@@ -110,7 +122,7 @@ fn with_first_word(alloc: Global, macros: &[Macro], text: &[u8]) -> Result<Bytes
 }
 
 /// A text up to its first white space, and the rest.
-fn first_word(text: &[u8]) -> (&[u8], &[u8])
+pub(crate) fn first_word(text: &[u8]) -> (&[u8], &[u8])
     ensures word { result.0.now ≡ before_first is_white text.now }
     ensures rest { result.1.now ≡ drop (position_or_len is_white text.now) text.now }
 {
@@ -127,7 +139,7 @@ fn first_white(text: &[u8]) -> Option<usize>
 }
 
 /// A text without the white space that it begins with.
-fn without_white(text: &[u8]) -> &[u8]
+pub(crate) fn without_white(text: &[u8]) -> &[u8]
     ensures { result.now ≡ without_white text.now }
 {
     let mut rest = text;
