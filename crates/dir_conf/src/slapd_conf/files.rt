@@ -9,7 +9,7 @@ use crate::fault::ConfFault;
 use crate::flat::MAX_TEXT;
 use crate::slapd_conf::lines::{TextLine, lines_in};
 use dir_acl::line_words;
-use dir_names::{Bytes, Memory, Texts};
+use dir_names::{Bytes, Memory};
 use std::alloc::Global;
 
 /// How many files deep the first file's own files may include others.
@@ -47,9 +47,9 @@ struct Found {
 /// # Errors
 ///
 /// Memory runs out.
-pub fn includes_in(alloc: Global, text: &[u8]) -> Result<Texts, Memory>
+pub fn includes_in(alloc: Global, text: &[u8]) -> Result<Vec<Bytes>, Memory>
     requires { length text.now ≤ 16777216 }
-    ensures { IfOk result (λ paths. paths ≡ includes_in text.now) }
+    ensures { IfOk result (λ paths. paths.items ≡ includes_in text.now) }
 {
     let lines = lines_in(alloc, text)?;
     let mut paths = Vec::new(alloc);
@@ -58,7 +58,7 @@ pub fn includes_in(alloc: Global, text: &[u8]) -> Result<Texts, Memory>
             paths.push(path)?;
         }
     }
-    Ok(Texts::new(paths))
+    Ok(paths)
 }
 
 /// The path in a line that includes a file.

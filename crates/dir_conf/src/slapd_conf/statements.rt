@@ -91,9 +91,9 @@ fn by_words(alloc: Global, number: u64, line: &[u8]) -> Result<Option<SaidLine>,
     };
     match words.as_slice() {
         [] => return Ok(None),
-        [keyword, ..] if keyword.as_slice().eq_ignore_ascii_case(b"include") => return Err(
-            ConfFault::BadInclude(number),
-        ),
+        [keyword, ..] if keyword.as_slice().eq_ignore_ascii_case(b"include") => {
+            return Err(ConfFault::BadInclude(number));
+        }
         _ => {}
     }
     if !are_one_line(words.as_slice()) {
