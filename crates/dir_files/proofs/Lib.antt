@@ -1,9 +1,11 @@
 pub mod AccessCalls
 pub mod CallLemmas
+pub mod ConfCalls
 pub mod EndLemmas
 pub mod EscapeLemmas
 pub mod Examples
 pub mod FaultArgumentLemmas
+pub mod IncludingCalls
 pub mod NoteLemmas
 pub mod OneOutputCalls
 pub mod QuestionCalls

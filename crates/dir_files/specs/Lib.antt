@@ -1,9 +1,11 @@
 pub mod AccessRuns
+pub mod ConfRuns
 pub mod Escape
 pub mod FaultArguments
 pub mod FaultText
 pub mod Faults
 pub mod Files
+pub mod Including
 pub mod NoteText
 pub mod Notes
 pub mod OneOutput

@@ -3,9 +3,12 @@
 ghost use Rattle.std.specs.Prelude.{◌++◌, decimal};
 ghost use Rattle.std.specs.Fmt.{WritesOnOk, WritesStyledOnOk};
 ghost use Rattle.dir_files.specs.Escape.{escaped};
-ghost use Rattle.dir_files.specs.FaultText.{fault_text};
+ghost use Rattle.dir_files.specs.FaultText.{conf_file_text, conf_line_text, conf_text, fault_text};
+ghost use Rattle.dir_conf.specs.FaultText.{line_of};
 
 use crate::escape::show_escaped;
+use crate::note::{show_bytes, show_line};
+use dir_conf::FileFault;
 use dir_questions::QuestionsFault;
 use dir_tools::{Number, ToolFault};
 use std::fmt::{self, Display};
@@ -28,6 +31,10 @@ pub enum Fault<'a> {
     NotesUntold,
     /// The undo file has fewer groups than are to be taken back.
     TooFewGroups { wanted: u64, groups: u64 },
+    /// A fault of a site's configuration.
+    Conf(FileFault),
+    /// The flat configuration can't be written.
+    FlatUnwritten,
     /// A fault of the questions, or of the writer of their answers.
     Questions(QuestionsFault),
     /// The tool's own fault.
@@ -52,6 +59,8 @@ impl Display for Fault<'_> {
                 show_number(f, ", only ", *groups)?;
                 f.write_str(" groups")
             }
+            Fault::Conf(fault) => show_conf_fault(f, fault),
+            Fault::FlatUnwritten => f.write_str("cannot write flat configuration"),
             Fault::Questions(fault) => fault.fmt(f),
             Fault::Tool(fault) => fault.fmt(f),
         }
@@ -74,4 +83,34 @@ fn show_number<W: fmt::Write>(f: &mut fmt::Formatter<W>, words: &str, number: u6
 {
     f.write_str(words)?;
     Number(number).fmt(f)
+}
+
+/// Shows a fault of a site's configuration, after the file and the line of it.
+fn show_conf_fault<W: fmt::Write>(f: &mut fmt::Formatter<W>, fault: &FileFault) -> fmt::Result
+    ensures writes { WritesOnOk W.write_str_gives f.old result (conf_text fault.now) f.new }
+    ensures styled { WritesStyledOnOk W.write_str_gives f.old result (conf_text fault.now) f.new }
+{
+    show_conf_file(f, fault)?;
+    show_conf_line(f, fault)?;
+    fault.fault.fmt(f)
+}
+
+fn show_conf_file<W: fmt::Write>(f: &mut fmt::Formatter<W>, fault: &FileFault) -> fmt::Result
+    ensures writes { WritesOnOk W.write_str_gives f.old result (conf_file_text fault.now.file) f.new }
+    ensures styled { WritesStyledOnOk W.write_str_gives f.old result (conf_file_text fault.now.file) f.new }
+{
+    match &fault.file {
+        Some(file) => show_bytes(f, file.as_slice()),
+        None => f.write_str("config"),
+    }
+}
+
+fn show_conf_line<W: fmt::Write>(f: &mut fmt::Formatter<W>, fault: &FileFault) -> fmt::Result
+    ensures writes { WritesOnOk W.write_str_gives f.old result (conf_line_text (line_of fault.now.fault)) f.new }
+    ensures styled { WritesStyledOnOk W.write_str_gives f.old result (conf_line_text (line_of fault.now.fault)) f.new }
+{
+    match fault.fault.line() {
+        Some(line) => show_line(f, ", line ", line),
+        None => f.write_str(": "),
+    }
 }

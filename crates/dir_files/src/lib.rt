@@ -1,5 +1,5 @@
-//! The two tools over a file system: the files that `slapmodify` opens, makes and publishes, and those that `slapacl` opens, also with a file of
-//! questions, and the one that it makes of their answers.
+//! The tools over a file system: the files that `slapmodify` opens, makes and publishes, those that `slapacl` opens, also with a file of
+//! questions, and the one that it makes of their answers; and those that `slapconf` opens, and the one that it makes.
 #![tactic(auto)]
 
 mod argument;
@@ -8,6 +8,7 @@ mod escape;
 mod fault;
 mod files;
 mod foreground;
+mod including;
 mod limit;
 mod note;
 mod one_output;
@@ -15,6 +16,7 @@ mod proc;
 mod progress;
 pub mod questions;
 pub mod slapacl;
+pub mod slapconf;
 pub mod slapmodify;
 mod system;
 mod words;
@@ -25,4 +27,4 @@ pub use files::{FileSystem, Opened, Refusal};
 pub use note::{NoteTeller, ShownNote};
 pub use progress::{Amount, Doing, Progress, ProgressLine};
 pub use system::SystemFiles;
-pub use words::{AccessWords, ModifyWords, OutputPaths, QuestionWords};
+pub use words::{AccessWords, ConfSource, ConfWords, ModifyWords, OutputPaths, QuestionWords};

@@ -147,7 +147,7 @@ pub(crate) fn show_between<W: fmt::Write>(
 }
 
 /// Shows bytes with the control characters escaped; of those that are no text, that they are none.
-fn show_bytes<W: fmt::Write>(f: &mut fmt::Formatter<W>, bytes: &[u8]) -> fmt::Result
+pub(crate) fn show_bytes<W: fmt::Write>(f: &mut fmt::Formatter<W>, bytes: &[u8]) -> fmt::Result
     ensures writes { WritesOnOk W.write_str_gives f.old result (shown_bytes bytes.now) f.new }
     ensures styled { WritesStyledOnOk W.write_str_gives f.old result (shown_bytes bytes.now) f.new }
 {

@@ -49,6 +49,26 @@ pub struct QuestionWords<'a> {
     pub strict: bool,
 }
 
+/// The words of `slapkit slapconf`.
+#[derive(Debug, Drop)]
+pub struct ConfWords<'a> {
+    /// The suffix of the database.
+    pub suffix: &'a str,
+    /// The configuration.
+    pub source: ConfSource<'a>,
+    /// Where the flat configuration goes.
+    pub out: &'a str,
+}
+
+/// The file that has a configuration, and how it has it.
+#[derive(Clone, Copy, Debug)]
+pub enum ConfSource<'a> {
+    /// As a slapd.conf, which may include other files.
+    SlapdConf(&'a str),
+    /// As LDIF of cn=config.
+    CnConfig(&'a str),
+}
+
 /// The files to be written: the new copy and the undo file.
 #[derive(Clone, Copy, PartialEq, Eq, Debug)]
 pub struct OutputPaths<'a> {

@@ -1,0 +1,209 @@
+//! `slapkit slapconf`: the files that a command line names, and the flat configuration that is made of them.
+
+ghost use Rattle.std.specs.Io.KnownBytes.{Appends};
+ghost use Rattle.std.specs.Fmt.{decimal};
+ghost use Rattle.std.specs.Option.{option_copied};
+ghost use Rattle.std.specs.Prelude.{◌≡◌, ◌++◌, IfErr, IfOk, OnOk};
+ghost use Rattle.dir_conf.specs.Flat.{flat_parts};
+ghost use Rattle.dir_files.specs.ConfRuns.{AllConfCalls, IsConfFault, MakesForSuffix, MakesOfConfig, MakesOfSlapdConf, NamesItsOutput, NamesTheseConf, RefusesSameConf, WritesIfRoom, conf_report, repeated_path, source_path};
+ghost use Rattle.dir_files.specs.Runs.{Made};
+ghost use Rattle.dir_names.specs.Table.Builtin.{builtin_rows};
+
+use crate::fault::Fault;
+use crate::files::FileSystem;
+use crate::including::{not_read, read_files, whole_text};
+use crate::one_output::finish;
+use crate::slapmodify::{not_created, not_opened, run_fault};
+use crate::words::{ConfSource, ConfWords};
+use dir_conf::{ConfFault, FileFault, Flat, Tally, flat_of_config, flat_of_files};
+use dir_ldif::{DeviceFault, Sink, write_whole};
+use dir_names::{DnKey, Memory, Schema};
+use dir_tools::{ToolFault, suffix_key};
+use std::alloc::Global;
+
+/// Makes one flat slapd.conf of the configuration that the words name, for the database of a suffix.
+///
+/// All files are read before anything is made. The flat configuration gets its name only when it is whole and synced, and the report is written last. After a
+/// fault nothing is left of what the run has made. It has the mode of the configuration.
+///
+/// # Errors
+///
+/// In this order: two paths that are the same; a suffix that is no legal name, or has no RDN; a file of the configuration that can't be opened, unless another
+/// includes it, or can't be read; the configuration's first fault; the flat configuration can't be created, written, synced or published, or the report can't
+/// be written.
+pub fn run<'a, F: FileSystem>(
+    alloc: Global,
+    files: &mut F,
+    words: &ConfWords<'a>,
+) -> Result<Tally, Fault<'a>>
+    ensures faults { RefusesSameConf words.now (repeated_path words.now) result }
+    ensures calls { Made (F.disk files.old) (F.disk files.new) (AllConfCalls (repeated_path words.now) words.now result) }
+{
+    match repeated_path(words) {
+        Some(path) => Err(Fault::SamePath(path)),
+        None => make(alloc, files, words),
+    }
+}
+
+/// The path of the flat configuration, where it is the same text as that of the configuration.
+fn repeated_path<'a>(words: &ConfWords<'a>) -> Option<&'a str>
+    ensures { option_copied result ≡ repeated_path words.now }
+{
+    if words.out == path_of(words.source) {
+        Some(words.out)
+    } else {
+        None
+    }
+}
+
+/// Makes the flat configuration of words whose paths differ.
+fn make<'a, F: FileSystem>(
+    alloc: Global,
+    files: &mut F,
+    words: &ConfWords<'a>,
+) -> Result<Tally, Fault<'a>>
+    ensures faults { IfErr result (NamesTheseConf (source_path words.now.source) words.now.out.now) }
+    ensures calls { Made (F.disk files.old) (F.disk files.new) (MakesForSuffix words.now result) }
+{
+    let Ok(schema) = Schema::builtin(alloc) else {
+        return Err(run_fault(ToolFault::Memory));
+    };
+    let suffix = match suffix_key(alloc, &schema, words.suffix.as_bytes()) {
+        Ok(suffix) => suffix,
+        Err(fault) => return Err(run_fault(fault)),
+    };
+    match words.source {
+        ConfSource::SlapdConf(path) => of_slapd_conf(
+            alloc, files, &schema, &suffix, path, words.out,
+        ),
+        ConfSource::CnConfig(path) => of_cn_config(alloc, files, &schema, &suffix, path, words.out),
+    }
+}
+
+/// The path of a configuration.
+fn path_of<'a>(source: ConfSource<'a>) -> &'a str
+    ensures { result.now ≡ source_path source.entry }
+{
+    match source {
+        ConfSource::SlapdConf(path) | ConfSource::CnConfig(path) => path,
+    }
+}
+
+/// Makes a flat configuration of a slapd.conf and of the files that it includes.
+fn of_slapd_conf<'a, F: FileSystem>(
+    alloc: Global,
+    files: &mut F,
+    schema: &Schema,
+    suffix: &DnKey,
+    path: &'a str,
+    out: &'a str,
+) -> Result<Tally, Fault<'a>>
+    requires { schema.now ≡ builtin_rows }
+    ensures faults { IfErr result (NamesTheseConf path.entry.now out.entry.now) }
+    ensures calls { Made (F.disk files.old) (F.disk files.new) (MakesOfSlapdConf suffix.now path.entry.now out.entry.now result) }
+{
+    let read = read_files(alloc, files, path)?;
+    match flat_of_files(alloc, schema, suffix, read.files.as_slice()) {
+        Ok(flat) => write_flat(alloc, files, out, read.mode, &flat),
+        Err(fault) => Err(conf_fault(fault)),
+    }
+}
+
+/// Makes a flat configuration of the LDIF of cn=config.
+fn of_cn_config<'a, F: FileSystem>(
+    alloc: Global,
+    files: &mut F,
+    schema: &Schema,
+    suffix: &DnKey,
+    path: &'a str,
+    out: &'a str,
+) -> Result<Tally, Fault<'a>>
+    requires { schema.now ≡ builtin_rows }
+    ensures faults { IfErr result (NamesTheseConf path.entry.now out.entry.now) }
+    ensures calls { Made (F.disk files.old) (F.disk files.new) (MakesOfConfig suffix.now path.entry.now out.entry.now result) }
+{
+    let mut opened = match files.open(path) {
+        Ok(opened) => opened,
+        Err(why) => return Err(not_opened(path, why)),
+    };
+    let text = match whole_text(alloc, &mut opened.file) {
+        Ok(text) => text,
+        Err(why) => return Err(not_read(why)),
+    };
+    match flat_of_config(alloc, schema, suffix, text.as_slice()) {
+        Ok(flat) => write_flat(alloc, files, out, opened.mode, &flat),
+        Err(fault) => Err(conf_fault(FileFault { file: None, fault })),
+    }
+}
+
+/// The fault of a configuration, as the program's.
+fn conf_fault<'a>(fault: FileFault) -> Fault<'a>
+    ensures { IsConfFault fault result }
+{
+    match fault.fault {
+        ConfFault::Memory => Fault::Tool(ToolFault::Memory),
+        _ => Fault::Conf(fault),
+    }
+}
+
+/// Writes a flat configuration into its file, and the report.
+fn write_flat<'a, F: FileSystem>(
+    alloc: Global,
+    files: &mut F,
+    path: &'a str,
+    mode: u32,
+    flat: &Flat,
+) -> Result<Tally, Fault<'a>>
+    ensures faults { IfErr result (NamesItsOutput path.entry.now) }
+    ensures calls { Made (F.disk files.old) (F.disk files.new) (λ _. WritesIfRoom path.entry.now mode (flat_parts flat.now) result) }
+{
+    let Ok(report) = report_of(alloc, flat.tally) else {
+        return Err(run_fault(ToolFault::Memory));
+    };
+    let mut draft = match files.create(path, mode) {
+        Ok(draft) => draft,
+        Err(why) => return Err(not_created(path, why)),
+    };
+    let Ok(()) = write_text(&mut draft, flat.text.as_slice()) else {
+        files.discard(path, draft);
+        return Err(Fault::FlatUnwritten);
+    };
+    finish(
+        files,
+        path,
+        draft,
+        report.as_slice(),
+        Fault::FlatUnwritten,
+        flat.tally,
+    )
+}
+
+/// Writes a whole text, and passes it on.
+fn write_text<W: Sink>(sink: &mut W, text: &[u8]) -> Result<(), DeviceFault>
+    ensures { OnOk result (Appends (W.taken sink.old) (W.taken sink.new) text.now) }
+{
+    write_whole(sink, text)?;
+    sink.flush()
+}
+
+/// `types T, rules R, frontend F`
+fn report_of(alloc: Global, tally: Tally) -> Result<Vec<u8>, Memory>
+    ensures { IfOk result (λ text. text.items ≡ conf_report tally) }
+{
+    let mut text = Vec::new(alloc);
+    push_count(alloc, &mut text, b"types ", tally.types)?;
+    push_count(alloc, &mut text, b", rules ", tally.rules)?;
+    push_count(alloc, &mut text, b", frontend ", tally.frontend)?;
+    text.push(b'\n')?;
+    Ok(text)
+}
+
+/// Appends words and a number.
+fn push_count(alloc: Global, text: &mut Vec<u8>, words: &[u8], number: usize) -> Result<(), Memory>
+    ensures { OnOk result (text.new.items ≡ text.old.items ++ (words.now ++ decimal number)) }
+{
+    text.extend_from_slice(words)?;
+    let digits = format!(in alloc; "{number}")?;
+    text.extend_from_slice(digits.as_bytes())?;
+    Ok(())
+}
