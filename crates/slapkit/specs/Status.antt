@@ -14,6 +14,11 @@ abbrev pub access_status_of : {A : Type 0} → Result A Fault → ℕ
 access_status_of (Ok answer) = 0
 access_status_of (Err fault) = 1
 
+-- of a configuration: 0 where the flat one was made, else 1
+abbrev pub conf_status_of : {A : Type 0} → Result A Fault → ℕ
+conf_status_of (Ok tally) = 0
+conf_status_of (Err fault) = 1
+
 -- of a file of questions: 0 where all were answered, and no answer is another than the one that is expected, else 1
 abbrev pub questions_status_of : Result Tally Fault → ℕ
 questions_status_of (Ok tally) = cond (tally.otherwise == 0) 0 1

@@ -6,8 +6,22 @@ use Rattle.clap.specs.Matches.{first_value, found_of, matched_of, one_text, raw_
 use Rattle.clap.specs.declared.parser.matches.ArgMatches.{ArgMatches}
 use Rattle.clap.specs.declared.parser.matches.Found.{Found}
 use Rattle.dir_files.specs.declared.words.AccessWords.{AccessWords}
+use Rattle.dir_files.specs.declared.words.ConfSource.{ConfSource}
+use Rattle.dir_files.specs.declared.words.ConfSource.TheVariants.{SlapdConf, CnConfig}
+use Rattle.dir_files.specs.declared.words.ConfWords.{ConfWords}
 use Rattle.dir_files.specs.declared.words.ModifyWords.{ModifyWords}
 use Rattle.dir_files.specs.declared.words.QuestionWords.{QuestionWords}
+
+-- ---- the configuration of `slapconf`
+
+-- where a configuration is, and in which form
+pub data Source : Type 0 where
+  slapd_conf : List ℕ → Source
+  cn_config : List ℕ → Source
+
+abbrev pub source_in : ConfSource → Source
+source_in (SlapdConf path) = slapd_conf path.now
+source_in (CnConfig path) = cn_config path.now
 
 -- ---- the words of `slapmodify`
 
@@ -63,6 +77,19 @@ pub record AreAccessWordsOf (m : ArgMatches) (words : AccessWords) : Type 0 wher
   pub fake : IsFlag (found_of m) (codes "fake") words.fake
   pub verbose : IsFlag (found_of m) (codes "verbose") words.verbose
   pub strict : IsFlag (found_of m) (codes "strict") words.strict
+
+-- ---- the words of `slapconf`
+
+-- a slapd.conf where `-f` names one, and else the LDIF of cn=config that `--config` names
+abbrev pub source_of : Option (List ℕ) → Option (List ℕ) → Source
+source_of (Some path) ldif = slapd_conf path
+source_of None ldif = cn_config (text_or_empty ldif)
+
+-- each word is the value of its own argument
+pub record AreConfWordsOf (m : ArgMatches) (words : ConfWords) : Type 0 where
+  pub suffix : words.suffix.now ≡ text_or_empty (first_value (found_of m) (codes "suffix"))
+  pub source : source_in words.source ≡ source_of (first_value (found_of m) (codes "slapd_conf")) (first_value (found_of m) (codes "config"))
+  pub out : words.out.now ≡ text_or_empty (first_value (found_of m) (codes "out"))
 
 -- ---- the words of `slapacl` with a file of questions
 

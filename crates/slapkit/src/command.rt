@@ -1,12 +1,12 @@
 //! The command line, by `clap`.
 
 ghost use Rattle.std.specs.Prelude.{IfOk, codes};
-ghost use Rattle.clap.specs.Matches.{found_of};
-ghost use Rattle.slapkit.specs.Words.{AreAccessWordsOf, AreQuestionWordsOf, AreWordsOf, IsNumber};
+ghost use Rattle.clap.specs.Matches.{first_value, found_of};
+ghost use Rattle.slapkit.specs.Words.{AreAccessWordsOf, AreConfWordsOf, AreQuestionWordsOf, AreWordsOf, IsNumber, source_in, source_of};
 
 use clap::error::ErrorKind;
 use clap::{Arg, ArgAction, ArgMatches, Command, Error, value_parser};
-use dir_files::{AccessWords, ModifyWords, QuestionWords};
+use dir_files::{AccessWords, ConfSource, ConfWords, ModifyWords, QuestionWords};
 use dir_tools::ModifyOptions;
 use std::alloc::{AllocError, Global};
 use std::convert::AsStr;
@@ -18,6 +18,7 @@ pub enum Words<'a> {
     Slapacl(AccessWords<'a>),
     /// `slapacl` with a file of questions.
     Questions(QuestionWords<'a>),
+    Slapconf(ConfWords<'a>),
 }
 
 /// Reads the words of a command line, the first of which is the program's name.
@@ -30,6 +31,9 @@ pub fn read_words<'a, S: AsStr>(alloc: Global, words: &'a [S]) -> Result<Words<'
     let matches = program.try_get_matches_from_mut(words)?;
     if let Some(matches) = matches.subcommand_matches("slapmodify") {
         return Ok(Words::Slapmodify(modify_words(matches)));
+    }
+    if let Some(matches) = matches.subcommand_matches("slapconf") {
+        return Ok(Words::Slapconf(conf_words(matches)));
     }
     let Some(matches) = matches.subcommand_matches("slapacl") else {
         return Err(program.error(ErrorKind::MissingSubcommand, "a tool must be named")?);
@@ -92,6 +96,26 @@ fn question_words<'a>(matches: &ArgMatches<'a>) -> QuestionWords<'a>
     }
 }
 
+fn conf_words<'a>(matches: &ArgMatches<'a>) -> ConfWords<'a>
+    ensures { AreConfWordsOf matches.now result }
+{
+    ConfWords {
+        suffix: matches.get_str("suffix").unwrap_or(""),
+        source: source_in(matches),
+        out: matches.get_str("out").unwrap_or(""),
+    }
+}
+
+/// The configuration that the words name, and its form.
+fn source_in<'a>(matches: &ArgMatches<'a>) -> ConfSource<'a>
+    ensures { source_in result ≡ source_of (first_value (found_of matches.now) (codes "slapd_conf")) (first_value (found_of matches.now) (codes "config")) }
+{
+    match matches.get_str("slapd_conf") {
+        Some(path) => ConfSource::SlapdConf(path),
+        None => ConfSource::CnConfig(matches.get_str("config").unwrap_or("")),
+    }
+}
+
 fn program<'a>(alloc: Global) -> Result<Command<'a>, AllocError> {
     Command::new(alloc, "slapkit")
         .version(VERSION)
@@ -100,7 +124,8 @@ fn program<'a>(alloc: Global) -> Result<Command<'a>, AllocError> {
         .subcommand_required(true)
         .arg_required_else_help(true)
         .subcommand(slapmodify(alloc)?)?
-        .subcommand(slapacl(alloc)?)
+        .subcommand(slapacl(alloc)?)?
+        .subcommand(slapconf(alloc)?)
 }
 
 fn slapmodify<'a>(alloc: Global) -> Result<Command<'a>, AllocError> {
@@ -263,6 +288,53 @@ fn slapacl<'a>(alloc: Global) -> Result<Command<'a>, AllocError> {
         )
 }
 
+fn slapconf<'a>(alloc: Global) -> Result<Command<'a>, AllocError> {
+    Command::new(alloc, "slapconf")
+        .about("Makes one flat slapd.conf of the configuration of a site")
+        .long_about(CONF_ABOUT)
+        .after_help(CONF_EXAMPLE)
+        .arg(
+            path(
+                alloc,
+                "suffix",
+                "SUFFIX",
+                "The suffix of the database that is asked about",
+            )
+            .short('b')
+            .required(true),
+        )?
+        .arg(
+            path(
+                alloc,
+                "slapd_conf",
+                "CONF",
+                "The slapd.conf, which may include other files",
+            )
+            .short('f')
+            .required_unless_present("config")?
+            .conflicts_with("config")?,
+        )?
+        .arg(
+            path(
+                alloc,
+                "config",
+                "LDIF",
+                "The LDIF of cn=config, as slapcat -n 0 writes it",
+            )
+            .long("config"),
+        )?
+        .arg(
+            path(
+                alloc,
+                "out",
+                "FLAT",
+                "The file for the flat configuration, which must not exist yet",
+            )
+            .long("out")
+            .required(true),
+        )
+}
+
 /// An argument that goes with none that says what a single question asks.
 fn instead_of_a_question(arg: Arg<'_>) -> Result<Arg<'_>, AllocError> {
     arg.conflicts_with("base")?
@@ -290,7 +362,8 @@ const VERSION: &str = "0.1.0";
 const EXAMPLES: &str = "\
 Examples:
   slapkit slapmodify -b dc=com --data copy.ldif --out new.ldif --undo undo.ldif -l changes.ldif
-  slapkit slapacl -b cn=a,dc=com -f slapd.conf --data copy.ldif -D cn=b,dc=com cn/read";
+  slapkit slapacl -b cn=a,dc=com -f slapd.conf --data copy.ldif -D cn=b,dc=com cn/read
+  slapkit slapconf -b dc=com --config config.ldif --out flat.conf";
 
 const ABOUT: &str = "\
 Applies LDIF change records to an LDIF copy of a directory, and writes the new copy, an undo file and \
@@ -311,3 +384,13 @@ const ACCESS_EXAMPLE: &str = "\
 Example:
   slapkit slapacl -b cn=a,dc=com -f slapd.conf --data copy.ldif -D cn=b,dc=com cn/read entry
   slapkit slapacl -f slapd.conf --data copy.ldif --questions questions.ldif --answers answers.ldif";
+
+const CONF_ABOUT: &str = "\
+Makes one flat slapd.conf, which slapacl and slapmodify read, of the configuration of a site: the attribute types with their macros expanded, and of \
+the database of SUFFIX its suffix, its rootdn and its access rules, with the frontend's rules after these. It reads a slapd.conf with all files that it includes, or the \
+LDIF of cn=config. Passwords are not written. The report has the number of types and rules. The exit status is 0 where the file was made, and else 1.";
+
+const CONF_EXAMPLE: &str = "\
+Example:
+  slapcat -n 0 | slapkit slapconf -b dc=com --config /dev/stdin --out flat.conf
+  slapkit slapconf -b dc=com -f /etc/ldap/slapd.conf --out flat.conf";

@@ -1,6 +1,7 @@
 //! Runs over a folder in memory: what they open, create and write, and in which order.
 
 use crate::files::folder::{Asked, Folder};
+use crate::files::sites::{COUNTS, FLAT};
 use crate::files::suites::{SUITE, TALLY};
 use dir_files::slapmodify::run;
 use dir_files::{Fault, ModifyWords, Refusal};
@@ -399,7 +400,7 @@ fn mode_text(mode: u32) -> &'static str {
 }
 
 /// The texts that are written, each with a word for it.
-static WORDS: [(&[u8], &str); 8] = [
+static WORDS: [(&[u8], &str); 9] = [
     (NEW, " NEW"),
     (UNDO, " UNDO"),
     (ACCEPTED, " ACCEPTED"),
@@ -408,6 +409,7 @@ static WORDS: [(&[u8], &str); 8] = [
     (ANSWER, " ANSWER"),
     (SUITE, " SUITE"),
     (TALLY, " TALLY"),
+    (COUNTS, " COUNTS"),
 ];
 
 /// A text that was written, in one word.
@@ -416,6 +418,9 @@ fn shown(bytes: &Vec<u8>) -> &'static str {
         if bytes.as_slice() == *text {
             return word;
         }
+    }
+    if bytes.as_slice().ends_with(FLAT) {
+        return " FLAT";
     }
     " ?"
 }

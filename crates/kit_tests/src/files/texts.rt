@@ -2,6 +2,7 @@
 
 use crate::acl::words::assert_shows;
 use crate::files::runs::STOP;
+use dir_conf::{ConfFault, FileFault};
 use dir_files::slapmodify::first_repeated;
 use dir_files::{Amount, Doing, Fault, ModifyWords, Progress};
 use dir_ldif::RecordFault;
@@ -25,7 +26,7 @@ fn the_first_path_that_is_repeated_is_found(rt: HostRuntime) {
 }
 
 /// Faults, and the text of each.
-static FAULTS: [(Fault<'static>, &str); 8] = [
+const FAULTS: [(Fault<'static>, &str); 11] = [
     (Fault::SamePath("a"), "same path twice: a"),
     (Fault::CannotOpen("a"), "cannot open a"),
     (
@@ -34,6 +35,21 @@ static FAULTS: [(Fault<'static>, &str); 8] = [
     ),
     (Fault::Exists("a"), "exists already: a"),
     (Fault::NotesUntold, "cannot write notes"),
+    (Fault::FlatUnwritten, "cannot write flat configuration"),
+    (
+        Fault::Conf(FileFault {
+            file: None,
+            fault: ConfFault::NoDatabase,
+        }),
+        "config: K4 NoDatabase",
+    ),
+    (
+        Fault::Conf(FileFault {
+            file: None,
+            fault: ConfFault::BadOrder(7),
+        }),
+        "config, line 7: K2 BadOrder",
+    ),
     (
         Fault::TooFewGroups {
             wanted: 3,
