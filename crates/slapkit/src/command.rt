@@ -1,6 +1,6 @@
 //! The command line, by `clap`.
 
-ghost use Rattle.std.specs.Prelude.{IfOk, codes};
+ghost use Rattle.std.specs.Prelude.{◌≡◌, IfOk, codes};
 ghost use Rattle.clap.specs.Matches.{first_value, found_of};
 ghost use Rattle.slapkit.specs.Words.{AreAccessWordsOf, AreConfWordsOf, AreQuestionWordsOf, AreWordsOf, IsNumber, source_in, source_of};
 
@@ -314,15 +314,13 @@ fn slapconf<'a>(alloc: Global) -> Result<Command<'a>, AllocError> {
             .required_unless_present("config")?
             .conflicts_with("config")?,
         )?
-        .arg(
-            path(
-                alloc,
-                "config",
-                "LDIF",
-                "The LDIF of cn=config, as slapcat -n 0 writes it",
-            )
-            .long("config"),
-        )?
+        .arg(path(
+            alloc,
+            "config",
+            "LDIF",
+            "The LDIF of cn=config, as slapcat -n 0 writes it",
+        )
+        .long("config"))?
         .arg(
             path(
                 alloc,
