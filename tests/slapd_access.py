@@ -22,16 +22,14 @@ import os
 import pathlib
 import random
 import shutil
-import subprocess
 import sys
 import tempfile
 
+import slapd
 from access import note_on_word, notes_of, notes_on_words
+from slapd import SCHEMA, answers, run
 
-SCHEMA = "/etc/ldap/schema"
 SCHEMAS = ("core", "cosine", "nis", "inetorgperson")
-# Debian has slapd's tools where only root looks.
-TOOLS = os.environ.get("PATH", "") + ":/usr/sbin:/sbin"
 SUFFIX = "dc=example,dc=com"
 QUESTIONS = 5
 WORDS = 20
@@ -224,10 +222,6 @@ COUNTED = ("sets of rules", "sets of rules with a note", "questions", "allowed",
 # ---- the two tools
 
 
-def run(command):
-    return subprocess.run(command, capture_output=True, text=True, errors="replace", env={**os.environ, "PATH": TOOLS})
-
-
 def head(folder):
     """The configuration of slapd but for its rules."""
     loads = "".join(f"include {SCHEMA}/{name}.schema\n" for name in SCHEMAS)
@@ -237,11 +231,6 @@ def head(folder):
 def asked(tool, conf, copy, base, requester, wanted):
     command = [*tool, "-f", str(conf), "-b", base, *(["--data", str(copy)] if copy else []), *(["-D", requester] if requester else []), *wanted]
     return run(command)
-
-
-def answers(text):
-    """The last word of each line that answers a word."""
-    return [line.rsplit(": ", 1)[1] for line in text.splitlines() if line.endswith((": ALLOWED", ": DENIED"))]
 
 
 def compare(program, folder, rng, counts):
@@ -258,9 +247,9 @@ def compare(program, folder, rng, counts):
         requester = rng.choice([None, *people(), f"uid=nobody,{SUFFIX}"])
         wanted = words(rng)
         told = notes + notes_on_words(wanted)
-        slapd = asked(["slapacl"], theirs, None, base, requester, wanted)
+        original = asked(["slapacl"], theirs, None, base, requester, wanted)
         slapkit = asked([program, "slapacl"], ours, folder / "copy.ldif", base, requester, wanted)
-        here, there = answers(slapkit.stdout), answers(slapd.stdout + slapd.stderr)
+        here, there = answers(slapkit.stdout), answers(original.stdout + original.stderr)
         counts["questions"] += len(wanted)
         if slapkit.stderr != told or slapkit.returncode or len(here) != len(wanted):
             counts["not answered by slapkit, or with other notes"] += len(wanted)
@@ -270,7 +259,7 @@ def compare(program, folder, rng, counts):
             there = ["REFUSED"] * len(wanted)
             counts["refused by slapd"] += len(wanted)
             if not notes:
-                print(f"slapd: {slapd.stdout}{slapd.stderr}", flush=True)
+                print(f"slapd: {original.stdout}{original.stderr}", flush=True)
         counts["allowed"] += there.count("ALLOWED")
         for word, mine, other in zip(wanted, here, there):
             how = NOTED[2] if notes else NOTED[1] if note_on_word(word) else NOTED[0]
@@ -288,8 +277,7 @@ def main():
     parser.add_argument("--sets", type=int, default=200)
     parser.add_argument("--keep", metavar="FOLDER")
     args = parser.parse_args()
-    if not shutil.which("slapacl", path=TOOLS):
-        sys.exit("slapd_access.py: OpenLDAP's slapacl is not here (Debian's package slapd has it)")
+    slapd.demand("slapd_access.py", "slapacl", "slapadd")
     with tempfile.TemporaryDirectory() as made:
         folder = pathlib.Path(args.keep or made).resolve()
         shutil.rmtree(folder / "db", ignore_errors=True)
