@@ -182,7 +182,7 @@ def surroundings(config):
     """What a flat text leaves out and slapd needs: lines before its types, and lines after them."""
     modules = [f"modulepath {path}" for path in config.of("olcModulePath")] + [f"moduleload {name}" for name in config.of("olcModuleLoad")]
     macros = [f"objectidentifier {macro}" for macro in dict.fromkeys(config.of("olcObjectIdentifier"))]
-    options = [f"attributeoptions {' '.join(config.of('olcAttributeOptions'))}"]
+    options = [f"attributeoptions {option}" for option in config.of("olcAttributeOptions")]
     return [*modules, *macros, *options], [f"objectclass {definition}" for definition in config.of("olcObjectClasses")]
 
 

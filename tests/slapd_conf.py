@@ -163,9 +163,12 @@ class Asker:
 
 
 def asked_of_slapd(words, folder, question):
+    """The answers of slapd's slapacl; none where it ends by a signal, as with -u where it comes to a rule by group."""
     who, is_fake, base, wanted = question
     command = ["slapacl", *words, "-b", base, *(["-D", who] if who else []), *(["-u"] if is_fake else []), *wanted]
     ended = run(command, folder, SECONDS)
+    if is_fake and ended.returncode < 0:
+        return None
     found = slapd.answers(ended.stdout + ended.stderr)
     if len(found) != len(wanted):
         raise Wrong(f"{command}: {checks.shown(ended.stdout + ended.stderr)}")
@@ -207,7 +210,9 @@ def asked_of_slapkit(program, flat, database, text, folder):
 # ---- the trial
 
 
-COUNTED = ("questions", "allowed", "without a note", "with a note on the word alone", "with a note on the rules", "different with a note", "different without a note", "different by slapd under a flat text")
+NOTED = ("without a note", "with a note on the word alone", "with a note on the rules")
+DIFFERENT = ("different with a note", "different without a note", "different by slapd under a flat text")
+COUNTED = ("questions", "allowed", "not answered by slapd, which ended by a signal", *(f"answers of slapkit {how}" for how in NOTED), *DIFFERENT)
 
 
 class Trial:
@@ -243,6 +248,9 @@ class Trial:
                     raise Wrong(f"{database.suffix} of {source}: {message}")
                 told = re.fullmatch(r"types (\d+), rules (\d+), frontend (\d+)\n", flat.report)
                 expect(told and (int(told[2]), int(told[3])), (len(rules), len(site.config.frontend())), f"rules of {database.suffix} of {source}")
+                words = ["slapmodify", "-u", "-b", database.suffix, "--data", database.copy, "-f", flat.path, "-l", "/dev/null"]
+                ended = run([self.program, *words], site.folder, SECONDS)
+                expect((ended.returncode, ended.stdout, ended.stderr), (0, "accepted 0, refused 0\n", ""), f"slapmodify -f of {source}")
                 database.flats[source] = flat
         return f"{len(self.flats(name))} of {', '.join(site.sources)}"
 
@@ -285,14 +293,15 @@ class Trial:
             wanted = max(1, self.args.questions // WORDS // sum(len(COPIES[one]) for one in self.args.sites))
             self.compare(site, database, Asker(site, database, random.Random(f"{self.args.seed} {name} {database.suffix}")), wanted)
         new = self.counts - before
-        if new["different without a note"] or new["different by slapd under a flat text"]:
-            raise Wrong(f"{new['different without a note']} answers differ without a note, {new['different by slapd under a flat text']} by slapd itself under a flat text")
+        if any(new[kind] for kind in DIFFERENT[1:]):
+            raise Wrong(", ".join(f"{new[kind]} {kind}" for kind in DIFFERENT[1:]))
         return f"{new['questions']} questions of {len(site.databases)} databases"
 
     def compare(self, site, database, asker, wanted):
         """Asks so many questions, each of some words, and counts the answers. Those that differ are told."""
-        asked = [asker.question() for _ in range(wanted)]
-        there = [asked_of_slapd(site.words, site.folder, question) for question in asked]
+        pairs = [(question, asked_of_slapd(site.words, site.folder, question)) for question in (asker.question() for _ in range(wanted))]
+        self.counts["not answered by slapd, which ended by a signal"] += sum(WORDS for _, found in pairs if found is None)
+        asked, there = zip(*((question, found) for question, found in pairs if found is not None), strict=True)
         text = "".join(block_of(*pair) for pair in zip(asked, there, strict=True))
         lines = [[word.line for word in block.words] for block in asking.blocks_of(text.encode())]
         self.counts["questions"] += sum(map(len, there))
@@ -307,8 +316,8 @@ class Trial:
                 print(f"{site.name}, {database.suffix} of {source}: {note}", flush=True)
             for question, mine, theirs, numbers in zip(asked, here.found, there, lines, strict=True):
                 for word, one, other, number in zip(question[3], mine, theirs, numbers, strict=True):
-                    how = "with a note on the rules" if here.notes else "with a note on the word alone" if number in here.noted else "without a note"
-                    self.counts[how] += 1
+                    how = NOTED[2] if here.notes else NOTED[1] if number in here.noted else NOTED[0]
+                    self.counts[f"answers of slapkit {how}"] += 1
                     if one != other:
                         self.tell(site, database, source, question, word, (one, other), how)
 
@@ -320,7 +329,7 @@ class Trial:
         for question, theirs in zip(asked, there, strict=True):
             for word, one, other in zip(question[3], asked_of_slapd(["-f", path], site.folder, question), theirs, strict=True):
                 if one != other:
-                    self.counts["different by slapd under a flat text"] += 1
+                    self.counts[DIFFERENT[2]] += 1
                     print(f"{site.name}: {question[2]}, asked by {question[0]}: {word} is {one} by slapd under {flat.path.name}, and {other} under the site", flush=True)
 
     @staticmethod
@@ -330,9 +339,8 @@ class Trial:
         return "".join(f"{name}: {value}\n" for name, value in record.lines)
 
     def tell(self, site, database, source, question, word, pair, how):
-        is_noted = how != "without a note"
-        self.counts["different with a note" if is_noted else "different without a note"] += 1
-        if not is_noted:
+        self.counts[DIFFERENT[how == NOTED[0]]] += 1
+        if how == NOTED[0]:
             fake = ", not looked up" if question[1] else ""
             print(f"{site.name}: {question[2]}{fake}, asked by {question[0]}: {word} is {pair[0]} by slapkit and {pair[1]} by slapd, under {source} of {database.suffix}", flush=True)
 
