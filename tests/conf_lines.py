@@ -30,7 +30,7 @@ LINES = [
     (f"{PART}include @/x\n{SN}", {"x": "logfile @/log\\\n"}),
     (f"{CN}include @/x\naccess to attrs=l by * read\n", {"x": f"{PART}{SN}"}),
     (f"include @/x\n{PART}access to attrs=l by * read\ninclude @/y\n{SN}", {"x": CN, "y": f"database frontend\naccess to attrs=st by * read\n"}),
-    (f"{PART}{CN}include @/x\n{SN}", {"x": f"access to attrs=l by * read\ndatabase mdb\nsuffix dc=org\ndirectory @\n{CN}"}),
+    (f"{PART}{CN}include @/x\n{SN}", {"x": f"access to attrs=l by * read\ndatabase mdb\nsuffix dc=org\ndirectory @/other\n{CN}"}),
     (f"{PART}include \"@/x y\"\ninclude @/x\\ y\n{SN}", {"x y": CN}),
     (f"{PART}include @/x\ninclude @/x\n{SN}", {"x": CN}),
     (f"include x\n{PART}{SN}", {"x": "include y\n", "y": CN}),

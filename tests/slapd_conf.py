@@ -8,18 +8,19 @@ It is outside the gate, and wants OpenLDAP's tools with their schema files (Debi
 and the configuration that Debian's package makes, `default`, from the text that it has for this. Of each database of a site that has a copy, a flat text is made of
 its slapd.conf, of what `slapcat -n 0` writes of that once slaptest has turned it into cn=config, and of its CONFIG.ldif. Then:
 
-- slapd reads each flat text: without its definitions of types that slapd has itself, which slapd refuses one after the other, and with the modules, the
-  object classes and the macros of the site, and with the folder of the database, which no flat text has. slapd's own text of its rules (`slapcat -n 0`
+- slapd reads each flat text: without its definitions of types that slapd has itself by its own word (those of cn=schema, which it refuses to be given
+  again), and with the modules, the object classes and the macros of the site, and the folder of the database, which no flat text has. slapd's own text of its rules (`slapcat -n 0`
   again) must be that of the database's rules in the site, and then of the frontend's, and its suffix and rootdn those of the database.
-- So all flat texts of a database say the same, but for definitions of types that slapd has itself, modules loaded: those the LDIF may have more of.
+- So all flat texts of a database say the same, but for definitions of types that slapd or a loaded module has itself, of which the LDIF may have more.
 - A running slapd must know the same types with a flat text as with the site (`cn=Subschema`).
 - Random questions are asked: of slapd's slapacl under the site, of slapacl under a flat text, and of slapkit slapacl under each. All must give the same
   answers, but where slapkit has a note. Where only slapkit differs, slapkit reads a rule otherwise; where slapd does too, the flat text is wrong.
-  Left out is what README.md names: words for writing what only slapd writes (NO-USER-MODIFICATION), which slapd's tool always allows.
+  Left out are words for writing what only slapd writes (NO-USER-MODIFICATION), which slapd's tool always allows (README.md), and questions about made-up
+  entries (-u) for which slapd's tool ends by a signal: so it does where it comes to a rule by group.
 
 `schema`, beside the sites, is a slapd.conf that includes each schema file of Debian's package: all definitions must be in the flat text, and be read,
 but for that of a type with a reserved name. `lines` are short texts that try how lines are joined, and what includes and parts mean: slapkit may refuse them,
-but where it makes a flat text, that has slapd's rules.
+but where it makes a flat text, that has slapd's rules and types, and where slapkit slapacl reads that, its answers are slapd's.
 
 With --update it writes the CONFIG.ldif of each site anew.
 """
@@ -45,7 +46,7 @@ import texts
 from checks import Wrong, expect
 from conf_lines import HEAD, LINES
 from names import as_text
-from sites import COPIES, Site, converted, names_of, surroundings, updated
+from sites import COPIES, Database, Site, converted, names_of, surroundings, updated
 from slapd import SCHEMA, SECONDS, ended_well, run
 
 LEVELS = ("disclose", "auth", "compare", "search", "read", "write", "add", "delete", "manage")
@@ -53,6 +54,8 @@ WRITING = ("write", "add", "delete")
 WORDS = 20
 # the local root user, as the rules of Debian's package name it
 PEER = "gidNumber=0+uidNumber=0,cn=peercred,cn=external,cn=auth"
+# a copy of one entry
+COM = "dn: dc=com\ndc: com\nobjectClass: domain\n\n"
 
 
 # ---- flat texts
@@ -171,7 +174,7 @@ def asked_of_slapd(words, folder, question):
         return None
     found = slapd.answers(ended.stdout + ended.stderr)
     if len(found) != len(wanted):
-        raise Wrong(f"{command}: {checks.shown(ended.stdout + ended.stderr)}")
+        raise Wrong(f"{command}: {ended.returncode}, {checks.shown(ended.stdout + ended.stderr)}")
     return found
 
 
@@ -362,7 +365,7 @@ class Trial:
         # two of the files give the same macro: slaptest takes that, and slapd ends by a signal, so one of them is left out each time
         there = {line for file in ("dsee", "dyngroup") for line in types_of_running(["-f", conf("part.conf", file)], folder)}
         own = {name for definition in converted(folder, conf("few.conf", *files[2:])).own_types() for name in names_of(definition)}
-        (folder / "copy.ldif").write_text("dn: dc=com\ndc: com\nobjectClass: domain\n\n")
+        (folder / "copy.ldif").write_text(COM)
         flat, message = made_flat(self.program, folder, ["-f", conf("slapd.conf")], "dc=com", "flat.conf")
         if not flat:
             raise Wrong(message)
@@ -388,26 +391,51 @@ class Trial:
         counts = collections.Counter()
         for number, (text, files) in enumerate(LINES):
             folder = self.folder / f"lines{number}"
-            (folder / "data").mkdir(parents=True)
-            for name, content in {"slapd.conf": HEAD + text, **files}.items():
+            for name in ("data", "other"):
+                (folder / name).mkdir(parents=True)
+            for name, content in {"slapd.conf": HEAD + text, "copy.ldif": COM, **files}.items():
                 (folder / name).write_text(content.replace("@", str(folder)))
-            if run(["slaptest", "-u", "-f", "slapd.conf"], folder, SECONDS).returncode:
-                counts["that slapd refuses"] += 1
-                continue
-            counts["that slapd takes"] += 1
-            config = converted(folder, "slapd.conf")
-            flat, message = made_flat(self.program, folder, ["-f", "slapd.conf"], "dc=com", "flat.conf")
-            if not flat:
-                counts["that slapkit refuses alone"] += 1
-                print(f"lines: refused by slapkit alone: {message.strip()}: {text!r}", flush=True)
-                continue
-            suffix, root, rules = config.database("dc=com")
-            path, _ = readable_by_slapd(flat, config, folder, folder / "data")
-            found = converted(folder, path)
-            expect(found.database("dc=com"), (suffix, root, rules + config.frontend()), repr(text))
-            wanted = {name for definition in config.of("olcAttributeTypes") for name in names_of(definition)}
-            expect({name for definition in found.of("olcAttributeTypes") for name in names_of(definition)}, wanted, repr(text))
-        return ", ".join(f"{count} {what}" for what, count in counts.items())
+            try:
+                counts[self.how_lines_are_read(folder)] += 1
+            except Wrong as fault:
+                counts["read otherwise"] += 1
+                print(f"lines: {text!r}: {fault}", flush=True)
+        told = ", ".join(f"{count} {what}" for what, count in counts.items())
+        if counts["read otherwise"]:
+            raise Wrong(told)
+        return told
+
+    def how_lines_are_read(self, folder):
+        if run(["slaptest", "-u", "-f", "slapd.conf"], folder, SECONDS).returncode:
+            return "refused by slapd"
+        config = converted(folder, "slapd.conf")
+        for suffix in config.of("olcSuffix"):
+            (folder / "data.ldif").write_text(COM.replace("com", suffix.removeprefix("dc=")))
+            ended_well(["slapadd", "-q", "-f", "slapd.conf", "-b", suffix, "-l", "data.ldif"], folder)
+        flat, message = made_flat(self.program, folder, ["-f", "slapd.conf"], "dc=com", "flat.conf")
+        if not flat:
+            print(f"{folder.name}: refused by slapkit alone: {message.strip()}", flush=True)
+            return "refused by slapkit alone"
+        suffix, root, rules = config.database("dc=com")
+        path, _ = readable_by_slapd(flat, config, folder, folder / "data")
+        found = converted(folder, path)
+        expect(found.database("dc=com"), (suffix, root, rules + config.frontend()), "suffix, rootdn and rules")
+        names = [{name for definition in one.of("olcAttributeTypes") for name in names_of(definition)} for one in (found, config)]
+        expect(*names, "types")
+        return self.how_lines_answer(folder, flat)
+
+    def how_lines_answer(self, folder, flat):
+        """Asks about the one entry, for some who may be named in rules."""
+        words = [f"{name}/{level}" for name in ("entry", "cn", "sn", "l", "st", "dc") for level in ("auth", "search", "read", "write")]
+        asked = [(who, False, "dc=com", words) for who in (None, "dc=com", "cn=r,dc=com", "cn=s,dc=com", "cn=g,dc=com", "cn=a,dc=com", "cn=bc,dc=com")]
+        there = [asked_of_slapd(["-f", "slapd.conf"], folder, question) for question in asked]
+        try:
+            here = asked_of_slapkit(self.program, flat, Database("dc=com", folder / "copy.ldif"), "".join(map(block_of, asked, there)), folder)
+        except Wrong as fault:
+            print(f"{folder.name}: {fault}", flush=True)
+            return "made flat, and then refused by slapacl"
+        expect(here.found, there, "answers")
+        return "with slapd's rules, types and answers"
 
 
 def main():
