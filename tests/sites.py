@@ -81,8 +81,13 @@ def names_of(definition):
     return re.findall(r"'([^']*)'", found[1]) if found else []
 
 
+def slapcat(folder, made):
+    """What slapcat writes of a configuration, with folded lines."""
+    return ended_well(["slapcat", "-n", "0", "-F", made], folder)
+
+
 def read_config(folder, made):
-    return CnConfig(ended_well(["slapcat", "-n", "0", "-F", made, "-o", "ldif-wrap=no"], folder).encode())
+    return CnConfig(slapcat(folder, made).encode())
 
 
 def converted(folder, conf):
@@ -164,9 +169,8 @@ class Site:
         ended_well(["slaptest", "-u", "-F", f"{text}.d"], self.folder)
 
     def add_source(self, name, file, pattern):
-        """Writes what slapcat says of a configuration, with folded lines as it has them."""
-        made = next(self.folder.glob(pattern))
-        (self.folder / file).write_text(ended_well(["slapcat", "-n", "0", "-F", made], self.folder))
+        """Writes what slapcat says of a configuration."""
+        (self.folder / file).write_text(slapcat(self.folder, next(self.folder.glob(pattern))))
         self.sources[name] = ["--config", file]
 
 

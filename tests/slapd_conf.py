@@ -46,7 +46,7 @@ import texts
 from checks import Wrong, expect
 from conf_lines import HEAD, LINES
 from names import as_text
-from sites import COPIES, Database, Site, converted, names_of, surroundings, updated
+from sites import COPIES, Database, Site, converted, names_of, slapcat, surroundings, updated
 from slapd import SCHEMA, SECONDS, ended_well, run
 
 LEVELS = ("disclose", "auth", "compare", "search", "read", "write", "add", "delete", "manage")
@@ -412,17 +412,25 @@ class Trial:
         for suffix in config.of("olcSuffix"):
             (folder / "data.ldif").write_text(COM.replace("com", suffix.removeprefix("dc=")))
             ended_well(["slapadd", "-q", "-f", "slapd.conf", "-b", suffix, "-l", "data.ldif"], folder)
-        flat, message = made_flat(self.program, folder, ["-f", "slapd.conf"], "dc=com", "flat.conf")
-        if not flat:
-            print(f"{folder.name}: refused by slapkit alone: {message.strip()}", flush=True)
+        (folder / "config.ldif").write_text(slapcat(folder, next(folder.glob("config.*"))))
+        flats = [self.flat_with_slapds_rules(folder, config, words) for words in (["-f", "slapd.conf"], ["--config", "config.ldif"])]
+        if None in flats:
             return "refused by slapkit alone"
+        return self.how_lines_answer(folder, flats[0])
+
+    def flat_with_slapds_rules(self, folder, config, words):
+        """The flat text of slapd.conf, or of what slapcat writes of it; none where slapkit refuses it."""
+        flat, message = made_flat(self.program, folder, words, "dc=com", f"{words[1]}.flat")
+        if not flat:
+            print(f"{folder.name}, {words[1]}: refused by slapkit alone: {message.strip()}", flush=True)
+            return None
         suffix, root, rules = config.database("dc=com")
         path, _ = readable_by_slapd(flat, config, folder, folder / "data")
         found = converted(folder, path)
-        expect(found.database("dc=com"), (suffix, root, rules + config.frontend()), "suffix, rootdn and rules")
+        expect(found.database("dc=com"), (suffix, root, rules + config.frontend()), f"suffix, rootdn and rules of {words[1]}")
         names = [{name for definition in one.of("olcAttributeTypes") for name in names_of(definition)} for one in (found, config)]
-        expect(*names, "types")
-        return self.how_lines_answer(folder, flat)
+        expect(*names, f"types of {words[1]}")
+        return flat
 
     def how_lines_answer(self, folder, flat):
         """Asks about the one entry, for some who may be named in rules."""
