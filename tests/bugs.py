@@ -65,7 +65,10 @@ def is_accepted(said, function):
 def refused_of(body, group, status, said):
     """The function of a wrong body that the prover refuses, of a group that was tried together, or why nothing is known of it."""
     refused = re.findall(r"^fn (\S+): (?:not proved|no proof)", said, re.M)
-    others = [name for name in refused if body.function and not any(it.has(name) for it in group)]
+    # the functions of a cycle of calls have one proof, in a folder whose name begins with +
+    proofs = dict(re.findall(r"^fn (\S+): (?:not proved|no proof)\b.* in (\S+/\+\w+)/", said, re.M))
+    tried = {proofs.get(name, name) for name in refused if any(it.has(name) for it in group)}
+    others = [name for name in refused if body.function and proofs.get(name, name) not in tried]
     if others:
         return None, f"NOT TRIED: {others[0]} is not proved either"
     has_ended = re.search(r"^(only=\d+ (proved|holes)=\d+|logic=(not-)?proved)", said, re.M)

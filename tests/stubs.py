@@ -5,6 +5,7 @@ with all that this calls in its crate. So each of these gets a body that control
 The prover says of a function that is proved but for such holes that it depends on a hole, and of one that is not that it has no proof.
 """
 import re
+import shutil
 
 from edits import ROOT, path_of
 
@@ -43,12 +44,31 @@ def functions_in(lines):
             yield number, found[2]
 
 
+def cycles_in(lines):
+    """The functions of a file that call one another in a cycle which has a name: for each its line with that name, and the name."""
+    found = {}
+    for number, name in functions_in(lines):
+        cycle = re.match(r" *#\[cycle\((\w+)\)\]", lines[number - 1])
+        if cycle:
+            found[name] = number - 1, cycle[1]
+    return found
+
+
 def without_bodies(text, kept):
-    """The text with the bodies of its functions taken away, but for those whose names are kept, and the lines where these functions begin in the text as it was."""
+    """The text with the bodies of its functions taken away, but for those whose names are kept, and the lines where these functions begin in the text as it was.
+
+    Of a cycle with a name all functions keep their bodies, or none does; then there is no cycle, and its name goes.
+    """
     lines = text.split("\n")
+    cycles = cycles_in(lines)
+    kept_cycles = {cycle for name, (_, cycle) in cycles.items() if name in kept}
+    kept = {*kept, *(name for name, (_, cycle) in cycles.items() if cycle in kept_cycles)}
     bodies = [(number, body_at(lines, number)) for number, name in functions_in(lines) if name not in kept]
     gone = [(number, body) for number, body in bodies if body]
     after = list(lines)
+    for number, cycle in cycles.values():
+        if cycle not in kept_cycles:
+            after[number] = ""
     for number, (begin, end) in reversed(gone):
         indent = re.match(" *", lines[number])[0]
         after[begin + 1 : end] = [f"{indent}    unreachable!()"]
@@ -59,12 +79,16 @@ def take_away(home, kept):
     """Takes bodies away in a copy of a crate of this checkout, but for those of the functions whose names are kept. In the copy as many lines stand before each function as here."""
     crate = ROOT / "crates" / home.name
     for file in sorted((home / "src").rglob("*.rt")):
-        text, gone = without_bodies(file.read_text(), kept)
+        before = file.read_text()
+        cycles = cycles_in(before.split("\n"))
+        text, gone = without_bodies(before, kept)
         file.write_text(text)
         for number in gone:
             path = path_of(crate, crate / file.relative_to(home), number).split("::")
             folder = home / "proofs" / "/".join(path)
             folder.mkdir(parents=True, exist_ok=True)
+            # the proof of a function that called itself, or of its cycle
+            shutil.rmtree(folder.parent / f"+{cycles[path[-1]][1] if path[-1] in cycles else path[-1]}", ignore_errors=True)
             for name in ("Invariants.antt", "Proof.antt"):
                 (folder / name).unlink(missing_ok=True)
             (folder / "Answers.antt").write_text(HOLE.format(path=".".join([home.name, "proofs", *path])))
