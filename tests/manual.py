@@ -15,7 +15,7 @@ import checks
 from checks import expect
 
 ROOT = pathlib.Path(__file__).resolve().parent.parent
-TOOLS = ["slapacl", "slapmodify"]
+TOOLS = ["slapacl", "slapconf", "slapmodify"]
 
 
 def page_of(tool):
@@ -47,7 +47,7 @@ def completed(tool):
     fish = re.findall(rf"from {tool}' -([sl]) ([a-zA-Z]+)", text_of("slapkit.fish"))
     return {
         "slapkit.bash": bash[TOOLS.index(tool)].split(),
-        "_slapkit": re.findall(r"^ +'(-[-a-zA-Z]+)\[", zsh, re.M),
+        "_slapkit": re.findall(r"^ +'(?:\([-a-z ]+\))?(-[-a-zA-Z]+)\[", zsh, re.M),
         "slapkit.fish": [f"{'--' if kind == 'l' else '-'}{name}" for kind, name in fish],
     }
 
@@ -57,14 +57,16 @@ def text_of(completion):
 
 
 def the_manual_pages_have_the_codes(_):
-    """The codes of docs/CODES.md: those of a slapd.conf and of questions are on slapacl's page, all others on slapmodify's, with those that its -f may tell."""
-    codes = set(re.findall(r"\b((?:\d+ [a-z]+[A-Z]\w*)|(?:[ALNC]\d+ [A-Z]\w+))", (ROOT / "docs/CODES.md").read_text()))
-    of_slapacl = {code for code in codes if code[0] in "AC"}
+    """The codes of docs/CODES.md: those of a slapd.conf and of questions are on slapacl's page, those of a site on slapconf's, all others on slapmodify's, with
+    those that its -f may tell."""
+    codes = set(re.findall(r"\b((?:\d+ [a-z]+[A-Z]\w*)|(?:[ALNCK]\d+ [A-Z]\w+))", (ROOT / "docs/CODES.md").read_text()))
+    of_slapacl, of_slapconf = ({code for code in codes if code[0] in letters} for letters in ("AC", "K"))
     of_questions = {"A1 BadBlock", "A2 BadName", "A3 BadWord", "A4 BadAnswer", "A5 TooLong"}
     expect({code for code in codes if code.startswith("A")}, of_questions, "codes of a file of questions in docs/CODES.md")
+    expect(sorted(code.split()[0] for code in of_slapconf), [f"K{n}" for n in range(1, 9)], "codes of a site's configuration in docs/CODES.md")
     of_types = {"C11 ConfigTooLong", "C12 BadType"}
     expect(of_types - codes, set(), "codes of -f that docs/CODES.md lacks")
-    for tool, those in [("slapmodify", codes - of_slapacl | of_types), ("slapacl", of_slapacl)]:
+    for tool, those in [("slapmodify", codes - of_slapacl - of_slapconf | of_types), ("slapacl", of_slapacl), ("slapconf", of_slapconf)]:
         expect(sorted(code for code in those if code not in page_of(tool)), [], f"codes that the page of {tool} lacks")
 
 

@@ -1,8 +1,9 @@
 # fish completion for slapkit(1)
 complete -c slapkit -n __fish_use_subcommand -f -a slapacl -d 'Report what a requester may do'
+complete -c slapkit -n __fish_use_subcommand -f -a slapconf -d 'Make one flat slapd.conf of a configuration'
 complete -c slapkit -n __fish_use_subcommand -f -a slapmodify -d 'Apply change records to a copy'
 complete -c slapkit -n __fish_use_subcommand -f -a help -d 'Print help'
-complete -c slapkit -n '__fish_seen_subcommand_from help; and not __fish_seen_subcommand_from slapacl slapmodify' -f -a 'slapacl slapmodify' -d 'The tool'
+complete -c slapkit -n '__fish_seen_subcommand_from help; and not __fish_seen_subcommand_from slapacl slapconf slapmodify' -f -a 'slapacl slapconf slapmodify' -d 'The tool'
 complete -c slapkit -s h -l help -d 'Print help'
 complete -c slapkit -n __fish_use_subcommand -s V -l version -d 'Print the version'
 complete -c slapkit -n '__fish_seen_subcommand_from slapmodify' -s b -x -d "The name at the directory's root"
@@ -24,3 +25,7 @@ complete -c slapkit -n '__fish_seen_subcommand_from slapacl' -s v -d "Report the
 complete -c slapkit -n '__fish_seen_subcommand_from slapacl' -l strict -d "Answer nothing where there is a note on the configuration or a word"
 complete -c slapkit -n '__fish_seen_subcommand_from slapacl' -l questions -r -d "A file of questions with the answers that are expected"
 complete -c slapkit -n '__fish_seen_subcommand_from slapacl' -l answers -r -d "The file for the questions with their answers"
+complete -c slapkit -n '__fish_seen_subcommand_from slapconf' -s b -x -d "The suffix of the database"
+complete -c slapkit -n '__fish_seen_subcommand_from slapconf' -s f -r -d "The slapd.conf, which may include other files"
+complete -c slapkit -n '__fish_seen_subcommand_from slapconf' -l config -r -d "The LDIF of cn=config"
+complete -c slapkit -n '__fish_seen_subcommand_from slapconf' -l out -r -d "The file for the flat configuration"
