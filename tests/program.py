@@ -891,7 +891,7 @@ def letters_are_folded_and_not_only_made_small(trial):
 
 
 def a_faulty_command_line_ends_with_status_1(trial):
-    for words in ([], ["slapadd"], ["slapmodify"], ["slapmodify", "-b", "dc=com", "--data", "copy"]):
+    for words in ([], ["slapadd"], ["slapmodify"], ["slapconf"], ["slapmodify", "-b", "dc=com", "--data", "copy"]):
         status, told, said = trial.run(words)
         expect((status, told, said != ""), (1, "", True), words)
 
@@ -903,7 +903,7 @@ def words_that_are_not_utf_8_are_refused(trial):
 
 
 def help_ends_with_status_0(trial):
-    for words in (["--help"], ["slapmodify", "--help"], ["slapacl", "--help"], ["help", "slapmodify"]):
+    for words in (["--help"], ["slapmodify", "--help"], ["slapacl", "--help"], ["slapconf", "--help"], ["help", "slapmodify"]):
         status, told, said = trial.run(words)
         expect((status, told != "", said), (0, True, ""), words)
 

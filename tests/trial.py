@@ -22,6 +22,7 @@ SCRIPTS = (
     "forms.py",
     "questions.py",
     "suites.py",
+    "conf.py",
     "terminal.py",
     "memory_answers.py",
     "frequent_types.py",
