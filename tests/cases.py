@@ -239,3 +239,25 @@ RULES = {
     ),
     "quotes and backslashes": Rules(lines('database "mdb"|suffix "dc=co\\m"|rootdn "cn=\\\\41,dc=com"|access to * by * read|'), OF_ROOT[:1]),
 }
+
+
+# ---- configurations of a site: of each the files, `conf` with those that it includes, or `config`, the LDIF of cn=config
+
+SITES = {
+    "a slapd.conf that includes a file": {
+        "conf": b"# a \\\nnote\nobjectidentifier my 1.3\nattributetype ( my:1\n NAME 'a' )\naccess to attrs=c\\\nn by * read\n"
+        b"database mdb\nsuffix \"dc=com\"\nrootdn cn=r,dc=com\ninclude more\n  access to * by * read\ndatabase mdb\nsuffix dc=net\naccess to * by * none\n",
+        "more": b"access to dn.base=\"cn=a b\"\n\tby self\n  write\r\nattributetypes ( my:2 NAME 'b' DESC 'x \"' )\ndatabase frontend\naccess to *\n",
+    },
+    "files that include one another": {
+        "conf": b"include a\ninclude b\n",
+        "a": b"include b\ndatabase mdb\nsuffix dc=com\n",
+        "b": b"access to * by * read\ninclude c",
+        "c": b"#include a\n",
+    },
+    "a cn=config": {
+        "config": b"version: 1\ndn: cn={0}a\nolcObjectIdentifier: {0}my 1.3\nolcAttributeTypes: {0}( my:1\n  NAME 'a' )\n\n"
+        b"dn: x\nolcDatabase: {-1}frontend\nolcAccess: {0}to attrs=cn by * read\n\ndn: y\nolcSuffix: dc=net\n\n"
+        b"dn: z\nolcSuffix: dc=com\nolcRootDN:: Y249cixkYz1jb20=\nolcAccess: {0}to dn.base=\"cn=a b\" by self\n  write\nolcAccess: {1}to * by * read\n",
+    },
+}

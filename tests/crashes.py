@@ -4,7 +4,7 @@
 usage: crashes.py PROGRAM [KILLS [ENTRIES]]
 
 The program is killed before and after each of its calls that touch a file, and then at KILLS moments (200, if no number is
-given) of a run on a copy of ENTRIES entries (1000). A run of a file of questions that writes its answers is killed at each call, too.
+given) of a run on a copy of ENTRIES entries (1000). Runs of a file of questions that writes its answers, and of slapconf, are killed at each call, too.
 """
 import os
 import pathlib
@@ -17,7 +17,7 @@ import time
 
 import checks
 from checks import Wrong, expect
-from killing import COMMAND, MODE, SuiteTrial, Trial, made_shim
+from killing import COMMAND, MODE, SiteTrial, SuiteTrial, Trial, made_shim
 
 
 def a_run_is_whole(trial):
@@ -109,17 +109,18 @@ def past_a_limit_of_size(trial):
     trial.clear()
 
 
-def answers_past_a_limit_of_size(trial):
-    size = len(trial.whole["answers"])
+def one_output_past_a_limit_of_size(trial, called):
+    output = trial.outputs[0]
+    size = len(trial.whole[output])
 
     def limit(size):
         return lambda: resource.setrlimit(resource.RLIMIT_FSIZE, (size, size))
 
     for least in (0, size - 1):
-        expect(trial.run(preexec_fn=limit(least)), (1, "", "slapkit: cannot write answers\n"), f"a limit of {least} bytes")
+        expect(trial.run(preexec_fn=limit(least)), (1, "", f"slapkit: cannot write {called}\n"), f"a limit of {least} bytes")
         expect(trial.left(), {})
     expect(trial.run(preexec_fn=limit(size)), (0, trial.report, ""), "a limit that is just met")
-    expect(trial.look(trial.report), ["answers"])
+    expect(trial.look(trial.report), [output])
     trial.clear()
 
 
@@ -198,9 +199,10 @@ def main():
     kills = int(sys.argv[2]) if len(sys.argv) > 2 else 200
     entries = int(sys.argv[3]) if len(sys.argv) > 3 else 1000
     with tempfile.TemporaryDirectory() as folder, tempfile.TemporaryDirectory() as small, tempfile.TemporaryDirectory() as large:
-        shim, asked = made_shim(folder), pathlib.Path(folder, "asked")
+        shim, asked, conf = made_shim(folder), pathlib.Path(folder, "asked"), pathlib.Path(folder, "conf")
         asked.mkdir()
-        few, many, suite = Trial(program, small, 6), Trial(program, large, entries), SuiteTrial(program, asked, 6)
+        conf.mkdir()
+        few, many, suite, site = Trial(program, small, 6), Trial(program, large, entries), SuiteTrial(program, asked, 6), SiteTrial(program, conf, 400)
         named = [
             ("a run is whole", lambda: a_run_is_whole(many)),
             ("killed at each call", lambda: killed_at_each_call(few, shim)),
@@ -213,7 +215,10 @@ def main():
             ("onto full devices", lambda: onto_full_devices(few)),
             ("a run of questions is whole", lambda: a_run_is_whole(suite)),
             ("killed at each call of a run of questions", lambda: killed_at_each_call(suite, shim)),
-            ("answers past a limit of size", lambda: answers_past_a_limit_of_size(suite)),
+            ("answers past a limit of size", lambda: one_output_past_a_limit_of_size(suite, "answers")),
+            ("a run of slapconf is whole", lambda: a_run_is_whole(site)),
+            ("killed at each call of a run of slapconf", lambda: killed_at_each_call(site, shim)),
+            ("a flat configuration past a limit of size", lambda: one_output_past_a_limit_of_size(site, "flat configuration")),
         ]
         sys.exit(checks.run("crashes", named))
 

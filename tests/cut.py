@@ -8,7 +8,8 @@ With a word, only the texts whose names have it.
 Each run must end by itself, with status 0 or 1 and, after notes on a configuration, at most one line on standard error. And it must answer what
 the definitions say of the texts as they are then: a run of slapmodify by answers.py, which reads LDIF and makes the changes in another language
 (the report, both files, or the fault with its line), a question by access.py, which reads rules in another language (the notes, and the report or
-the fault with its line). The attribute types of a configuration are those of definitions.py.
+the fault with its line). The attribute types of a configuration are those of definitions.py. A run of slapconf, on files of a slapd.conf or on cn=config, must
+make what flat.py says of them, or end in that fault.
 
 Last, a line without end comes through a pipe, and a configuration without end: slapkit may take no more than 8,192 bytes after the limit of each,
 nor after the wanted groups of an undo file.
@@ -23,9 +24,10 @@ import termios
 import time
 
 import checks
+import flat
 from access import MOST_BYTES_OF_A_CONFIGURATION, access_answer
 from answers import Answer, answer
-from cases import ROOT, RULES, TEXTS, lines
+from cases import ROOT, RULES, SITES, TEXTS, lines
 from checks import Wrong, expect
 from ldif import MOST_BYTES_OF_A_LINE
 from runs import SECONDS, Place
@@ -97,16 +99,42 @@ def question_cut_after_each_byte(program, rules):
     return f"{len(rules.config)} and {len(rules.copy)} bytes"
 
 
+# ---- configurations of a site
+
+
+def check_site(place, files, what):
+    """Makes a flat configuration of these files, which alone are there."""
+    for name, data in files.items():
+        place.write(name, data)
+    if "config" in files:
+        source, wanted = "--config", flat.flat_of_config(b"dc=com", files["config"])
+    else:
+        source, wanted = "-f", flat.flat_of_files(b"dc=com", b"conf", lambda path: files.get(path.decode()))
+    ended = place.run("slapconf", "-b", "dc=com", source, next(iter(files)), "--out", "flat")
+    expect(place.names() - files.keys(), set() if wanted.flat is None else {"flat"}, f"{what}, files made")
+    expect(flat.Flat(*ended, place.read("flat")), wanted, what)
+    place.remove("flat")
+
+
+def site_cut_after_each_byte(program, files):
+    with Place(program) as place:
+        for name, data in files.items():
+            for at in cuts(data):
+                check_site(place, files | {name: data[:at]}, f"{name} cut after byte {at}")
+        place.remove(*files)
+    return f"{sum(map(len, files.values()))} bytes"
+
+
 # ---- texts without end
 
 
-def taken_of(program, words, begin):
+def taken_of(program, words, begin, more=("-b", "dc=com", "--data", "copy")):
     """How much the program takes of a text on its standard input, whose last line never ends, and what it says."""
     with Place(program) as place:
         place.write("copy", lines(ROOT))
         reading, writing = os.pipe()
         os.set_blocking(writing, False)
-        words = [place.program, *words, "-b", "dc=com", "--data", "copy"]
+        words = [place.program, *words, *more]
         with subprocess.Popen(words, stdin=reading, stdout=subprocess.PIPE, stderr=subprocess.PIPE) as run:
             given, left = 0, begin
             ends_by = time.monotonic() + SECONDS
@@ -149,6 +177,18 @@ def groups_without_end(program):
     expect(ended, (1, b"", b"slapkit: changes: L10 LineTooLong\n"))
 
 
+def a_configuration_of_a_site_without_end(program):
+    told = []
+    for source in ("-f", "--config"):
+        taken, ended = taken_of(program, ["slapconf", source, "/dev/stdin", "--out", "flat"], b"#", ["-b", "dc=com"])
+        expect(ended, (1, b"", b"slapkit: config: K7 TooLong\n"), source)
+        after = taken - MOST_BYTES_OF_A_CONFIGURATION
+        if not 0 < after <= PIECE:
+            raise Wrong(f"{after} bytes taken after the limit of a configuration")
+        told.append(after)
+    return f"{max(told)} bytes taken after the limit"
+
+
 def a_configuration_without_end(program):
     taken, ended = taken_of(program, ["slapacl", "-f", "/dev/stdin"], b"#")
     expect(ended, (1, b"", b"slapkit: config, line 0: C11 ConfigTooLong\n"))
@@ -162,9 +202,11 @@ def main():
     program = str(pathlib.Path(sys.argv[1]).resolve())
     pairs = [(name, lambda texts=texts: cut_after_each_byte(program, texts)) for name, texts in TEXTS.items()]
     pairs += [(name, lambda rules=rules: question_cut_after_each_byte(program, rules)) for name, rules in RULES.items()]
+    pairs += [(name, lambda files=files: site_cut_after_each_byte(program, files)) for name, files in SITES.items()]
     pairs.append(("a line without end", lambda: a_line_without_end(program)))
     pairs.append(("groups without end", lambda: groups_without_end(program)))
     pairs.append(("a configuration without end", lambda: a_configuration_without_end(program)))
+    pairs.append(("a configuration of a site without end", lambda: a_configuration_of_a_site_without_end(program)))
     wanted = sys.argv[2] if len(sys.argv) > 2 else ""
     sys.exit(checks.run("cut", [pair for pair in pairs if wanted in pair[0]]))
 

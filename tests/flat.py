@@ -4,6 +4,7 @@ It is written from slapd.conf(5), slapd-config(5), docs/DEFINITIONS.md, and what
 the types that this slapd has itself, as its `slapcat -n 0` prints them, without name, distinguishedName, entry and children.
 """
 import dataclasses
+import os
 import pathlib
 import re
 
@@ -283,6 +284,16 @@ def flat_of_files(suffix, path, read):
         return told(fault)
     except BadConfig as bad:
         return told(f"{shown_text(as_text(bad.place[0]))}, line {bad.place[1]}: {bad.cause}" if bad.place else f"config: {bad.cause}")
+
+
+def text_of_file(path):
+    """The text of a file, or None where it can't be opened. A folder can be opened, and has none."""
+    try:
+        return pathlib.Path(os.fsdecode(path) or "/none/").read_bytes()
+    except IsADirectoryError:
+        raise Fault("cannot read config") from None
+    except (OSError, ValueError):
+        return None
 
 
 # ---- cn=config

@@ -14,6 +14,9 @@ configuration (slapmodify -f); questions always are. Some are of the first group
   that run gives the new copy again;
 - questions under the types of the run are answered before it as after it was taken back.
 
+Each number is a case of slapconf, too: files of a slapd.conf that include one another, or the LDIF of cn=config, which were changed in the same way. The flat
+configuration, the report, or the fault, are those of flat.py; and a question under it is answered as access.py says.
+
 The same seed gives the same cases, whatever the number of jobs. A case that fails is told with its number, and its texts are kept.
 """
 import argparse
@@ -30,12 +33,13 @@ import time
 import traceback
 
 import definitions
+import flat
 import names
 import operations
 import type_forms
 from access import Question, access_answer, read_config
 from answers import answer
-from cases import RULES, TEXTS
+from cases import RULES, SITES, TEXTS
 from checks import Wrong, expect
 from names import UnknownCharacter
 from runs import Place
@@ -367,6 +371,70 @@ def random_case(rng):
     return Case(suffix, copy, changes, config, question, goes_on, is_typed, last, rng.randrange(2**16))
 
 
+# ---- configurations of a site
+
+
+@dataclasses.dataclass
+class SiteCase:
+    """The files of a configuration, `conf` and those that it includes, or `config`; the suffix; a question about a copy."""
+
+    suffix: str
+    files: dict
+    copy: bytes
+    question: Question
+
+
+SITE_WORDS = """include database suffix rootdn access objectidentifier attributetype attributeoptions frontend config monitor mdb overlay my my:1 at:2 a b conf sub
+    olcSuffix olcAccess olcRootDN olcDatabase olcAttributeTypes olcObjectIdentifier {0} {1} {2} {-1}frontend dc=com dc=net dc=a,dc=com" "a b" "\n\" """
+SITE_WORDS = [word.encode() for word in SITE_WORDS.split()]
+SITE_SIGNS = [b"\\\n", b"\n ", b"\n\t", b'"', b"\\", b"\r\n", b"{", b"}", b"{0}", b":", b"#", b"\x0b", b"\n\n", b"include a\n", b"include b\n  ", b" \\\n"]
+
+
+def in_cn_config(config):
+    """A slapd.conf of one part as the LDIF of cn=config: its types, and its rules."""
+    lines = [b"dn: cn=schema", b"olcObjectIdentifier: {0}my 1.3"]
+    types = [line for line in re.findall(rb"(?im)^attributetype((?:.*\n)(?:[ \t].*\n)*)", config)]
+    lines += [b"olcAttributeTypes: {%d}%s" % (n, b" ".join(line.split())) for n, line in enumerate(types)]
+    lines += [b"", b"dn: x", b"olcDatabase: {-1}frontend", b'olcAccess: {0}to dn.base="" by * read', b"", b"dn: y", b"olcSuffix: dc=com"]
+    rules = re.findall(rb"(?im)^access((?:.*\n)(?:[ \t].*\n)*)", config)
+    return b"\n".join([*lines, *(b"olcAccess: {%d}%s" % (n, b" ".join(rule.split())) for n, rule in enumerate(rules)), b""])
+
+
+def with_sign(rng, data):
+    at = rng.randrange(len(data) + 1)
+    return data[:at] + rng.choice(SITE_SIGNS) + data[at:]
+
+
+def with_site_word(rng, data):
+    start, end = place_of(rng, rb"[^\s]+", data)
+    return data[:start] + rng.choice(SITE_WORDS) + data[end:]
+
+
+def random_site(rng):
+    """Files that are right, most often after some changes."""
+    config = rng.choice(CONFIGS)
+    types, _ = operations.random_definitions(rng)
+    config = with_lines_between(rng, config, types + more_definitions(rng)) if rng.random() < 0.5 else config
+    if rng.random() < 0.5:
+        files = {"config": rng.choice([SITES["a cn=config"]["config"], in_cn_config(config)])}
+    else:
+        # a part of the lines stands in files that are included
+        lines = re.split(rb"(?<=\n)(?![ \t])", config.replace(b"/etc/ldap/schema/core.schema", b"a"))
+        cut, end = sorted(rng.randrange(len(lines) + 1) for _ in range(2))
+        files = {"conf": b"".join([*lines[:cut], b"include a\n", *lines[end:]]), "a": b"".join(lines[cut:end]), "b": b"access to attrs=sn by * none\n"}
+        files = rng.choice([files, files, SITES["a slapd.conf that includes a file"], SITES["files that include one another"]])
+    files = dict(files)
+    for name in files:
+        for _ in range(rng.choice([0, 0, 1, 1, 2, 3])):
+            files[name] = rng.choice([with_sign, with_sign, with_site_word, with_site_word, with_lines, with_bytes, with_token, with_word, spliced_site])(rng, files[name])
+    copy = rng.choice(FIXED)[1]
+    return SiteCase(rng.choice(["dc=com"] * 40 + ["DC = Com", "dc=net", "com", ""]), files, copy, random_question(rng, "dc=com", copy))
+
+
+def spliced_site(rng, data):
+    return spliced(rng, data, [text for files in SITES.values() for text in files.values()])
+
+
 # ---- a case
 
 
@@ -392,7 +460,7 @@ class Trial:
         return self.run("slapacl", "-f", "conf", "--data", copy, *case.question.options())
 
     def case(self, case):
-        self.place.remove(*FILES)
+        self.place.remove(*self.place.names())
         given = {"copy": case.copy, "changes": case.changes, "conf": case.config, "none": b""}
         for name, data in given.items():
             self.place.write(name, data)
@@ -454,6 +522,35 @@ class Trial:
         except UnknownCharacter:
             self.told["not compared: a character that Python does not know"] += 1
 
+    def site(self, case):
+        """The flat configuration of a site, and a question under it."""
+        self.place.remove(*self.place.names())
+        for name, data in case.files.items():
+            self.place.write(name, data)
+        is_config = "config" in case.files
+        source = ["--config", "config"] if is_config else ["-f", "conf"]
+        ended = self.run("slapconf", *source, "-b", case.suffix, "--out", "made")
+        expect(self.place.names() - case.files.keys(), set() if ended[0] else {"made"}, "files made")
+        self.told[f"site: {'config made' if not ended[0] else re.sub('^.*, line [0-9]+', 'line N', ended[2][9:-1])}"] += 1
+        text = self.place.read("made")
+        self.place.remove("made")
+        suffix = case.suffix.encode()
+        try:
+            wanted = flat.flat_of_config(suffix, case.files["config"]) if is_config else flat.flat_of_files(suffix, b"conf", flat.text_of_file)
+        except UnknownCharacter:
+            self.told["not compared: a character that Python does not know"] += 1
+            return
+        expect(flat.Flat(*ended, text), wanted, "the flat configuration")
+        if text is not None:
+            self.place.write("made", text)
+            self.place.write("copy", case.copy)
+            found = self.run("slapacl", "-f", "made", "--data", "copy", *case.question.options())
+            self.count_question(found)
+            try:
+                expect(found, access_answer(text, case.copy, case.question), "the question under the flat configuration")
+            except UnknownCharacter:
+                self.told["not compared: a character that Python does not know"] += 1
+
     def count_question(self, ended):
         """Counts the notes on a configuration, and what a question came to."""
         status, _, message = ended
@@ -472,9 +569,6 @@ class Trial:
             self.told[f"record: {line.split(': ', 1)[1]}"] += 1
 
 
-FILES = ("new", "undo", "canonical", "nothing", "back", "redo", "forth", "undo2", "point", "redo1", "forth1", "undo1")
-
-
 def keep(folder, number, case):
     """Keeps the texts of a case that failed."""
     place = folder / number
@@ -485,6 +579,15 @@ def keep(folder, number, case):
     (place / "case").write_text(f"-b {case.suffix} {' '.join(case.options())} {typed}\n{case.question.options()}\nback {case.back}\n")
 
 
+def keep_site(folder, number, case):
+    """Keeps the files of a configuration that failed."""
+    place = folder / number
+    place.mkdir(parents=True, exist_ok=True)
+    for name, data in (case.files | {"copy": case.copy}).items():
+        (place / name).write_bytes(data)
+    (place / "case").write_text(f"slapconf -b {case.suffix!r}\n{case.question.options()}\n")
+
+
 def try_cases(task):
     """Tries some cases: how many runs there were, what they came to, and which failed."""
     program, seed, numbers, failures = task
@@ -492,16 +595,17 @@ def try_cases(task):
     with Place(program) as place:
         trial = Trial(place)
         for number in numbers:
-            case = random_case(random.Random(f"{seed} {number}"))
-            try:
-                trial.case(case)
-            except Wrong as wrong:
-                failed.append(f"case {number} of seed {seed}: {wrong}")
-            except Exception:
-                failed.append(f"case {number} of seed {seed}: {traceback.format_exc()}")
-            else:
-                continue
-            keep(failures, f"{seed}-{number}", case)
+            case, site = random_case(random.Random(f"{seed} {number}")), random_site(random.Random(f"{seed} {number} of a site"))
+            for what, one, tried, kept in (("", case, trial.case, keep), (" of a site", site, trial.site, keep_site)):
+                try:
+                    tried(one)
+                except Wrong as wrong:
+                    failed.append(f"case {number}{what} of seed {seed}: {wrong}")
+                except Exception:
+                    failed.append(f"case {number}{what} of seed {seed}: {traceback.format_exc()}")
+                else:
+                    continue
+                kept(failures, f"{seed}-{number}{what.replace(' ', '-')}", one)
         return trial.runs, len(numbers), trial.told, failed
 
 

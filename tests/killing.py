@@ -2,13 +2,15 @@
 
 A run may leave drafts, which have names of their own. But a file under the name that it was to have is whole, there is no new
 copy without its undo file, and no report without both. No file is open to more than the copy is, and the next run with the
-same command goes as if nothing had been. The same goes for the file of answers of a file of questions, which has the mode of that.
+same command goes as if nothing had been. The same goes for the file of answers of a file of questions, which has the mode of that, and for a flat configuration,
+which has the mode of the configuration.
 """
 import os
 import pathlib
 import re
 import subprocess
 
+import flat
 from checks import Wrong, expect
 from texts import added, block, deleted, same, undone
 
@@ -61,6 +63,7 @@ MODE = 0o640
 COMMAND = ["slapmodify", "-b", "dc=com", "--data", "copy", "-l", "changes", "--out", "new", "--undo", "undo"]
 
 
+SITE = ["slapconf", "-b", "dc=com", "-f", "conf", "--out", "flat"]
 SUITE = ["slapacl", "-f", "conf", "--data", "copy", "--questions", "questions", "--answers", "answers"]
 
 
@@ -146,3 +149,23 @@ class SuiteTrial(Trial):
         (self.folder / "questions").chmod(MODE)
         self.whole = {"answers": asked}
         self.report = f"as expected {2 * entries}, otherwise 0, asked 0\n"
+
+
+class SiteTrial(Trial):
+    """Runs of slapconf on a slapd.conf that includes a file of so many rules."""
+
+    command, inputs, outputs = SITE, ("copy", "changes", "conf", "rules"), ("flat",)
+
+    def __init__(self, program, folder, rules):
+        super().__init__(program, folder, 0)
+        files = {
+            "conf": "database mdb\nsuffix dc=com\nrootpw secret\ninclude rules\n",
+            "rules": "".join(f"access to attrs=a{n} by * read\n" for n in range(rules)),
+        }
+        for name, text in files.items():
+            self.write(name, text)
+        (self.folder / "conf").chmod(MODE)
+        # the mode of a file that is included is no matter
+        (self.folder / "rules").chmod(0o666)
+        self.whole = {"flat": flat.flat_text([], [(b"suffix", [b"dc=com"])]).decode() + files["rules"]}
+        self.report = f"types 0, rules {rules}, frontend 0\n"

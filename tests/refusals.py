@@ -12,7 +12,8 @@ is told after all of them, and where one can't be written there is no report.
 Both tools are also run under the attribute types of a configuration: its opening and reads are refused, and each call for memory from the first read of
 it up to the first of the copy. And the first group of an undo file is run, where each opening, read and call for memory is refused.
 
-A file of questions is answered, which is examples/questions.ldif: its answers are written, and each kind of call is refused.
+A file of questions is answered, which is examples/questions.ldif: its answers are written, and each kind of call is refused. So it is of runs of slapconf, on a
+slapd.conf that includes a file, and on cn=config.
 """
 import dataclasses
 import os
@@ -40,6 +41,13 @@ TYPED = {
 }
 # an undo file, of which one group is run, on that copy
 MARKED = {"marked": "version: 1\n\n# undo 1\ndn: dc=com\nchangetype: modify\nadd: l\nl: x\n-\n\n# un\n do 2\nx\n"}
+# a configuration of a site, in both forms
+SITE = {
+    "site.conf": "include site.more\nobjectidentifier my 1.3\nattributetype ( my:1 NAME 'a' )\ndatabase mdb\nsuffix dc=com\nrootdn cn=r,dc=com\naccess to * by * read\n",
+    "site.more": "access to dn.base=\"\" by * read\nattributetype ( 1.2 NAME 'b' )\n",
+    "site.ldif": "dn: a\nolcObjectIdentifier: my 1.3\nolcAttributeTypes: {0}( my:1 NAME 'a' )\nolcSuffix: dc=com\nolcRootDN: cn=r,dc=com\n"
+    "olcAccess: {0}to * by * read\n\ndn: b\nolcDatabase: {-1}frontend\nolcAccess: {0}to dn.base=\"\" by * read\n",
+}
 ASKED = Question("dc=com", None, ("room/read",), is_verbose=True)
 TYPED_NOTES = access_answer(TYPED["conf"].encode(), TYPED["copy"].encode(), ASKED)[2]
 
@@ -195,8 +203,16 @@ def way_back_in(folder):
     return [*words, "--out", folder / "new", "--undo", folder / "undo", "-v"]
 
 
+def site_in(folder):
+    return ["slapconf", "-b", "dc=com", "-f", "site.conf", "--out", folder / "flat"]
+
+
+def cn_config_in(folder):
+    return ["slapconf", "-b", "dc=com", "--config", "site.ldif", "--out", folder / "flat"]
+
+
 def run(program, shim, words_in, refusal):
-    """What a run leaves, and whether a call of it was refused. It is run where the shared object is, and the texts of TYPED and MARKED."""
+    """What a run leaves, and whether a call of it was refused. It is run where the shared object is, and the texts of TYPED, MARKED and SITE."""
     with tempfile.TemporaryDirectory(dir=IN_MEMORY) as name:
         folder = pathlib.Path(name)
         words = [program, *words_in(folder)]
@@ -224,9 +240,11 @@ def memory_is_told(left, whole):
 
 
 def opening_is_told(left, whole):
-    paths = ("/", str(CONF), str(COPY), str(CHANGES), str(QUESTIONS), *TYPED, *MARKED, "undo", "new", "answers")
+    paths = ("/", str(CONF), str(COPY), str(CHANGES), str(QUESTIONS), *TYPED, *MARKED, "site.conf", "site.ldif", "undo", "new", "answers", "flat")
+    # A file that another includes is told by the line that includes it.
+    included = "slapkit: site.conf, line 1: K1 BadInclude\n"
     # The folder is opened to be synced.
-    return ends(left, *(f"slapkit: cannot open {path}\n" for path in paths), *not_written(whole))
+    return ends(left, *(f"slapkit: cannot open {path}\n" for path in paths), included, *not_written(whole))
 
 
 def read_is_told(left, whole):
@@ -253,7 +271,7 @@ def unwritten_notes_are_told(left, whole):
 
 def not_written(whole):
     """What is told of a file that can't be written: after the notes, if there are some."""
-    return [f"{whole.message}slapkit: cannot write {name}\n" for name in ("undo", "out", "answers")]
+    return [f"{whole.message}slapkit: cannot write {name}\n" for name in ("undo", "out", "answers", "flat configuration")]
 
 
 def a_file_is_not_written(left, whole):
@@ -347,6 +365,9 @@ RUNS = [
     (" under types", typed_changes_in, ["new", "undo"], "", KINDS_UNDER_TYPES, {}),
     (" while the types of a run are read", typed_changes_in, ["new", "undo"], "", MEMORY, WHILE_TYPES_ARE_READ),
     (" of the first group of an undo file", way_back_in, ["new", "undo"], "", KINDS_OF_GROUPS, {}),
+    (" of slapconf", site_in, ["flat"], "", KINDS, {}),
+    (" of slapconf, without hard links", site_in, ["flat"], "", KINDS_WITHOUT_LINKS, NO_LINKS),
+    (" of slapconf on cn=config", cn_config_in, ["flat"], "", KINDS_UNDER_TYPES | MEMORY, {}),
     (" of a question under types", typed_question_in, [], TYPED_NOTES, KINDS_UNDER_TYPES, {}),
     (" while the types of a question are read", typed_question_in, [], TYPED_NOTES, MEMORY, WHILE_TYPES_ARE_READ),
 ]
@@ -373,7 +394,7 @@ def main():
     with tempfile.TemporaryDirectory() as folder:
         source, shim = f"{folder}/shim.c", f"{folder}/shim.so"
         pathlib.Path(source).write_text(SHIM)
-        for name, text in (TYPED | MARKED).items():
+        for name, text in (TYPED | MARKED | SITE).items():
             pathlib.Path(folder, name).write_text(text)
         subprocess.run([os.environ.get("CC", "cc"), "-shared", "-fPIC", "-o", shim, source, "-ldl"], check=True)
         if not NOTES or not TYPED_NOTES:
