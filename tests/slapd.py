@@ -19,6 +19,14 @@ def demand(script, *tools):
             sys.exit(f"{script}: OpenLDAP's {tool} is not here (Debian's packages slapd and ldap-utils have it)")
 
 
+def install():
+    """Installs Debian's packages, which only root may."""
+    for words in (["update", "-q"], ["install", "-q", "-y", "slapd", "ldap-utils"]):
+        how = {"env": {**os.environ, "DEBIAN_FRONTEND": "noninteractive"}, "stdin": subprocess.DEVNULL, "stdout": subprocess.DEVNULL}
+        if subprocess.run(["apt-get", *words], **how).returncode:
+            sys.exit("Debian's packages slapd and ldap-utils can't be installed")
+
+
 def run(command, folder=None, seconds=None):
     """A command that has ended, run in a folder."""
     how = {"capture_output": True, "text": True, "errors": "replace", "stdin": subprocess.DEVNULL}

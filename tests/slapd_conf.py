@@ -1,7 +1,7 @@
 #!/usr/bin/env python3
 """Makes flat configurations of whole sites by `slapkit slapconf`, and compares what they say with what OpenLDAP's slapd says of the sites.
 
-usage: slapd_conf.py PROGRAM [--seed S] [--questions N] [--site NAME] [--keep FOLDER]
+usage: slapd_conf.py PROGRAM [--seed S] [--questions N] [--site NAME] [--keep FOLDER] [--install]
        slapd_conf.py --update
 
 It is outside the gate, and wants OpenLDAP's tools with their schema files (Debian's packages slapd and ldap-utils). The sites are those of examples/sites,
@@ -22,7 +22,7 @@ its slapd.conf, of what `slapcat -n 0` writes of that once slaptest has turned i
 but for that of a type with a reserved name. `lines` are short texts that try how lines are joined, and what includes and parts mean: slapkit may refuse them,
 but where it makes a flat text, that has slapd's rules and types, and where slapkit slapacl reads that, its answers are slapd's.
 
-With --update it writes the CONFIG.ldif of each site anew.
+With --install it installs the packages first, as root by apt-get. With --update it writes the CONFIG.ldif of each site anew.
 """
 import argparse
 import collections
@@ -454,9 +454,12 @@ def main():
     parser.add_argument("--site", choices=[*COPIES, "schema", "lines"])
     parser.add_argument("--keep", metavar="FOLDER")
     parser.add_argument("--update", action="store_true")
+    parser.add_argument("--install", action="store_true")
     args = parser.parse_args()
     if not args.program and not args.update:
         parser.error("a program is wanted")
+    if args.install:
+        slapd.install()
     slapd.demand("slapd_conf.py", "slapd", "slapacl", "slapadd", "slapcat", "slaptest", "ldapsearch")
     args.sites = [name for name in COPIES if args.site in (None, name)]
     with contextlib.ExitStack() as stack:
