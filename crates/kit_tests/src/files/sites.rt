@@ -67,8 +67,7 @@ static RUNS: [Made; 16] = [
         ..MADE
     },
     Made {
-        shows: "the flat configuration has the mode of the first file",
-        config: LDIF,
+        shows: "an empty text has no database",
         source: ConfSource::CnConfig("copy"),
         told: "open copy;config: K4 NoDatabase",
         ..MADE
