@@ -11,3 +11,4 @@ mod random;
 mod round_trip;
 mod running;
 mod runs;
+mod runs_back;
