@@ -8,10 +8,9 @@ It is outside the gate, and wants OpenLDAP's tools with their schema files (Debi
 and the configuration that Debian's package makes, `default`, from the text that it has for this. Of each database of a site that has a copy, a flat text is made of
 its slapd.conf, of what `slapcat -n 0` writes of that once slaptest has turned it into cn=config, and of its CONFIG.ldif. Then:
 
-- slapd reads each flat text: without its definitions of types that slapd has itself by its own word (those of cn=schema, which it refuses to be given
-  again), and with the modules, the object classes and the macros of the site, and the folder of the database, which no flat text has. slapd's own text of its rules (`slapcat -n 0`
-  again) must be that of the database's rules in the site, and then of the frontend's, and its suffix and rootdn those of the database.
-- So all flat texts of a database say the same, but for definitions of types that slapd or a loaded module has itself, of which the LDIF may have more.
+- slapd reads each flat text: without its lines 2 to 45, the types that slapd has itself, which it refuses to be given again (and those that a loaded module has), and with the
+  modules, the object classes and the macros of the site, and the folder of the database, which no flat text has. slapd's own text of its rules (`slapcat -n 0` again) must be that of the database's rules in the site, and then of the frontend's, and its suffix and rootdn those of the database.
+- So all flat texts of a database say the same, but for definitions of types that a loaded module has itself.
 - A running slapd must know the same types with a flat text as with the site (`cn=Subschema`).
 - Random questions are asked: of slapd's slapacl under the site, of slapacl under a flat text, and of slapkit slapacl under each. All must give the same
   answers, but where slapkit has a note. Where only slapkit differs, slapkit reads a rule otherwise; where slapd does too, the flat text is wrong.
@@ -52,6 +51,8 @@ from slapd import SCHEMA, SECONDS, ended_well, run
 LEVELS = ("disclose", "auth", "compare", "search", "read", "write", "add", "delete", "manage")
 WRITING = ("write", "add", "delete")
 WORDS = 20
+# how many of slapd's own types each flat text begins with
+OWN_TYPES = 44
 # the local root user, as the rules of Debian's package name it
 PEER = "gidNumber=0+uidNumber=0,cn=peercred,cn=external,cn=auth"
 # a copy of one entry
@@ -88,16 +89,16 @@ REFUSED = re.compile(r"line (\d+) attributetype: (?:Duplicate attributeType: \"|
 
 
 def readable_by_slapd(flat, config, folder, data):
-    """Writes a flat text as slapd takes it. Returns the file, and the definitions of types that slapd has itself, which are left out.
+    """Writes a flat text as slapd takes it. Returns the file, and the definitions of types that a module has, which slapd refuses to be given again.
 
-    These are first those that slapd has in its own schema, to save time, and then those that it refuses for this reason, one after the other.
+    Its lines 2 to 45 are left out, as the manual page says: they must be types of slapd's own schema.
     """
     before, after = surroundings(config)
     begin = flat.others.index("database mdb") + 1
     rest = [*after, *flat.others[:begin], f"directory {data}", *flat.others[begin:]]
-    own = {name for definition in config.own_types() for name in names_of(definition)}
-    refused = [line for line in flat.types if own & set(names_of(line))]
-    types, path = [line for line in flat.types if line not in refused], folder / f"{flat.path.name}.slapd"
+    lines, own = flat.path.read_text().splitlines(), {name for definition in config.own_types() for name in names_of(definition)}
+    expect([line for line in lines[1 : 1 + OWN_TYPES] if not own & set(names_of(line))], [], "types of lines 2 to 45 that slapd doesn't have itself")
+    refused, types, path = [], flat.types[OWN_TYPES:], folder / f"{flat.path.name}.slapd"
     while True:
         path.write_text("".join(f"{line}\n" for line in (*before, *types, *rest)))
         ended = run(["slaptest", "-u", "-f", path], folder, SECONDS)
@@ -270,7 +271,7 @@ class Trial:
             flat.readable, flat.kept = path, found.of("olcAttributeTypes")
             counts.append(f"{len(refused)} of {source}")
             self.left_out.update(dict.fromkeys(name for line in refused for name in names_of(line)[:1]))
-        return f"without these types, which slapd has itself: {', '.join(dict.fromkeys(counts))}"
+        return f"slaptest is content with each without its lines 2 to 45; refused, since a module has them: {', '.join(dict.fromkeys(counts))}"
 
     def all_flat_texts_define_the_same(self, name):
         counts = set()
@@ -481,7 +482,7 @@ def main():
         pairs += [("schema: all files are read", trial.all_schema_files_are_read)] if args.site in (None, "schema") else []
         pairs += [("lines: are joined as by slapd", trial.lines_are_joined_as_by_slapd)] if args.site in (None, "lines") else []
         status = checks.run("slapd_conf", pairs)
-        print(f"left out for slapd, which has them itself: {len(trial.left_out)} types: {' '.join(trial.left_out)}")
+        print(f"left out for slapd, since a module has them: {len(trial.left_out)} types: {' '.join(trial.left_out)}")
         for name in COUNTED:
             print(f"{trial.counts[name]:9} {name}")
         sys.exit(status)
