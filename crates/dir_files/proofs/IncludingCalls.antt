@@ -1,5 +1,5 @@
 -- Files that are read, one after the other.
-use Rattle.std.proofs.Common.{◌≡◌, ◌≢◌, ◌⊎◌, ℕ, zero, suc, ◌-◌, ◌<◌, Bool, true, false, cond, List, [], ◌∷◌, ◌++◌, length, map, Option, None, Some, IfSome, Ok, Err, inl, inr, refl, sym, ap, subst, ◌∙◌, append-nil, append_assoc, arith}
+use Rattle.std.proofs.Common.{◌≡◌, ◌≢◌, ◌⊎◌, ℕ, zero, suc, ◌+◌, ◌-◌, ◌<◌, ◌≤◌, Bool, true, false, cond, List, [], ◌∷◌, ◌++◌, length, map, Option, None, Some, option_map, IfSome, Ok, Err, inl, inr, refl, sym, ap, subst, ◌∙◌, append-nil, append_assoc, arith, Vec, Global}
 use Rattle.std.specs.List.{flat_map}
 use Rattle.std.specs.Str.{is_utf8}
 use Rattle.dir_conf.specs.declared.slapd_conf.files.ConfFile.{ConfFile}
@@ -12,7 +12,7 @@ use Rattle.dir_files.specs.declared.files.Refusal.{Refusal}
 use Rattle.dir_files.specs.declared.files.Refusal.TheVariants as refusal
 use Rattle.dir_files.specs.Faults.{IsCannotOpen, IsNotOpened}
 use Rattle.dir_files.specs.Files.{Call, Disk, Told, creates, discards, opens, publishes, reports, standard_input, syncs, with_call, withdraws}
-use Rattle.dir_files.specs.Including.{AreOpens, AreReadBy, Does, IncludedBelow, IsNotRead, IsReadBy, ReadsFiles, StopsBy, included_by, is_known, new_paths, path_of, with_calls}
+use Rattle.dir_files.specs.Including.{AreOpens, AreReadBy, Does, IncludedBelow, IsNotRead, IsReadBy, ReadsFiles, StopsBy, included_by, is_passed_over, new_paths, opened_size, path_of, size_of, text_size, with_calls, with_text}
 
 -- ---- calls
 
@@ -49,6 +49,26 @@ does_as a None P Q does h = tt
 does_as None (Some last) P Q does h = absurd (does)
 does_as (Some d) (Some last) P Q does h = (does.0, does.1, h d does.0 refl does.2)
 
+-- ---- numbers
+
+plus_zero : (n : ℕ) → n ≡ 0 + n
+plus_zero n = grind arith
+
+zero_after : (n : ℕ) → n + 0 ≡ 0 + n
+zero_after n = grind arith
+
+plus_assoc : (a b c : ℕ) → a + (b + c) ≡ (a + b) + c
+plus_assoc a b c = grind arith
+
+all_room : (n : ℕ) → n ≤ 16777216 → (16777216 - n) + (n + 0) ≡ 16777216
+all_room n h = grind arith
+
+room_back : (room used size n : ℕ) → used ≡ n → used ≤ room → (room - used) + (size + n) ≡ room + size
+room_back room used size n e h = grind arith
+
+none_fits : (room : ℕ) → 0 ≤ room
+none_fits room = grind arith
+
 -- ---- files that are read
 
 -- the calls so far have left the texts as they are
@@ -83,12 +103,55 @@ module _ (d : Disk) where
   read_opens [] calls none = subst AreOpens (sym none) tt
   read_opens (file ∷ more) calls read = subst AreOpens (sym read.2) (all_opens read.0 read.1 (one_opens file read.0 read.3) (read_opens more read.1 read.4))
 
-  -- a file isn't read after others were opened
-  pub stops_after : (why : Unread) (calls rest : List Call) → AreOpens calls → StopsBy why d rest → StopsBy why d (calls ++ rest)
-  stops_after unread.TooLong calls rest before stops =
-      (all_opens calls rest before stops.0, (calls ++ stops.1.0, stops.1.1, ap (λ (l : List Call). calls ++ l) stops.1.2 ∙ sym (append_assoc calls stops.1.0 (opens stops.1.1 None ∷ [])), stops.1.3))
-  stops_after unread.Failed calls rest before stops = all_opens calls rest before stops
-  stops_after unread.Memory calls rest before stops = all_opens calls rest before stops
+  sum_with : (n : ℕ) (text : List ℕ) (size : Option ℕ) → with_text (Some text) (option_map (λ s. n + s) size) ≡ option_map (λ s. (length text + n) + s) size
+  sum_with n text None = refl
+  sum_with n text (Some s) = ap (λ (k : ℕ). Some k) (plus_assoc (length text) n s)
+
+  -- of files that were read and those after them all sizes are known together, or some are not
+  abbrev IsSum : ℕ → Option ℕ → Option ℕ → Type 0
+  IsSum n rest whole = (whole ≡ None) ⊎ (whole ≡ option_map (λ s. n + s) rest)
+
+  plus_none : (size : Option ℕ) → size ≡ option_map (λ s. 0 + s) size
+  plus_none None = refl
+  plus_none (Some s) = ap (λ (k : ℕ). Some k) (plus_zero s)
+
+  one_sum : (file : File) (calls rest : List Call) (n : ℕ) (after : Option ℕ) → IsReadBy d file calls → IsSum n after (opened_size d.text_at rest)
+      → IsSum (text_size file.text + n) after (opened_size d.text_at (calls ++ rest))
+  one_sum file calls rest n after (inl none) sum =
+      subst (λ (text : Option (List ℕ)). IsSum (text_size text + n) after (opened_size d.text_at (calls ++ rest))) (sym none.2)
+      (subst (λ (l : List Call). IsSum (0 + n) after (opened_size d.text_at (l ++ rest))) (sym none.1) (subst (λ (k : ℕ). IsSum k after (opened_size d.text_at rest)) (plus_zero n) sum))
+  one_sum file calls rest n after (inr (inr refused)) sum =
+      subst (λ (text : Option (List ℕ)). IsSum (text_size text + n) after (opened_size d.text_at (calls ++ rest))) (sym refused.2)
+      (subst (λ (l : List Call). IsSum (0 + n) after (opened_size d.text_at (l ++ rest))) (sym refused.1) (subst (λ (k : ℕ). IsSum k after (opened_size d.text_at rest)) (plus_zero n) sum))
+  one_sum file calls rest n after (inr (inl opened)) sum =
+      subst (λ (text : Option (List ℕ)). IsSum (text_size text + n) after (opened_size d.text_at (calls ++ rest))) (sym opened.2)
+      (subst (λ (l : List Call). IsSum (length opened.1 + n) after (opened_size d.text_at (l ++ rest))) (sym opened.0) (by (d.text_at file.path) opened.3 sum))
+    where
+      by : (known : Option (List ℕ)) → IfSome known (λ known. opened.1 ≡ known) → IsSum n after (opened_size d.text_at rest) → IsSum (length opened.1 + n) after (with_text known (opened_size d.text_at rest))
+      by None same sum = inl refl
+      by (Some known) same (inl none) = inl (ap (λ (size : Option ℕ). with_text (Some known) size) none)
+      by (Some known) same (inr all) = inr (ap (λ (size : Option ℕ). with_text (Some known) size) all ∙ ap (λ (text : List ℕ). with_text (Some text) (option_map (λ s. n + s) after)) (sym same) ∙ sum_with n opened.1 after)
+
+  sizes_after : (files : List File) (calls rest : List Call) → AreReadBy d files calls → IsSum (size_of files) (opened_size d.text_at rest) (opened_size d.text_at (calls ++ rest))
+  sizes_after [] calls rest none = subst (λ (l : List Call). IsSum 0 (opened_size d.text_at rest) (opened_size d.text_at (l ++ rest))) (sym none) (inr (plus_none (opened_size d.text_at rest)))
+  sizes_after (file ∷ more) calls rest read =
+      subst (λ (l : List Call). IsSum (size_of (file ∷ more)) (opened_size d.text_at rest) (opened_size d.text_at l)) (sym (append_assoc read.0 read.1 rest) ∙ ap (λ (l : List Call). l ++ rest) (sym read.2))
+      (one_sum file read.0 (read.1 ++ rest) (size_of more) (opened_size d.text_at rest) read.3 (sizes_after more read.1 rest read.4))
+
+  long_after : (left room : ℕ) (files : List File) (calls rest : List Call) → left + size_of files ≡ room → AreReadBy d files calls
+      → IfSome (opened_size d.text_at rest) (λ size. left < size) → IfSome (opened_size d.text_at (calls ++ rest)) (λ size. room < size)
+  long_after left room files calls rest e read = by (opened_size d.text_at rest) (opened_size d.text_at (calls ++ rest)) (sizes_after files calls rest read)
+    where
+      by : (after whole : Option ℕ) → IsSum (size_of files) after whole → IfSome after (λ size. left < size) → IfSome whole (λ size. room < size)
+      by after whole (inl none) h = subst (λ (size : Option ℕ). IfSome size (λ size. room < size)) (sym none) tt
+      by None whole (inr all) h = subst (λ (size : Option ℕ). IfSome size (λ size. room < size)) (sym all) tt
+      by (Some s) whole (inr all) h = subst (λ (size : Option ℕ). IfSome size (λ size. room < size)) (sym all) (grind arith)
+
+  -- a file isn't read after others were
+  pub stops_after : (left room : ℕ) (why : Unread) (files : List File) (calls rest : List Call) → left + size_of files ≡ room → AreReadBy d files calls → StopsBy left why d rest → StopsBy room why d (calls ++ rest)
+  stops_after left room unread.TooLong files calls rest e read stops = (all_opens calls rest (read_opens files calls read) stops.0, long_after left room files calls rest e read stops.1)
+  stops_after left room unread.Failed files calls rest e read stops = all_opens calls rest (read_opens files calls read) stops
+  stops_after left room unread.Memory files calls rest e read stops = all_opens calls rest (read_opens files calls read) stops
 
 -- ---- one path
 
@@ -110,12 +173,17 @@ read a b path text left told here same =
     does_one a b (opens path None) (λ d. AreReadBy d (record { path = path; text = Some text } ∷ [])) told
     (λ d is after. (opens path None ∷ [], [], refl, inr (inl (refl, text, refl, known_here d (opens path None) path left (λ known. text ≡ known) b after here same)), refl))
 
-pub not_read : (a b : Option Disk) (path : List ℕ) (left : Option (List ℕ)) (why : Unread) → Told a b (opens path None) → Here b path left → (why ≡ unread.TooLong → IfSome left (λ known. 16777216 < length known)) → Does a b (λ d. StopsBy why d)
-not_read a b path left unread.TooLong told here long =
-    does_one a b (opens path None) (λ d. StopsBy unread.TooLong d) told
-    (λ d is after. (tt, ([], path, refl, known_here d (opens path None) path left (λ known. 16777216 < length known) b after here (long refl))))
-not_read a b path left unread.Failed told here long = does_one a b (opens path None) (λ d. StopsBy unread.Failed d) told (λ d is after. tt)
-not_read a b path left unread.Memory told here long = does_one a b (opens path None) (λ d. StopsBy unread.Memory d) told (λ d is after. tt)
+long_alone : (room : ℕ) (text : Option (List ℕ)) → IfSome text (λ known. room < length known) → IfSome (with_text text (Some 0)) (λ size. room < size)
+long_alone room None h = tt
+long_alone room (Some known) h = grind arith
+
+pub not_read : (a b : Option Disk) (room : ℕ) (path : List ℕ) (left : Option (List ℕ)) (why : Unread) → Told a b (opens path None) → Here b path left → (why ≡ unread.TooLong → IfSome left (λ known. room < length known))
+    → Does a b (λ d. StopsBy room why d)
+not_read a b room path left unread.TooLong told here long =
+    does_one a b (opens path None) (λ d. StopsBy room unread.TooLong d) told
+    (λ d is after. (tt, long_alone room (d.text_at path) (known_here d (opens path None) path left (λ known. room < length known) b after here (long refl))))
+not_read a b room path left unread.Failed told here long = does_one a b (opens path None) (λ d. StopsBy room unread.Failed d) told (λ d is after. tt)
+not_read a b room path left unread.Memory told here long = does_one a b (opens path None) (λ d. StopsBy room unread.Memory d) told (λ d is after. tt)
 
 -- the same, where the path that is asked for is this one
 pub refused_at : (a b : Option Disk) (asked path : List ℕ) (why : Refusal) → asked ≡ path → Told a b (opens asked (Some why)) → Does a b (λ d. AreReadBy d (record { path = path; text = None } ∷ []))
@@ -138,6 +206,21 @@ pub one_more : (a b : Option Disk) (before now : List File) (file : File) → no
 one_more a b before now file e does =
     does_as a b (λ d. AreReadBy d (file ∷ [])) (λ d calls. (more : List File) × (now ≡ before ++ more) × AreReadBy d more calls) does (λ d calls is h. (file ∷ [], e, h))
 
+size_one_more : (files : List File) (file : File) → size_of (files ++ file ∷ []) ≡ size_of files + text_size file.text
+size_one_more [] file = zero_after (text_size file.text)
+size_one_more (first ∷ more) file = ap (λ (n : ℕ). text_size first.text + n) (size_one_more more file) ∙ plus_assoc (text_size first.text) (size_of more) (text_size file.text)
+
+-- what may still be read and what the files have stay together as much
+pub room_one_more : (before now : List File) (file : File) (room used : ℕ) → now ≡ before ++ file ∷ [] → used ≡ text_size file.text → text_size file.text ≤ room → (room - used) + size_of now ≡ room + size_of before
+room_one_more before now file room used e f short =
+    ap (λ (files : List File). (room - used) + size_of files) e
+    ∙ ap (λ (n : ℕ). (room - used) + n) (size_one_more before file)
+    ∙ room_back room used (size_of before) (text_size file.text) f (subst (λ (n : ℕ). n ≤ room) (sym f) short)
+
+pub short_text : (room : ℕ) (text : Option (Vec ℕ Global)) → IfSome text (λ text. length text.items ≤ room) → text_size (option_map (λ text. text.items) text) ≤ room
+short_text room None h = none_fits room
+short_text room (Some text) h = h
+
 -- none is
 pub none_more : (a : Option Disk) (before : List File) → Does a a (λ d calls. (more : List File) × (before ≡ before ++ more) × AreReadBy d more calls)
 none_more a before = does_none a (λ d calls. (more : List File) × (before ≡ before ++ more) × AreReadBy d more calls) (λ d is. ([], sym (append-nil before), refl))
@@ -145,7 +228,7 @@ none_more a before = does_none a (λ d calls. (more : List File) × (before ≡ 
 -- ---- paths
 
 pub one_new : (known : List (List ℕ)) (path : List ℕ) (rest : List (List ℕ)) → new_paths known (path ∷ rest) ≡ new_paths known (path ∷ []) ++ new_paths (known ++ new_paths known (path ∷ [])) rest
-one_new known path rest = by (is_known known path)
+one_new known path rest = by (is_passed_over known path)
   where
     by : (t : Bool) → cond t (new_paths known rest) (path ∷ new_paths (known ++ path ∷ []) rest)
         ≡ cond t [] (path ∷ []) ++ new_paths (known ++ cond t [] (path ∷ [])) rest
@@ -162,22 +245,22 @@ step_new known before path rest =
 
 -- ---- one level after the other
 
-same_stops : (d : Disk) (calls : List Call) (why : Unread) (rest : List Call) → StopsBy why (with_calls d calls) rest → StopsBy why d rest
-same_stops d calls unread.TooLong rest h = h
-same_stops d calls unread.Failed rest h = h
-same_stops d calls unread.Memory rest h = h
+same_stops : (d : Disk) (calls : List Call) (room : ℕ) (why : Unread) (rest : List Call) → StopsBy room why (with_calls d calls) rest → StopsBy room why d rest
+same_stops d calls room unread.TooLong rest h = h
+same_stops d calls room unread.Failed rest h = h
+same_stops d calls room unread.Memory rest h = h
 
 same_read : (d : Disk) (calls : List Call) (files : List File) (rest : List Call) → AreReadBy (with_calls d calls) files rest → AreReadBy d files rest
 same_read d calls [] rest h = h
 same_read d calls (file ∷ more) rest h = (h.0, h.1, h.2, h.3, same_read d calls more h.1 h.4)
 
-pub stopped_after : (a b c : Option Disk) (files : List File) (why : Unread) → Does a b (λ d. AreReadBy d files) → Does b c (λ d. StopsBy why d) → Does a c (λ d. StopsBy why d)
-stopped_after a b c files why first second =
-    does_both a b c (λ d. AreReadBy d files) (λ d. StopsBy why d) (λ d. StopsBy why d) first second
-    (λ d calls rest read stops. stops_after d why calls rest (read_opens d files calls read) (same_stops d calls why rest stops))
+pub stopped_after : (a b c : Option Disk) (left room : ℕ) (files : List File) (why : Unread) → left + size_of files ≡ room → Does a b (λ d. AreReadBy d files) → Does b c (λ d. StopsBy left why d) → Does a c (λ d. StopsBy room why d)
+stopped_after a b c left room files why e first second =
+    does_both a b c (λ d. AreReadBy d files) (λ d. StopsBy left why d) (λ d. StopsBy room why d) first second
+    (λ d calls rest read stops. stops_after d left room why files calls rest e read (same_stops d calls left why rest stops))
 
-pub memory_after : (a b : Option Disk) (files : List File) → Does a b (λ d. AreReadBy d files) → Does a b (λ d. StopsBy unread.Memory d)
-memory_after a b files read = does_as a b (λ d. AreReadBy d files) (λ d. StopsBy unread.Memory d) read (λ d calls is h. read_opens d files calls h)
+pub memory_after : (a b : Option Disk) (room : ℕ) (files : List File) → Does a b (λ d. AreReadBy d files) → Does a b (λ d. StopsBy room unread.Memory d)
+memory_after a b room files read = does_as a b (λ d. AreReadBy d files) (λ d. StopsBy room unread.Memory d) read (λ d calls is h. read_opens d files calls h)
 
 pub all_read : (a b c : Option Disk) (files more : List File) → Does a b (λ d. AreReadBy d files) → Does b c (λ d. AreReadBy d more) → Does a c (λ d. AreReadBy d (files ++ more))
 all_read a b c files more first second =
@@ -229,7 +312,7 @@ one_before (Some d) (Some next) (Some last) call P R told does h =
 pub not_opened : (a b : Option Disk) (path : List ℕ) (why : Refusal) (e : Fault) → Told a b (opens path (Some why)) → IsNotOpened path why e → Does a b (ReadsFiles path (Err e))
 not_opened a b path why e told is = does_one a b (opens path (Some why)) (ReadsFiles path (Err e)) told (λ d here after. by d why is)
   where
-    by : (d : Disk) (why : Refusal) → IsNotOpened path why e → (AreOpens (opens path (Some why) ∷ []) × IsCannotOpen path e) ⊎ ((why' : Unread) × IsNotRead why' e × StopsBy why' d (opens path (Some why) ∷ []))
+    by : (d : Disk) (why : Refusal) → IsNotOpened path why e → (AreOpens (opens path (Some why) ∷ []) × IsCannotOpen path e) ⊎ ((why' : Unread) × IsNotRead why' e × StopsBy 16777216 why' d (opens path (Some why) ∷ []))
     by d refusal.Memory is = inr (unread.Memory, is, tt)
     by d refusal.Exists is = inl (tt, is)
     by d refusal.Other is = inl (tt, is)
@@ -237,14 +320,24 @@ not_opened a b path why e told is = does_one a b (opens path (Some why)) (ReadsF
 pub first_not_read : (a b : Option Disk) (path : List ℕ) (left : Option (List ℕ)) (why : Unread) (e : Fault) → Told a b (opens path None) → Here b path left → (why ≡ unread.TooLong → IfSome left (λ known. 16777216 < length known)) → IsNotRead why e
     → Does a b (ReadsFiles path (Err e))
 first_not_read a b path left why e told here long is =
-    does_as a b (λ d. StopsBy why d) (ReadsFiles path (Err e)) (not_read a b path left why told here long) (λ d calls at stops. inr (why, is, stops))
+    does_as a b (λ d. StopsBy 16777216 why d) (ReadsFiles path (Err e)) (not_read a b 16777216 path left why told here long) (λ d calls at stops. inr (why, is, stops))
 
-pub other_not_read : (a b c : Option Disk) (path : List ℕ) (why : Unread) (e : Fault) → Told a b (opens path None) → Does b c (λ d. StopsBy why d) → IsNotRead why e → Does a c (ReadsFiles path (Err e))
-other_not_read a b c path why e told does is =
-    one_before a b c (opens path None) (λ d. StopsBy why d) (ReadsFiles path (Err e)) told does (λ d calls at after stops. inr (why, is, stops_after d why (opens path None ∷ []) calls tt (same_stops d (opens path None ∷ []) why calls stops)))
+-- the first file is read, and another isn't
+module _ (a b c : Option Disk) (path text : List ℕ) (left : Option (List ℕ)) (e : Fault) (told : Told a b (opens path None)) (here : Here b path left) (same : IfSome left (λ known. text ≡ known)) (short : length text ≤ 16777216) where
+  abbrev first : File
+  first = record { path = path; text = Some text }
 
-pub no_room : (a b c : Option Disk) (path : List ℕ) (more : List File) (e : Fault) → Told a b (opens path None) → Does b c (λ d. AreReadBy d more) → IsNotRead unread.Memory e → Does a c (ReadsFiles path (Err e))
-no_room a b c path more e told does is = other_not_read a b c path unread.Memory e told (memory_after b c more does) is
+  room_after : (16777216 - length text) + size_of (first ∷ []) ≡ 16777216
+  room_after = all_room (length text) short
+
+  pub other_not_read : (why : Unread) → Does b c (λ d. StopsBy (16777216 - length text) why d) → IsNotRead why e → Does a c (ReadsFiles path (Err e))
+  other_not_read why does is =
+      does_as a c (λ d. StopsBy 16777216 why d) (ReadsFiles path (Err e))
+      (stopped_after a b c (16777216 - length text) 16777216 (first ∷ []) why room_after (read a b path text left told here same) does)
+      (λ d calls at stops. inr (why, is, stops))
+
+  pub no_room : (more : List File) → Does b c (λ d. AreReadBy d more) → IsNotRead unread.Memory e → Does a c (ReadsFiles path (Err e))
+  no_room more does is = other_not_read unread.Memory (memory_after b c (16777216 - length text) more does) is
 
 pub files_read : (a b c : Option Disk) (path text : List ℕ) (left : Option (List ℕ)) (more : List File) (answer : ReadFiles) → Told a b (opens path None) → Here b path left → IfSome left (λ known. text ≡ known) → IfSome b (λ d. answer.mode ≡ d.mode_at path)
     → Does b c (λ d. AreReadBy d more) → map file_of answer.files.items ≡ record { path = path; text = Some text } ∷ more → IncludedBelow 15 (path ∷ []) (includes_in text) more → Does a c (ReadsFiles path (Ok answer))

@@ -89,7 +89,7 @@ MakesOfConfig suffix path out result d = Opens path result (MakesOfText suffix (
 
 -- the first file can't be opened, or a file isn't read: only files were opened until then
 abbrev pub IsUnreadSo : List ℕ → Disk → List Call → Fault → Type 0
-IsUnreadSo path d calls e = (AreOpens calls × IsCannotOpen path e) ⊎ ((why : Unread) × IsNotRead why e × StopsBy why d calls)
+IsUnreadSo path d calls e = (AreOpens calls × IsCannotOpen path e) ⊎ ((why : Unread) × IsNotRead why e × StopsBy 16777216 why d calls)
 
 -- all files are read before anything is made
 abbrev pub MakesOfSlapdConf : DnKeys → List ℕ → List ℕ → Result Tally Fault → Disk → Calls

@@ -1,5 +1,5 @@
 -- The files of a slapd.conf that include one another, and the calls by which they are read.
-use Rattle.std.specs.Prelude.{◌≡◌, ◌⊎◌, ℕ, zero, suc, ◌<◌, Bool, false, cond, List, [], ◌∷◌, ◌++◌, length, map, Option, None, Some, IfSome, Result, Ok, Err, ⊤}
+use Rattle.std.specs.Prelude.{◌≡◌, ◌⊎◌, ℕ, zero, suc, ◌+◌, ◌<◌, nat_le, Bool, false, cond, ◌||◌, List, [], ◌∷◌, ◌++◌, length, map, Option, None, Some, IfSome, Result, Ok, Err, ⊤}
 use Rattle.std.specs.List.{flat_map, list_any}
 use Rattle.std.specs.Str.{is_utf8}
 use Rattle.dir_names.specs.Orders.{bytes_eq}
@@ -34,10 +34,14 @@ included_by file = included_by_text file.text
 abbrev pub is_known : List (List ℕ) → List ℕ → Bool
 is_known known path = list_any (bytes_eq path) known
 
--- those of these paths that are not known, each once, in their order
+-- a path is passed over where it is known, or 1,000 paths are
+abbrev pub is_passed_over : List (List ℕ) → List ℕ → Bool
+is_passed_over known path = nat_le 1000 (length known) || is_known known path
+
+-- those of these paths that are not known, each once, in their order, until 1,000 are known
 abbrev pub new_paths : List (List ℕ) → List (List ℕ) → List (List ℕ)
 new_paths known [] = []
-new_paths known (path ∷ more) = cond (is_known known path) (new_paths known more) (path ∷ new_paths (known ++ path ∷ []) more)
+new_paths known (path ∷ more) = cond (is_passed_over known path) (new_paths known more) (path ∷ new_paths (known ++ path ∷ []) more)
 
 -- the files of these paths that are not known; then those that these files include, so many times below
 unfoldable pub IncludedBelow : ℕ → List (List ℕ) → List (List ℕ) → List File → Type 0
@@ -45,7 +49,7 @@ IncludedBelow zero known wanted files = files ≡ []
 IncludedBelow (suc below) known wanted files = (new : List File) × (rest : List File) × (files ≡ new ++ rest) × (map path_of new ≡ new_paths known wanted)
     × IncludedBelow below (known ++ map path_of new) (flat_map included_by new) rest
 
--- a configuration and all files that it includes, at most 16 deep: no path is among them that none of their lines includes
+-- a configuration and all files that it includes, at most 16 deep and 1,000 in all: no path is among them that none of their lines includes
 pub record AreFilesOf (path : List ℕ) (files : List File) : Type 0 where
   pub text : List ℕ
   pub more : List File
@@ -80,15 +84,21 @@ AreOpens [] = ⊤
 AreOpens (opens path why ∷ more) = AreOpens more
 AreOpens (other ∷ more) = ⊥
 
--- the last file that was opened has too long a text
-abbrev pub LastIsLong : Disk → Calls
-LastIsLong d calls = (before : List Call) × (path : List ℕ) × (calls ≡ before ++ opens path None ∷ []) × IfSome (d.text_at path) (λ text. 16777216 < length text)
+abbrev pub with_text : Option (List ℕ) → Option ℕ → Option ℕ
+with_text (Some text) (Some size) = Some (length text + size)
+with_text text size = None
 
--- the calls after which a file isn't read
-abbrev pub StopsBy : Unread → Disk → Calls
-StopsBy unread.TooLong d calls = AreOpens calls × LastIsLong d calls
-StopsBy unread.Failed d calls = AreOpens calls
-StopsBy unread.Memory d calls = AreOpens calls
+-- how many bytes the opened files have together, if all their texts are known
+abbrev pub opened_size : (List ℕ → Option (List ℕ)) → List Call → Option ℕ
+opened_size text_at [] = Some 0
+opened_size text_at (opens path None ∷ more) = with_text (text_at path) (opened_size text_at more)
+opened_size text_at (other ∷ more) = opened_size text_at more
+
+-- the calls after which a file isn't read. It is too long where all that were opened have together more bytes than these
+abbrev pub StopsBy : ℕ → Unread → Disk → Calls
+StopsBy room unread.TooLong d calls = AreOpens calls × IfSome (opened_size d.text_at calls) (λ size. room < size)
+StopsBy room unread.Failed d calls = AreOpens calls
+StopsBy room unread.Memory d calls = AreOpens calls
 
 -- the file system afterwards, with these calls more and the same texts
 abbrev pub with_calls : Disk → List Call → Disk
@@ -100,15 +110,30 @@ Does before None made = ⊤
 Does None (Some after) made = ⊥
 Does (Some before) (Some after) made = (calls : List Call) × (after ≡ with_calls before calls) × made before calls
 
--- these files are read, or one isn't
-abbrev pub ReadsOrStops : {A : Type 0} → (A → List File) → Result A Unread → Disk → Calls
-ReadsOrStops files (Ok answer) d calls = AreReadBy d (files answer) calls
-ReadsOrStops files (Err why) d calls = StopsBy why d calls
+-- these files are read, or one isn't, where so many bytes may be read
+abbrev pub ReadsOrStops : {A : Type 0} → ℕ → (A → List File) → Result A Unread → Disk → Calls
+ReadsOrStops room files (Ok answer) d calls = AreReadBy d (files answer) calls
+ReadsOrStops room files (Err why) d calls = StopsBy room why d calls
+
+-- ---- how much is read
+
+abbrev pub text_size : Option (List ℕ) → ℕ
+text_size None = 0
+text_size (Some text) = length text
+
+-- how many bytes files have together
+abbrev pub size_of : List File → ℕ
+size_of [] = 0
+size_of (file ∷ more) = text_size file.text + size_of more
 
 -- ---- one level
 
 abbrev pub files_of_level : Level → List File
 files_of_level level = map file_of level.files.items
+
+-- how many bytes might be read before these files were
+abbrev pub room_before : Level → ℕ
+room_before level = level.room + size_of (files_of_level level)
 
 -- the paths are those of the files, and what is wanted is what these include
 pub record IsLevel (level : Level) : Type 0 where
@@ -116,9 +141,9 @@ pub record IsLevel (level : Level) : Type 0 where
   pub wanted : level.wanted.items ≡ flat_map included_by (files_of_level level)
 
 -- more files are read, or one isn't
-abbrev pub ReadsMore : {A : Type 0} → List File → (A → List File) → Result A Unread → Disk → Calls
-ReadsMore before files (Ok answer) d calls = (more : List File) × (files answer ≡ before ++ more) × AreReadBy d more calls
-ReadsMore before files (Err why) d calls = StopsBy why d calls
+abbrev pub ReadsMore : {A : Type 0} → ℕ → List File → (A → List File) → Result A Unread → Disk → Calls
+ReadsMore room before files (Ok answer) d calls = (more : List File) × (files answer ≡ before ++ more) × AreReadBy d more calls
+ReadsMore room before files (Err why) d calls = StopsBy room why d calls
 
 -- ---- the whole
 
@@ -132,7 +157,7 @@ IsNotRead unread.Memory e = IsTool tool.Memory e
 abbrev pub IsUnreadAt : List ℕ → Fault → Type 0
 IsUnreadAt path e = IsCannotOpen path e ⊎ ((why : Unread) × IsNotRead why e)
 
--- all files are read, or one isn't: then files were opened, and nothing else was done
+-- all files are read, or one isn't: then files were opened, and nothing else was done. Together they may have 16,777,216 bytes
 abbrev pub ReadsFiles : List ℕ → Result ReadFiles Fault → Disk → Calls
 ReadsFiles path (Ok read) d calls = AreFilesOf path (map file_of read.files.items) × AreReadBy d (map file_of read.files.items) calls × (read.mode ≡ d.mode_at path)
-ReadsFiles path (Err e) d calls = (AreOpens calls × IsCannotOpen path e) ⊎ ((why : Unread) × IsNotRead why e × StopsBy why d calls)
+ReadsFiles path (Err e) d calls = (AreOpens calls × IsCannotOpen path e) ⊎ ((why : Unread) × IsNotRead why e × StopsBy 16777216 why d calls)

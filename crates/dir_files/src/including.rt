@@ -1,9 +1,9 @@
 //! The files of a slapd.conf that include one another, as they are read (slapd.conf(5), `include`).
 
 ghost use Rattle.std.specs.Option.{option_copied};
-ghost use Rattle.std.specs.Prelude.{◌≡◌, ◌<◌, ◌≤◌, ◌∷◌, ◌++◌, [], Err, IfErr, IfOk, IfSome, Some, length, map, option_map};
+ghost use Rattle.std.specs.Prelude.{◌≡◌, ◌-◌, ◌<◌, ◌≤◌, ◌∷◌, ◌++◌, [], Err, IfErr, IfOk, IfSome, Some, length, map, option_map};
 ghost use Rattle.dir_conf.specs.SlapdConf.Files.{file_of, includes_in};
-ghost use Rattle.dir_files.specs.Including.{Does, IncludedBelow, IsLevel, IsNotRead, IsUnreadAt, ReadsFiles, ReadsMore, ReadsOrStops, files_of_level, included_by_text, is_known, new_paths};
+ghost use Rattle.dir_files.specs.Including.{Does, IncludedBelow, IsLevel, IsNotRead, IsUnreadAt, ReadsFiles, ReadsMore, ReadsOrStops, files_of_level, included_by_text, is_known, is_passed_over, new_paths, room_before, text_size};
 ghost use Rattle.dir_files.specs.declared.including.Unread.TheVariants as unread;
 
 use crate::fault::Fault;
@@ -18,6 +18,9 @@ use std::alloc::{AllocError, AllocFailed, Global};
 
 /// How many files deep the first file's own files may include others.
 const MOST_BELOW: u32 = 15;
+
+/// How many files are read at most, the first one and those that can't be opened among them.
+const MOST_FILES: usize = 1000;
 
 /// The files of a configuration.
 #[derive(Drop)]
@@ -36,6 +39,8 @@ pub(crate) struct Level {
     paths: Vec<Bytes>,
     /// The paths that they include.
     wanted: Vec<Bytes>,
+    /// How many bytes more may be read.
+    room: usize,
 }
 
 /// Why a file isn't read.
@@ -43,18 +48,18 @@ pub(crate) struct Level {
 pub(crate) enum Unread {
     /// It can't be read, though it was opened.
     Failed,
-    /// It has more than 16,777,216 bytes.
+    /// All that were read and this one have together more than 16,777,216 bytes.
     TooLong,
     /// Memory ran out.
     Memory,
 }
 
 /// Reads the file at a path and all files that it includes, which are up to 16 files deep: those that it names itself in the order of its lines, then those
-/// that these name, and so on. A path is opened once. A file that can't be opened has no text.
+/// that these name, and so on. A path is opened once, and at most 1,000 are. A file that can't be opened has no text.
 ///
 /// # Errors
 ///
-/// The first file can't be opened; a file can't be read, or has more than 16,777,216 bytes; memory runs out.
+/// The first file can't be opened; a file can't be read; all that were opened have together more than 16,777,216 bytes; memory runs out.
 pub(crate) fn read_files<'a, F: FileSystem>(
     alloc: Global,
     files: &mut F,
@@ -67,7 +72,7 @@ pub(crate) fn read_files<'a, F: FileSystem>(
         Ok(opened) => opened,
         Err(why) => return Err(not_opened(path, why)),
     };
-    let text = match whole_text(alloc, &mut opened.file) {
+    let text = match whole_text(alloc, &mut opened.file, MAX_CONFIG) {
         Ok(text) => text,
         Err(why) => return Err(not_read(why)),
     };
@@ -117,14 +122,19 @@ pub(crate) fn not_read<'a>(why: Unread) -> Fault<'a>
     }
 }
 
-/// All that a file has.
-pub(crate) fn whole_text<R: Source>(alloc: Global, file: &mut R) -> Result<Vec<u8>, Unread>
+/// All that a file has, which may be so many bytes.
+pub(crate) fn whole_text<R: Source>(
+    alloc: Global,
+    file: &mut R,
+    room: usize,
+) -> Result<Vec<u8>, Unread>
+    requires { room ≤ 16777216 }
     ensures text { IfOk result (λ text. IfSome (R.left file.old) (λ known. text.items ≡ known)) }
-    ensures short { IfOk result (λ text. length text.items ≤ 16777216) }
-    ensures long { result ≡ Err Unread.TooLong → IfSome (R.left file.old) (λ known. 16777216 < length known) }
+    ensures short { IfOk result (λ text. length text.items ≤ room) }
+    ensures long { result ≡ Err Unread.TooLong → IfSome (R.left file.old) (λ known. room < length known) }
 {
     match read_bounded(alloc, file)? {
-        Some(text) if text.len() <= MAX_CONFIG => Ok(text),
+        Some(text) if text.len() <= room => Ok(text),
         Some(_) => Err(Unread::TooLong),
         None => Err(Unread::Failed),
     }
@@ -139,12 +149,13 @@ fn read_included<F: FileSystem>(
 ) -> Result<Vec<ConfFile>, Unread>
     requires { length text.now ≤ 16777216 }
     ensures included { IfOk result (λ more. IncludedBelow 15 (path.now ∷ []) (includes_in text.now) (map file_of more.items)) }
-    ensures calls { Does (F.disk files.old) (F.disk files.new) (ReadsOrStops (λ more. map file_of more.items) result) }
+    ensures calls { Does (F.disk files.old) (F.disk files.new) (ReadsOrStops (16777216 - length text.now) (λ more. map file_of more.items) result) }
 {
     let wanted = includes_in(alloc, text)?;
     let mut known = Vec::new(alloc);
     known.push(Bytes::new(path.to_vec(alloc)?))?;
-    read_below(alloc, files, MOST_BELOW, known, wanted.as_slice())
+    let room = MAX_CONFIG - text.len();
+    read_below(alloc, files, MOST_BELOW, known, wanted.as_slice(), room)
 }
 
 /// The files of these paths that are not known, with those that these include, so many times below.
@@ -154,9 +165,11 @@ fn read_below<F: FileSystem>(
     below: u32,
     known: Vec<Bytes>,
     wanted: &[Bytes],
+    room: usize,
 ) -> Result<Vec<ConfFile>, Unread>
+    requires { room ≤ 16777216 }
     ensures included { IfOk result (λ found. IncludedBelow below known.items wanted.now (map file_of found.items)) }
-    ensures calls { Does (F.disk files.old) (F.disk files.new) (ReadsOrStops (λ found. map file_of found.items) result) }
+    ensures calls { Does (F.disk files.old) (F.disk files.new) (ReadsOrStops room (λ found. map file_of found.items) result) }
 {
     if below == 0 {
         return Ok(Vec::new(alloc));
@@ -165,11 +178,12 @@ fn read_below<F: FileSystem>(
         files: mut found,
         paths,
         wanted,
-    } = read_level(alloc, files, known.as_slice(), wanted)?;
+        room,
+    } = read_level(alloc, files, known.as_slice(), wanted, room)?;
     let mut paths = paths;
     let mut known = known;
     known.append(&mut paths)?;
-    let mut deeper = read_below(alloc, files, below - 1, known, wanted.as_slice())?;
+    let mut deeper = read_below(alloc, files, below - 1, known, wanted.as_slice(), room)?;
     found.append(&mut deeper)?;
     Ok(found)
 }
@@ -180,15 +194,19 @@ fn read_level<F: FileSystem>(
     files: &mut F,
     known: &[Bytes],
     wanted: &[Bytes],
+    room: usize,
 ) -> Result<Level, Unread>
+    requires { room ≤ 16777216 }
     ensures paths { IfOk result (λ level. level.paths.items ≡ new_paths known.now wanted.now) }
     ensures level { IfOk result IsLevel }
-    ensures calls { Does (F.disk files.old) (F.disk files.new) (ReadsOrStops files_of_level result) }
+    ensures room { IfOk result (λ level. room_before level ≡ room) }
+    ensures calls { Does (F.disk files.old) (F.disk files.new) (ReadsOrStops room files_of_level result) }
 {
     let mut level = Level {
         files: Vec::new(alloc),
         paths: Vec::new(alloc),
         wanted: Vec::new(alloc),
+        room,
     };
     for path in wanted {
         level = with_new(alloc, files, known, level, path)?;
@@ -204,22 +222,26 @@ fn with_new<F: FileSystem>(
     level: Level,
     path: &Bytes,
 ) -> Result<Level, Unread>
-    requires { IsLevel level }
+    requires level { IsLevel level }
+    requires room { level.room ≤ 16777216 }
     ensures paths { IfOk result (λ now. now.paths.items ≡ level.paths.items ++ new_paths (known.now ++ level.paths.items) (path.now ∷ [])) }
     ensures level { IfOk result IsLevel }
-    ensures calls { Does (F.disk files.old) (F.disk files.new) (ReadsMore (files_of_level level) files_of_level result) }
+    ensures room { IfOk result (λ now. room_before now ≡ room_before level) }
+    ensures calls { Does (F.disk files.old) (F.disk files.new) (ReadsMore level.room (files_of_level level) files_of_level result) }
 {
-    if is_known_or_new(known, level.paths.as_slice(), path) {
+    if is_passed_over(known, level.paths.as_slice(), path) {
         return Ok(level);
     }
     with_file(alloc, files, level, path)
 }
 
-/// Whether a path is among these, or among more.
-fn is_known_or_new(known: &[Bytes], more: &[Bytes], path: &Bytes) -> bool
-    ensures { result ≡ is_known (known.now ++ more.now) path.now }
+/// Whether a path is among these or among more, or so many are known that no other is read.
+fn is_passed_over(known: &[Bytes], more: &[Bytes], path: &Bytes) -> bool
+    ensures { result ≡ is_passed_over (known.now ++ more.now) path.now }
 {
-    is_known(known, path) || is_known(more, path)
+    known.len().saturating_add(more.len()) >= MOST_FILES
+        || is_known(known, path)
+        || is_known(more, path)
 }
 
 /// Whether a path is among these.
@@ -236,18 +258,22 @@ fn with_file<F: FileSystem>(
     level: Level,
     path: &Bytes,
 ) -> Result<Level, Unread>
-    requires { IsLevel level }
+    requires level { IsLevel level }
+    requires room { level.room ≤ 16777216 }
     ensures path { IfOk result (λ now. now.paths.items ≡ level.paths.items ++ path.now ∷ []) }
     ensures level { IfOk result IsLevel }
-    ensures calls { Does (F.disk files.old) (F.disk files.new) (ReadsMore (files_of_level level) files_of_level result) }
+    ensures room { IfOk result (λ now. room_before now ≡ room_before level) }
+    ensures calls { Does (F.disk files.old) (F.disk files.new) (ReadsMore level.room (files_of_level level) files_of_level result) }
 {
     let Level {
         files: mut found,
         mut paths,
         mut wanted,
+        room,
     } = level;
     let path = path.as_slice();
-    let text = text_at(alloc, files, path)?;
+    let text = text_at(alloc, files, path, room)?;
+    let room = room - text_size(text.as_deref());
     let mut included = included_by_text(alloc, text.as_deref())?;
     wanted.append(&mut included)?;
     paths.push(Bytes::new(path.to_vec(alloc)?))?;
@@ -256,7 +282,18 @@ fn with_file<F: FileSystem>(
         files: found,
         paths,
         wanted,
+        room,
     })
+}
+
+/// How many bytes a text has; none, if there is no text.
+fn text_size(text: Option<&[u8]>) -> usize
+    ensures { result ≡ text_size (option_copied text.entry) }
+{
+    match text {
+        Some(text) => text.len(),
+        None => 0,
+    }
 }
 
 /// The file of a path that has this text, if it has one.
@@ -284,20 +321,22 @@ fn included_by_text(alloc: Global, text: Option<&[u8]>) -> Result<Vec<Bytes>, Me
     }
 }
 
-/// Opens and reads the file at a path, where another includes it. One that can't be opened has no text.
+/// Opens and reads the file at a path, where another includes it, which may have so many bytes. One that can't be opened has no text.
 fn text_at<F: FileSystem>(
     alloc: Global,
     files: &mut F,
     path: &[u8],
+    room: usize,
 ) -> Result<Option<Vec<u8>>, Unread>
-    ensures short { IfOk result (λ text. IfSome text (λ text. length text.items ≤ 16777216)) }
-    ensures calls { Does (F.disk files.old) (F.disk files.new) (ReadsOrStops (λ text. record { path = path.now; text = option_map (λ text. text.items) text } ∷ []) result) }
+    requires { room ≤ 16777216 }
+    ensures short { IfOk result (λ text. IfSome text (λ text. length text.items ≤ room)) }
+    ensures calls { Does (F.disk files.old) (F.disk files.new) (ReadsOrStops room (λ text. record { path = path.now; text = option_map (λ text. text.items) text } ∷ []) result) }
 {
     let Ok(path) = std::str::from_utf8(path) else {
         return Ok(None);
     };
     match files.open(path) {
-        Ok(mut opened) => Ok(Some(whole_text(alloc, &mut opened.file)?)),
+        Ok(mut opened) => Ok(Some(whole_text(alloc, &mut opened.file, room)?)),
         Err(Refusal::Memory) => Err(Unread::Memory),
         Err(Refusal::Exists | Refusal::Other) => Ok(None),
     }

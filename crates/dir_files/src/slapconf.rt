@@ -15,6 +15,7 @@ use crate::including::{not_read, read_files, whole_text};
 use crate::one_output::finish;
 use crate::slapmodify::{not_created, not_opened, run_fault};
 use crate::words::{ConfSource, ConfWords};
+use dir_acl::MAX_CONFIG;
 use dir_conf::{ConfFault, FileFault, Flat, Tally, flat_of_config, flat_of_files};
 use dir_ldif::{DeviceFault, Sink, write_whole};
 use dir_names::{DnKey, Memory, Schema};
@@ -126,7 +127,7 @@ fn of_cn_config<'a, F: FileSystem>(
         Ok(opened) => opened,
         Err(why) => return Err(not_opened(path, why)),
     };
-    let text = match whole_text(alloc, &mut opened.file) {
+    let text = match whole_text(alloc, &mut opened.file, MAX_CONFIG) {
         Ok(text) => text,
         Err(why) => return Err(not_read(why)),
     };

@@ -22,20 +22,20 @@ returns-then-below-eq0-clause-included g t c =
 pub returns-in_err-append-clause-calls : goal.returns-in_err-append-clause-calls
 returns-in_err-append-clause-calls g t c =
     let result : c.from_residual-in_err-append.result ≡ Err unread.Memory = search rules in
-    subst (λ (r : Result (Vec ConfFile Global) Unread). Does (g.F.FileSystem.disk c.args.files.now) (g.F.FileSystem.disk c.read_level.new.files) (ReadsOrStops Files r)) (sym result)
-    (memory_after (g.F.FileSystem.disk c.args.files.now) (g.F.FileSystem.disk c.read_level.new.files) _ c.in_ok-found.ensures.calls)
+    subst (λ (r : Result (Vec ConfFile Global) Unread). Does (g.F.FileSystem.disk c.args.files.now) (g.F.FileSystem.disk c.read_level.new.files) (ReadsOrStops c.args.room Files r)) (sym result)
+    (memory_after (g.F.FileSystem.disk c.args.files.now) (g.F.FileSystem.disk c.read_level.new.files) c.args.room _ c.in_ok-found.ensures.calls)
 
 pub returns-in_err-deeper-clause-calls : goal.returns-in_err-deeper-clause-calls
 returns-in_err-deeper-clause-calls g t c =
     let result : c.from_residual-in_err-deeper.result ≡ Err c.in_err-deeper.field-0.0 = search rules in
-    subst (λ (r : Result (Vec ConfFile Global) Unread). Does (g.F.FileSystem.disk c.args.files.now) (g.F.FileSystem.disk c.read_below.new.files) (ReadsOrStops Files r)) (sym result)
-    (stopped_after (g.F.FileSystem.disk c.args.files.now) (g.F.FileSystem.disk c.read_level.new.files) (g.F.FileSystem.disk c.read_below.new.files) _ _ c.in_ok-found.ensures.calls c.in_err-deeper.ensures.calls)
+    subst (λ (r : Result (Vec ConfFile Global) Unread). Does (g.F.FileSystem.disk c.args.files.now) (g.F.FileSystem.disk c.read_below.new.files) (ReadsOrStops c.args.room Files r)) (sym result)
+    (stopped_after (g.F.FileSystem.disk c.args.files.now) (g.F.FileSystem.disk c.read_level.new.files) (g.F.FileSystem.disk c.read_below.new.files) c.in_ok-found.field-0.room c.args.room _ _ c.in_ok-found.ensures.room c.in_ok-found.ensures.calls c.in_err-deeper.ensures.calls)
 
 pub returns-in_err-append-2-clause-calls : goal.returns-in_err-append-2-clause-calls
 returns-in_err-append-2-clause-calls g t c =
     let result : c.from_residual-in_err-append-2.result ≡ Err unread.Memory = search rules in
-    subst (λ (r : Result (Vec ConfFile Global) Unread). Does (g.F.FileSystem.disk c.args.files.now) (g.F.FileSystem.disk c.read_below.new.files) (ReadsOrStops Files r)) (sym result)
-    (memory_after (g.F.FileSystem.disk c.args.files.now) (g.F.FileSystem.disk c.read_below.new.files) _
+    subst (λ (r : Result (Vec ConfFile Global) Unread). Does (g.F.FileSystem.disk c.args.files.now) (g.F.FileSystem.disk c.read_below.new.files) (ReadsOrStops c.args.room Files r)) (sym result)
+    (memory_after (g.F.FileSystem.disk c.args.files.now) (g.F.FileSystem.disk c.read_below.new.files) c.args.room _
     (all_read (g.F.FileSystem.disk c.args.files.now) (g.F.FileSystem.disk c.read_level.new.files) (g.F.FileSystem.disk c.read_below.new.files) _ _ c.in_ok-found.ensures.calls c.in_ok-deeper.ensures.calls))
 
 pub returns-clause-included : goal.returns-clause-included
