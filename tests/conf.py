@@ -317,6 +317,12 @@ CONFIGS = {
         ),
         "types 1, rules 2, frontend 0\n",
     ),
+    # slapd writes its own types there, and reads none
+    "the record of slapd's own schema": (
+        f"dn: CN=schema,cn=config\nolcObjectIdentifier: my 1.2\nolcAttributeTypes: {{1}}( 2.5.4.0 NAME 'objectClass' )\n\n{RECORD}olcAttributeTypes: ( my:3 NAME 'a' )\n",
+        "attributetype ( 1.2.3 NAME 'a' )\ndatabase mdb\nsuffix dc=com\n",
+        "types 1, rules 0, frontend 0\n",
+    ),
     "two suffixes of the database": (f"{RECORD}olcSuffix: dc=net\n", "database mdb\nsuffix dc=com\nsuffix dc=net\n", "types 0, rules 0, frontend 0\n"),
     "ten rules": (
         RECORD + "".join(f"olcAccess: {{{n}}}to attrs=a{n} by * read\n" for n in range(11)),
@@ -422,6 +428,10 @@ FAULTS = [
     ({"conf": CONF + "access to * by * read\\\\\\\n"}, None),
     ({"conf": "include a\\\n", "a": ""}, "conf, line 1: K3 BadArguments"),
     ({"conf": "include a\n", "a": "access to\n * by\n\t\"x\n"}, "a, line 1: K3 BadArguments"),
+    # a definition whose first word stands in quotes
+    ({"conf": '"attributetype" ( 1.3.6.1.4.1.32473.5 )\n' + CONF}, "conf, line 1: K3 BadArguments"),
+    ({"conf": CONF + "include a\n", "a": '\nattr"ibuteFoo"\\\n x\n'}, "a, line 2: K3 BadArguments"),
+    ({"conf": '"attributeoptions" x-\n' + CONF}, None),
     # a macro without exactly two arguments
     ({"conf": "objectidentifier\n" + CONF}, "conf, line 1: K3 BadArguments"),
     ({"conf": "objectidentifier my\n" + CONF}, "conf, line 1: K3 BadArguments"),
@@ -542,6 +552,22 @@ def files_are_at_most_16_deep(trial):
     check_row(trial, files, made(OF_CONF + "".join(f"access to attrs=a{n} by * read\n" for n in range(14)), "types 0, rules 1, frontend 14\n"))
 
 
+def files_are_at_most_a_thousand(trial):
+    """The first one is among them, and so are those that can't be opened."""
+    many = {f"f{n}": "" for n in range(998)} | {"last": CONF, "more": ""}
+    lines = "".join(f"include f{n}\n" for n in range(998))
+    for conf, wanted in (
+        ("include last\ninclude f0\n", made(OF_CONF, ONE_RULE)),
+        ("include last\ninclude more\n", refused("conf, line 1000: K1 BadInclude")),
+        ("include none\ninclude last\n", refused("conf, line 999: K1 BadInclude")),
+    ):
+        check_row(trial, many | {"conf": lines + conf}, wanted, what=f"998 lines, and {conf}")
+    # those that it names itself are read before those that these name
+    check_row(trial, many | {"conf": lines + "include last\n", "f0": "include more\n"}, refused("f0, line 1: K1 BadInclude"), what="one deeper")
+    # so many that it would take hours to look for each among all
+    check_row(trial, {"conf": "".join(f"include none{n}\n" for n in range(300_000))}, refused("conf, line 1: K1 BadInclude"), what="300,000 that are not there")
+
+
 def a_text_counts_as_often_as_it_is_included(trial):
     conf = "include a\n" * 15 + CONF
     size, rest = divmod(MOST_BYTES - len(conf), 15)
@@ -552,6 +578,10 @@ def a_text_counts_as_often_as_it_is_included(trial):
         check_row(trial, {"config": text + "#" * (MOST_BYTES - len(text) + more)}, wanted, what=f"cn=config, {more} bytes more")
     # one that is too long is found before another that can't be read
     trial.write({"conf": "include long\ninclude sub\n", "long": "#" * (MOST_BYTES + 1), "sub/x": ""})
+    expect(trial.of_conf(), refused("config: K7 TooLong"))
+    # and so are two that are too long together
+    half = "#" * (MOST_BYTES // 2)
+    trial.write({"conf": "include one\ninclude two\ninclude sub\n", "one": half, "two": half})
     expect(trial.of_conf(), refused("config: K7 TooLong"))
 
 
@@ -802,6 +832,7 @@ CHECKS = [
     faults_of_cn_config_are_told,
     the_first_fault_decides,
     files_are_at_most_16_deep,
+    files_are_at_most_a_thousand,
     a_text_counts_as_often_as_it_is_included,
     the_flat_configuration_has_a_limit,
     faults_of_the_command_line_come_first,

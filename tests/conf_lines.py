@@ -45,6 +45,7 @@ LINES = [
     *((f"{word}{ROOM[13:]}{PART}access to attrs=room by * read\n", {}) for word in ("attribute", "attributetypes", "AttributeType", "attributefoo", "attributeoption", "attributeoptionsx")),
     (f"attributeoptions x- y-\n{PART}access to attrs=cn;x-a by * read\n", {}),
     (f"{ROOM[:-1]} # a note\n{PART}access to attrs=room by * read\n", {}),
+    (f"\"attributetype\"{ROOM[13:]}{PART}access to attrs=room by * read\n", {}),
     (f"attributetype \"{ROOM[14:-1]}\"\n{PART}access to attrs=room by * read\n", {}),
     (f"attributetype(1.3.6.1.4.1.32473.1 NAME 'room' SUP name)\n{PART}{SN}", {}),
     (f"attributetype (1.3.6.1.4.1.32473.1\n\tname 'room'\n\tDESC 'a \"b  c\\'\n\tsup name)\n{PART}access to attrs=room by * read\n", {}),

@@ -16,6 +16,7 @@ from names import NameFault, as_bytes, as_text
 
 MOST_BYTES = 16_777_216
 MOST_FILES_DEEP = 16
+MOST_FILES = 1000
 WHITE = b" \t\n\v\f\r"
 WORD = re.compile(rb"[^ \t\n\v\f\r]*")
 
@@ -160,12 +161,16 @@ def words_of(line):
     return None if None in words else [as_bytes(word) for word in words]
 
 
+def defines(word):
+    """Whether a line with this first word is a definition for slapd."""
+    return word[:9].lower() == b"attribute" and word.lower() != b"attributeoptions"
+
+
 def defined_in(line):
     """The definition of an attribute type in a line."""
     text = line.lstrip(WHITE)
     word = WORD.match(text)[0]
-    is_one = word[:9].lower() == b"attribute" and word.lower() != b"attributeoptions"
-    return text[len(word) :] if is_one else None
+    return text[len(word) :] if defines(word) else None
 
 
 def included_by(line):
@@ -179,10 +184,7 @@ def text_at(path, read):
         path.decode()
     except UnicodeDecodeError:
         return None
-    text = read(path)
-    if text is not None and len(text) > MOST_BYTES:
-        raise BadConfig(TOO_LONG)
-    return text
+    return read(path)
 
 
 def files_of(path, read):
@@ -194,8 +196,11 @@ def files_of(path, read):
     for _ in range(MOST_FILES_DEEP - 1):
         wanted = [included_by(line) for path in level for _, line in lines_of(texts[path] or b"")]
         level = [path for path in dict.fromkeys(wanted) if path is not None and path not in texts]
+        level = level[: MOST_FILES - len(texts)]
         for path in level:
             texts[path] = text_at(path, read)
+            if sum(map(len, filter(None, texts.values()))) > MOST_BYTES:
+                raise BadConfig(TOO_LONG)
     return texts
 
 
@@ -228,6 +233,8 @@ def statements_of(lines):
             raise BadConfig(BAD_ARGUMENTS, place)
         if words and words[0].lower() == b"include":
             raise BadConfig(BAD_INCLUDE, place)
+        if words and defines(words[0]):
+            raise BadConfig(BAD_ARGUMENTS, place)
         found.append((place, text, words))
     return found
 
@@ -353,6 +360,9 @@ def config_types_of(records):
     for record in records:
         for number, value in values_of(record, "olcObjectIdentifier"):
             macros = with_macro(macros, number, arguments_of(number, value))
+        # slapd reads none of these from there
+        if any(name == "dn" and value.lower() == b"cn=schema,cn=config" for _, name, value in record):
+            continue
         types += [definition(macros, value) for _, value in values_of(record, "olcAttributeTypes")]
     return types
 

@@ -21,7 +21,7 @@ use Rattle.dir_conf.specs.Laws.{FlatFilesAreRead, ReadsSite, has_one_line, is_no
 use Rattle.dir_conf.specs.SlapdConf.{by_lines, located, located_result, macros_by, site_of, site_of_lines, types_of}
 use Rattle.dir_conf.specs.SlapdConf.Files.{Placed, after_each, lines_of_files}
 use Rattle.dir_conf.specs.SlapdConf.Parts.{Database, Parts, after_database, after_one, after_statement, after_suffix, after_words, database_of, in_database, in_frontend, in_part, lines_of, no_parts, opened, part_named, parts_of, with_own, with_suffixes}
-use Rattle.dir_conf.specs.SlapdConf.Statements.{Statement, by_definition, by_words, defined_in, statement_in, statements_from}
+use Rattle.dir_conf.specs.SlapdConf.Statements.{Statement, by_definition, by_words, defined_in, is_definition_word, statement_in, statements_from}
 use Rattle.dir_acl.proofs.Grammar.Sound.{first_true, second_true}
 use Rattle.dir_acl.specs.Config.Names.{is_word}
 use Rattle.dir_conf.specs.declared.cn_config.databases.Suffix.{Suffix}
@@ -54,13 +54,16 @@ words_flat : (line : ℕ) (words : Option (List (List ℕ))) → OfValue (λ fou
 unfolding is_flat
 words_flat line None = tt
 words_flat line (Some []) = refl
-words_flat line (Some (keyword ∷ arguments)) = by (is_word keyword (codes "include")) (list_all (list_all is_no_feed) (keyword ∷ arguments)) refl
+words_flat line (Some (keyword ∷ arguments)) =
+    by (is_word keyword (codes "include")) (is_definition_word keyword) (list_all (list_all is_no_feed) (keyword ∷ arguments)) refl
   where
-    by : (t u : Bool) → list_all (list_all is_no_feed) (keyword ∷ arguments) ≡ u
-        → OfValue (λ found. list_all is_flat found ≡ true) (cond {A = Result (List Statement) ConfFault} t (Err (BadInclude line)) (cond {A = Result (List Statement) ConfFault} u (Ok ((line, Words (keyword ∷ arguments)) ∷ [])) (Err (BadArguments line))))
-    by true u e = tt
-    by false true e = both (list_all (list_all is_no_feed) (keyword ∷ arguments)) _ e refl
-    by false false e = tt
+    by : (t d u : Bool) → list_all (list_all is_no_feed) (keyword ∷ arguments) ≡ u
+        → OfValue (λ found. list_all is_flat found ≡ true) (cond {A = Result (List Statement) ConfFault} t (Err (BadInclude line)) (cond {A = Result (List Statement) ConfFault} d (Err (BadArguments line))
+        (cond {A = Result (List Statement) ConfFault} u (Ok ((line, Words (keyword ∷ arguments)) ∷ [])) (Err (BadArguments line)))))
+    by true d u e = tt
+    by false true u e = tt
+    by false false true e = both (list_all (list_all is_no_feed) (keyword ∷ arguments)) _ e refl
+    by false false false e = tt
 
 statement_flat : (line : ℕ) (text : List ℕ) (definition : Option (List ℕ)) → OfValue (λ found. list_all is_flat found ≡ true) (by_definition line text definition)
 unfolding is_flat

@@ -17,7 +17,7 @@ use Rattle.dir_conf.specs.declared.fault.ConfFault.TheVariants.{BadArguments}
 use Rattle.dir_conf.specs.declared.site.Directive.{Directive}
 use Rattle.dir_conf.specs.declared.site.Directive.TheVariants.{Suffix, RootDn}
 use Rattle.dir_conf.specs.declared.site.Line.{Line}
-use Rattle.dir_conf.specs.CnConfig.{definitions, lines_in, macros_after, rule_by, rule_line, rules_if_frontend, rules_in, site_of, types_in, types_of, whole_line, whole_lines}
+use Rattle.dir_conf.specs.CnConfig.{definitions, is_own_schema, lines_in, macros_after, rule_by, rule_line, rules_if_frontend, rules_in, site_of, types_in, types_of, whole_line, whole_lines}
 use Rattle.dir_conf.specs.CnConfig.Arguments.{after_step, arguments_from, arguments_of, is_white, last_argument, step_in_argument, step_of}
 use Rattle.dir_conf.specs.CnConfig.Databases.{database_of, is_frontend}
 use Rattle.dir_conf.specs.CnConfig.Macros.{by_first, definition, plain_byte, without_white}
@@ -72,8 +72,12 @@ definitions_no_ends macros [] = refl
 definitions_no_ends macros (value ∷ more) = both (list_all is_no_end (definition macros value.1)) _ (plain_no_ends (by_first macros value.1 (without_white value.1))) (definitions_no_ends macros more)
 
 types_in_flat : (macros : List Macro) (entry : List Attribute) → OfValue (λ types. list_all (list_all is_no_end) types ≡ true) (types_in macros entry)
-types_in_flat macros entry =
-    then_value (λ types. list_all (list_all is_no_end) types ≡ true) (values_of (codes "olcAttributeTypes") entry) (λ values. Ok (definitions macros values)) (λ values. definitions_no_ends macros values)
+types_in_flat macros entry = by (is_own_schema entry)
+  where
+    by : (t : Bool) → OfValue (λ types. list_all (list_all is_no_end) types ≡ true) (cond t (Ok []) (and_then (values_of (codes "olcAttributeTypes") entry) (λ values. Ok (definitions macros values))))
+    by true = refl
+    by false =
+        then_value (λ types. list_all (list_all is_no_end) types ≡ true) (values_of (codes "olcAttributeTypes") entry) (λ values. Ok (definitions macros values)) (λ values. definitions_no_ends macros values)
 
 types_flat : (macros : List Macro) (entries : List (List Attribute)) → OfValue (λ types. list_all (list_all is_no_end) types ≡ true) (types_of macros entries)
 types_flat macros [] = refl

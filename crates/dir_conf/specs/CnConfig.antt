@@ -4,13 +4,14 @@ pub mod Databases
 pub mod Macros
 pub mod Records
 pub mod Values
-use Rattle.std.specs.Prelude.{ℕ, Bool, cond, List, [], ◌∷◌, ◌++◌, map, codes, Option, None, Some, Result, Ok, Err}
-use Rattle.std.specs.List.{list_all}
+use Rattle.std.specs.Prelude.{ℕ, Bool, cond, ◌&&◌, List, [], ◌∷◌, ◌++◌, map, codes, Option, None, Some, Result, Ok, Err}
+use Rattle.std.specs.List.{list_all, list_any}
 use Rattle.dir_names.specs.Keys.{DnKeys}
 use Rattle.dir_names.specs.Results.{and_then}
 use Rattle.dir_names.specs.declared.schema.TypeRow.{TypeRow}
 use Rattle.dir_ldif.specs.Blocks.{BlockResult, blocks_of}
 use Rattle.dir_ldif.specs.LogicalLines.{Line}
+use Rattle.dir_ldif.specs.RecordGrammar.{is_keyword}
 use Rattle.dir_conf.specs.declared.cn_config.macros.Macro.{Macro}
 use Rattle.dir_conf.specs.declared.cn_config.records.Attribute.{Attribute}
 use Rattle.dir_conf.specs.declared.fault.ConfFault.{ConfFault}
@@ -35,9 +36,13 @@ definitions macros values = map (λ (value : Numbered). definition macros value.
 abbrev pub macros_after : List Macro → List Attribute → Result (List Macro) ConfFault
 macros_after macros entry = and_then (values_of (codes "olcObjectIdentifier") entry) (with_macros macros)
 
+-- the record of slapd's own schema: slapd writes its own types there, and reads none from there
+abbrev pub is_own_schema : List Attribute → Bool
+is_own_schema entry = list_any (λ (attribute : Attribute). is_keyword attribute.name (codes "dn") && is_keyword attribute.value (codes "cn=schema,cn=config")) entry
+
 -- the definitions of a record, under these macros
 abbrev pub types_in : List Macro → List Attribute → Result (List (List ℕ)) ConfFault
-types_in macros entry = and_then (values_of (codes "olcAttributeTypes") entry) (λ values. Ok (definitions macros values))
+types_in macros entry = cond (is_own_schema entry) (Ok []) (and_then (values_of (codes "olcAttributeTypes") entry) (λ values. Ok (definitions macros values)))
 
 -- the definitions of all records, in their order
 abbrev pub types_of : List Macro → List (List Attribute) → Result (List (List ℕ)) ConfFault

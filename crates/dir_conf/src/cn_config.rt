@@ -3,7 +3,7 @@
 
 ghost use Rattle.std.specs.Prelude.{◌≡◌, ◌≤◌, ◌∷◌, [], Ok, length, map};
 ghost use Rattle.dir_conf.specs.Inside.{ended};
-ghost use Rattle.dir_conf.specs.CnConfig.{definitions, entries_of, entry_of, flat_of_config, lines_in, macros_after, rule_line, rules_if_frontend, rules_in, site_of, types_in, types_of, whole_line, whole_lines};
+ghost use Rattle.dir_conf.specs.CnConfig.{definitions, entries_of, entry_of, flat_of_config, is_own_schema, lines_in, macros_after, rule_line, rules_if_frontend, rules_in, site_of, types_in, types_of, whole_line, whole_lines};
 ghost use Rattle.dir_conf.specs.CnConfig.Records.{gather};
 ghost use Rattle.dir_conf.specs.CnConfig.Values.{numbered};
 ghost use Rattle.dir_conf.specs.Flat.{content_of, flat_parts, is_no_feed};
@@ -133,8 +133,24 @@ fn macros_after(
 fn types_in(alloc: Global, macros: &[Macro], entry: &[Attribute]) -> Result<Vec<Bytes>, ConfFault>
     ensures { GivesConf (λ types. types.items) result (types_in macros.now entry.now) }
 {
+    if is_own_schema(entry) {
+        return Ok(Vec::new(alloc));
+    }
     let values = values_of(alloc, b"olcAttributeTypes", entry)?;
     definitions(alloc, macros, values.as_slice())
+}
+
+/// Whether a record is that of slapd's own schema, from which slapd reads no types.
+fn is_own_schema(entry: &[Attribute]) -> bool
+    ensures { result ≡ is_own_schema entry.now }
+{
+    entry.iter().any(|attribute| {
+        attribute.name.as_slice().eq_ignore_ascii_case(b"dn")
+            && attribute
+                .value
+                .as_slice()
+                .eq_ignore_ascii_case(b"cn=schema,cn=config")
+    })
 }
 
 fn definitions(alloc: Global, macros: &[Macro], values: &[Value]) -> Result<Vec<Bytes>, ConfFault>

@@ -3,7 +3,7 @@
 ghost use Rattle.std.specs.Prelude.{◌≡◌, ◌++◌, IfOk, OnOk};
 ghost use Rattle.std.specs.List.{count_by, flat_map};
 ghost use Rattle.dir_acl.specs.Config.Quoting.{preceded};
-ghost use Rattle.dir_conf.specs.Flat.{content_of, directive_line, flat_of_site, flat_parts, is_rule, is_rule_by, site_text, tally_of, type_line};
+ghost use Rattle.dir_conf.specs.Flat.{content_of, directive_line, flat_of_site, flat_parts, is_rule, site_text, tally_of, type_line};
 ghost use Rattle.dir_conf.specs.Outcome.{GivesConf};
 ghost use Rattle.dir_conf.specs.OwnTypes.{own_types};
 
@@ -39,8 +39,7 @@ pub(crate) fn flat_of_site(alloc: Global, site: &Site) -> Result<Flat, ConfFault
 }
 
 /// The text of a slapd.conf that says what a site has, and nothing else: slapd's own attribute types and each definition, in a line of
-/// `attributetype`, then `database mdb`, its
-/// lines, and the frontend's rules. Where an argument is empty or has white space, a quote or a backslash, it stands in quotes.
+/// `attributetype`, then `database mdb`, its lines, and the frontend's rules. Where an argument is empty or has white space, a quote or a backslash, it stands in quotes.
 pub fn flat_text(alloc: Global, site: &Site) -> Result<Vec<u8>, Memory>
     ensures { IfOk result (λ text. text.items ≡ site_text (content_of site.now)) }
 {
@@ -137,13 +136,7 @@ fn rules_among(lines: &[Line]) -> usize
 fn is_rule(line: &Line) -> bool
     ensures { result ≡ is_rule line.now }
 {
-    is_rule_by(line.directive)
-}
-
-fn is_rule_by(directive: Directive) -> bool
-    ensures { result ≡ is_rule_by directive }
-{
-    match directive {
+    match line.directive {
         Directive::Access => true,
         Directive::Suffix | Directive::RootDn => false,
     }

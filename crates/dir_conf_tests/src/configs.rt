@@ -12,7 +12,7 @@ struct Row {
     flat: &'static str,
 }
 
-static FLAT: [Row; 6] = [
+static FLAT: [Row; 7] = [
     // the rules of the database come first, whatever the order of the records; passwords are left out
     Row {
         config: "dn: olcDatabase={-1}frontend,cn=config\nolcDatabase: {-1}frontend\nolcAccess: {0}to * by * read\n\n\
@@ -36,6 +36,12 @@ olcAttributeTypes: {0}( SiteTypes:7 NAME 'room' SUP name )\nolcAttributeTypes: {
     Row {
         config: "dn: cn=a\nolcObjectIdentifier: Site 1.2\n\ndn: cn=b\nolcSuffix: dc=com\nolcAttributeTypes:: KCBTaXRlOjMKCU5BTUUgJ2EnICk=\n",
         flat: "attributetype ( 1.2.3  NAME 'a' )\ndatabase mdb\nsuffix dc=com\n",
+    },
+    // slapd reads no types from the record of its own schema, whatever the case of its name; a macro of it is known
+    Row {
+        config: "dn: cn=Schema,cn=config\nolcObjectIdentifier: {0}Own 1.2\nolcAttributeTypes: {0}( 2.5.4.0 NAME 'objectClass' )\n\n\
+dn: cn={0}x,cn=schema,cn=config\nolcAttributeTypes: {0}( Own:3 NAME 'a' )\n\ndn: cn=b\nolcSuffix: dc=com\n",
+        flat: "attributetype ( 1.2.3 NAME 'a' )\ndatabase mdb\nsuffix dc=com\n",
     },
     // a backslash in a rule is a byte like others, and is written with another before it
     Row {

@@ -97,7 +97,7 @@ fn files_in(rt: &impl Abort, alloc: Global, text: &str) -> Vec<ConfFile> {
 }
 
 /// Configurations, and their faults with the file and the number of the line.
-static FAULTS: [(&str, &str); 21] = [
+static FAULTS: [(&str, &str); 23] = [
     ("", "K4 NoDatabase"),
     ("== a\ndatabase mdb\nsuffix dc=net\n", "K4 NoDatabase"),
     ("== a\nsuffix dc=com\n", "K4 NoDatabase"),
@@ -111,6 +111,15 @@ static FAULTS: [(&str, &str); 21] = [
         "b 2 K3 BadArguments",
     ),
     ("== a\ninclude b\nx \"\n== b\nx\n", "a 2 K3 BadArguments"),
+    // slapd takes these as definitions
+    (
+        "== a\n\"attributetype\" ( 1.2 NAME 'a' )\n",
+        "a 1 K3 BadArguments",
+    ),
+    (
+        "== a\ninclude b\n== b\n\nattr\"ibute\" ( 1.2 )\n",
+        "b 2 K3 BadArguments",
+    ),
     ("== a\nobjectidentifier Site\n", "a 1 K3 BadArguments"),
     ("== a\nobjectidentifier Site 1.2 x\n", "a 1 K3 BadArguments"),
     ("== a\ndatabase\n", "a 1 K3 BadArguments"),

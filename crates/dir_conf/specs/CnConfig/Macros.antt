@@ -52,7 +52,7 @@ without_white (b ∷ bs) = cond (is_white b) (without_white bs) (b ∷ bs)
 abbrev pub with_first_word : List Macro → List ℕ → List ℕ
 with_first_word macros text = codes "( " ++ expanded macros (before_first is_white text) ++ drop (position_or_len is_white text) text
 
--- the first word after the parenthesis that a definition begins with is its number, or stands for it
+-- the first word after the parenthesis that a definition begins with is its number, which may be written as a macro
 abbrev pub by_first : List Macro → List ℕ → List ℕ → List ℕ
 by_first macros text [] = text
 by_first macros text (b ∷ bs) = cond (b == left_parenthesis) (with_first_word macros (without_white bs)) text

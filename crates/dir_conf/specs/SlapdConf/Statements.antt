@@ -40,13 +40,15 @@ defined_in line = defined_after (without_white line)
 
 -- ---- words
 
--- a line without words says nothing. One that includes a file is here only where it could not be followed
+-- a line without words says nothing. One that includes a file is here only where it could not be followed, and a definition only where its first word
+-- stands in quotes: slapd takes it as one, and it is refused
 abbrev pub by_words : ℕ → Option (List (List ℕ)) → Result (List Statement) ConfFault
 by_words line None = Err (BadArguments line)
 by_words line (Some []) = Ok []
 by_words line (Some (keyword ∷ arguments)) =
     cond (is_word keyword (codes "include")) (Err (BadInclude line))
-    (cond (list_all (list_all is_no_feed) (keyword ∷ arguments)) (Ok ((line, Words (keyword ∷ arguments)) ∷ [])) (Err (BadArguments line)))
+    (cond (is_definition_word keyword) (Err (BadArguments line))
+    (cond (list_all (list_all is_no_feed) (keyword ∷ arguments)) (Ok ((line, Words (keyword ∷ arguments)) ∷ [])) (Err (BadArguments line))))
 
 abbrev pub by_definition : ℕ → List ℕ → Option (List ℕ) → Result (List Statement) ConfFault
 by_definition line text (Some definition) = Ok ((line, Defines definition) ∷ [])

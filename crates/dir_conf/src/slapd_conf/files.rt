@@ -69,17 +69,11 @@ fn included_path(alloc: Global, line: &[u8]) -> Result<Option<Bytes>, Memory>
         return Ok(None);
     };
     match words.as_slice() {
-        [keyword, path] if keyword.as_slice().eq_ignore_ascii_case(b"include") => copied(
-            alloc, path,
-        ),
+        [keyword, path] if keyword.as_slice().eq_ignore_ascii_case(b"include") => {
+            Ok(Some(Bytes::new(path.as_slice().to_vec(alloc)?)))
+        }
         _ => Ok(None),
     }
-}
-
-fn copied(alloc: Global, path: &Bytes) -> Result<Option<Bytes>, Memory>
-    ensures { IfOk result (λ copy. copy ≡ Some path.now) }
-{
-    Ok(Some(Bytes::new(path.as_slice().to_vec(alloc)?)))
 }
 
 /// The lines of a configuration of these files, the first of which includes the others. A line that includes a file is taken as the lines of that

@@ -94,6 +94,9 @@ fn by_words(alloc: Global, number: u64, line: &[u8]) -> Result<Option<SaidLine>,
         [keyword, ..] if keyword.as_slice().eq_ignore_ascii_case(b"include") => {
             return Err(ConfFault::BadInclude(number));
         }
+        [keyword, ..] if is_definition_word(keyword.as_slice()) => {
+            return Err(ConfFault::BadArguments(number));
+        }
         _ => {}
     }
     if !are_one_line(words.as_slice()) {
