@@ -579,10 +579,12 @@ def a_text_counts_as_often_as_it_is_included(trial):
     # one that is too long is found before another that can't be read
     trial.write({"conf": "include long\ninclude sub\n", "long": "#" * (MOST_BYTES + 1), "sub/x": ""})
     expect(trial.of_conf(), refused("config: K7 TooLong"))
-    # and so are two that are too long together
+    # and so are two that are too long together: the folder, which can be opened and not read, is not opened then
     half = "#" * (MOST_BYTES // 2)
-    trial.write({"conf": "include one\ninclude two\ninclude sub\n", "one": half, "two": half})
+    trial.write({"conf": "include one\ninclude two\ninclude sub\n", "one": half, "two": half, "sub/x": ""})
     expect(trial.of_conf(), refused("config: K7 TooLong"))
+    trial.write({"conf": "include one\ninclude sub\ninclude two\n", "one": half, "two": half, "sub/x": ""})
+    expect(trial.of_conf(), refused("cannot read config"))
 
 
 def the_flat_configuration_has_a_limit(trial):
