@@ -30,7 +30,7 @@ use dir_names::{Bytes, DnKey, Schema, Texts};
 use std::alloc::Global;
 
 /// The flat slapd.conf of the database of a suffix, by the LDIF of cn=config: its attribute types, its suffixes, rootdn and access rules, and the
-/// frontend's rules after these. Passwords are not in it.
+/// frontend's rules after these. Passwords are not in it. The record `cn=schema,cn=config` defines no types: slapd writes its own there.
 ///
 /// # Errors
 ///

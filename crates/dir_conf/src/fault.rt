@@ -17,11 +17,13 @@ pub enum ConfFault {
     BadLine(u64, RecordFault),
     /// The fault in which a text of LDIF ends.
     Ended(StreamFault),
-    /// A file that can't be included: it isn't given, can't be read, or is more than 16 files deep.
+    /// A line that includes no file: it has not exactly one argument, or one that is no UTF-8; or its file isn't given, would be more than 16 files
+    /// deep, or is beyond the thousandth.
     BadInclude(u64),
     /// A value that does not begin with its place in braces, after one that does.
     BadOrder(u64),
-    /// A value that can't be cut into arguments.
+    /// A line or a value that can't be cut into arguments; a suffix or rootdn with a line feed; a definition whose first word stands in quotes; a macro
+    /// that is not a name and a word; a `database` without a name, or a `suffix` that isn't one argument.
     BadArguments(u64),
     /// A suffix that is no legal name.
     BadName(u64),

@@ -37,9 +37,10 @@ pub struct FileFault {
 /// # Errors
 ///
 /// `TooLong` if the files, each taken as often as it is included, have more than 16,777,216 bytes. Then, in the order of the lines, `BadInclude` of one
-/// that can't be followed, and `BadArguments` of one with an open quote or a final backslash. Then `BadArguments` of a macro; of the lines of
-/// databases `BadArguments` of a `database` without a name and of a suffix that isn't one argument, and `BadName`; then, in the order of the databases,
-/// `SecondDatabase` or `Subordinate`, and `NoDatabase`. Last `TooLong`, if the flat configuration has more bytes. `Memory` if memory runs out.
+/// that can't be followed, and `BadArguments` of one with an open quote or a final backslash, or of a definition whose first word stands in quotes.
+/// Then `BadArguments` of a macro; of the lines of databases `BadArguments` of a `database` without a name and of a suffix that isn't one argument, and
+/// `BadName`; then, in the order of the databases, `SecondDatabase` or `Subordinate`, and `NoDatabase`. Last `TooLong`, if the flat configuration has
+/// more bytes. `Memory` if memory runs out.
 pub fn flat_of_files(
     alloc: Global,
     schema: &Schema,

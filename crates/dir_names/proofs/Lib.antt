@@ -12,6 +12,7 @@ pub mod GainedNames
 pub mod GrownTables
 pub mod HasKeys
 pub mod IndexedNames
+pub mod JoinedTexts
 pub mod KeyLemmas
 pub mod KnownParents
 pub mod ListedRules

@@ -1,16 +1,16 @@
--- Two attributes that have ranks are compared by them.
-use Rattle.std.proofs.Common.{◌≡◌, ℕ, zero, suc, ◌<◌, Bool, true, false, ◌&&◌, T, nat_lt, refl, ap, sym, subst, ◌∙◌, arith}
+-- Two types that have ranks are compared by them.
+use Rattle.std.proofs.Common.{◌≡◌, ℕ, zero, suc, ◌<◌, Bool, true, false, ◌&&◌, T, List, nat_lt, refl, ap, sym, subst, ◌∙◌, arith}
 use Rattle.std.specs.declared.cmp.Ordering.{Ordering}
 use Rattle.std.specs.declared.cmp.Ordering.TheVariants.{Less, Equal, Greater}
 use Rattle.std.specs.Ordering.{nat_cmp, is_eq}
 use Rattle.std.specs.Prelude.{◌==◌}
 use Rattle.std.specs.Cmp.{unsigned_ties}
-use Rattle.std.specs.Prelude.{[]}
 use Rattle.std.proofs.lemmas.Bool.{ltb-true, lt-ltb}
 use Rattle.dir_names.specs.Attr.{Attr}
-use Rattle.dir_names.specs.Covers.{covers}
-use Rattle.dir_names.specs.Inside.Ranks.{ranked_types, ranked_attr, HasRank, IsTextAt}
-use Rattle.dir_names.specs.Orders.{attr_cmp, attr_eq, attr_cmp_ties}
+use Rattle.dir_names.specs.declared.schema.TypeRow.{TypeRow}
+use Rattle.dir_names.specs.Inside.Ranks.{ranked_types, ranked_type, ranked_attr, HasRank, IsTextAt}
+use Rattle.dir_names.specs.Orders.{bytes_cmp, bytes_eq, bytes_cmp_ties}
+use Rattle.dir_names.specs.Table.{rule_of, single_of}
 use Rattle.dir_names.proofs.Placed.{first, second}
 
 abbrev is_same : Ordering → Ordering → Bool
@@ -48,28 +48,29 @@ at_below (suc n) f k h t = by (nat_lt k n) refl (at_below n f k)
     by false e earlier = let same : n ≡ k = grind arith in subst (λ x. T (f x)) same (first (f n) _ t)
 
 abbrev are_in_order : ℕ → ℕ → Bool
-are_in_order r s = is_same (attr_cmp (ranked_attr r) (ranked_attr s)) (nat_cmp r s)
+are_in_order r s = is_same (bytes_cmp (ranked_type r) (ranked_type s)) (nat_cmp r s)
 
 in_order : T (all_below 68 (λ r. all_below 68 (are_in_order r)))
 unfolding ranked_types
 in_order = tt
 
-ranked_cmp : (r s : ℕ) → r < 68 → s < 68 → attr_cmp (ranked_attr r) (ranked_attr s) ≡ nat_cmp r s
+ranked_cmp : (r s : ℕ) → r < 68 → s < 68 → bytes_cmp (ranked_type r) (ranked_type s) ≡ nat_cmp r s
 ranked_cmp r s g h = same_ordering _ _ (at_below 68 (are_in_order r) s h (at_below 68 (λ r. all_below 68 (are_in_order r)) r g in_order))
 
-pub cmp_by_rank : (a b : Attr) (r s : ℕ) → HasRank a r → HasRank b s → nat_cmp r s ≡ attr_cmp a b
+pub cmp_by_rank : (a b : List ℕ) (r s : ℕ) → HasRank a r → HasRank b s → nat_cmp r s ≡ bytes_cmp a b
 cmp_by_rank a b r s g h =
-    sym (ranked_cmp r s (ltb-true r 68 g.0) (ltb-true s 68 h.0)) ∙ (λ i. attr_cmp (sym g.1 i) (sym h.1 i))
+    sym (ranked_cmp r s (ltb-true r 68 g.0) (ltb-true s 68 h.0)) ∙ (λ i. bytes_cmp (sym g.1 i) (sym h.1 i))
 
-pub eq_by_rank : (a b : Attr) (r s : ℕ) → HasRank a r → HasRank b s → (r == s) ≡ attr_eq a b
-eq_by_rank a b r s g h = unsigned_ties r s ∙ ap is_eq (cmp_by_rank a b r s g h) ∙ sym (attr_cmp_ties a b)
+pub eq_by_rank : (a b : List ℕ) (r s : ℕ) → HasRank a r → HasRank b s → (r == s) ≡ bytes_eq a b
+eq_by_rank a b r s g h = unsigned_ties r s ∙ ap is_eq (cmp_by_rank a b r s g h) ∙ sym (bytes_cmp_ties a b)
 
--- without options, a key covers another if they are the same
-pub covers_by_rank : (a b : Attr) (r s : ℕ) → HasRank a r → HasRank b s → (r == s) ≡ covers a b
-covers_by_rank a b r s g h =
-    let same : attr_eq (ranked_attr r) (ranked_attr s) ≡ covers (ranked_attr r) (ranked_attr s) = refl in
-    eq_by_rank a b r s g h ∙ (λ i. attr_eq (g.1 i) (h.1 i)) ∙ same ∙ (λ i. covers (sym g.1 i) (sym h.1 i))
-
-pub placed_rank : (attr : Attr) (r : ℕ) → attr.options ≡ [] → IsTextAt ranked_types attr.attr_type r → HasRank attr r
+pub placed_rank : (t : List ℕ) (r : ℕ) → IsTextAt ranked_types t r → HasRank t r
 unfolding ranked_types
-placed_rank attr r none found = (lt-ltb r 68 found.0, λ i. record { attr_type = sym found.1 i; options = none i })
+placed_rank t r found = (lt-ltb r 68 found.0, sym found.1)
+
+-- what a table says of a type, it says of each attribute of this type
+pub rule_by_rank : (rows : List TypeRow) (a : Attr) (r : ℕ) → HasRank a.attr_type r → rule_of rows (ranked_attr r) ≡ rule_of rows a
+rule_by_rank rows a r h = λ i. rule_of rows (record { attr_type = sym h.1 i; options = a.options })
+
+pub single_by_rank : (rows : List TypeRow) (a : Attr) (r : ℕ) → HasRank a.attr_type r → single_of rows (ranked_attr r) ≡ single_of rows a
+single_by_rank rows a r h = λ i. single_of rows (record { attr_type = sym h.1 i; options = a.options })

@@ -16,7 +16,7 @@ use Rattle.dir_names.specs.Inside.SortTexts.{marked_byte, text_sort, list_sort, 
 abbrev Sorts : {A : Type 0} → (A → List ℕ) → (A → A → Ordering) → Type 0
 Sorts {A} f R = (x y : A) (s t : List ℕ) → bytes_cmp (f x ++ s) (f y ++ t) ≡ ordering_then (R x y) (bytes_cmp s t)
 
-then_assoc : (a b c : Ordering) → ordering_then a (ordering_then b c) ≡ ordering_then (ordering_then a b) c
+pub then_assoc : (a b c : Ordering) → ordering_then a (ordering_then b c) ≡ ordering_then (ordering_then a b) c
 then_assoc Less b c = refl
 then_assoc Equal b c = refl
 then_assoc Greater b c = refl

@@ -1,4 +1,4 @@
-//! Attribute descriptions as they are spelled, and what they mean (RFC 4512, section 2.5).
+//! Attribute descriptions as they are spelled, and what they mean (RFC 4512, section 2.5); in `options` their options.
 
 ghost use Rattle.std.specs.Cmp.{partial_order_from_agreeing_total};
 ghost use Rattle.std.specs.List.{before_first, list_all, list_any};
@@ -8,18 +8,21 @@ ghost use Rattle.std.specs.Str.{str_to_ascii_lowercase};
 ghost use Rattle.dir_names.specs.Ascii.{dot, semicolon};
 ghost use Rattle.dir_names.specs.Covers.{Covers, covers};
 ghost use Rattle.dir_names.specs.Cut.{after_first_separator, parts_at};
-ghost use Rattle.dir_names.specs.Inside.Left.{parts_left};
+ghost use Rattle.dir_names.specs.Inside.Left.{lacks_nul, options_joined, parts_left};
 ghost use Rattle.dir_names.specs.Inside.Ranks.{HasRank, IsTextAt};
 ghost use Rattle.dir_names.specs.Described.{described_eq, described_eq_laws, partial_described_eq_laws};
 ghost use Rattle.dir_names.specs.Descriptions.{description_of, is_descr, is_digit, is_keychar, is_number, is_numericoid, is_option, is_reserved, is_type, option_set};
-ghost use Rattle.dir_names.specs.Orders.{bytes_cmp, bytes_eq, attr_cmp, attr_eq, attr_cmp_total, attr_cmp_ties, tied_equiv, tied_per};
+ghost use Rattle.dir_names.specs.Orders.{bytes_cmp, bytes_eq, texts_cmp, texts_eq, attr_cmp, attr_eq, attr_cmp_total, attr_cmp_ties, tied_equiv, tied_per};
 ghost use Rattle.dir_names.specs.Outcome.{Gives};
 ghost use Rattle.dir_names.specs.Sorted.{rises, with_member};
 
+pub(crate) mod options;
+
+use crate::attribute::options::OptionSet;
 use crate::limits::MAX_DESCRIPTION;
 use crate::schema::table::RANKED;
 use crate::value::folding::lowercase_copy;
-use crate::{Bytes, NameFault, Schema, Texts};
+use crate::{Bytes, NameFault, Schema};
 use std::alloc::Global;
 use std::cmp::Ordering;
 use std::marker::Model;
@@ -35,8 +38,8 @@ pub struct AttrKey {
 #[derive(Debug, Drop)]
 struct AttrParts {
     attr_type: Bytes,
-    options: Texts,
-    /// The place in `RANKED` of a frequent type without options.
+    options: OptionSet,
+    /// The place in `RANKED` of a frequent type.
     rank: Option<u8>,
 }
 
@@ -50,12 +53,12 @@ impl Model for AttrParts {
     ghost use Rattle.std.specs.Prelude.{IfSome};
     ghost use Rattle.dir_names.specs.Inside.Ranks.{HasRank};
 
-    ghost invariant = { λ p. IfSome p.rank (HasRank (record { attr_type = p.attr_type; options = p.options })) };
+    ghost invariant = { λ p. IfSome p.rank (HasRank p.attr_type) };
 }
 
 impl AttrParts {
     fn rank(&self) -> Option<u8>
-        ensures { IfSome result (HasRank self.now) }
+        ensures { IfSome result (HasRank self.now.attr_type) }
     {
         self.rank
     }
@@ -66,7 +69,7 @@ impl AttrParts {
         &self.attr_type
     }
 
-    fn options(&self) -> &Texts
+    fn options(&self) -> &OptionSet
         ensures { result.now ≡ self.now.options }
     {
         &self.options
@@ -88,10 +91,7 @@ impl AttrKey {
         ensures value { result ≡ covers self.now other.now }
         ensures meaning { IsTrue result ↔ Covers self.now other.now }
     {
-        match (self.rank(), other.rank()) {
-            (Some(rank), Some(covered)) => rank == covered,
-            _ => self.covers_by_text(other),
-        }
+        self.has_type_of(other) && self.options().is_subset(other.options())
     }
 
     /// The same key, in the same memory. The one fault is `Memory`, if no more copies can be counted.
@@ -107,13 +107,13 @@ impl AttrKey {
     pub(crate) fn of_type(alloc: Global, attr_type: Bytes) -> Result<AttrKey, NameFault>
         ensures { Gives (λ key. key) result (Ok (record { attr_type = attr_type; options = [] })) }
     {
-        AttrKey::of(alloc, attr_type, Texts::new(Vec::new(alloc)))
+        AttrKey::of(alloc, attr_type, OptionSet::empty())
     }
 
-    fn of(alloc: Global, attr_type: Bytes, options: Texts) -> Result<AttrKey, NameFault>
+    fn of(alloc: Global, attr_type: Bytes, options: OptionSet) -> Result<AttrKey, NameFault>
         ensures { Gives (λ key. key) result (Ok (record { attr_type = attr_type; options = options })) }
     {
-        let rank = rank_of(attr_type.as_slice(), options.as_slice());
+        let rank = rank_of(attr_type.as_slice());
         Ok(AttrKey {
             shared: Rc::new(
                 alloc,
@@ -132,52 +132,42 @@ impl AttrKey {
         self.shared.attr_type().as_slice()
     }
 
-    pub(crate) fn options(&self) -> &[Bytes]
+    pub(crate) fn options(&self) -> &OptionSet
         ensures { result.now ≡ self.now.options }
     {
-        self.shared.options().as_slice()
+        self.shared.options()
     }
 
+    /// The place in `RANKED` of the type.
     pub(crate) fn rank(&self) -> Option<u8>
-        ensures { IfSome result (HasRank self.now) }
+        ensures { IfSome result (HasRank self.now.attr_type) }
     {
         self.shared.rank()
     }
 
-    #[inline(never)]
-    fn covers_by_text(&self, other: &AttrKey) -> bool
-        ensures { result ≡ covers self.now other.now }
+    fn has_type_of(&self, other: &AttrKey) -> bool
+        ensures { result ≡ bytes_eq self.now.attr_type other.now.attr_type }
     {
-        self.shared.attr_type() == other.shared.attr_type()
-            && is_subset(self.options(), other.options())
+        match (self.rank(), other.rank()) {
+            (Some(rank), Some(other_rank)) => rank == other_rank,
+            _ => self.attr_type() == other.attr_type(),
+        }
     }
 
-    #[inline(never)]
-    fn eq_by_text(&self, other: &AttrKey) -> bool
-        ensures { result ≡ attr_eq self.now other.now }
+    fn cmp_types(&self, other: &AttrKey) -> Ordering
+        ensures { result ≡ bytes_cmp self.now.attr_type other.now.attr_type }
     {
-        self.shared.attr_type() == other.shared.attr_type()
-            && self.shared.options() == other.shared.options()
-    }
-
-    #[inline(never)]
-    fn cmp_by_text(&self, other: &AttrKey) -> Ordering
-        ensures { result ≡ attr_cmp self.now other.now }
-    {
-        self.shared
-            .attr_type()
-            .cmp(other.shared.attr_type())
-            .then_with(|| self.shared.options().cmp(other.shared.options()))
+        match (self.rank(), other.rank()) {
+            (Some(rank), Some(other_rank)) => rank.cmp(&other_rank),
+            _ => self.attr_type().cmp(other.attr_type()),
+        }
     }
 }
 
-/// The place in `RANKED` of a type without options, if it is there.
-fn rank_of(attr_type: &[u8], options: &[Bytes]) -> Option<u8>
-    ensures { IfSome result (HasRank (record { attr_type = attr_type.now; options = options.now })) }
+/// The place in `RANKED` of a type, if it is there.
+fn rank_of(attr_type: &[u8]) -> Option<u8>
+    ensures { IfSome result (HasRank attr_type.now) }
 {
-    if !options.is_empty() {
-        return None;
-    }
     match place_of(&RANKED, attr_type) {
         Some(rank) if rank < RANKED.len() => Some(rank as u8),
         _ => None,
@@ -211,10 +201,7 @@ impl PartialEq for AttrKey {
     ghost laws = { tied_per attr_cmp attr_cmp_total attr_cmp_ties };
 
     fn eq(&self, other: &AttrKey) -> bool {
-        match (self.rank(), other.rank()) {
-            (Some(rank), Some(other_rank)) => rank == other_rank,
-            _ => self.eq_by_text(other),
-        }
+        self.has_type_of(other) && self.options() == other.options()
     }
 }
 
@@ -242,22 +229,9 @@ impl Ord for AttrKey {
     ghost matches_eq = { attr_cmp_ties };
 
     fn cmp(&self, other: &AttrKey) -> Ordering {
-        match (self.rank(), other.rank()) {
-            (Some(rank), Some(other_rank)) => rank.cmp(&other_rank),
-            _ => self.cmp_by_text(other),
-        }
+        self.cmp_types(other)
+            .then_with(|| self.options().cmp(other.options()))
     }
-}
-
-fn is_subset(some: &[Bytes], all: &[Bytes]) -> bool
-    ensures { result ≡ list_all (λ option. list_any (λ other. bytes_eq other option) all.now) some.now }
-{
-    for option in some {
-        if !all.contains(option) {
-            return false;
-        }
-    }
-    true
 }
 
 /// An attribute description as spelled, with its key. Copies share its memory.
@@ -300,7 +274,7 @@ impl Description {
         if !is_type(attr_type) {
             return Err(NameFault::BadDescription);
         }
-        let options = options_of(alloc, more)?;
+        let options = OptionSet::read(alloc, more)?;
         if is_reserved(attr_type) {
             return Err(NameFault::ReservedName);
         }
@@ -347,13 +321,6 @@ impl Eq for Description {
     ghost laws = { described_eq_laws };
 }
 
-/// `option`: one or more letters, digits and hyphens (RFC 4512, section 2.5).
-fn is_option(text: &[u8]) -> bool
-    ensures { result ≡ is_option text.now }
-{
-    !text.is_empty() && are_keychars(text)
-}
-
 /// `oid`: a `descr` or a `numericoid`, without options (RFC 4512, section 1.4).
 pub(crate) fn is_type(text: &[u8]) -> bool
     ensures { result ≡ is_type text.now }
@@ -371,7 +338,7 @@ pub(crate) fn is_descr(text: &[u8]) -> bool
     first.is_ascii_alphabetic() && are_keychars(rest)
 }
 
-fn are_keychars(text: &[u8]) -> bool
+pub(crate) fn are_keychars(text: &[u8]) -> bool
     ensures { result ≡ list_all is_keychar text.now }
 {
     text.iter().all(|b| b.is_ascii_alphanumeric() || *b == b'-')
@@ -429,23 +396,6 @@ pub(crate) fn lowercase_bytes(alloc: Global, text: &[u8]) -> Result<Bytes, NameF
     Ok(Bytes::new(lowercase_copy(alloc, text)?))
 }
 
-/// The set of the options after a type, in lower case.
-fn options_of(alloc: Global, text: Option<&[u8]>) -> Result<Texts, NameFault>
-    ensures { Gives (λ options. options) result (option_set (parts_left semicolon (option_copied text.entry))) }
-{
-    let mut options = Vec::new(alloc);
-    let mut rest = text;
-    while let Some(more) = rest {
-        let (option, after) = split_once(more, b';');
-        if !is_option(option) {
-            return Err(NameFault::BadDescription);
-        }
-        insert_option(&mut options, lowercase_bytes(alloc, option)?)?;
-        rest = after;
-    }
-    Ok(Texts::new(options))
-}
-
 /// The text before the first separator, and the text after it if there is one.
 pub(crate) fn split_once(text: &[u8], separator: u8) -> (&[u8], Option<&[u8]>)
     ensures before { result.0.now ≡ before_first (λ b. b == separator) text.now }
@@ -462,15 +412,4 @@ fn position_of(text: &[u8], separator: u8) -> Option<usize>
     ensures { result ≡ position (λ b. b == separator) text.now }
 {
     text.iter().position(|b| *b == separator)
-}
-
-/// Inserts an option into a set.
-fn insert_option(options: &mut Vec<Bytes>, option: Bytes) -> Result<(), NameFault>
-    requires { IsTrue (rises bytes_cmp options.old.items) }
-    ensures { Gives (λ _. options.new.items) result (Ok (with_member bytes_cmp option options.old.items)) }
-{
-    if let Err(at) = options.binary_search(&option) {
-        options.insert(at, option)?;
-    }
-    Ok(())
 }

@@ -40,8 +40,12 @@ fn is_spelled(description: &Description, spelling: &str, key: &AttrKey) -> bool 
 }
 
 /// Descriptions, whether the first covers the second, and whether the second covers the first.
-static COVERS: [&str; 5] = [
+static COVERS: [&str; 9] = [
     "cn | CommonName;lang-en | yes | no",
+    "cn;x-a | cn;x-b;lang-en;x-a | yes | no",
+    "cn;x-b;x-a | cn;X-A;x-b | yes | yes",
+    "cn;lang-e | cn;lang-en | no | no",
+    "x-unknown;a | X-Unknown;b;A | yes | no",
     "cn | commonName | yes | yes",
     "x-unknown | X-Unknown | yes | yes",
     "cn | sn | no | no",

@@ -75,13 +75,17 @@ ranked_types =
     codes "userpassword" ∷
     []
 
--- the attribute of the type at a place, without options
-abbrev pub ranked_attr : ℕ → Attr
-ranked_attr rank = record { attr_type = get_or ranked_types rank []; options = [] }
+-- the type at a place
+abbrev pub ranked_type : ℕ → List ℕ
+ranked_type rank = get_or ranked_types rank []
 
--- an attribute is the one at this place
-abbrev pub HasRank : Attr → ℕ → Type 0
-HasRank attr rank = (nat_lt rank 68 ≡ true) × (attr ≡ ranked_attr rank)
+-- its attribute without options
+abbrev pub ranked_attr : ℕ → Attr
+ranked_attr rank = record { attr_type = ranked_type rank; options = [] }
+
+-- a type is the one at this place
+abbrev pub HasRank : List ℕ → ℕ → Type 0
+HasRank attr_type rank = (nat_lt rank 68 ≡ true) × (attr_type ≡ ranked_type rank)
 
 -- a text is at a place of a list
 abbrev pub IsTextAt : List (List ℕ) → List ℕ → ℕ → Type 0

@@ -6,6 +6,8 @@ ghost use Rattle.std.specs.Str.{str_to_ascii_lowercase};
 ghost use Rattle.dir_names.specs.Outcome.{Gives};
 ghost use Rattle.dir_names.specs.Inside.SortTexts.{marked_byte, text_sort, list_sort, pair_sort, rdn_sort, name_sort};
 
+use crate::attribute::options::OptionSet;
+use crate::attribute::split_once;
 use crate::{AttrKey, Bytes, NameFault, RdnKey};
 
 /// Appends the text that the key of a name is ordered by.
@@ -35,13 +37,21 @@ pub(crate) fn part_len(part: &RdnKey) -> usize {
 }
 
 fn pair_len(pair: &(AttrKey, Bytes)) -> usize {
-    let mut len = pair.0.attr_type().len().saturating_add(4);
-    for option in pair.0.options() {
-        len = len
-            .saturating_add(option.as_slice().len())
-            .saturating_add(2);
+    let len = pair.0.attr_type().len().saturating_add(4);
+    len.saturating_add(options_len(pair.0.options()))
+        .saturating_add(pair.1.as_slice().len())
+}
+
+/// The length of the text of options, without its end.
+fn options_len(options: &OptionSet) -> usize {
+    let mut len = 0usize;
+    let mut rest = options.joined();
+    while let Some(more) = rest {
+        let (option, after) = split_once(more, b'\0');
+        len = len.saturating_add(option.len()).saturating_add(2);
+        rest = after;
     }
-    len.saturating_add(pair.1.as_slice().len())
+    len
 }
 
 /// Appends the text of the RDN that has these pairs.
@@ -100,12 +110,15 @@ fn put_pair(pair: &(AttrKey, Bytes), out: &mut Vec<u8>) -> Result<(), NameFault>
     Ok(())
 }
 
-fn put_options(options: &[Bytes], out: &mut Vec<u8>) -> Result<(), NameFault>
+fn put_options(options: &OptionSet, out: &mut Vec<u8>) -> Result<(), NameFault>
     ensures { Gives (λ _. out.new.items) result (Ok (out.old.items ++ list_sort text_sort options.now)) }
 {
-    for option in options {
+    let mut rest = options.joined();
+    while let Some(more) = rest {
+        let (option, after) = split_once(more, b'\0');
         out.push(1)?;
-        put_text(option.as_slice(), out)?;
+        put_text(option, out)?;
+        rest = after;
     }
     out.push(0)?;
     Ok(())

@@ -3,7 +3,7 @@ use Rattle.std.specs.List.Sorted.{IsBinarySearchResult}
 use Rattle.dir_names.specs.Sorted.{place}
 use Rattle.dir_names.specs.Orders.{bytes_cmp, bytes_cmp_total}
 use Rattle.dir_names.proofs.Placed.{so, place_from_key_search, member-place, member_at}
-use Rattle.dir_names.proofs.attribute.insert_option.Goals as goal
+use Rattle.dir_names.proofs.attribute.options.insert_option.Goals as goal
 
 pub returns-in_ok-insert : goal.returns-in_ok-insert
 returns-in_ok-insert c =

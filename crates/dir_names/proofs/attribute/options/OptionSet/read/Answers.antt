@@ -6,7 +6,7 @@ use Rattle.dir_names.specs.Descriptions.{is_option}
 use Rattle.dir_names.specs.Orders.{bytes_cmp}
 use Rattle.dir_names.specs.Sorted.{with_member}
 use Rattle.dir_names.proofs.OptionLemmas.{keeps_more}
-use Rattle.dir_names.proofs.attribute.options_of.Goals as goal
+use Rattle.dir_names.proofs.attribute.options.OptionSet.read.Goals as goal
 
 pub loop-rest-preserved : goal.loop-rest-preserved
 loop-rest-preserved c =
