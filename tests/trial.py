@@ -27,6 +27,7 @@ SCRIPTS = (
     "memory_answers.py",
     "frequent_types.py",
     "manual.py",
+    "completions.py",
     "readme.py",
 )
 
