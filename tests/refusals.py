@@ -39,8 +39,8 @@ TYPED = {
     "copy": "dn: dc=com\ndc: com\nroom: A 1\n\n",
     "changes": "dn: dc=com\nchangetype: modify\ndelete: roomName\nroomName: a  1\n-\n",
 }
-# an undo file, of which one group is run, on that copy
-MARKED = {"marked": "version: 1\n\n# undo 1\ndn: dc=com\nchangetype: modify\nadd: l\nl: x\n-\n\n# un\n do 2\nx\n"}
+# an undo file, of which one group is run, on that copy; its description has options, which are no type that is kept ready
+MARKED = {"marked": "version: 1\n\n# undo 1\ndn: dc=com\nchangetype: modify\nadd: l;x-b;lang-a\nl;x-b;lang-a: x\n-\n\n# un\n do 2\nx\n"}
 # a configuration of a site, in both forms
 SITE = {
     "site.conf": "include site.more\nobjectidentifier my 1.3\nattributetype ( my:1 NAME 'a' )\ndatabase mdb\nsuffix dc=com\nrootdn cn=r,dc=com\naccess to * by * read\n",
