@@ -1,5 +1,5 @@
-//! Tests of `dir_change`, `dir_acl`, `dir_tools` and `dir_files`, a module for each. They are one crate of their own: so the proof of each of those is made once,
-//! without its tests, and what all of them stand on is loaded once.
+//! Tests of `dir_ldif`, `dir_change`, `dir_acl`, `dir_conf`, `dir_tools`, `dir_questions` and `dir_files`, a module for each. They are one crate of their own: so the
+//! proof of each of those is made once, without its tests, and what all of them stand on is loaded and compiled once.
 #![tactic(auto)]
 
 #[cfg(test)]
@@ -7,6 +7,12 @@ mod acl;
 #[cfg(test)]
 mod change;
 #[cfg(test)]
+mod conf;
+#[cfg(test)]
 mod files;
+#[cfg(test)]
+mod ldif;
+#[cfg(test)]
+mod questions;
 #[cfg(test)]
 mod tools;

@@ -1,8 +1,8 @@
 //! How much of a source is read before a record comes.
 
-use crate::devices::{Way, script};
-use crate::make::schema;
-use crate::reading::{CUT, next};
+use crate::ldif::devices::{Way, script};
+use crate::ldif::make::schema;
+use crate::ldif::reading::{CUT, next};
 use dir_ldif::{DeviceFault, RecordReader, Script, Source};
 
 /// A script that counts its calls.

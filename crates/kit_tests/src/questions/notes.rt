@@ -1,6 +1,6 @@
 //! Questions that are read by themselves, the notes on their words, and then the answers.
 
-use crate::make::{CONFIG, COPY, schema};
+use crate::questions::make::{CONFIG, COPY, schema};
 use dir_acl::{Note, NoteCause};
 use dir_ldif::Reader;
 use dir_names::Schema;

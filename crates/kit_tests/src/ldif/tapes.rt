@@ -1,6 +1,6 @@
 //! What tapes take.
 
-use crate::devices::written;
+use crate::ldif::devices::written;
 use dir_ldif::{DeviceFault, Sink, Tape, write_whole};
 use std::process::Abort;
 

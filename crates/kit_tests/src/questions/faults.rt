@@ -1,6 +1,6 @@
 //! The faults of questions, with their lines, and which comes first.
 
-use crate::make::{CONFIG, COPY, told};
+use crate::questions::make::{CONFIG, COPY, told};
 use std::alloc::Global;
 use std::process::Abort;
 

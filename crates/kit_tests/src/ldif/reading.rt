@@ -1,7 +1,7 @@
 //! Texts and what they read as, in whatever pieces they come.
 
-use crate::devices::{Way, script};
-use crate::make::{Answer, answers, schema};
+use crate::ldif::devices::{Way, script};
+use crate::ldif::make::{Answer, answers, schema};
 use dir_ldif::{Record, RecordFault, RecordReader, Script, Source, StreamFault, record_text};
 use std::alloc::Global;
 use std::process::Abort;

@@ -1,6 +1,6 @@
 //! Flat configurations of files that include one another (slapd.conf(5)), and the faults of such files.
 
-use crate::flat::after_own_types;
+use crate::conf::flat::after_own_types;
 use dir_conf::{ConfFault, ConfFile, FileFault, Flat, flat_of_files, includes_in};
 use dir_names::{Bytes, Dn, Schema};
 use std::alloc::{AllocError, Global};

@@ -1,6 +1,6 @@
 //! Changes that are legal or not.
 
-use crate::make::{Does, change, schema};
+use crate::ldif::make::{Does, change, schema};
 use dir_ldif::RecordFault;
 use dir_names::NameFault;
 

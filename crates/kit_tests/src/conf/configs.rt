@@ -1,6 +1,6 @@
 //! Flat configurations of texts of cn=config (slapd-config(5)), and the faults of such texts.
 
-use crate::flat::after_own_types;
+use crate::conf::flat::after_own_types;
 use dir_conf::{ConfFault, flat_of_config};
 use dir_names::{Dn, Schema};
 use std::alloc::Global;

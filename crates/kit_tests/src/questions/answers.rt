@@ -1,6 +1,6 @@
 //! What is answered, reported and written.
 
-use crate::make::{CONFIG, COPY, told};
+use crate::questions::make::{CONFIG, COPY, told};
 
 /// Questions, and the verbose report with, after `--`, the questions as they are written with their answers.
 static ANSWERED: [(&str, &str); 9] = [

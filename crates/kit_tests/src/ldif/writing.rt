@@ -1,6 +1,6 @@
 //! Changes and lines as they are written.
 
-use crate::make::{Does, added_mods, change, name};
+use crate::ldif::make::{Does, added_mods, change, name};
 use dir_ldif::{
     ModOp, Record, push_change, push_end, push_line, push_mark, push_name, push_record,
 };

@@ -1,6 +1,6 @@
 //! Readers and writers that fail.
 
-use crate::make::{CONFIG, COPY, schema};
+use crate::questions::make::{CONFIG, COPY, schema};
 use dir_ldif::{Script, Tape};
 use dir_questions::{QuestionOptions, QuestionsFault, run_questions};
 use dir_tools::{Input, Output, ToolFault};
