@@ -5,7 +5,7 @@ PROGRAM = crates/slapkit/out/slapkit
 
 .PHONY: try demo test trial bugs install
 
-# Runs the changes of the example on its copy by a build without any proof: in about a minute.
+# Runs the changes of the example on its copy by a build without any proof: in one to three minutes.
 try:
 	examples/try.sh
 
