@@ -13,6 +13,7 @@ without the renames. The same arguments give the same bytes.
 import argparse
 import base64
 import random
+import re
 import uuid
 
 SUFFIX = "dc=example,dc=com"
@@ -26,12 +27,14 @@ WORDS = "the quick brown fox jumps over a lazy dog while our directory keeps eve
 MEMBERS = 100
 PICTURE = 3000
 
+# A value that is written as it is: SAFE-STRING of RFC 2849, not empty and without a space at its end
+SAFE = re.compile(rb"(?![ :<])[\x01-\x09\x0b\x0c\x0e-\x7f]+(?<! )")
+
 
 def line(name, value):
     """One line of LDIF, with base64 where the value needs it, folded at 76 bytes."""
     data = value.encode() if isinstance(value, str) else value
-    plain = data and all(0 < b < 128 and b not in (10, 13) for b in data) and data[:1] not in (b" ", b":", b"<") and data[-1:] != b" "
-    text = name.encode() + (b": " + data if plain else b":: " + base64.b64encode(data))
+    text = name.encode() + (b": " + data if SAFE.fullmatch(data) else b":: " + base64.b64encode(data))
     parts = [text[:76]] + [b" " + text[i : i + 75] for i in range(76, len(text), 75)]
     return b"\n".join(parts) + b"\n"
 

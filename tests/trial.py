@@ -26,6 +26,7 @@ SCRIPTS = (
     "terminal.py",
     "memory_answers.py",
     "frequent_types.py",
+    "workloads.py",
     "manual.py",
     "completions.py",
     "readme.py",
