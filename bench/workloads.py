@@ -15,7 +15,6 @@ import os
 import re
 import shlex
 import string
-from collections.abc import Iterable
 from dataclasses import dataclass
 
 from directory import GROUPS, OTHERS, PEOPLE, SUFFIX, TITLES, TOWNS, group, modify, record, rename
@@ -180,15 +179,16 @@ class Company:
 
 @dataclass(frozen=True)
 class Run:
-    """The words of a run of slapkit, its tool first, and the files that it writes."""
+    """The words of a run of slapkit, its tool first, and the files that it writes, if any: the new copy and the undo text."""
 
     words: list
-    outputs: tuple = ()
+    new: str | None = None
+    undo: str | None = None
 
 
 def slapmodify(suffix, copy, changes, new, undo):
     """A run that goes on after a refused change."""
-    return Run(["slapmodify", "-c", "-b", suffix, "--data", copy, "-l", changes, "--out", new, "--undo", undo], (new, undo))
+    return Run(["slapmodify", "-c", "-b", suffix, "--data", copy, "-l", changes, "--out", new, "--undo", undo], new, undo)
 
 
 def without_marks(undo):
@@ -198,7 +198,7 @@ def without_marks(undo):
 
 @dataclass(frozen=True)
 class Workload:
-    """Changes of a copy."""
+    """Changes of a copy, whose records are those of `copy` and `changes` of each workload."""
 
     scale: int
     seed: int
@@ -207,12 +207,6 @@ class Workload:
     def files(self):
         """The name of each file that the runs read, with the pieces of its text."""
         return {"copy.ldif": self.copy(), "changes.ldif": self.changes()}
-
-    def copy(self) -> Iterable[bytes]:
-        raise NotImplementedError
-
-    def changes(self) -> Iterable[bytes]:
-        raise NotImplementedError
 
     def runs(self):
         return [slapmodify(self.suffix, "copy.ldif", "changes.ldif", "new.ldif", "undo.ldif")]
@@ -226,11 +220,11 @@ class Workload:
 class OfCompany(Workload):
     """A workload on a company with as many people for each hundredth."""
 
-    people_of_hundredth = 0
+    PEOPLE_OF_HUNDREDTH = 0
 
     @property
     def company(self):
-        return Company(self.scale * self.people_of_hundredth, self.seed)
+        return Company(self.scale * self.PEOPLE_OF_HUNDREDTH, self.seed)
 
     def copy(self):
         return self.company.copy()
@@ -239,7 +233,7 @@ class OfCompany(Workload):
 class People(OfCompany):
     """Changes of all four operations, each of another person, a tenth as many as people."""
 
-    people_of_hundredth = 800
+    PEOPLE_OF_HUNDREDTH = 800
 
     def changes(self):
         draws = Draws(self.seed + 3, 0)
@@ -272,20 +266,19 @@ class People(OfCompany):
 
 
 class Groups(OfCompany):
-    """Groups of 50 to 6,400 members of 50,000 people who are not in the copy. In three rounds through all groups, members come and go; then a group in
-    ten is deleted."""
+    """Groups of 50 to 6,400 members, who are not in the copy. In three rounds through all groups, members come and go; then a group in ten is deleted."""
 
     GROUPS_OF_HUNDREDTH = 4
-    PEOPLE = 50_000
-    STEP = 7919  # from one member of a group to the next, coprime to PEOPLE
+    DRAWN = 50_000  # people, of whom members are drawn
+    STEP = 7919  # from one member of a group to the next; no divisor of DRAWN
 
     @property
     def groups(self):
         return range(self.scale * self.GROUPS_OF_HUNDREDTH)
 
     def members(self, number, start, count):
-        first = Draws(self.seed, number).below(self.PEOPLE)
-        return ((first + i * self.STEP) % self.PEOPLE for i in range(start, start + count))
+        first = Draws(self.seed, number).below(self.DRAWN)
+        return ((first + i * self.STEP) % self.DRAWN for i in range(start, start + count))
 
     def copy(self):
         yield from super().copy()
@@ -365,7 +358,7 @@ class Names(Workload):
 class Undo(OfCompany):
     """Six changes of each person, in rounds through all people, and then the undo file on the new copy."""
 
-    people_of_hundredth = 60
+    PEOPLE_OF_HUNDREDTH = 60
 
     def runs(self):
         return [*super().runs(), slapmodify(self.suffix, "new.ldif", "undo.ldif", "back.ldif", "redo.ldif")]
@@ -373,7 +366,7 @@ class Undo(OfCompany):
     def changes(self):
         for turn in range(6):
             for person in range(self.company.people):
-                yield (self.change_of_leaver if person % 10 == 3 else self.change_of_stayer)(turn, person)
+                yield self.change_of_leaver(turn, person) if person % 10 == 3 else self.change_of_stayer(turn, person)
 
     @staticmethod
     def change_of_stayer(turn, person):
@@ -402,7 +395,7 @@ class Undo(OfCompany):
 class Access(OfCompany):
     """Questions of 120 words, no two about the same person, under a slapd.conf with 453 rules. In one of ten nobody asks."""
 
-    people_of_hundredth = 4
+    PEOPLE_OF_HUNDREDTH = 4
     DEPARTMENTS = 150  # that have rules
     ATTRIBUTES = (
         "entry children objectClass uid cn sn givenName displayName mail telephoneNumber employeeNumber title l description userPassword manager jpegPhoto "
@@ -449,7 +442,7 @@ access to filter=(&(uid=u1000*)(!(l=Dresden{number}))) attrs=description,title
 
     def question(self, number):
         draws = Draws(self.seed + 4, number)
-        person = number * self.people_of_hundredth + draws.below(self.people_of_hundredth)
+        person = number * self.PEOPLE_OF_HUNDREDTH + draws.below(self.PEOPLE_OF_HUNDREDTH)
         requester = [] if number % 10 == 9 else ["-D", person_dn(draws.below(self.company.people))]
         words = [f"{attribute}/{level}" for attribute in self.ATTRIBUTES for level in self.LEVELS]
         return ["slapacl", "-v", "-f", "slapd.conf", "--data", "copy.ldif", "-b", person_dn(person), *requester, *words]
