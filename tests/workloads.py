@@ -1,10 +1,11 @@
 #!/usr/bin/env python3
-"""Runs the workloads of bench/workloads.py at a hundredth of their size, and compares the numbers of changes, and the length and the digest of each text that is
-written, with workloads.txt.
+"""Runs the workloads of bench/workloads.py at a hundredth of their size, and compares the numbers of changes, and the length and the digest of
+each text that is written, with workloads.txt.
 
 usage: workloads.py PROGRAM
 
-What stands there was printed by a proved program that made the same inputs in memory and called the tools on them. A digest is SipHash-1-3 with keys of zeros.
+What stands there was printed by a proved program, which made the same inputs in memory and called the tools on them: `undo` has the numbers of both
+runs, and the copy after the second; an undo text is without its marks (`# undo N`). A digest is SipHash-1-3 with keys of zeros.
 """
 import pathlib
 import struct
@@ -16,6 +17,7 @@ import checks
 from checks import expect
 
 HERE = pathlib.Path(__file__).resolve().parent
+# In front, since the module has the name of this script.
 sys.path.insert(0, str(HERE.parent / "bench"))
 from workloads import WORKLOADS, without_marks  # noqa: E402
 
@@ -49,31 +51,19 @@ def line_of(what, text):
     return f"{what}: {len(text)} bytes, {digest(text)}"
 
 
-class Folder:
-    """A folder with the files of a workload."""
-
-    def __init__(self, program, path):
-        self.program, self.path = program, pathlib.Path(path)
-
-    def run(self, words):
-        """What a run writes to standard output."""
-        ended = subprocess.run([self.program, *words], cwd=self.path, capture_output=True, timeout=SECONDS)
-        expect(ended.returncode, 0, f"exit status, {ended.stderr[:200]}")
-        return ended.stdout
-
-    def line(self, what, name):
-        return line_of(what, self.path.joinpath(name).read_bytes())
+def numbers(report):
+    """The last line of a report."""
+    return report.decode().splitlines()[-1]
 
 
 def lines_of_run(folder, reports):
-    """The lines of a workload that is one run of slapmodify."""
     (report,) = reports
-    undo = without_marks(folder.path.joinpath("undo.ldif").read_bytes())
-    return [report.decode().splitlines()[-1], folder.line("copy", "new.ldif"), line_of("undo", undo), line_of("report", report)]
+    new, undo = (folder.joinpath(name).read_bytes() for name in ("new.ldif", "undo.ldif"))
+    return [numbers(report), line_of("copy", new), line_of("undo", without_marks(undo)), line_of("report", report)]
 
 
 def lines_of_trip(folder, reports):
-    return [*(report.decode().splitlines()[-1] for report in reports), folder.line("copy", "back.ldif")]
+    return [*map(numbers, reports), line_of("copy", folder.joinpath("back.ldif").read_bytes())]
 
 
 def lines_of_questions(_, reports):
@@ -94,13 +84,18 @@ def stored():
     return lines
 
 
+def report_of(program, words, folder):
+    ended = subprocess.run([program, *words], cwd=folder, capture_output=True, timeout=SECONDS)
+    expect(ended.returncode, 0, f"exit status, {ended.stderr[:200]}")
+    return ended.stdout
+
+
 def try_workload(program, name, wanted):
     workload = WORKLOADS[name](SCALE, SEED)
     with tempfile.TemporaryDirectory() as path:
         workload.write(path)
-        folder = Folder(program, path)
-        reports = [folder.run(run.words) for run in workload.runs()]
-        expect(LINES[name](folder, reports), wanted, "lines")
+        reports = [report_of(program, run.words, path) for run in workload.runs()]
+        expect(LINES[name](pathlib.Path(path), reports), wanted, "lines")
 
 
 def main():
