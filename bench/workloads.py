@@ -77,8 +77,8 @@ WORDS = "the quick brown fox jumps over a lazy dog while our directory keeps eve
 CODE = string.ascii_uppercase + string.ascii_lowercase + string.digits + "+/"
 
 
-def division(number, size):
-    """How many parts of a size a number has, the last of them maybe smaller."""
+def parts(number, size):
+    """How many parts of at most a size make up a number."""
     return -(-number // size)
 
 
@@ -109,7 +109,7 @@ class Company:
 
     @property
     def groups(self):
-        return division(self.people, GROUP)
+        return parts(self.people, GROUP)
 
     def copy(self):
         """The records of all entries, parents first."""
@@ -122,9 +122,9 @@ class Company:
             yield self.group(number, self.members(number))
 
     def units(self):
-        departments = division(self.people, DEPARTMENT)
+        departments = parts(self.people, DEPARTMENT)
         yield from (PEOPLE, GROUPS)
-        yield from (f"ou=region {region},{PEOPLE}" for region in range(division(departments, REGION)))
+        yield from (f"ou=region {region},{PEOPLE}" for region in range(parts(departments, REGION)))
         yield from map(department_dn, range(departments))
 
     def entry(self, number, dn, lines, of_class):
