@@ -451,11 +451,18 @@ access to filter=(&(uid=u1000*)(!(l=Dresden{number}))) attrs=description,title
 WORKLOADS = {"people": People, "groups": Groups, "names": Names, "undo": Undo, "access": Access}
 
 
+def scale(word):
+    number = int(word)
+    if not 1 <= number <= WHOLE:
+        raise argparse.ArgumentTypeError(f"{word} is not 1 to {WHOLE}")
+    return number
+
+
 def main():
     parser = argparse.ArgumentParser(description=__doc__, formatter_class=argparse.RawDescriptionHelpFormatter)
     parser.add_argument("name", metavar="NAME", choices=WORKLOADS)
     parser.add_argument("folder", metavar="FOLDER")
-    parser.add_argument("--scale", type=int, choices=range(1, WHOLE + 1), metavar="S", default=WHOLE)
+    parser.add_argument("--scale", type=scale, metavar="S", default=WHOLE)
     parser.add_argument("--seed", type=int, default=1)
     args = parser.parse_args()
     workload = WORKLOADS[args.name](args.scale, args.seed)
