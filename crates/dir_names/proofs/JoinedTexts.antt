@@ -1,11 +1,10 @@
 -- Texts joined by a byte that none of them has: they are the parts of what they make, and compare as that does.
-use Rattle.std.proofs.Common.{◌≡◌, ℕ, ◌<◌, Bool, true, false, not, List, [], ◌∷◌, ◌++◌, refl, sym, ap, subst, ◌∙◌, ◌&&◌, arith}
+use Rattle.std.proofs.Common.{◌≡◌, ℕ, Bool, true, false, not, List, [], ◌∷◌, ◌++◌, refl, sym, ap, ◌∙◌, arith}
 use Rattle.std.proofs.lemmas.Bool.{eqb-true}
 use Rattle.std.proofs.lemmas.Bool.Decides.{nat_tests}
 use Rattle.std.proofs.lemmas.List.{append-nil}
 use Rattle.std.proofs.lemmas.List.Splits.{slice_split-cons_yes, slice_split-cons_no}
-use Rattle.std.specs.declared.cmp.Ordering.{Ordering}
-use Rattle.std.specs.declared.cmp.Ordering.TheVariants.{Less, Equal, Greater}
+use Rattle.std.specs.declared.cmp.Ordering.TheVariants.{Less, Greater}
 use Rattle.std.specs.Cmp.{nat_cmp_is}
 use Rattle.std.specs.List.{flat_map, list_all, onto_first}
 use Rattle.std.specs.Ordering.{nat_cmp, ordering_then, is_eq}
@@ -46,18 +45,6 @@ cut [] = record { first = []; rest = []; whole = refl }
 cut (b ∷ bs) =
     let c = cut_front (is_nul b) b (parts_at nul bs) in
     record { first = c.first; rest = c.rest; whole = parts-cons b bs (is_nul b) refl ∙ c.whole }
-
-pub none_before : (bs : List ℕ) → texts_cmp [] (parts_at nul bs) ≡ Less
-none_before bs = ap (texts_cmp []) (cut bs).whole
-
-pub none_after : (bs : List ℕ) → texts_cmp (parts_at nul bs) [] ≡ Greater
-none_after bs = ap (λ parts. texts_cmp parts []) (cut bs).whole
-
-pub none_is_not : (bs : List ℕ) → texts_eq [] (parts_at nul bs) ≡ false
-none_is_not bs = ap (texts_eq []) (cut bs).whole
-
-pub is_not_none : (bs : List ℕ) → texts_eq (parts_at nul bs) [] ≡ false
-is_not_none bs = ap (λ parts. texts_eq parts []) (cut bs).whole
 
 -- ---- the order
 

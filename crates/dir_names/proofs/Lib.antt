@@ -42,6 +42,7 @@ pub mod SortOrder
 pub mod SortedNames
 pub mod SoundLemmas
 pub mod SpellsReads
+pub mod StartLemmas
 pub mod TextOrder
 pub mod Tidy
 pub mod TypeTables

@@ -14,6 +14,7 @@ pub mod Scopes
 pub mod ShortKeys
 pub mod SortKeys
 pub mod SortTexts
+pub mod Starts
 pub mod Steps
 pub mod TidyRuns
 pub mod TokensSoFar

@@ -1,20 +1,19 @@
 //! Attribute descriptions as they are spelled, and what they mean (RFC 4512, section 2.5); in `options` their options.
 
 ghost use Rattle.std.specs.Cmp.{partial_order_from_agreeing_total};
-ghost use Rattle.std.specs.List.{before_first, list_all, list_any};
+ghost use Rattle.std.specs.List.{before_first, list_all};
 ghost use Rattle.std.specs.Ordering.{as_partial_cmp};
 ghost use Rattle.std.specs.Prelude.{◌≡◌, ◌↔◌, IsTrue, Ok, refl, ◌==◌, [], ◌∷◌, IfSome, map, option_copied, position};
 ghost use Rattle.std.specs.Str.{str_to_ascii_lowercase};
-ghost use Rattle.dir_names.specs.Ascii.{dot, semicolon};
+ghost use Rattle.dir_names.specs.Ascii.{dot};
 ghost use Rattle.dir_names.specs.Covers.{Covers, covers};
 ghost use Rattle.dir_names.specs.Cut.{after_first_separator, parts_at};
-ghost use Rattle.dir_names.specs.Inside.Left.{lacks_nul, options_joined, parts_left};
+ghost use Rattle.dir_names.specs.Inside.Left.{parts_left};
 ghost use Rattle.dir_names.specs.Inside.Ranks.{HasRank, IsTextAt};
 ghost use Rattle.dir_names.specs.Described.{described_eq, described_eq_laws, partial_described_eq_laws};
-ghost use Rattle.dir_names.specs.Descriptions.{description_of, is_descr, is_digit, is_keychar, is_number, is_numericoid, is_option, is_reserved, is_type, option_set};
-ghost use Rattle.dir_names.specs.Orders.{bytes_cmp, bytes_eq, texts_cmp, texts_eq, attr_cmp, attr_eq, attr_cmp_total, attr_cmp_ties, tied_equiv, tied_per};
+ghost use Rattle.dir_names.specs.Descriptions.{description_of, is_descr, is_digit, is_keychar, is_number, is_numericoid, is_reserved, is_type};
+ghost use Rattle.dir_names.specs.Orders.{bytes_cmp, bytes_eq, attr_cmp, attr_eq, attr_cmp_total, attr_cmp_ties, tied_equiv, tied_per};
 ghost use Rattle.dir_names.specs.Outcome.{Gives};
-ghost use Rattle.dir_names.specs.Sorted.{rises, with_member};
 
 pub(crate) mod options;
 
@@ -145,6 +144,7 @@ impl AttrKey {
         self.shared.rank()
     }
 
+    #[inline(always)]
     fn has_type_of(&self, other: &AttrKey) -> bool
         ensures { result ≡ bytes_eq self.now.attr_type other.now.attr_type }
     {

@@ -40,7 +40,7 @@ fn is_spelled(description: &Description, spelling: &str, key: &AttrKey) -> bool 
 }
 
 /// Descriptions, whether the first covers the second, and whether the second covers the first.
-static COVERS: [&str; 9] = [
+static COVERS: [&str; 12] = [
     "cn | CommonName;lang-en | yes | no",
     "cn;x-a | cn;x-b;lang-en;x-a | yes | no",
     "cn;x-b;x-a | cn;X-A;x-b | yes | yes",
@@ -50,6 +50,9 @@ static COVERS: [&str; 9] = [
     "x-unknown | X-Unknown | yes | yes",
     "cn | sn | no | no",
     "cn | x-unknown | no | no",
+    "cn;x-aaaaaaaaaaaaaaaaa | CN;X-AAAAAAAAAAAAAAAAA | yes | yes",
+    "cn;x-aaaaaaaaaaaaaaaaa | cn;x-aaaaaaaaaaaaaaaab | no | no",
+    "cn;x-aaaaaaaaaaaaaa | cn;x-aaaaaaaaaaaaaaa | no | no",
 ];
 
 #[test]
@@ -74,6 +77,40 @@ fn are_covered(one: &AttrKey, other: &AttrKey, covers: bool, is_covered: bool) -
     one.covers(other) == covers
         && other.covers(one) == is_covered
         && (*one == *other) == (covers && is_covered)
+}
+
+/// Descriptions, of which the first comes first: by type, then by the options from the first on, a shorter list before those that it begins.
+/// Options that are alike in their first 15, 16 or more bytes are among them.
+static ORDERED: [&str; 13] = [
+    "cn | cn;lang-en",
+    "cn;lang-en | cn;lang-en;x-a",
+    "cn;x-b | sn;x-a",
+    "cn;x-b | x-unknown;x-a",
+    "x-unknown;a | X-Unknown;b",
+    "cn;a;b | cn;a-",
+    "cn;a0 | cn;aa",
+    "cn;x-aaaaaaaaaaaaa | cn;x-aaaaaaaaaaaaaa",
+    "cn;x-aaaaaaaaaaaaaa | cn;x-aaaaaaaaaaaaaaa",
+    "cn;x-aaaaaaaaaaaaaa | cn;x-aaaaaaaaaaaaab",
+    "cn;x-aaaaaaaaaaaaaaaaa | cn;x-aaaaaaaaaaaaaaaab",
+    "cn;x-aaaaaaaaaaaaaa;x-c | cn;x-aaaaaaaaaaaaaa;x-d",
+    "cn;x-aaaaaaaaaaaaaaa;x-c | cn;x-aaaaaaaaaaaaaab;x-b",
+];
+
+#[test]
+fn keys_are_in_the_order_of_their_types_and_options(rt: HostRuntime) {
+    each::<IsBefore>(&rt, rt.alloc(), &ORDERED);
+}
+
+struct IsBefore;
+
+impl Case for IsBefore {
+    fn holds(rt: &impl Abort, alloc: Global, schema: &Schema, row: &str) -> bool {
+        let [one, other, ..] = fields(row);
+        let one = attr_key(rt, alloc, schema, one);
+        let other = attr_key(rt, alloc, schema, other);
+        one < other && other > one && one != other
+    }
 }
 
 /// Texts, and the fault of each that is not read as a description.

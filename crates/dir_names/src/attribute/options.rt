@@ -3,10 +3,12 @@
 ghost use Rattle.std.specs.Cmp.{partial_order_from_agreeing_total};
 ghost use Rattle.std.specs.List.{list_all, list_any};
 ghost use Rattle.std.specs.Ordering.{as_partial_cmp};
-ghost use Rattle.std.specs.Prelude.{◌≡◌, IsTrue, Ok, [], option_copied, refl};
+ghost use Rattle.std.specs.Prelude.{◌≡◌, IsTrue, Ok, [], nat_lt, option_copied, refl};
+ghost use Rattle.std.proofs.Math.ListN.{get_or};
 ghost use Rattle.dir_names.specs.Ascii.{semicolon};
 ghost use Rattle.dir_names.specs.Descriptions.{is_option, option_set};
 ghost use Rattle.dir_names.specs.Inside.Left.{lacks_nul, options_joined, parts_left};
+ghost use Rattle.dir_names.specs.Inside.Starts.{IsStart};
 ghost use Rattle.dir_names.specs.Orders.{bytes_cmp, bytes_eq, texts_cmp, texts_eq, texts_cmp_total, texts_cmp_ties, tied_equiv, tied_per};
 ghost use Rattle.dir_names.specs.Outcome.{Gives};
 ghost use Rattle.dir_names.specs.Sorted.{rises, with_member};
@@ -22,22 +24,30 @@ use std::marker::Model;
 pub(crate) struct OptionSet {
     /// The options joined by bytes 0, if there are any, so that two sets are compared by one run over bytes.
     joined: Option<Bytes>,
+    /// The number that the first 16 bytes of these are: texts with different numbers compare as the numbers do.
+    start: u128,
 }
 
 impl Model for OptionSet {
-    ghost use Rattle.std.specs.Prelude.{ℕ, List};
+    ghost use Rattle.std.specs.Prelude.{ℕ, List, IfSome};
     ghost use Rattle.dir_names.specs.Inside.Left.{options_joined};
+    ghost use Rattle.dir_names.specs.Inside.Starts.{IsStart};
 
     ghost Value = { List (List ℕ) };
 
     ghost view = { λ o. options_joined o.joined };
+
+    ghost invariant = { λ o. IfSome o.joined (λ text. IsStart text o.start) };
 }
 
 impl OptionSet {
     pub(crate) fn empty() -> OptionSet
         ensures { result ≡ [] }
     {
-        OptionSet { joined: None }
+        OptionSet {
+            joined: None,
+            start: 0,
+        }
     }
 
     /// Reads the options after a type, if there are any.
@@ -71,8 +81,10 @@ impl OptionSet {
             joined.push(b'\0')?;
             joined.extend_from_slice(option.as_slice())?;
         }
+        let start = start_of(joined.as_slice());
         Ok(OptionSet {
             joined: Some(Bytes::new(joined)),
+            start,
         })
     }
 
@@ -122,11 +134,11 @@ impl PartialEq for OptionSet {
     ghost laws = { tied_per texts_cmp texts_cmp_total texts_cmp_ties };
 
     fn eq(&self, other: &OptionSet) -> bool {
-        match (self.joined(), other.joined()) {
+        match (&self.joined, &other.joined) {
             (None, None) => true,
             (None, Some(_)) => false,
             (Some(_), None) => false,
-            (Some(one), Some(other)) => one == other,
+            (Some(mine), Some(theirs)) => self.start == other.start && mine == theirs,
         }
     }
 }
@@ -155,12 +167,50 @@ impl Ord for OptionSet {
     ghost matches_eq = { texts_cmp_ties };
 
     fn cmp(&self, other: &OptionSet) -> Ordering {
-        match (self.joined(), other.joined()) {
+        match (&self.joined, &other.joined) {
             (None, None) => Ordering::Equal,
             (None, Some(_)) => Ordering::Less,
             (Some(_), None) => Ordering::Greater,
-            (Some(one), Some(other)) => one.cmp(other),
+            (Some(mine), Some(theirs)) => self
+                .start
+                .cmp(&other.start)
+                .then_with(|| mine.cmp(theirs)),
         }
+    }
+}
+
+/// The number that the first 16 bytes of a text are, the first one worth most; where it has fewer, bytes 0 follow.
+fn start_of(text: &[u8]) -> u128
+    ensures { IsStart text.now result }
+{
+    u128::from_be_bytes([
+        byte_at(text, 0),
+        byte_at(text, 1),
+        byte_at(text, 2),
+        byte_at(text, 3),
+        byte_at(text, 4),
+        byte_at(text, 5),
+        byte_at(text, 6),
+        byte_at(text, 7),
+        byte_at(text, 8),
+        byte_at(text, 9),
+        byte_at(text, 10),
+        byte_at(text, 11),
+        byte_at(text, 12),
+        byte_at(text, 13),
+        byte_at(text, 14),
+        byte_at(text, 15),
+    ])
+}
+
+/// The byte at a place of a text, or 0 beyond its end.
+fn byte_at(text: &[u8], at: usize) -> u8
+    ensures is { result ≡ get_or text.now at 0 }
+    ensures small { IsTrue (nat_lt result 256) }
+{
+    match text.get(at) {
+        Some(byte) => *byte,
+        None => 0,
     }
 }
 
