@@ -1,10 +1,8 @@
 //! The texts of the faults.
 
+use crate::acl::words::assert_shows;
 use dir_ldif::{DeviceFault, RecordFault, StreamFault};
 use dir_names::NameFault;
-use std::alloc::Global;
-use std::fmt::Display;
-use std::process::Abort;
 
 static OF_RECORDS: [(RecordFault, &str); 15] = [
     (RecordFault::BadLine, "L1 BadLine"),
@@ -50,11 +48,4 @@ fn each_fault_shows_its_text(rt: HostRuntime) {
         assert_shows(&rt, alloc, fault, want);
     }
     assert_shows(&rt, alloc, &DeviceFault, "the device failed");
-}
-
-/// Asserts that a fault shows this text, and no other under `#`.
-fn assert_shows<F: Display>(rt: &impl Abort, alloc: Global, fault: &F, want: &str) {
-    let text = format!(in alloc; "{fault}; {fault:#}").expect(rt, "memory");
-    let want = format!(in alloc; "{want}; {want}").expect(rt, "memory");
-    assert!(rt; text.as_str() == want.as_str(), "{text}");
 }

@@ -1,13 +1,14 @@
 //! Paths that must differ, and the texts of faults and of progress.
 
-use crate::acl::words::assert_shows;
-use crate::files::runs::STOP;
+use crate::runs::STOP;
 use dir_conf::{ConfFault, FileFault};
 use dir_files::slapmodify::first_repeated;
 use dir_files::{Amount, Doing, Fault, ModifyWords, Progress};
 use dir_ldif::RecordFault;
 use dir_names::NameFault;
 use dir_tools::{Cause, ToolFault};
+use std::alloc::Global;
+use std::fmt::Display;
 use std::io;
 use std::process::Abort;
 
@@ -138,4 +139,11 @@ fn each_progress_has_its_text(rt: HostRuntime) {
         };
         assert_shows(&rt, rt.alloc(), &progress, want);
     }
+}
+
+/// Asserts a text, plain and with `#`.
+fn assert_shows<F: Display>(rt: &impl Abort, alloc: Global, shown: &F, want: &str) {
+    let text = format!(in alloc; "{shown}; {shown:#}").expect(rt, "memory");
+    let want = format!(in alloc; "{want}; {want}").expect(rt, "memory");
+    assert!(rt; text.as_str() == want.as_str(), "{text}");
 }

@@ -1,8 +1,8 @@
 //! Runs over a folder in memory: what they open, create and write, and in which order.
 
-use crate::files::folder::{Asked, Folder};
-use crate::files::sites::{COUNTS, FLAT};
-use crate::files::suites::{SUITE, TALLY};
+use crate::folder::{Asked, Folder};
+use crate::sites::{COUNTS, FLAT};
+use crate::suites::{SUITE, TALLY};
 use dir_files::slapmodify::run;
 use dir_files::{Fault, ModifyWords, Refusal};
 use dir_tools::{ModifyOptions, Summary, ToolFault};

@@ -1,8 +1,8 @@
 //! Files of questions over a folder in memory: their calls, and the notes that are told before the answers.
 
-use crate::files::folder::Folder;
-use crate::files::questions::{COPY, INCLUDE, KeptNotes, RULES, push_end};
-use crate::files::runs::{ALL, push_calls};
+use crate::folder::Folder;
+use crate::questions::{COPY, INCLUDE, KeptNotes, RULES, push_end};
+use crate::runs::{ALL, push_calls};
 use dir_files::QuestionWords;
 use dir_files::questions::run;
 use std::alloc::Global;

@@ -1,7 +1,7 @@
 //! Questions of access over a folder in memory: its calls, the notes that are told before the report, and the argument of a fault.
 
-use crate::files::folder::Folder;
-use crate::files::runs::{ALL, push_calls};
+use crate::folder::Folder;
+use crate::runs::{ALL, push_calls};
 use dir_acl::{FaultArgument, Note};
 use dir_files::slapacl::run;
 use dir_files::{AccessWords, Fault, NoteTeller, Refusal, ShownArgument, ShownNote};

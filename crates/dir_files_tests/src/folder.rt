@@ -2,7 +2,7 @@
 
 ghost use Rattle.std.specs.Prelude.{◌≡◌, IfOk, string_bytes};
 ghost use Rattle.dir_files.specs.Files.{refusal_of};
-ghost use Rattle.kit_tests.specs.Folder.{folder_mode};
+ghost use Rattle.dir_files_tests.specs.Folder.{folder_mode};
 
 use dir_files::{FileSystem, Opened, Refusal};
 use dir_ldif::Script;
@@ -32,7 +32,7 @@ trait IsCall {
 impl IsCall for Asked {
     ghost use Rattle.std.specs.Prelude.{Some, string_bytes};
     ghost use Rattle.dir_files.specs.Files as call;
-    ghost use Rattle.kit_tests.specs.declared.files.folder.Asked.TheVariants.{Creates, Discards, Opens, Publishes, Reports, StandardInput, Syncs, Withdraws};
+    ghost use Rattle.dir_files_tests.specs.declared.folder.Asked.TheVariants.{Creates, Discards, Opens, Publishes, Reports, StandardInput, Syncs, Withdraws};
 
     ghost call = { elim [
       | Opens path why ↦ call.opens (string_bytes path) why
@@ -66,7 +66,7 @@ impl<'a> Folder<'a> {
     ghost use Rattle.std.specs.Prelude.{◌≡◌, IfOk, Some};
     ghost use Rattle.std.specs.Option.{option_copied};
     ghost use Rattle.dir_files.specs.Files.{Told, opens};
-    ghost use Rattle.kit_tests.specs.Folder.{folder_text};
+    ghost use Rattle.dir_files_tests.specs.Folder.{folder_text};
 
     pub(super) fn new(
         alloc: Global,
@@ -159,7 +159,7 @@ fn answer(why: Option<Refusal>) -> Result<(), Refusal>
 
 impl<'a> FileSystem for Folder<'a> {
     ghost use Rattle.std.specs.Prelude.{None, Some, if◌then◌else◌, map};
-    ghost use Rattle.kit_tests.specs.Folder.{folder_mode, folder_text};
+    ghost use Rattle.dir_files_tests.specs.Folder.{folder_mode, folder_text};
 
     type Input = Script<'a>;
 

@@ -1,7 +1,7 @@
 //! Flat configurations that are made over a folder in memory: the files that are opened, and the calls that make the file.
 
-use crate::files::folder::Folder;
-use crate::files::runs::{ALL, push_calls};
+use crate::folder::Folder;
+use crate::runs::{ALL, push_calls};
 use dir_files::slapconf::run;
 use dir_files::{ConfSource, ConfWords};
 use std::alloc::Global;
