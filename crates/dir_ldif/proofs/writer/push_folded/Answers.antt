@@ -1,3 +1,4 @@
+use Rattle.std.proofs.lemmas.Grind.{common_steps}
 use Rattle.std.proofs.Common.{[], ◌∷◌, sym, rules, arith}
 use Rattle.std.proofs.Transfers.{starts_with_of_append, starts_with_trans}
 use Rattle.dir_ldif.proofs.FoldLemmas.{fold_from-turn, fold_from-end}
@@ -15,3 +16,13 @@ loop-room-preserved c =
 
 pub returns-clause-text : goal.returns-clause-text
 returns-clause-text c = λ rest. fold_from-end c.loop-room.out.items _ c.loop-room.rest.now rest _ c.loop-room.room (search rules) (omega arith) (c.loop-room.invariant.1 rest)
+
+pub loop-room-init : goal.loop-room-init
+loop-room-init c = grind (arith, common_steps)
+
+pub returns-in_err-extend_from_slice-2-clause-kept :
+    goal.returns-in_err-extend_from_slice-2-clause-kept
+returns-in_err-extend_from_slice-2-clause-kept c = grind (arith, common_steps)
+
+pub returns-clause-kept : goal.returns-clause-kept
+returns-clause-kept c = grind (arith, common_steps)

@@ -16,3 +16,12 @@ loop-m-preserved c =
     let taken : take (c.loop-m.m-index + 1) c.args.mods.now ≡ done ++ c.m-item.result ∷ [] =
     take_more c.args.mods.now c.loop-m.m-index c.m-item.result (omega arith) ∙ ap (λ x. done ++ x ∷ []) (sym c.m-item.is) in
     record { text = grind (arith, common_steps); bytes = subst ModsAreBytes (sym taken) (mods_more done c.m-item.result c.loop-m.invariant.bytes c.in_ok-push_mod.ensures.bytes) }
+
+pub returns-clause-text : goal.returns-clause-text
+returns-clause-text c = grind (arith, common_steps)
+
+pub returns-clause-bytes : goal.returns-clause-bytes
+returns-clause-bytes c = grind (arith, common_steps)
+
+pub returns-clause-kept : goal.returns-clause-kept
+returns-clause-kept c = grind (arith, common_steps)

@@ -16,3 +16,12 @@ loop-value-preserved c =
     let taken : take (c.loop-value.value-index + 1) c.args.values.now ≡ done ++ c.value-item.result ∷ [] =
     take_more c.args.values.now c.loop-value.value-index c.value-item.result (omega arith) ∙ ap (λ x. done ++ x ∷ []) (sym c.value-item.is) in
     record { text = grind (arith, common_steps); bytes = subst AreBytes (sym taken) (values_more done c.value-item.result c.loop-value.invariant.bytes (subst IsBytes c.as_slice.ensures c.in_ok-push_line.ensures.bytes)) }
+
+pub returns-clause-text : goal.returns-clause-text
+returns-clause-text c = grind (arith, common_steps)
+
+pub returns-clause-bytes : goal.returns-clause-bytes
+returns-clause-bytes c = grind (arith, common_steps)
+
+pub returns-clause-kept : goal.returns-clause-kept
+returns-clause-kept c = grind (arith, common_steps)

@@ -16,3 +16,12 @@ loop-line-preserved c =
     let taken : take (c.loop-line.line-index + 1) c.args.lines.now ≡ done ++ c.line-item.result ∷ [] =
     take_more c.args.lines.now c.loop-line.line-index c.line-item.result (omega arith) ∙ ap (λ x. done ++ x ∷ []) (sym c.line-item.is) in
     record { text = grind (arith, common_steps); bytes = subst ValuesAreBytes (sym taken) (lines_more done c.line-item.result c.loop-line.invariant.bytes (subst IsBytes c.as_slice.ensures c.in_ok-push_line.ensures.bytes)) }
+
+pub returns-clause-text : goal.returns-clause-text
+returns-clause-text c = grind (arith, common_steps)
+
+pub returns-clause-bytes : goal.returns-clause-bytes
+returns-clause-bytes c = grind (arith, common_steps)
+
+pub returns-clause-kept : goal.returns-clause-kept
+returns-clause-kept c = grind (arith, common_steps)

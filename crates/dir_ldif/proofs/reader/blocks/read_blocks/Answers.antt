@@ -1,4 +1,5 @@
-use Rattle.std.proofs.Common.{◌≡◌, ◌++◌, ℕ, List, [], false, map, sym, ap, ◌∙◌, rules}
+use Rattle.std.proofs.Common.{◌≡◌, ◌++◌, ℕ, List, [], false, map, sym, ap, ◌∙◌, rules, arith}
+use Rattle.std.proofs.lemmas.Grind.{common_steps}
 use Rattle.std.proofs.lemmas.Result.{err_from_is_err_and}
 use Rattle.dir_ldif.specs.Blocks.{all_blocks, blocks_of}
 use Rattle.dir_ldif.specs.LogicalLines.{lines_of}
@@ -33,3 +34,9 @@ returns-in_err-block-2-clause-err c =
     rw (e.1, e.2) (
     blocks_end_in c.in_err-block-2.field-0.0 c.args.text.now found (blocks_to_come u []) (c.loop-blocks.invariant.3 [] ∙ ap (λ r. all_blocks found ++ blocks_in r) (taken [])) (ends_at_once c.in_err-block-2.field-0.0 _ c.in_err-block-2.ensures.err)
     )
+
+pub loop-blocks-preserved : goal.loop-blocks-preserved
+loop-blocks-preserved c = grind (arith, common_steps)
+
+pub returns-clause-ok : goal.returns-clause-ok
+returns-clause-ok c = grind (arith, common_steps)

@@ -1,4 +1,5 @@
-use Rattle.std.proofs.Common.{◌≡◌, ◌+◌, drop, sym, subst}
+use Rattle.std.proofs.Common.{◌≡◌, ◌+◌, drop, sym, subst, arith}
+use Rattle.std.proofs.lemmas.Grind.{common_steps}
 use Rattle.dir_ldif.specs.RecordGrammar.{mod_value, try_map}
 use Rattle.dir_ldif.specs.SoundRecords.{AreBytes}
 use Rattle.dir_ldif.proofs.GrammarLemmas.{try_map-turn, after_prefix}
@@ -13,3 +14,9 @@ loop-line-preserved c =
     let turn = try_map-turn value c.loop-line.values.items lines i c.line-item.result c.in_ok-mod_value.field-0 (try_map value lines) c.loop-line.invariant.0 c.loop-line-test.true c.line-item.is c.in_ok-mod_value.ensures.read in
     let more = values_more c.loop-line.values.items c.in_ok-mod_value.field-0 c.loop-line.invariant.1 c.in_ok-mod_value.ensures.sound in
     subst (λ t. (try_map value lines ≡ after_prefix t (try_map value (drop (i + 1) lines))) × AreBytes t) (sym c.in_ok-push.ensures.items) (turn, more)
+
+pub returns-in_err-mod_value-clause-read : goal.returns-in_err-mod_value-clause-read
+returns-in_err-mod_value-clause-read c = grind (arith, common_steps)
+
+pub returns-clause-read : goal.returns-clause-read
+returns-clause-read c = grind (arith, common_steps)

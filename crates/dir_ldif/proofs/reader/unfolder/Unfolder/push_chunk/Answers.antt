@@ -1,3 +1,4 @@
+use Rattle.std.proofs.lemmas.Grind.{common_steps}
 use Rattle.std.proofs.lemmas.Result.{err_from_is_err_and}
 use Rattle.std.proofs.Common.{◌++◌, ap, sym, subst, ◌∙◌, arith}
 use Rattle.dir_ldif.specs.Reader.Unfolding.{to_come}
@@ -79,3 +80,12 @@ returns-in_err-push_partial_line-clause-ignored c = λ h. c.push_partial_line.en
 
 pub returns-clause-ignored : goal.returns-clause-ignored
 returns-clause-ignored c = λ h. c.push_partial_line.ensures.ignored (c.loop-text.invariant.5 h)
+
+pub returns-in_err-block-clause-number : goal.returns-in_err-block-clause-number
+returns-in_err-block-clause-number c = grind (arith, common_steps)
+
+pub returns-in-Some-2-clause-number : goal.returns-in-Some-2-clause-number
+returns-in-Some-2-clause-number c = grind (arith, common_steps)
+
+pub returns-then-is_over-clause-number : goal.returns-then-is_over-clause-number
+returns-then-is_over-clause-number c = grind (arith, common_steps)
