@@ -31,6 +31,7 @@ use crate::schema::table::{FREQUENT, RANKED, ROWS, Row};
 use crate::schema::types::TypeTable;
 use crate::{AttrKey, Bytes, Description, NameFault, Texts};
 use std::alloc::Global;
+use std::fmt;
 use std::marker::Model;
 
 /// How the values of an attribute type are compared (RFC 4517, section 4.2).
@@ -79,7 +80,7 @@ impl TypeRow {
 
 /// The attribute types that are known. Values of any other type are compared byte by byte, and an
 /// attribute of it takes any number of them.
-#[derive(Debug, Drop)]
+#[derive(Drop)]
 pub struct Schema {
     types: TypeTable,
     /// The types that copies of directories use most, each in the slot of its text.
@@ -89,7 +90,7 @@ pub struct Schema {
 }
 
 /// What is known of the type that has this rank.
-#[derive(Clone, Copy, Debug)]
+#[derive(Clone, Copy)]
 struct RankedType {
     rank: u8,
     rule: Rule,
@@ -100,12 +101,19 @@ struct RankedType {
 const SLOTS: usize = 256;
 
 /// What is known of a frequent type, so that it isn't looked up in the table.
-#[derive(Debug, Drop)]
+#[derive(Drop)]
 pub(crate) struct FrequentType {
     text: Bytes,
     description: Description,
     pub(crate) rule: Rule,
     pub(crate) scope: Scope,
+}
+
+/// Shows no types: there can be many.
+impl fmt::Debug for Schema {
+    fn fmt<W: fmt::Write>(&self, f: &mut fmt::Formatter<W>) -> fmt::Result {
+        f.debug_struct("Schema").finish_non_exhaustive()
+    }
 }
 
 impl FrequentType {

@@ -4,7 +4,7 @@ ghost use Rattle.std.specs.Prelude.{◌≡◌, true};
 ghost use Rattle.dir_names.specs.Inside.Scopes.{both};
 
 /// The schemas under which a key is the same.
-#[derive(Clone, Copy, Debug)]
+#[derive(Clone, Copy)]
 pub(crate) enum Scope {
     /// The one that was asked, and perhaps no other.
     ThisSchema,

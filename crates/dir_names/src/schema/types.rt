@@ -23,7 +23,7 @@ use std::alloc::Global;
 use std::marker::Model;
 
 /// The types in their order. No text names two of them.
-#[derive(Debug, Drop)]
+#[derive(Drop)]
 pub(crate) struct TypeTable {
     rows: Vec<TypeRow>,
     /// The names and numbers of the types in lower case, in order, each with the number of its row.
@@ -115,7 +115,7 @@ impl TypeTable {
             return Err(NameFault::BadType);
         }
         match row_number(self.names.as_slice(), definition.number.as_slice()) {
-            Some(at) => self.add_names(alloc, at, definition),
+            Some(at) => self.add_names(alloc, at, &definition),
             None => match self.rule_by(&definition) {
                 Some(rule) => self.add_row(alloc, definition, rule),
                 None => Err(NameFault::BadType),
@@ -200,14 +200,14 @@ impl TypeTable {
         &mut self,
         alloc: Global,
         at: usize,
-        definition: TypeDefinition,
+        definition: &TypeDefinition,
     ) -> Result<(), NameFault>
-        requires added { IsTrue (may_be_added self.old definition) }
-        requires known { position (is_named definition.number) self.old ≡ Some at }
-        ensures ok { OnOk result (self.new ≡ map (gaining definition (new_names self.old definition)) self.old) }
+        requires added { IsTrue (may_be_added self.old definition.now) }
+        requires known { position (is_named definition.now.number) self.old ≡ Some at }
+        ensures ok { OnOk result (self.new ≡ map (gaining definition.now (new_names self.old definition.now)) self.old) }
         ensures err { IfErr result (λ e. (e ≡ Memory) × (self.new ≡ self.old)) }
     {
-        let gained = self.new_names(alloc, &definition)?;
+        let gained = self.new_names(alloc, definition)?;
         let lowered = lowercase_names(alloc, gained.as_slice())?;
         self.names.reserve(lowered.len())?;
         self.rows[at].names.append(gained)?;

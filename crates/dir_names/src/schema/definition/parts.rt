@@ -6,13 +6,14 @@ ghost use Rattle.dir_names.specs.declared.fault.NameFault.TheVariants.{Memory};
 ghost use Rattle.dir_names.specs.declared.schema.definition.tokens.Token.{Token};
 ghost use Rattle.dir_names.specs.Definitions.Parts.{begun_by, first_text, flag_of, has_part, is_each_once, is_extension, is_flag, is_part_of, keyword_before_word, keyword_number, keyword_of, next_part, on_to, parts_of, step_at, takes_list, takes_word, texts_of};
 ghost use Rattle.dir_names.specs.Outcome.{Gives};
+ghost use Rattle.dir_names.specs.declared.schema.definition.parts.Place.TheVariants.{After, Between, InList};
 
 use crate::schema::definition::tokens::Token;
 use crate::{Bytes, NameFault, Texts};
 use std::alloc::Global;
 
 /// The keyword of a part.
-#[derive(Clone, Copy, Debug)]
+#[derive(Clone, Copy)]
 pub(crate) enum Keyword {
     Name,
     Desc,
@@ -31,7 +32,7 @@ pub(crate) enum Keyword {
 }
 
 /// A keyword, and the texts that belong to it.
-#[derive(Debug, Drop)]
+#[derive(Drop)]
 pub(crate) struct Part {
     keyword: Keyword,
     texts: Texts,
@@ -227,27 +228,57 @@ impl PartReader {
 fn step_at(alloc: Global, place: Place, token: &Token) -> Result<Option<Step>, NameFault>
     ensures { Gives (λ step. step) result (Ok (step_at place token.now)) }
 {
-    match (place, token) {
-        (Place::Between, Token::Word(word)) => match Keyword::read(word.as_slice()) {
-            Some(keyword) => Ok(Some(begun_by(alloc, keyword))),
-            None => Ok(None),
+    match place {
+        Place::Between => Ok(step_between(alloc, token)),
+        Place::After(keyword) => step_after(alloc, keyword, token),
+        Place::InList(keyword, texts) => step_in_list(alloc, keyword, texts, token),
+        Place::End => Ok(None),
+    }
+}
+
+fn step_between(alloc: Global, token: &Token) -> Option<Step>
+    ensures { result ≡ step_at Between token.now }
+{
+    match token {
+        Token::Word(word) => match Keyword::read(word.as_slice()) {
+            Some(keyword) => Some(begun_by(alloc, keyword)),
+            None => None,
         },
-        (Place::Between, Token::Close) => Ok(Some(on_to(Place::End))),
-        (Place::After(keyword), Token::Quoted(text)) => Ok(Some(next_part(
-            keyword,
-            one_text(alloc, text)?,
-        ))),
-        (Place::After(keyword), Token::Word(text)) if keyword.takes_word() => {
+        Token::Close => Some(on_to(Place::End)),
+        _ => None,
+    }
+}
+
+fn step_after(alloc: Global, keyword: Keyword, token: &Token) -> Result<Option<Step>, NameFault>
+    ensures { Gives (λ step. step) result (Ok (step_at (After keyword) token.now)) }
+{
+    match token {
+        Token::Quoted(text) => Ok(Some(next_part(keyword, one_text(alloc, text)?))),
+        Token::Word(text) if keyword.takes_word() => {
             Ok(Some(next_part(keyword, one_text(alloc, text)?)))
         }
-        (Place::After(keyword), Token::Open) if keyword.takes_list() => {
-            Ok(Some(on_to(Place::InList(keyword, Texts::new(Vec::new(alloc))))))
-        }
-        (Place::InList(keyword, texts), Token::Quoted(text)) => {
+        Token::Open if keyword.takes_list() => Ok(Some(on_to(Place::InList(
+            keyword,
+            Texts::new(Vec::new(alloc)),
+        )))),
+        _ => Ok(None),
+    }
+}
+
+fn step_in_list(
+    alloc: Global,
+    keyword: Keyword,
+    texts: Texts,
+    token: &Token,
+) -> Result<Option<Step>, NameFault>
+    ensures { Gives (λ step. step) result (Ok (step_at (InList keyword texts) token.now)) }
+{
+    match token {
+        Token::Quoted(text) => {
             let longer = texts.with(text.try_clone(alloc)?)?;
             Ok(Some(on_to(Place::InList(keyword, longer))))
         }
-        (Place::InList(keyword, texts), Token::Close) => Ok(Some(next_part(keyword, texts))),
+        Token::Close => Ok(Some(next_part(keyword, texts))),
         _ => Ok(None),
     }
 }

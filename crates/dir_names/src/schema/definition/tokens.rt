@@ -11,7 +11,7 @@ use std::alloc::Global;
 use std::mem;
 
 /// A token.
-#[derive(Debug, Drop)]
+#[derive(Drop)]
 pub(crate) enum Token {
     /// A left parenthesis.
     Open,

@@ -6,13 +6,14 @@ use Rattle.dir_names.specs.Inside.TypeNames.{Gains, is_named}
 use Rattle.dir_names.specs.Types.Adding.{gaining, may_be_added, new_names}
 use Rattle.dir_names.proofs.GrownTables.{IsKept, gains_in, row_grown, rows_grown}
 use Rattle.dir_names.proofs.schema.types.TypeTable.add_names.Goals as goal
+use Rattle.dir_names.proofs.schema.types.TypeTable.add_names.Goals.{After-insert_each}
 
 -- the rows that are left
-grown : (c : goal.Joined-definition-10) → set c.self.inside.rows.items c.args.at (record { key = c.index_mut.result.now.key; names = c.append.new.self; rule = c.index_mut.result.now.rule; single = c.index_mut.result.now.single }) ≡ map (gaining c.args.definition (new_names c.self.inside.rows.items c.args.definition)) c.self.inside.rows.items
+grown : (c : After-insert_each) → set c.self.inside.rows.items c.args.at (record { key = c.index_mut.result.now.key; names = c.append.new.self; rule = c.index_mut.result.now.rule; single = c.index_mut.result.now.single }) ≡ map (gaining c.args.definition.now (new_names c.self.inside.rows.items c.args.definition.now)) c.self.inside.rows.items
 grown c =
     let rows = c.self.inside.rows.items in
     let index = c.self.inside.names.items in
-    let d = c.args.definition in
+    let d = c.args.definition.now in
     let at = c.args.at in
     let row = c.index_mut.result.now in
     let added : may_be_added rows d ≡ true = subst (λ r. may_be_added r d ≡ true) (sym c.self.view_is) c.requires.added in
@@ -28,7 +29,7 @@ pub invariant_of-self-2 : goal.invariant_of-self-2
 invariant_of-self-2 c =
     let rows = c.self.inside.rows.items in
     let index = c.self.inside.names.items in
-    let d = c.args.definition in
+    let d = c.args.definition.now in
     let at = c.args.at in
     let row = c.index_mut.result.now in
     let added : may_be_added rows d ≡ true = subst (λ r. may_be_added r d ≡ true) (sym c.self.view_is) c.requires.added in
@@ -45,4 +46,4 @@ on_ok (Ok x) P p = p
 on_ok (Err e) P p = tt
 
 pub returns-clause-ok : goal.returns-clause-ok
-returns-clause-ok c = on_ok c.insert_each.result _ (grown c ∙ ap (λ r. map (gaining c.args.definition (new_names r c.args.definition)) r) c.self.view_is)
+returns-clause-ok c = on_ok c.insert_each.result _ (grown c ∙ ap (λ r. map (gaining c.args.definition.now (new_names r c.args.definition.now)) r) c.self.view_is)
