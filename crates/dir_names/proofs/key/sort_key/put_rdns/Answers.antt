@@ -1,3 +1,4 @@
+use Rattle.std.proofs.lemmas.Grind.{common_steps}
 use Rattle.std.proofs.Common.{◌≡◌, ◌+◌, ◌-◌, ◌<◌, ℕ, length, sym, subst, arith}
 use Rattle.dir_names.specs.NameKeys.{rdn_key}
 use Rattle.dir_names.proofs.SortedNames.{IsSorted, some_text, sorted_more}
@@ -18,3 +19,9 @@ loop-at-preserved c =
     let put = some_text (rdn_key rows rdn) text c.put_rdn.new.out.items c.in-Ok.ensures in
     let sorted : IsSorted rows name at c.put_rdn.new.out.items = subst (IsSorted rows name at) (sym put.2) (sorted_more rows name at rdn inside c.index-rdns-at.is text so_far put.0 put.1) in
     (omega (arith, test, low), sorted)
+
+pub loop-at-init : goal.loop-at-init
+loop-at-init c = grind (arith, common_steps)
+
+pub returns-in-Err : goal.returns-in-Err
+returns-in-Err c = grind (arith, common_steps)

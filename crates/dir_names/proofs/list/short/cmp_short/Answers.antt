@@ -1,3 +1,4 @@
+use Rattle.std.proofs.lemmas.Grind.{common_steps}
 use Rattle.std.proofs.Common.{◌≡◌, ℕ, zero, suc, List, [], ◌∷◌, length, drop, min, refl, sym, ◌∙◌, arith, rules}
 use Rattle.std.proofs.lemmas.Bool.Decides.{nat_tests}
 use Rattle.std.specs.declared.cmp.Ordering.TheVariants.{Less, Greater}
@@ -32,3 +33,12 @@ returns-then-first-lt-FIRST c =
     let lengths : c.cmp-then-first-lt-FIRST.result ≡ nat_cmp (length one) (length other) = search rules in
     let ended : c.loop-at.at ≡ min (length one) (length other) = omega arith in
     lengths ∙ at_end one other c.loop-at.at ended ∙ c.loop-at.invariant
+
+pub returns-then-one-at : goal.returns-then-one-at
+returns-then-one-at c = grind (arith, common_steps)
+
+pub loop-at-preserved : goal.loop-at-preserved
+loop-at-preserved c = grind (arith, common_steps)
+
+pub returns : goal.returns
+returns c = grind (arith, common_steps)

@@ -1,3 +1,4 @@
+use Rattle.std.proofs.lemmas.Grind.{common_steps}
 use Rattle.std.proofs.Common.{◌≡◌, ◌≤◌, true, nat_le, length, reverse, take, Some, sym, ap, ◌∙◌, arith}
 use Rattle.std.proofs.lemmas.Bool.Decides.{nat_tests}
 use Rattle.std.proofs.lemmas.List.{append-nil, length-reverse}
@@ -22,3 +23,12 @@ from_parts-requires c =
     let within : nat_le (length name) 64 ≡ true = left (nat_le (length name) 64) _ (ap is_within_limits (sym c.self.view_is) ∙ c.self.invariant.1) in
     let low : length name ≤ 64 = grind (arith, nat_tests) in
     omega (arith, count, low)
+
+pub loop-at-init : goal.loop-at-init
+loop-at-init c = grind (arith, common_steps)
+
+pub returns-in_err-key : goal.returns-in_err-key
+returns-in_err-key c = grind (arith, common_steps)
+
+pub loop-at-preserved : goal.loop-at-preserved
+loop-at-preserved c = grind (arith, common_steps)

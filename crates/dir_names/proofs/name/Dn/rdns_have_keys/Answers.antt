@@ -1,3 +1,4 @@
+use Rattle.std.proofs.lemmas.Grind.{common_steps}
 use Rattle.std.proofs.Common.{◌≡◌, false, take, is_some, Ok, sym, ap, ◌∙◌, arith, rules}
 use Rattle.std.specs.List.{list_all}
 use Rattle.std.proofs.lemmas.List.{take_all}
@@ -19,3 +20,6 @@ returns c =
     let items : c.args.self.now ≡ c.as_slice-rdn-items.result.now = search rules in
     let whole : take c.loop-rdn.rdn-index c.args.self.now ≡ c.args.self.now = take_all c.loop-rdn.rdn-index c.args.self.now (rw items c.loop-rdn-test.false) in
     ap Ok (has_each rows c.args.self.now ∙ ap (list_all (λ (r : SpelledRdn). is_some (rdn_key rows r))) (sym whole) ∙ c.loop-rdn.invariant)
+
+pub loop-rdn-preserved : goal.loop-rdn-preserved
+loop-rdn-preserved c = grind (arith, common_steps)

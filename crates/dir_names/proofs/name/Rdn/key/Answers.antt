@@ -1,3 +1,4 @@
+use Rattle.std.proofs.lemmas.Grind.{common_steps}
 use Rattle.std.proofs.Common.{◌≡◌, ◌+◌, drop, sym, ◌∙◌, arith, rules}
 use Rattle.std.proofs.lemmas.Result.{err_from_is_err_and}
 use Rattle.dir_names.specs.NameKeys.{pair_key, rdn_key}
@@ -36,3 +37,6 @@ loop-pair-preserved c =
     let so_far = key_at rows (rdn_key rows c.args.self.now) c.loop-pair.key pairs c.loop-pair.pair-index c.pair-item.result (omega arith) c.pair-item.is c.loop-pair.invariant in
     let read = ok_some (pair_key rows c.pair-item.result) (c.in_ok-attr.attr, c.in_ok-attr.value) c.in_ok-attr.ensures in
     key_more rows (rdn_key rows c.args.self.now) c.loop-pair.key c.pair-item.result (drop (c.loop-pair.pair-index + 1) pairs) so_far (c.in_ok-attr.attr, c.in_ok-attr.value) c.in_ok-key.key read c.in_ok-key.ensures
+
+pub returns : goal.returns
+returns c = grind (arith, common_steps)

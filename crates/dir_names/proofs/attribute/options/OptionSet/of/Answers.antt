@@ -14,3 +14,9 @@ returns c =
     let whole : c.loop-option.joined.items ≡ first ++ flat_map (λ text. 0 ∷ text) rest = grind (arith, common_steps) in
     let text : c.new.result ≡ first ++ flat_map (λ text. 0 ∷ text) rest = search rules in
     ap Ok (sym (ap (parts_at 0) text ∙ parts-joined first rest (ap (list_all lacks_nul) (sym is) ∙ c.requires) ∙ sym is))
+
+pub returns-in_default : goal.returns-in_default
+returns-in_default c = grind (arith, common_steps)
+
+pub loop-option-preserved : goal.loop-option-preserved
+loop-option-preserved c = grind (arith, common_steps)

@@ -1,4 +1,5 @@
-use Rattle.std.proofs.Common.{◌≡◌, ◌∷◌, true, rules}
+use Rattle.std.proofs.Common.{◌≡◌, ◌∷◌, true, rules, arith}
+use Rattle.std.proofs.lemmas.Grind.{common_steps}
 use Rattle.std.specs.Option.{option_copied}
 use Rattle.std.specs.Str.{str_to_ascii_lowercase}
 use Rattle.dir_names.specs.Inside.Left.{parts_left}
@@ -14,3 +15,6 @@ loop-rest-preserved c =
     let sound : is_option c.split_once.result.0.now ≡ true = search rules in
     let put : c.insert_option.new.options.items ≡ with_member bytes_cmp (str_to_ascii_lowercase c.split_once.result.0.now) c.loop-rest.options.items = search rules in
     keeps_more _ _ _ _ _ _ parted sound put c.loop-rest.invariant
+
+pub loop-rest-smaller : goal.loop-rest-smaller
+loop-rest-smaller c = grind (arith, common_steps)

@@ -1,4 +1,5 @@
-use Rattle.std.proofs.Common.{◌≡◌, Some, IfSome, subst, ◌∙◌, rules}
+use Rattle.std.proofs.Common.{◌≡◌, Some, IfSome, subst, ◌∙◌, rules, arith}
+use Rattle.std.proofs.lemmas.Grind.{common_steps}
 use Rattle.std.specs.Ordering.{nat_cmp, ordering_then}
 use Rattle.dir_names.specs.Ascii.{nul}
 use Rattle.dir_names.specs.Cut.{parts_at}
@@ -20,3 +21,9 @@ returns-in-Some-Some c =
     let another : parts_at nul theirs ≡ c.args.other.now = search rules in
     let run : c.then_with.result ≡ ordering_then (nat_cmp m n) (bytes_cmp mine theirs) = search rules in
     run ∙ cmp_start_first mine theirs m n my_start their_start ∙ parts_cmp mine theirs ∙ (λ i. texts_cmp (one i) (another i))
+
+pub returns-in-None-Some : goal.returns-in-None-Some
+returns-in-None-Some c = grind (arith, common_steps)
+
+pub returns-in-Some-None : goal.returns-in-Some-None
+returns-in-Some-None c = grind (arith, common_steps)

@@ -1,4 +1,5 @@
-use Rattle.std.proofs.Common.{◌≡◌, false, ◌&&◌, Some, IfSome, subst, ap, sym, ◌∙◌, rules}
+use Rattle.std.proofs.Common.{◌≡◌, false, ◌&&◌, Some, IfSome, subst, ap, sym, ◌∙◌, rules, arith}
+use Rattle.std.proofs.lemmas.Grind.{common_steps}
 use Rattle.std.specs.Prelude.{◌==◌}
 use Rattle.dir_names.specs.Ascii.{nul}
 use Rattle.dir_names.specs.Cut.{parts_at}
@@ -29,3 +30,9 @@ returns-else-self-other c =
     let another : parts_at nul theirs ≡ c.args.other.now = search rules in
     let differ : (m == n) ≡ false = search rules in
     differ ∙ ap (λ b. b && bytes_eq mine theirs) (sym differ) ∙ eq_start_first mine theirs m n my_start their_start ∙ parts_eq mine theirs ∙ (λ i. texts_eq (one i) (another i))
+
+pub returns-in-None-Some : goal.returns-in-None-Some
+returns-in-None-Some c = grind (arith, common_steps)
+
+pub returns-in-Some-None : goal.returns-in-Some-None
+returns-in-Some-None c = grind (arith, common_steps)

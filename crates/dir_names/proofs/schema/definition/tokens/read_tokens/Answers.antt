@@ -16,3 +16,6 @@ returns c =
     let at_end : [] ≡ drop c.loop-b.b-index c.args.text.now = grind (arith, common_steps) in
     let whole = ap (λ rest. all_tokens reader.tokens.items reader.spot reader.item.items rest) at_end ∙ c.loop-b.invariant in
     subst (λ tokens. Gives (option_map (λ v. v.items)) c.finish.result (Ok tokens)) whole c.finish.ensures
+
+pub loop-b-preserved : goal.loop-b-preserved
+loop-b-preserved c = grind (arith, common_steps)
