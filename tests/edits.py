@@ -102,7 +102,8 @@ def module_of_type(home, name):
 
 
 def path_of(home, file, number):
-    """The path below its crate of the function that has a line of a source file, and None where none has it. A method of an impl of no trait has that of its type."""
+    """The path below its crate of the function that has a line of a source file, and None where none has it. A method of an impl of no trait has that of its type,
+    and one with a body in its trait that of the trait."""
     lines = lines_of(file)
     name, begin, end = function_at(lines, number)
     if name is None or number > end:
@@ -115,6 +116,8 @@ def path_of(home, file, number):
             owner = [owner_of(text)]
             if " for " not in text.split("{")[0] and not re.search(rf"\b(struct|enum) {owner[0]}\b", text_of(file)):
                 module = module_of_type(home, owner[0]) or module
+        elif header is not None:
+            owner = [re.search(r"trait (\w+)", lines[header])[1]]
     return "::".join([*module, *owner, name])
 
 

@@ -25,7 +25,7 @@ use dir_names::{AttrKey, Bytes, Description, Memory, Rdn, Schema, ValueKey};
 pub(crate) use list::{AttributeList, FewOrMany};
 use std::alloc::Global;
 use std::marker::Model;
-use std::mem;
+use std::{fmt, mem};
 
 /// An attribute of an entry: its description as spelled, and its values.
 #[derive(Debug, Drop)]
@@ -164,9 +164,16 @@ impl Attribute {
 }
 
 /// The attributes of an entry: an ordered map from description keys.
-#[derive(Debug, Drop)]
+#[derive(Drop)]
 pub struct AttributeMap {
     items: AttributeList,
+}
+
+/// Shows no attributes: there can be many.
+impl fmt::Debug for AttributeMap {
+    fn fmt<W: fmt::Write>(&self, f: &mut fmt::Formatter<W>) -> fmt::Result {
+        f.debug_struct("AttributeMap").finish_non_exhaustive()
+    }
 }
 
 impl Model for AttributeMap {

@@ -67,6 +67,24 @@ pub trait Directory {
         ensures err { OnErr result (state self.new ≡ state self.old) }
         ensures value_returned { IfErr result (λ e. e ≡ entry) };
 
+    /// Whether an entry may be put at a key: it is the suffix, or its parent is in the map.
+    ///
+    /// # Errors
+    ///
+    /// `Memory` alone.
+    fn accepts_key(&self, alloc: Global, key: &DnKey) -> Result<bool, Memory>
+        ensures { IfOk result (λ b. b ≡ has_parent (state self.now) key.now) }
+    {
+        if key == self.suffix() {
+            return Ok(true);
+        }
+        match key.parent(alloc) {
+            Ok(Some(parent)) => Ok(self.get(&parent).is_some()),
+            Ok(None) => Ok(false),
+            Err(_) => Err(Memory),
+        }
+    }
+
     /// Puts an entry at a key, if that has none, and is the suffix or has its parent in the map. This way looks three
     /// times; a directory that can do it by one look has its own.
     ///
@@ -83,15 +101,10 @@ pub trait Directory {
         if self.get(key).is_some() {
             return Err(NotAdded::Taken);
         }
-        if key != self.suffix() {
-            let parent = match key.parent(alloc) {
-                Ok(Some(parent)) => parent,
-                Ok(None) => return Err(NotAdded::NoParent(entry)),
-                Err(_) => return Err(NotAdded::Memory),
-            };
-            if self.get(&parent).is_none() {
-                return Err(NotAdded::NoParent(entry));
-            }
+        match self.accepts_key(alloc, key) {
+            Ok(true) => {}
+            Ok(false) => return Err(NotAdded::NoParent(entry)),
+            Err(_) => return Err(NotAdded::Memory),
         }
         match self.insert(key, entry) {
             Ok(()) => Ok(()),
@@ -161,12 +174,9 @@ pub fn may_stand<D: Directory>(alloc: Global, directory: &D, key: &DnKey) -> Res
     ensures ok { IfOk result (λ b. b ≡ has_parent (D.state directory.now) key.now) }
     ensures memory { IfErr result (λ e. e ≡ NameFault.Memory) }
 {
-    if key == directory.suffix() {
-        return Ok(true);
-    }
-    match key.parent(alloc)? {
-        Some(parent) => Ok(directory.get(&parent).is_some()),
-        None => Ok(false),
+    match directory.accepts_key(alloc, key) {
+        Ok(is_accepted) => Ok(is_accepted),
+        Err(_) => Err(NameFault::Memory),
     }
 }
 

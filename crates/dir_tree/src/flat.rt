@@ -145,8 +145,7 @@ fn walk_over<'m>(
     for (key, entry) in entries {
         path.truncate(key.depth() - suffix.depth());
         path.push(spelled_own(suffix, key, entry.own()))?;
-        let mut rdns = Vec::with_capacity(alloc, key.depth())?;
-        push_joined(&mut rdns, path.as_slice(), alloc)?;
+        let rdns = joined_rdns(alloc, path.as_slice(), key.depth())?;
         walk.push((Dn::of_rdns(rdns), entry))?;
     }
     Ok(walk)
@@ -215,6 +214,15 @@ fn first_after<'m>(entries: &'m BTreeMap<DnKey, Entry>, key: &DnKey) -> Option<&
         .range((Bound::Excluded(key), Bound::Unbounded))
         .next()?;
     Some(next)
+}
+
+/// Clones of the own names on a path, the last first, in memory for this many.
+fn joined_rdns(alloc: Global, path: &[&[Rdn]], depth: usize) -> Result<Vec<Rdn>, Memory>
+    ensures { IfOk result (λ rdns. rdns.items ≡ flat_map (λ own. own) (reverse (map (λ own. own.now) path.now))) }
+{
+    let mut rdns = Vec::with_capacity(alloc, depth)?;
+    push_joined(&mut rdns, path, alloc)?;
+    Ok(rdns)
 }
 
 /// Clones the own names on a path onto the end of a list, the last first.

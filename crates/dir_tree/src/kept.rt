@@ -19,6 +19,7 @@ use crate::parts::has_each;
 use crate::views::AttributeView;
 use dir_names::{AttrKey, Bytes, Description, Memory, Rdn, RdnKey, RecentNames, Schema, ValueKey};
 use std::alloc::Global;
+use std::fmt;
 use std::marker::Model;
 
 /// An entry with more values than this is not packed, so that its first change need not open it.
@@ -28,7 +29,7 @@ const MOST_PACKED: usize = 1024;
 const MOST_PACKED_AGAIN: usize = 64;
 
 /// The form of an entry's attributes.
-#[derive(Debug, Drop)]
+#[derive(Drop)]
 pub(crate) enum Form {
     /// A form that can be changed.
     Open(AttributeMap),
@@ -38,9 +39,16 @@ pub(crate) enum Form {
 
 /// The attributes of an entry: an ordered map from description keys, which can be looked up, and opened to be
 /// changed.
-#[derive(Debug, Drop)]
+#[derive(Drop)]
 pub struct KeptAttributes {
     form: Form,
+}
+
+/// Shows no attributes: there can be many.
+impl fmt::Debug for KeptAttributes {
+    fn fmt<W: fmt::Write>(&self, f: &mut fmt::Formatter<W>) -> fmt::Result {
+        f.debug_struct("KeptAttributes").finish_non_exhaustive()
+    }
 }
 
 impl Model for KeptAttributes {

@@ -19,7 +19,7 @@ use std::alloc::Global;
 const MANY_LINES: usize = 64;
 
 /// A line of an entry with the key of its value.
-#[derive(Debug, Drop)]
+#[derive(Drop)]
 pub(crate) struct KeyedLine {
     description: Description,
     key: ValueKey,

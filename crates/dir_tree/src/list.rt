@@ -22,7 +22,7 @@ use std::marker::Model;
 use std::{mem, slice};
 
 /// The values of an attribute, in order. One value alone needs no memory of its own.
-#[derive(Debug, Drop)]
+#[derive(Drop)]
 pub(crate) struct ValueList {
     kept: OneOrMany,
 }

@@ -41,7 +41,7 @@ fn is_common(description: &Description) -> bool {
 }
 
 /// How the key of a value is kept.
-#[derive(PartialEq, Debug, Drop)]
+#[derive(PartialEq, Drop)]
 pub(crate) enum PackedKey {
     /// The key is the value itself.
     Same,
@@ -52,7 +52,7 @@ pub(crate) enum PackedKey {
 }
 
 /// Where a value is in the text, and its key.
-#[derive(PartialEq, Debug, Drop)]
+#[derive(PartialEq, Drop)]
 pub(crate) struct PackedValue {
     start: u16,
     end: u16,
@@ -91,7 +91,7 @@ impl PackedValue {
 }
 
 /// What values are made of: the bytes of all in one text, and the keys that are names.
-#[derive(Debug, Drop)]
+#[derive(Drop)]
 struct Pool {
     text: Vec<u8>,
     names: Vec<DnSortKey>,
@@ -126,7 +126,7 @@ fn part_of<T>(items: &[T], start: u16, end: u16) -> &[T]
 }
 
 /// Values, whose texts are all in one.
-#[derive(Debug, Drop)]
+#[derive(Drop)]
 struct PackedValues {
     values: Vec<PackedValue>,
     pool: Pool,
@@ -284,7 +284,7 @@ impl<'a> Iterator for PackedIter<'a> {
 }
 
 /// An attribute whose values are some of a list: of the values that many entries have, or of an entry's own.
-#[derive(PartialEq, Debug, Drop)]
+#[derive(PartialEq, Drop)]
 pub(crate) struct PackedAttribute {
     is_common: bool,
     start: u16,
@@ -302,7 +302,7 @@ impl PackedAttribute {
 }
 
 /// Attributes with their values. Entries that are alike share the list of attributes, and the values that many have.
-#[derive(Debug, Drop)]
+#[derive(Drop)]
 pub(crate) struct PackedAttributes {
     attributes: Rc<Vec<PackedAttribute>>,
     common: Rc<PackedValues>,

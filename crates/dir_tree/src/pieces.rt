@@ -26,7 +26,7 @@ use std::mem;
 pub(crate) const MOST: usize = 1024;
 
 /// A list in pieces, none of which is empty or has more than `MOST` elements.
-#[derive(Debug, Drop)]
+#[derive(Drop)]
 pub(crate) struct Pieces<T> {
     pieces: Vec<Vec<T>>,
     /// How many elements the pieces have together.

@@ -12,14 +12,14 @@ use std::alloc::Global;
 use std::marker::Model;
 
 /// A value as it is stored: its key, and its bytes unless they are those of the key.
-#[derive(Debug, Drop)]
+#[derive(Drop)]
 pub(crate) struct StoredValue {
     key: ValueKey,
     bytes: Option<Bytes>,
 }
 
 /// The values of an attribute as they are stored.
-#[derive(Debug, Drop)]
+#[derive(Drop)]
 pub(crate) enum OneOrMany {
     /// A single value, without a `Vec`.
     One(StoredValue),

@@ -17,12 +17,20 @@ use crate::stored::StoredValue;
 use crate::views::KeyView;
 use dir_names::{Bytes, Memory, ValueKey};
 use std::alloc::Global;
+use std::fmt;
 use std::marker::Model;
 
 /// The values of an attribute: an ordered map from value keys to stored bytes.
-#[derive(Debug, Drop)]
+#[derive(Drop)]
 pub struct ValueMap {
     items: ValueList,
+}
+
+/// Shows no values: there can be many.
+impl fmt::Debug for ValueMap {
+    fn fmt<W: fmt::Write>(&self, f: &mut fmt::Formatter<W>) -> fmt::Result {
+        f.debug_struct("ValueMap").finish_non_exhaustive()
+    }
 }
 
 impl Model for ValueMap {

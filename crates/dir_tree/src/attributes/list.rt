@@ -25,13 +25,13 @@ use std::marker::Model;
 use std::mem;
 
 /// The attributes of an entry, in order.
-#[derive(Debug, Drop)]
+#[derive(Drop)]
 pub(crate) struct AttributeList {
     kept: FewOrMany,
 }
 
 /// Attributes as they are kept.
-#[derive(Debug, Drop)]
+#[derive(Drop)]
 pub(crate) enum FewOrMany {
     /// A number of them in one `Vec`.
     Few(Vec<Attribute>),
