@@ -1,5 +1,5 @@
 -- A key above the last of values in rising order: it would be inserted after all of them.
-use Rattle.std.proofs.Common.{◌≡◌, ◌-◌, ◌<◌, ℕ, suc, true, List, [], length, get_or, map, Err, Result, refl, ap, sym, subst, ◌∙◌, arith, Vec}
+use Rattle.std.proofs.Common.{◌≡◌, ◌-◌, ℕ, true, List, [], length, get_or, map, Err, Result, refl, ap, ◌∙◌, arith, Vec}
 use Rattle.std.specs.Ordering.{is_lt}
 use Rattle.std.specs.declared.cmp.Ordering.{Ordering}
 use Rattle.std.specs.declared.cmp.Ordering.TheVariants.{Less, Equal, Greater}

@@ -1,7 +1,7 @@
 -- Values that are taken out of an attribute of a list, and put back, changed or not.
 use Rattle.std.proofs.Common.{◌≡◌, ℕ, ◌<◌, List, length, get_or, set, ap, ◌∙◌}
 use Rattle.std.specs.Prelude.{OnErr, OnOk, Result, Ok, Err}
-use Rattle.std.proofs.lemmas.List.{get_or-set_same, set-get_or, set-set}
+use Rattle.std.proofs.lemmas.List.{get_or-set_same, set-set}
 use Rattle.dir_tree.specs.Content.{Keyed, StoredValues}
 use Rattle.dir_tree.specs.Inside.AttributeLists.{with_values}
 

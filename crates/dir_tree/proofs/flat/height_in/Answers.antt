@@ -1,3 +1,4 @@
+use Rattle.std.proofs.lemmas.Grind.{common_steps}
 use Rattle.std.proofs.Common.{◌≡◌, ◌+◌, max, map, length, Option, None, Some, refl, sym, ap, ◌∙◌, arith, length-append, true≢false}
 use Rattle.dir_names.specs.Keys.{DnKeys, IsAtOrBelow}
 use Rattle.dir_tree.specs.Moves.{greatest, length_or_zero, rest_below}
@@ -33,3 +34,6 @@ loop-below-preserved c =
         or : (o : Option DnKeys) → rest_below above k ≡ o → o ≡ None
         or None t = refl
         or (Some rest) t = absurd (h (rest, rest_is above k rest t))
+
+pub overflow_sub-deeper : goal.overflow_sub-deeper
+overflow_sub-deeper c = grind (arith, common_steps)

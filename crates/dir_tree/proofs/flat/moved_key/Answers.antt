@@ -1,3 +1,4 @@
+use Rattle.std.proofs.lemmas.Grind.{common_steps}
 use Rattle.std.proofs.Common.{◌≡◌, ℕ, ◌+◌, ◌-◌, ◌≤◌, List, [], ◌++◌, drop, take, length, arith, length-drop, IfOk, Result, Ok, Err, Option, None, Some, refl, sym, ap, ◌∙◌, true≢false}
 use Rattle.std.proofs.lemmas.List.{append-nil, length-take-le}
 use Rattle.std.proofs.Math.Seq.{drop-append_seam}
@@ -47,3 +48,12 @@ returns c =
     let left : drop (length c.args.old.now) c.args.key.now ≡ below.0 = ap (drop (length c.args.old.now)) below.1 ∙ drop-append_seam c.args.old.now below.0 in
     let none : drop (length c.args.old.now + c.loop-part.part-index) c.args.key.now ≡ [] = drop_of_length-le c.args.key.now (past c.parts.result.now c.args.key.now c.depth.result (length c.args.old.now) c.loop-part.part-index c.parts.ensures.value c.depth.ensures.value c.loop-part-test.false) in
     sym (append-nil c.loop-part.moved) ∙ ap (λ z. c.loop-part.moved ++ z) (sym none) ∙ c.loop-part.invariant ∙ ap (λ z. c.args.new.now ++ z) left ∙ sym moved
+
+pub slice_bounds-part-items-count : goal.slice_bounds-part-items-count
+slice_bounds-part-items-count c = grind (arith, common_steps)
+
+pub slice_bounds-part-items-start : goal.slice_bounds-part-items-start
+slice_bounds-part-items-start c = grind (arith, common_steps)
+
+pub loop-part-preserved : goal.loop-part-preserved
+loop-part-preserved c = grind (arith, common_steps)

@@ -1,3 +1,4 @@
+use Rattle.std.proofs.lemmas.Grind.{common_steps}
 use Rattle.std.proofs.Common.{◌<◌, ◌/◌, ap, sym, ◌∙◌, arith, length, vec_len}
 use Rattle.std.proofs.lemmas.List.{get_or_default}
 use Rattle.dir_tree.specs.Inside.Pieces.{IsInside, piece_items}
@@ -59,3 +60,12 @@ returns-else-within-half-clause-room g c =
     let read = c.index.ensures ∙ get_or_default c.args.pieces.now.items c.args.place.piece c.index.result.now c.index-2.result.now c.requires.piece ∙ sym c.index-2.ensures in
     let some : 0 < c.len-half.result / 2 = omega (arith, ap (λ p. vec_len p) read, c.len.ensures, c.len-half.ensures, c.if-len-lt-MOST.false) in
     room_in_back _ _ _ _ c.in_ok-split.ensures.ok c.requires.piece 1024 some c.requires.filled inside
+
+pub returns-then-len-lt-MOST-clause-room : goal.returns-then-len-lt-MOST-clause-room
+returns-then-len-lt-MOST-clause-room g c = grind (arith, common_steps)
+
+pub split-requires-clause-at : goal.split-requires-clause-at
+split-requires-clause-at g c = grind (arith, common_steps)
+
+pub returns-then-within-half-clause-place : goal.returns-then-within-half-clause-place
+returns-then-within-half-clause-place g c = grind (arith, common_steps)

@@ -1,4 +1,4 @@
-use Rattle.std.proofs.Common.{◌≡◌, cond, [], sym, ap, subst, ◌∙◌, Some, None, is_some, rules, get_or}
+use Rattle.std.proofs.Common.{◌≡◌, cond, [], sym, ap, ◌∙◌, Some, None, is_some, rules, get_or}
 use Rattle.std.specs.FinMap as fin
 use Rattle.dir_names.specs.Sorted.{place}
 use Rattle.dir_names.specs.Orders.{attr_cmp, attr_cmp_total}

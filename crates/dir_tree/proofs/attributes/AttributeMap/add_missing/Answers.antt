@@ -1,3 +1,4 @@
+use Rattle.std.proofs.lemmas.Grind.{common_steps}
 use Rattle.std.proofs.Common.{◌≡◌, ℕ, ◌+◌, ◌<◌, true, false, cond, ◌∷◌, length, drop, get_or, is_some, sym, ap, subst, ◌∙◌, arith, rules}
 use Rattle.std.specs.List.{list_all}
 use Rattle.std.proofs.lemmas.List.{drop_more}
@@ -50,3 +51,9 @@ loop-pair-preserved c =
       | else-not-has w ↦ old_value c.loop-pair.self line (there_is ∙ w.if-not-has.false) ∙ sym w.self-is
     ] in
     (sound, there, left ∙ ap (λ xs. with_missing_of xs (rdn_lines rows rest)) step)
+
+pub keyed_pair-requires-clause-sound : goal.keyed_pair-requires-clause-sound
+keyed_pair-requires-clause-sound c = grind (arith, common_steps)
+
+pub returns-clause-ok : goal.returns-clause-ok
+returns-clause-ok c = grind (arith, common_steps)

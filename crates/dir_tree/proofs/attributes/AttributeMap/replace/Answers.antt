@@ -1,4 +1,4 @@
-use Rattle.std.proofs.Common.{◌≡◌, set, sym, ap, subst, ◌∙◌, Some, is_some, true≢false}
+use Rattle.std.proofs.Common.{◌≡◌, sym, ap, ◌∙◌, Some, is_some, true≢false}
 use Rattle.std.specs.FinMap as fin
 use Rattle.dir_names.specs.Sorted.{place}
 use Rattle.dir_names.specs.Orders.{attr_cmp, attr_cmp_total, attr_cmp_exact}

@@ -1,4 +1,4 @@
-use Rattle.std.proofs.Common.{rules, ◌≡◌, ◌∙◌, false, sym, ap, subst, IsTrue, Ok, ◌<◌, ◌++◌, length, get_or, drop, map}
+use Rattle.std.proofs.Common.{rules, ◌≡◌, ◌∙◌, sym, ap, subst, IsTrue, Ok, ◌<◌, ◌++◌, length, get_or, drop, map}
 use Rattle.std.specs.FinMap as fin
 use Rattle.std.specs.FinMap.{len-entries}
 use Rattle.std.specs.List.{All}

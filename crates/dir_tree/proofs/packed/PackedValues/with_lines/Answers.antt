@@ -1,4 +1,4 @@
-use Rattle.std.proofs.Common.{◌≡◌, false, length, take, drop, get_or, slice_get, Some, IsTrue, sym, ap, subst, ◌∙◌, true≢false, arith, rules}
+use Rattle.std.proofs.Common.{◌≡◌, length, take, drop, get_or, slice_get, Some, IsTrue, sym, ap, subst, ◌∙◌, true≢false, arith, rules}
 use Rattle.std.specs.Bool.{◌==◌}
 use Rattle.dir_names.specs.Described.{described_eq_decides}
 use Rattle.std.proofs.lemmas.List.{take_all, take_more}

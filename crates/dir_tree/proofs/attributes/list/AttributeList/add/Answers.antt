@@ -1,4 +1,5 @@
-use Rattle.std.proofs.Common.{◌≡◌, ◌<◌, [], length, get_or, set, sym, ap, ◌∙◌, subst, rules}
+use Rattle.std.proofs.Common.{◌≡◌, ◌<◌, [], length, get_or, set, sym, ap, ◌∙◌, subst, arith}
+use Rattle.std.proofs.lemmas.Grind.{common_steps}
 use Rattle.std.specs.FinMap as fin
 use Rattle.std.proofs.lemmas.List.{length-set, set-get_or}
 use Rattle.dir_tree.specs.Content.{Keyed}
@@ -41,3 +42,15 @@ returns-clause-err c =
     ∙ ap (λ values. set list at (with_values (get_or list at any) values)) (kept ∙ old)
     ∙ set-get_or list at any)
     c.insert-added.ensures.err
+
+pub returns-in-Few-clause-ok : goal.returns-in-Few-clause-ok
+returns-in-Few-clause-ok c = grind (arith, common_steps)
+
+pub returns-in-Few-clause-free : goal.returns-in-Few-clause-free
+returns-in-Few-clause-free c = grind (arith, common_steps)
+
+pub returns-in-Few-clause-err : goal.returns-in-Few-clause-err
+returns-in-Few-clause-err c = grind (arith, common_steps)
+
+pub returns-in-Few-clause-fault : goal.returns-in-Few-clause-fault
+returns-in-Few-clause-fault c = grind (arith, common_steps)
