@@ -15,3 +15,12 @@ loop-b-preserved c =
           rw (count, w.place-is) (reads_byte _ _ _ _ _ _ next w.in-Byte.byte (sym c.step_at.ensures.step ∙ w.in-Byte.is) c.match-step_at.out.items (ap (λ v. v.items) w.out-is ∙ w.in_ok-push-in-Byte.ensures.items))
       | in-Inside w ↦ rw (w.out-is, w.kept-is, w.place-is) (reads_inside _ _ _ _ _ _ next w.in-Inside.next (sym c.step_at.ensures.step ∙ w.in-Inside.is) w.in-Inside.ensures.digit)
     ]
+
+pub returns-in-Refused : goal.returns-in-Refused
+returns-in-Refused c = grind (arith, common_steps)
+
+pub returns-then-not-is_outside : goal.returns-then-not-is_outside
+returns-then-not-is_outside c = grind (arith, common_steps)
+
+pub returns : goal.returns
+returns c = grind (arith, common_steps)

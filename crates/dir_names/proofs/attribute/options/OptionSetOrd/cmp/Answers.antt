@@ -1,4 +1,4 @@
-use Rattle.std.proofs.Common.{◌≡◌, Some, IfSome, subst, ◌∙◌, rules, arith}
+use Rattle.std.proofs.Common.{◌≡◌, IfSome, subst, ◌∙◌, rules, arith}
 use Rattle.std.proofs.lemmas.Grind.{common_steps}
 use Rattle.std.specs.Ordering.{nat_cmp, ordering_then}
 use Rattle.dir_names.specs.Ascii.{nul}
