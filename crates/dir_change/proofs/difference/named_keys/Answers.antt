@@ -1,4 +1,5 @@
-use Rattle.std.proofs.Common.{Err, IfOk, Ok, Result, ap, map, take, ◌∙◌}
+use Rattle.std.proofs.Common.{Err, IfOk, Ok, Result, ap, map, take, ◌∙◌, arith}
+use Rattle.std.proofs.lemmas.Grind.{common_steps}
 use Rattle.dir_ldif.specs.declared.records.Mod.{Mod}
 use Rattle.dir_names.specs.Orders.{attr_cmp}
 use Rattle.dir_names.specs.Sorted.{rises, set_of}
@@ -16,3 +17,9 @@ insert_key-requires c = ap (rises attr_cmp) c.loop-m.invariant ∙ set_rises (ma
 pub returns-then-mods-gt-MANY_MODS-clause-ok : goal.returns-then-mods-gt-MANY_MODS-clause-ok
 returns-then-mods-gt-MANY_MODS-clause-ok c =
     if_ok c.distinct_keys.result (λ keys distinct. distinct ∙ ap (set_of attr_cmp) c.as_slice.ensures.value ∙ same_set _ _ c.in_ok-sorted_keys.ensures.ok) c.distinct_keys.ensures.ok
+
+pub loop-m-preserved : goal.loop-m-preserved
+loop-m-preserved c = grind (arith, common_steps)
+
+pub returns-clause-ok : goal.returns-clause-ok
+returns-clause-ok c = grind (arith, common_steps)
