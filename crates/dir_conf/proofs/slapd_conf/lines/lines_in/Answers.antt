@@ -1,4 +1,5 @@
-use Rattle.std.proofs.Common.{◌≡◌, ℕ, ◌+◌, ◌≤◌, List, length, Some, subst, Option, map, ap, sym, ◌∙◌}
+use Rattle.std.proofs.Common.{◌≡◌, ℕ, ◌+◌, ◌≤◌, List, length, Some, subst, Option, map, ap, sym, ◌∙◌, arith}
+use Rattle.std.proofs.lemmas.Grind.{common_steps}
 use denote.Ref.{Bor}
 use Rattle.std.specs.Option.{option_copied, option_map_or}
 use Rattle.dir_names.specs.Inside.Left.{parts_left}
@@ -23,3 +24,6 @@ loop-left-preserved c =
           ∙ ap (λ (now : CutSoFar). lines_to_come now (n + 1) rest) (sym c.in_ok-cut.ensures);
       few = still_few c.split_once-in-Some.result.1 n (length c.in-Some.more.now) c.split_once-in-Some.ensures.shorter (room (Some c.in-Some.more) c.in-Some.is);
     }
+
+pub returns : goal.returns
+returns c = grind (arith, common_steps)
