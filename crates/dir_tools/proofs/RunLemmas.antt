@@ -3,10 +3,8 @@ use Rattle.std.proofs.Common.{◌≡◌, ℕ, ◌+◌, ◌<◌, Bool, true, fals
 use Rattle.std.proofs.lemmas.List.{append-nil}
 use Rattle.std.specs.List.{flat_map}
 use Rattle.dir_names.specs.declared.schema.TypeRow.{TypeRow}
-use Rattle.dir_ldif.specs.declared.faults.RecordFault.{RecordFault}
 use Rattle.dir_ldif.specs.declared.faults.StreamFault.{StreamFault}
 use Rattle.dir_ldif.specs.declared.records.Change.{Change}
-use Rattle.dir_ldif.specs.declared.records.Record.{Record}
 use Rattle.dir_ldif.specs.declared.faults.StreamFault.TheVariants as stream
 use Rattle.dir_ldif.specs.declared.reader.RecordReader.{RecordReader}
 use Rattle.dir_ldif.specs.Bytes.{is_empty}
@@ -18,15 +16,12 @@ use Rattle.dir_tools.specs.declared.fault.Input.TheVariants as input
 use Rattle.dir_tools.specs.declared.fault.ToolFault.{ToolFault}
 use Rattle.dir_tools.specs.declared.fault.ToolFault.TheVariants as tool
 use Rattle.dir_tools.specs.declared.run.Run.{Run}
-use Rattle.dir_tools.specs.RunOf.{Outcome, RecordStep, RunEnd, cause_in, causes_in, change_step, ended_run, group_in, groups_in, looked_at_all, record_step, run_after, run_of, too_few_groups, with_outcomes_before, HasAccepted}
+use Rattle.dir_tools.specs.RunOf.{Outcome, RecordStep, RunEnd, cause_in, causes_in, change_step, ended_run, group_in, looked_at_all, record_step, run_after, run_of, too_few_groups, with_outcomes_before, HasAccepted}
 use Rattle.dir_tools.specs.Report.{outcome_line}
 use Rattle.dir_ldif.specs.SoundRecords.{AreSoundAnswers, IsSoundFound}
-use Rattle.dir_ldif.specs.declared.records.Record.TheVariants as form
-use Rattle.dir_tree.specs.WellFormed.{Each}
 use Rattle.dir_change.specs.declared.result_code.ResultCode.{ResultCode}
 use Rattle.dir_change.specs.Operation.{step}
-use Rattle.dir_change.specs.Runs.{Ending, accepted_or, group_of, run_to_end, with_group_first}
-use Rattle.dir_change.specs.SoundChange.{IsSoundChange}
+use Rattle.dir_change.specs.Runs.{accepted_or, group_of, run_to_end, with_group_first}
 use Rattle.dir_tools.specs.Inside.Running.{Adds, AddsAll, BreaksOff, GoesTo, HasTooFew, IsChangesFaultCause, RunsOver, Takes, TakesRecord, changes_fault, end_at}
 use Rattle.dir_tools.specs.CompleteRecords.{AcceptsTo, CompleteRecordsAreAccepted, GaveBytesTo, IsReaderFault}
 use Rattle.dir_tools.specs.Inside.Taking.{BreaksAfter, EndsIn, TakesAll, TakesUpTo}

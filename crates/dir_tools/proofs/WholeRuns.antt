@@ -6,7 +6,7 @@ use Rattle.dir_ldif.specs.declared.faults.StreamFault.{StreamFault}
 use Rattle.dir_ldif.specs.SoundRecords.{AreSoundAnswers, FirstRecordsAreSound, IsBytes, RecordsAreSound}
 use Rattle.dir_tree.specs.Dir.{Dir}
 use Rattle.dir_tree.specs.WellFormed.{IsWellFormed, IsWithinLimits}
-use Rattle.dir_change.specs.Runs.{Ending, RunsStayInOrder, StaysInOrder}
+use Rattle.dir_change.specs.Runs.{RunsStayInOrder, StaysInOrder}
 use Rattle.dir_names.specs.declared.schema.TypeRow.{TypeRow}
 use Rattle.dir_tools.specs.declared.fault.Cause.{Cause}
 use Rattle.dir_tools.specs.declared.fault.Item.TheVariants.{Suffix}

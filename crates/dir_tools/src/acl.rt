@@ -11,10 +11,10 @@ mod word_notes;
 ghost use Rattle.std.specs.Io.KnownBytes.{Consumes};
 ghost use Rattle.std.specs.Prelude.{◌≡◌, ◌⊎◌, ◌≤◌, ℕ, Err, IfErr, IfOk, List, Ok, OnOk, Option, length, option_copied};
 ghost use Rattle.dir_names.specs.declared.schema.TypeRow.{TypeRow};
-ghost use Rattle.dir_tools.specs.Inside.Asking.{configured_under};
+ghost use Rattle.dir_tools.specs.Inside.Asking.{configured_under, parts_in};
 ghost use Rattle.dir_ldif.specs.Device.{HasFailed};
 ghost use Rattle.dir_tools.specs.AccessAnswers.{AccessHeldBefore, AnswersQuestion, ComesAfterConfig, IsAccessFault, IsStatedReport, IsTextOf, IsWholeReport, access_sources};
-ghost use Rattle.dir_tools.specs.AccessReport.{access_terms, target_of};
+ghost use Rattle.dir_tools.specs.AccessReport.{access_terms, parts_of, target_of};
 ghost use Rattle.dir_tools.specs.Writing.{WroteReport};
 ghost use Rattle.dir_tools.specs.declared.fault.Input.TheVariants as Input;
 ghost use Rattle.dir_tools.specs.declared.fault.Output.TheVariants as Output;
@@ -24,7 +24,7 @@ pub use crate::acl::configuration::{
     FaultWithArgument, NotedConfig, read_bounded, read_config, read_config_with_argument,
     read_config_with_notes, run_schema,
 };
-use crate::acl::parts::read_parts;
+use crate::acl::parts::{Parts, read_parts};
 pub use crate::acl::parts::{Word, read_name, read_word};
 pub use crate::acl::report::push_answer;
 use crate::acl::report::report_text;
@@ -160,6 +160,30 @@ fn report_under<R: Source>(
         Ok(parts) => parts,
         Err(fault) => return Err(fault),
     };
+    report_for(alloc, held, schema, question, config, &parts, copy)
+}
+
+/// The report on a question with these parts.
+fn report_for<R: Source>(
+    alloc: Global,
+    held: HeldMemory,
+    schema: &Schema,
+    question: &Question,
+    config: &Config,
+    parts: &Parts<'_>,
+    copy: &mut R,
+) -> Result<Vec<u8>, ToolFault>
+    requires { parts_of (access_terms schema.now question.now) ≡ Ok (parts_in parts.now) }
+    ensures ok { IfOk result (λ text. (start : List TypeRow) (known : Option (List ℕ)) → IsTextOf start known (configured_under schema.now config.now)
+        → IsStatedReport (access_terms start question.now) (access_sources known (R.left copy.old)) text.items) }
+    ensures blamed { IfErr result (λ fault. (start : List TypeRow) (known : Option (List ℕ)) → IsTextOf start known (configured_under schema.now config.now)
+        → IsAccessFault (access_terms start question.now) (access_sources known (R.left copy.old)) fault) }
+    ensures first { IfErr result (λ fault. (start : List TypeRow) (known : Option (List ℕ)) → IsTextOf start known (configured_under schema.now config.now)
+        → AccessHeldBefore (access_terms start question.now) known (R.left copy.old, R.left copy.new) fault) }
+    ensures unfailed_copy { OnOk result (R.failures copy.new ≡ R.failures copy.old) }
+    ensures after { IfErr result ComesAfterConfig }
+    ensures read_copy { result ≡ Err (ToolFault.Read Input.Copy) → HasFailed (R.failures copy.old) (R.failures copy.new) }
+{
     let Ok(suffix) = config.suffix().try_clone(alloc) else {
         return Err(ToolFault::Memory);
     };
@@ -171,7 +195,7 @@ fn report_under<R: Source>(
         Ok(target) => target,
         Err(fault) => return Err(fault),
     };
-    match report_text(alloc, question.verbose, config, &directory, &parts, target) {
+    match report_text(alloc, question.verbose, config, &directory, parts, target) {
         Ok(text) => {
             held.let_go(directory);
             Ok(text)

@@ -1,7 +1,6 @@
-use Rattle.std.proofs.Common.{◌≡◌, ℕ, Some, Result, Ok, Err, IfErr, OnOk, ap, sym, subst, rules, ◌∙◌}
+use Rattle.std.proofs.Common.{◌≡◌, ℕ, Some, Result, Ok, Err, IfErr, OnOk, ap, sym, rules, ◌∙◌}
 use Rattle.std.specs.Option.{option_and_then, option_map}
-use Rattle.dir_ldif.specs.Reader.{answers_to_come, marks_at_end, source_of}
-use Rattle.dir_tools.specs.declared.fault.ToolFault.{ToolFault}
+use Rattle.dir_ldif.specs.Reader.{marks_at_end}
 use Rattle.dir_tools.specs.CompleteRecords.{CompleteRecordsAreAccepted}
 use Rattle.dir_tools.specs.RunOf.{marks_at, records_at}
 use Rattle.dir_tools.proofs.CompleteRecords.{accepted_so, from_start}

@@ -1,10 +1,9 @@
-use Rattle.std.proofs.Common.{◌≡◌, ℕ, ◌<◌, true, Result, Ok, Err, Some, None, IfErr, OnOk, ap, subst, sym, ◌∙◌}
-use Rattle.dir_ldif.specs.Reader.{answers_to_come, marks_at_end, marks_passed, source_of}
+use Rattle.std.proofs.Common.{◌≡◌, ◌<◌, true, Result, Ok, Err, Some, None, IfErr, OnOk, ap, subst, sym, ◌∙◌}
+use Rattle.dir_ldif.specs.Reader.{answers_to_come, marks_at_end, source_of}
 use Rattle.dir_tools.specs.CompleteRecords.{IsReaderFault}
 use Rattle.dir_tools.specs.declared.fault.ToolFault.{ToolFault}
 use Rattle.dir_tools.specs.declared.fault.ToolFault.TheVariants as tool
 use Rattle.dir_tools.specs.declared.run.ModifyOptions.{ModifyOptions}
-use Rattle.dir_tools.specs.declared.taking.End.TheVariants as end
 use Rattle.dir_tools.specs.Inside.Running.{IsChangesFaultCause, TakesRecord}
 use Rattle.dir_tools.specs.Inside.Taking.{EndsIn}
 use Rattle.dir_tools.specs.RunOf.{too_few_groups}
