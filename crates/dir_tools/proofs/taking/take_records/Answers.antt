@@ -1,4 +1,5 @@
-use Rattle.std.proofs.Common.{rules, refl, subst, true, Ok, [], ◌∷◌, ◌++◌}
+use Rattle.std.proofs.Common.{rules, refl, subst, true, Ok, [], ◌∷◌, ◌++◌, arith}
+use Rattle.std.proofs.lemmas.Grind.{common_steps}
 use Rattle.dir_ldif.specs.Reader.Answers.{GivesFirst}
 use Rattle.dir_ldif.specs.Reader.{IsReading, UsesUp, answers_to_come, marks_at_end, schema_of}
 use Rattle.dir_ldif.specs.Records.{Found}
@@ -55,3 +56,6 @@ returns-in-Err-clause-ends g c =
       breaks c.args.schema.now (g.T.Taker.take_gives c.args.schema.now) g.S.Source.left g.S.Source.failures inv.7.0 c.in-Err.fault c.args.taker.now c.loop-line.taker c.args.records.now c.loop-line.records c.next.new.self
           inv.0 inv.3 c.in-Err.ensures.err.0 inv.7.1 inv.7.2 (inv.5 was_reading) (inv.7.3 was_reading),
     )
+
+pub take-requires : goal.take-requires
+take-requires g c = grind (arith, common_steps)

@@ -1,4 +1,5 @@
-use Rattle.std.proofs.Common.{◌≡◌, ◌+◌, ◌∷◌, ◌++◌, [], None, Some, ap, drop, map, option_map, sym, ◌∙◌}
+use Rattle.std.proofs.Common.{◌≡◌, ◌+◌, ◌∷◌, ◌++◌, [], None, Some, ap, drop, map, option_map, sym, ◌∙◌, arith}
+use Rattle.std.proofs.lemmas.Grind.{common_steps}
 use Rattle.std.proofs.lemmas.List.{map-append}
 use Rattle.dir_tools.specs.AccessReport.{Word, word_of, words_from}
 use Rattle.dir_tools.specs.Inside.Asking.{word_in}
@@ -21,3 +22,6 @@ loop-i-preserved c =
     let more : map word_in c.push-in-Some.new.self.items ≡ map word_in c.loop-i.words.items ++ word ∷ [] = ap (map word_in) c.in_ok-push-in-Some.ensures.items ∙ map-append word_in c.loop-i.words.items (c.in-Some.word ∷ []) in
     words_turn rows (map word_in c.loop-i.words.items) texts i c.index-texts-i.result word _ c.loop-i.invariant c.loop-i-test.true c.index-texts-i.is is
     ∙ ap (λ b. after_words b (words_from rows (i + 1 + 1) (drop (i + 1) texts))) (sym more)
+
+pub returns : goal.returns
+returns c = grind (arith, common_steps)

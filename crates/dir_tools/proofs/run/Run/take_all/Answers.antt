@@ -1,4 +1,5 @@
-use Rattle.std.proofs.Common.{◌≡◌, ℕ, Some, Result, Ok, Err, IfErr, OnOk, ap, sym, rules, ◌∙◌}
+use Rattle.std.proofs.Common.{◌≡◌, ℕ, Some, Result, Ok, Err, IfErr, OnOk, ap, sym, rules, ◌∙◌, arith}
+use Rattle.std.proofs.lemmas.Grind.{common_steps}
 use Rattle.std.specs.Option.{option_and_then, option_map}
 use Rattle.dir_ldif.specs.Reader.{marks_at_end}
 use Rattle.dir_tools.specs.CompleteRecords.{CompleteRecordsAreAccepted}
@@ -41,3 +42,6 @@ returns-clause-settled g c =
     from_start (records_at c.args.schema.now c.args.self.now.options.last) (λ s. g.R.Source.left s.now) (CompleteRecordsAreAccepted c.args.schema.now d) (accepted_so c.args.schema.now d) c.in-Ok.records c.take_records-answer.new.records _ _
     c.in-Ok.ensures.ahead.0 c.in-Ok.ensures.ahead.1 (ap (λ s. g.R.Source.left s.now) c.in-Ok.ensures.source.0) (search rules)
     (settled is off))
+
+pub returns-clause-long : goal.returns-clause-long
+returns-clause-long g c = grind (arith, common_steps)
