@@ -4,7 +4,8 @@
 usage: gate.py
 
 The last line is that of `rt ci`, with the wrong bodies that were refused counted among what passed. It is held back until all has passed; where
-something fails, the last line tells so. The line before it has the time that all took, and what was left of memory and disk. Where something
+something fails, the last line tells so. The line before it has the time that all took, and what was left of memory and disk; the one before that has what
+the proof of each crate took of it, and that of its tests, by looks at the processes every two seconds. Where something
 failed, the ends of what was said of it come once more before these, since of a long log often only the end is kept.
 
 Each proof has one processor. Where some are idle, `rt ci` would give one proof several, which ends sooner and takes half as much
@@ -13,6 +14,7 @@ has proved that crate a second time: a third of the gate's time. So there are no
 that must be refused, over the libraries that `rt ci` has just built.
 """
 import collections
+import contextlib
 import os
 import pathlib
 import re
@@ -20,6 +22,7 @@ import resource
 import shutil
 import subprocess
 import sys
+import threading
 import time
 
 from machine import proofs_at_once
@@ -41,6 +44,34 @@ def forget_libraries():
     for kept in ("crates/*/out/rlib", ".git/rt-aside/*/rlib"):
         for library in ROOT.glob(kept):
             shutil.rmtree(library)
+
+
+class ProofTimes(threading.Thread):
+    """Watches the provers that work on the crates of this checkout, and adds up what each crate takes of the processors."""
+
+    SECONDS = 2
+    TICKS = os.sysconf("SC_CLK_TCK")
+
+    def __init__(self):
+        super().__init__(daemon=True)
+        self.taken, self.is_over = {}, threading.Event()
+
+    def run(self):
+        while not self.is_over.wait(self.SECONDS):
+            for process in pathlib.Path("/proc").glob("[0-9]*"):
+                # most are other programs, and some have ended meanwhile
+                with contextlib.suppress(OSError, ValueError, IndexError):
+                    words = (process / "cmdline").read_text().split("\0")
+                    crate = words[words.index("--crate-name") + 1]
+                    if (process / "cwd").resolve() == ROOT / "crates" / crate:
+                        stat = (process / "stat").read_text().rpartition(")")[2].split()
+                        self.taken[process.name, stat[19], crate, "--test" in words] = (int(stat[11]) + int(stat[12])) / self.TICKS
+
+    def __str__(self):
+        sums = collections.Counter()
+        for (_, _, crate, is_of_tests), seconds in self.taken.items():
+            sums[f"the tests of {crate}" if is_of_tests else crate] += seconds
+        return ", ".join(f"{name} {seconds / 60:.1f}" for name, seconds in sums.items()) or "none was made"
 
 
 def prove():
@@ -91,8 +122,10 @@ def tell_time(begin):
 
 
 def main():
-    begin = time.monotonic()
+    begin, times = time.monotonic(), ProofTimes()
+    times.start()
     status, last, failures = prove()
+    times.is_over.set()
     failed = []
     if status == 0:
         ended, refused = try_wrong_bodies()
@@ -103,6 +136,7 @@ def main():
         last = f"{passed_in(last) + refused} passed, {len(failed)} failed{of_what}\n"
     for failure in failures:
         print(f"gate: what failed:\n{failure}", end="", flush=True)
+    print(f"gate: minutes of processor time of the proofs: {times}", flush=True)
     tell_time(begin)
     print(last, end="", flush=True)
     sys.exit(1 if status or failed else 0)
