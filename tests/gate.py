@@ -126,6 +126,7 @@ def main():
     times.start()
     status, last, failures = prove()
     times.is_over.set()
+    times.join()
     failed = []
     if status == 0:
         ended, refused = try_wrong_bodies()
