@@ -25,7 +25,7 @@ use Rattle.dir_ldif.specs.declared.records.Change.{Change}
 use Rattle.dir_ldif.specs.declared.records.ChangeKind.TheVariants as kind
 use Rattle.dir_tree.proofs.DirLemmas.{closed_put, get_put, get_without, parent_child, same_key}
 use Rattle.dir_tree.proofs.OwnNames.{own_whole}
-use Rattle.dir_tree.proofs.SpelledLemmas.{by_last, own_here, spelled_below, spelled_child, spelled_put_apart, spelled_short, spelled_suffix, taken_short}
+use Rattle.dir_tree.proofs.SpelledLemmas.{by_last, own_here, spelled_below, spelled_child, spelled_put_apart, spelled_short, spelled_suffix}
 use Rattle.dir_change.specs.declared.result_code.ResultCode.TheVariants.{NoSuchObject, NotAllowedOnNonLeaf, EntryAlreadyExists}
 use Rattle.dir_change.specs.Operation.{directory_after, directory_after_add, directory_after_delete, step, step_at, with_new_entry}
 use Rattle.dir_change.specs.Refusals.{unless}
@@ -403,19 +403,18 @@ add_spelled rows d closed k own lines e parent is =
     ∙ (λ i. (own_here (put_entry d k e) k e stands ∙ ap (take (own_depth d.suffix k)) (made_own rows own lines e is)) i ++ above_put d k e i)
 
 -- the name of an added entry has no more RDNs than its key
-pub joined_fits : (d : Dir) → IsClosed d → (k : DnKeys) → has_parent d k ≡ true → (own : SpelledName) → length (take (own_depth d.suffix k) own) + length (name_of_parent d k) ≤ length k
-joined_fits d closed k parent own = by (dn_key_eq k d.suffix) refl (parent_of k) refl parent (taken_short (own_depth d.suffix k) own)
+pub depth_fits : (d : Dir) → IsClosed d → (k : DnKeys) → has_parent d k ≡ true → own_depth d.suffix k + length (name_of_parent d k) ≤ length k
+depth_fits d closed k parent = by (dn_key_eq k d.suffix) refl (parent_of k) refl parent
   where
-    by : (b : Bool) → dn_key_eq k d.suffix ≡ b → (o : Option DnKeys) → parent_of k ≡ o → (b || is_there d o) ≡ true → length (take (own_depth d.suffix k) own) ≤ own_depth d.suffix k
-        → length (take (own_depth d.suffix k) own) + length (name_of_parent d k) ≤ length k
-    by true t o u h short =
+    by : (b : Bool) → dn_key_eq k d.suffix ≡ b → (o : Option DnKeys) → parent_of k ≡ o → (b || is_there d o) ≡ true → own_depth d.suffix k + length (name_of_parent d k) ≤ length k
+    by true t o u h =
         let depth : own_depth d.suffix k ≡ length k = ap (λ b. cond b (length k) 1) t in
         let none : length (name_of_parent d k) ≡ 0 = ap (λ b. length (cond b [] (spelled_name_or_empty d (parent_of k)))) t in
-        omega (arith, short, depth, none)
-    by false t None u h short = absurd (true≢false (sym h))
-    by false t (Some p) u h short =
+        omega (arith, depth, none)
+    by false t None u h = absurd (true≢false (sym h))
+    by false t (Some p) u h =
         let depth : own_depth d.suffix k ≡ 1 = ap (λ b. cond b (length k) 1) t in
         let above : length (name_of_parent d k) ≡ length (spelled_name d p) = λ i. length (cond (t i) [] (spelled_name_or_empty d (u i))) in
         let low = spelled_short d closed p in
         let count = parent_shorter k p u in
-        omega (arith, short, depth, above, low, count)
+        omega (arith, depth, above, low, count)

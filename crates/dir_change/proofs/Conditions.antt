@@ -1,5 +1,5 @@
 -- The tests of a step, and what they say of keys.
-use Rattle.std.proofs.Common.{◌≡◌, ℕ, suc, Bool, true, false, not, ◌||◌, List, [], ◌∷◌, ◌++◌, length, take, drop, Option, Some, None, is_some, Ok, Err, refl, sym, ap, subst, ◌∙◌, true≢false, arith, length-append, Bor}
+use Rattle.std.proofs.Common.{◌≡◌, ℕ, suc, Bool, true, false, not, ◌||◌, List, [], ◌∷◌, ◌++◌, length, take, drop, Option, Some, None, is_some, Result, Ok, Err, refl, sym, ap, subst, ◌∙◌, true≢false, arith, length-append, Bor}
 use Rattle.std.specs.List.{list_any}
 use Rattle.std.specs.Option.{option_copied}
 use Rattle.std.proofs.lemmas.List.{take-append-drop}
@@ -14,12 +14,16 @@ use Rattle.dir_names.specs.declared.schema.TypeRow.{TypeRow}
 use Rattle.dir_names.specs.Described.{Described}
 use Rattle.dir_names.specs.Names.{SpelledName}
 use Rattle.dir_names.specs.Below.{is_at_or_below}
+use Rattle.dir_names.specs.Results.{and_then}
 use Rattle.dir_tree.specs.Dir.{Dir, HasChild, entry_at, has_child, has_parent, is_key, remove_entry}
 use Rattle.dir_tree.specs.NewEntry.{new_entry}
 use Rattle.dir_tree.proofs.DirLemmas.{parent_child, same_key}
 use Rattle.dir_tree.specs.SpelledNames.{own_rdns}
-use Rattle.dir_change.specs.Operation.{directory_after_add, directory_after_delete, with_new_entry}
+use Rattle.dir_change.specs.Operation.{IsRefused, directory_after_add, directory_after_delete, with_new_entry}
 use Rattle.dir_change.specs.Refusals.{unless}
+use Rattle.dir_change.specs.declared.operation.Refusal.{Refusal}
+use Rattle.dir_change.specs.declared.operation.Refusal.TheVariants as refusal
+use Rattle.dir_change.specs.declared.result_code.ResultCode.{ResultCode}
 use Rattle.dir_change.specs.declared.result_code.ResultCode.TheVariants.{NoSuchObject, NotAllowedOnNonLeaf, EntryAlreadyExists}
 
 pub below_true : (k above : DnKeys) → IsAtOrBelow k above → is_at_or_below k above ≡ true
@@ -34,6 +38,11 @@ below_false k above h = by (is_at_or_below k above) refl
     by : (b : Bool) → is_at_or_below k above ≡ b → b ≡ false
     by true e = absurd (h (below_is k above e))
     by false e = refl
+
+-- what refuses a step refuses it with all that follows
+pub refused_before : {A B : Type 0} (next : A → Result B ResultCode) (e : Refusal) (step : Result A ResultCode) → IsRefused e step → IsRefused e (and_then step next)
+refused_before next (refusal.Code code) step h = ap (λ r. and_then r next) h
+refused_before next refusal.Memory step h = tt
 
 -- what a look-up finds, by reference
 pub copied_some : {A : Type 0} (o : Option (Bor A)) → is_some o ≡ true → is_some (option_copied o) ≡ true

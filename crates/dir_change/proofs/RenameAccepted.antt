@@ -1,5 +1,5 @@
 -- What an accepted rename says of the directory before it and after it.
-use Rattle.std.proofs.Common.{◌≡◌, ◌+◌, Bool, true, false, not, ◌&&◌, nat_lt, inl, inr, List, [], ◌∷◌, ◌++◌, length, take, Option, Some, None, is_some, Result, Ok, Err, refl, sym, ap, ◌∙◌, true≢false, append_assoc}
+use Rattle.std.proofs.Common.{◌≡◌, ◌+◌, Bool, true, false, not, ◌&&◌, nat_lt, inl, inr, List, [], ◌∷◌, ◌++◌, length, take, Option, Some, None, is_some, Result, Ok, Err, refl, sym, ap, subst, ◌∙◌, true≢false, append_assoc}
 use Rattle.std.proofs.lemmas.List.{append-nil}
 use Rattle.std.specs.Option.{ok_or}
 use Rattle.dir_names.specs.declared.schema.TypeRow.{TypeRow}
@@ -15,11 +15,14 @@ use Rattle.dir_tree.specs.Moves.{MayMoveTo, height_below, move_subtree, rest_bel
 use Rattle.dir_tree.proofs.DirLemmas.{last_part}
 use Rattle.dir_tree.proofs.MoveLemmas.{Place}
 use Rattle.dir_tree.proofs.RestBelow.{is_below, rest_is, rest_of}
+use Rattle.dir_change.specs.Inside.Renamed.{new_place}
+use Rattle.dir_change.specs.Operation.{IsRefused}
 use Rattle.dir_change.specs.Refusals.{unless}
 use Rattle.dir_change.specs.Rename.{directory_after_rename, place_at, renamed_entry, superior_at, superior_key, with_renamed_entry}
+use Rattle.dir_change.specs.declared.operation.Refusal.{Refusal}
 use Rattle.dir_change.specs.declared.result_code.ResultCode.{ResultCode}
 use Rattle.dir_change.specs.declared.result_code.ResultCode.TheVariants.{AdminLimitExceeded, NoSuchObject, UnwillingToPerform, EntryAlreadyExists}
-use Rattle.dir_change.proofs.Conditions.{parent_snoc}
+use Rattle.dir_change.proofs.Conditions.{parent_snoc, refused_before}
 
 module _ (rows : List TypeRow) (d : Dir) (k : DnKeys) (rdn : SpelledRdn) (delete_old : Bool) (superior : Option SpelledName) where
   pub record RenamedAt (new : Dir) : Type 0 where
@@ -103,6 +106,49 @@ module _ (rows : List TypeRow) (d : Dir) (k : DnKeys) (rdn : SpelledRdn) (delete
       by true t b u h = absurd (cc)
       by false t true u h = absurd (cc)
       by false t false u h = (t, u)
+
+  -- what refuses the superior, the RDN or the place refuses the rename
+  module _ (e : Content) (there : entry_at d k ≡ Some e) (inner : dn_key_eq k d.suffix ≡ false) where
+    -- the place, and then the entry's values
+    abbrev move_after : DnKeys → RdnKeys → DnKeys → Result Dir ResultCode
+    move_after p key n = and_then (renamed_entry rows e rdn key delete_old) (λ y. Ok (move_subtree d k n y))
+
+    -- the tests of the entry have passed
+    refused_after : (r : Refusal)
+        → IsRefused r (and_then (superior_at d k (superior_key rows k superior)) (λ p. and_then (ok_or (rdn_key rows rdn) NoSuchObject) (λ key. and_then (place_at d k (p ++ key ∷ [])) (move_after p key))))
+        → IsRefused r (directory_after_rename rows d k rdn delete_old superior)
+    refused_after r h =
+        subst (λ o. IsRefused r (with_renamed_entry rows d k rdn delete_old superior o)) (sym there)
+        (subst (λ b. IsRefused r (unless b UnwillingToPerform (and_then (superior_at d k (superior_key rows k superior)) (λ p. and_then (ok_or (rdn_key rows rdn) NoSuchObject) (λ key. and_then (place_at d k (p ++ key ∷ [])) (move_after p key)))))) (sym inner) h)
+
+    pub refused_place : (r : Refusal) → IsRefused r (new_place rows d k rdn superior) → IsRefused r (directory_after_rename rows d k rdn delete_old superior)
+    refused_place r h = refused_after r (by (superior_at d k (superior_key rows k superior)) (ok_or (rdn_key rows rdn) NoSuchObject) h)
+      where
+        by : (o : Result DnKeys ResultCode) (named : Result RdnKeys ResultCode) → IsRefused r (and_then o (λ p. and_then named (λ key. place_at d k (p ++ key ∷ []))))
+            → IsRefused r (and_then o (λ p. and_then named (λ key. and_then (place_at d k (p ++ key ∷ [])) (move_after p key))))
+        by (Err code) named h = refused_before {A = DnKeys} (λ n. Ok d) r (Err code) h
+        by (Ok p) (Err code) h = refused_before {A = DnKeys} (λ n. Ok d) r (Err code) h
+        by (Ok p) (Ok key) h = refused_before (move_after p key) r (place_at d k (p ++ key ∷ [])) h
+
+    -- the directory after a rename whose tests pass
+    pub accepted : (p : DnKeys) → superior_at d k (superior_key rows k superior) ≡ Ok p → (key : RdnKeys) → rdn_key rows rdn ≡ Some key → place_at d k (p ++ key ∷ []) ≡ Ok (p ++ key ∷ [])
+        → (y : Content) → renamed_entry rows e rdn key delete_old ≡ Ok y → directory_after_rename rows d k rdn delete_old superior ≡ Ok (move_subtree d k (p ++ key ∷ []) y)
+    accepted p above key named place y renamed =
+        ap (with_renamed_entry rows d k rdn delete_old superior) there
+        ∙ ap (λ b. unless b UnwillingToPerform (and_then (superior_at d k (superior_key rows k superior)) (λ p. and_then (ok_or (rdn_key rows rdn) NoSuchObject) (λ key. and_then (place_at d k (p ++ key ∷ [])) (move_after p key))))) inner
+        ∙ ap (λ o. and_then o (λ p. and_then (ok_or (rdn_key rows rdn) NoSuchObject) (λ key. and_then (place_at d k (p ++ key ∷ [])) (move_after p key)))) above
+        ∙ ap (λ o. and_then (ok_or o NoSuchObject) (λ key. and_then (place_at d k (p ++ key ∷ [])) (move_after p key))) named
+        ∙ ap (λ o. and_then o (move_after p key)) place
+        ∙ ap (λ o. and_then o (λ y. Ok (move_subtree d k (p ++ key ∷ []) y))) renamed
+
+    pub refused_values : (p : DnKeys) → superior_at d k (superior_key rows k superior) ≡ Ok p → (key : RdnKeys) → rdn_key rows rdn ≡ Some key → place_at d k (p ++ key ∷ []) ≡ Ok (p ++ key ∷ [])
+        → (r : Refusal) → IsRefused r (renamed_entry rows e rdn key delete_old) → IsRefused r (directory_after_rename rows d k rdn delete_old superior)
+    refused_values p above key named place r h =
+        let values : IsRefused r (move_after p key (p ++ key ∷ [])) = refused_before (λ y. Ok (move_subtree d k (p ++ key ∷ []) y)) r (renamed_entry rows e rdn key delete_old) h in
+        let placed : IsRefused r (and_then (place_at d k (p ++ key ∷ [])) (move_after p key)) = subst (λ z. IsRefused r (and_then z (move_after p key))) (sym place) values in
+        let keyed : IsRefused r (and_then (ok_or (rdn_key rows rdn) NoSuchObject) (λ key. and_then (place_at d k (p ++ key ∷ [])) (move_after p key))) =
+        subst (λ o. IsRefused r (and_then (ok_or o NoSuchObject) (λ key. and_then (place_at d k (p ++ key ∷ [])) (move_after p key)))) (sym named) placed in
+        refused_after r (subst (λ o. IsRefused r (and_then o (λ p. and_then (ok_or (rdn_key rows rdn) NoSuchObject) (λ key. and_then (place_at d k (p ++ key ∷ [])) (move_after p key))))) (sym above) keyed)
 
   -- a rename whose tests pass
   abbrev pub renamed_by : (e : Content) → entry_at d k ≡ Some e → dn_key_eq k d.suffix ≡ false → (p : DnKeys) → superior_at d k (superior_key rows k superior) ≡ Ok p → (key : RdnKeys) → rdn_key rows rdn ≡ Some key

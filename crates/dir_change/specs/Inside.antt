@@ -4,5 +4,6 @@ pub mod Looked
 pub mod Overlaid
 pub mod Patched
 pub mod Planned
+pub mod Renamed
 pub mod Touched
 pub mod ValuesInTurn

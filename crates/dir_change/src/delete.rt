@@ -1,6 +1,6 @@
 //! The delete operation (RFC 4511, section 4.8) and the add that takes it back.
 
-ghost use Rattle.std.specs.Prelude.{◌≡◌, [], ◌∷◌, ◌++◌, IfErr, IfOk, Ok, OnErr, OnOk};
+ghost use Rattle.std.specs.Prelude.{◌≡◌, [], ◌∷◌, ◌++◌, IfErr, IfOk, IsSome, Ok, OnErr, OnOk};
 ghost use Rattle.dir_ldif.specs.declared.records.ChangeKind.TheVariants as kind;
 ghost use Rattle.dir_tree.specs.WellFormed.{all_lines, attribute_lines};
 ghost use Rattle.dir_tree.specs.Dir.{entry_at};
@@ -32,15 +32,25 @@ pub(crate) fn delete<D: Directory>(
     if directory.has_child(key) {
         return Err(Refusal::Code(ResultCode::NotAllowedOnNonLeaf));
     }
-    let undo = Undo::one(
-        alloc,
-        Change {
-            dn: directory.spelled(key)?,
-            kind: ChangeKind::Add(all_lines(alloc, entry)?),
-        },
-    )?;
+    let undo = undo_of_delete(alloc, directory, key, entry)?;
     let _ = directory.remove_leaf(key);
     Ok(undo)
+}
+
+/// The add that takes a delete back: of all values of the entry, by its name as spelled.
+fn undo_of_delete<D: Directory>(
+    alloc: Global,
+    directory: &D,
+    key: &DnKey,
+    entry: &Entry,
+) -> Result<Undo, Refusal>
+    requires { IsSome (entry_at (D.state directory.now) key.now) }
+    ensures ok { IfOk result (λ undo. undo ≡ record { dn = spelled_name (D.state directory.now) key.now; kind = kind.Add (all_lines entry.now.attributes) } ∷ []) }
+    ensures memory { IfErr result (λ e. e ≡ Refusal.Memory) }
+{
+    let dn = directory.spelled(key)?;
+    let kind = ChangeKind::Add(all_lines(alloc, entry)?);
+    Ok(Undo::one(alloc, Change { dn, kind })?)
 }
 
 /// All values of an entry, in the order of its canonical text.
@@ -65,13 +75,13 @@ fn push_values(
     ensures memory { IfErr result (λ e. e ≡ Refusal.Memory) }
 {
     for (_, bytes) in attribute.values() {
-        lines.push((
-            attribute
-                .description()
-                .try_clone(alloc)
-                .map_err(|_| Refusal::Memory)?,
-            Bytes::copy_of(alloc, bytes).map_err(|_| Refusal::Memory)?,
-        ))?;
+        let Ok(description) = attribute.description().try_clone(alloc) else {
+            return Err(Refusal::Memory);
+        };
+        let Ok(bytes) = Bytes::copy_of(alloc, bytes) else {
+            return Err(Refusal::Memory);
+        };
+        lines.push((description, bytes))?;
     }
     Ok(())
 }

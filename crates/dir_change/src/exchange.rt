@@ -3,10 +3,11 @@
 //! First the values that come are added, which can run out of memory; then those that go are taken away, which
 //! can't. So an entry is never left between the two.
 
-ghost use Rattle.std.specs.Prelude.{◌≡◌, IfErr, IfSome, OnErr, OnOk, Some, cond};
+ghost use Rattle.std.specs.Prelude.{◌≡◌, IfErr, IfSome, IsSome, OnErr, OnOk, Some, cond, true};
 ghost use Rattle.std.specs.Option.{option_map};
 ghost use Rattle.std.specs.FinMap as fin;
 ghost use Rattle.dir_names.specs.Attr.{Attr};
+ghost use Rattle.dir_names.specs.Orders.{bytes_eq};
 ghost use Rattle.dir_tree.specs.Content.{StoredAttributes};
 ghost use Rattle.dir_tree.specs.Slots.{with_slot};
 ghost use Rattle.dir_change.specs.Inside.Exchanged.{AreGrowing, AreGrowingAttributes, FitAttributes, all_grown, all_settled, all_shrunk, exchanged_slot, grown_at, grown_by, settled_by, settled_slot, shrunk_by, shrunk_slot};
@@ -189,11 +190,25 @@ fn settle_one(
         return;
     }
     if before.description().spelling() == after.description().spelling() {
-        let mut after = after;
-        let mut values = attributes.replace_values(key, ValueMap::empty(alloc));
-        settle_values(alloc, &mut values, before, &mut after);
-        let _ = attributes.replace_values(key, values);
+        settle_spelled(alloc, attributes, before, after);
     } else {
         let _ = attributes.replace(after);
     }
+}
+
+/// The same, where the attribute is there and is spelled in the part after as it was before: only its values change.
+fn settle_spelled(
+    alloc: Global,
+    attributes: &mut AttributeMap,
+    before: &Attribute,
+    mut after: Attribute,
+)
+    requires there { IsSome (fin.get attributes.old before.now.key) }
+    requires spelled { bytes_eq before.now.stored.spelling after.stored.spelling ≡ true }
+    ensures { attributes.new ≡ with_slot attributes.old before.now.key (settled_slot (fin.get attributes.old before.now.key) before.now.stored (Some after.stored)) }
+{
+    let key = before.description().key();
+    let mut values = attributes.replace_values(key, ValueMap::empty(alloc));
+    settle_values(alloc, &mut values, before, &mut after);
+    let _ = attributes.replace_values(key, values);
 }

@@ -167,15 +167,39 @@ fn part_with(
     ensures ok { IfOk result (λ part. part ≡ record { key = attribute.now.key; stored = record { spelling = attribute.now.stored.spelling; values = with_each attribute.now.stored.values (fin.insert fin.empty (lent_key one.entry) bytes.now) (fin.entries named.now) } }) }
     ensures memory { IfErr result (λ e. e ≡ refusal.Memory) }
 {
-    let mut values = ValueMap::empty(alloc);
-    add_if_missing(alloc, &mut values, &one.to_key(alloc)?, bytes)?;
-    for (key, _) in named.iter() {
-        if let Some(bytes) = attribute.get(key) {
-            add_if_missing(alloc, &mut values, key, bytes)?;
-        }
-    }
+    let mut values = only_value(alloc, one, bytes)?;
+    add_those_named(alloc, attribute, named, &mut values)?;
     let Ok(description) = attribute.description().try_clone(alloc) else {
         return Err(Refusal::Memory);
     };
     Ok(Attribute::of(description, values))
+}
+
+/// This value alone.
+fn only_value(alloc: Global, one: KeyView<'_>, bytes: &[u8]) -> Result<ValueMap, Refusal>
+    ensures ok { IfOk result (λ values. values ≡ fin.insert fin.empty (lent_key one.entry) bytes.now) }
+    ensures memory { IfErr result (λ e. e ≡ refusal.Memory) }
+{
+    let key = one.to_key(alloc)?;
+    let mut values = ValueMap::empty(alloc);
+    add_if_missing(alloc, &mut values, &key, bytes)?;
+    Ok(values)
+}
+
+/// Adds the values of the attribute that are named, if they are missing.
+fn add_those_named(
+    alloc: Global,
+    attribute: &AttributeView<'_>,
+    named: &ValueMap,
+    values: &mut ValueMap,
+) -> Result<(), Refusal>
+    ensures ok { OnOk result (values.new ≡ with_each attribute.now.stored.values values.old (fin.entries named.now)) }
+    ensures memory { IfErr result (λ e. e ≡ refusal.Memory) }
+{
+    for (key, _) in named.iter() {
+        if let Some(bytes) = attribute.get(key) {
+            add_if_missing(alloc, values, key, bytes)?;
+        }
+    }
+    Ok(())
 }

@@ -5,18 +5,19 @@ ghost use Rattle.std.specs.Option.{option_map};
 ghost use Rattle.std.specs.FinMap as fin;
 ghost use Rattle.dir_ldif.specs.declared.records.ChangeKind.TheVariants as kind;
 ghost use Rattle.dir_ldif.specs.declared.records.ModOp.TheVariants as op;
-ghost use Rattle.dir_tree.specs.Content.{Stored};
+ghost use Rattle.dir_tree.specs.Content.{Content, Stored};
 ghost use Rattle.dir_tree.specs.Dir.{entry_at, put_entry};
 ghost use Rattle.dir_tree.specs.Slots.{slot_of, spelling_or, values_of, with_slots};
+ghost use Rattle.dir_tree.specs.SpelledNames.{spelled_name};
 ghost use Rattle.dir_change.specs.Inside.Exchanged.{FitAttributes};
 ghost use Rattle.dir_change.specs.Inside.Looked.{AreLooks};
 ghost use Rattle.dir_change.specs.Inside.Touched.{IsPartAt};
-ghost use Rattle.dir_change.specs.Inside.Planned.{AreExchanged, IsExchangedAt, IsPlan};
+ghost use Rattle.dir_change.specs.Inside.Planned.{AreExchanged, IsExchanged, IsExchangedAt, IsPlan, IsPlanWithUndo};
 ghost use Rattle.dir_change.specs.Inside.ValuesInTurn.{are_new, are_there, without_each};
 ghost use Rattle.dir_change.specs.Modify.{attributes_after, attributes_after_one, entry_after, keyed_value, keyed_values, slot_after, slot_after_op, values_with, with_attributes};
 ghost use Rattle.dir_change.specs.Operation.{IsRefused, directory_after_modify};
 ghost use Rattle.dir_change.specs.Refusals.{IsRefusedWith};
-ghost use Rattle.dir_change.specs.Undo.{undo_of};
+ghost use Rattle.dir_change.specs.Undo.{modify_if_any, undo_of};
 ghost use Rattle.dir_change.specs.declared.operation.Refusal.TheVariants as refusal;
 ghost use Rattle.dir_change.specs.declared.result_code.ResultCode.TheVariants as code;
 
@@ -50,15 +51,87 @@ pub(crate) fn modify<D: Directory>(
     let Some(entry) = directory.get(key) else {
         return Err(Refusal::Code(ResultCode::NoSuchObject));
     };
+    let Prepared {
+        exchange,
+        first,
+        is_done,
+        undo,
+    } = prepare(alloc, schema, directory, key, entry, mods)?;
+    carry_out(alloc, directory, key, exchange, first, is_done)?;
+    Ok(undo)
+}
+
+/// A modify that no refusal can come of any more: what is exchanged, what first takes the entry's place, whether that is all,
+/// and what takes this back.
+#[derive(Drop)]
+struct Prepared {
+    exchange: Exchange,
+    first: Entry,
+    is_done: bool,
+    undo: Undo,
+}
+
+/// Prepares a modify of an entry, so that its undo is complete before the directory is touched.
+fn prepare<D: Directory>(
+    alloc: Global,
+    schema: &Schema,
+    directory: &D,
+    key: &DnKey,
+    entry: &Entry,
+    mods: &[Mod],
+) -> Result<Prepared, Refusal>
+    requires { IsSome (entry_at (D.state directory.now) key.now) }
+    ensures plan { IfOk result (λ p. IsPlanWithUndo schema.now (spelled_name (D.state directory.now) key.now) entry.now mods.now p.exchange.before p.exchange.after p.undo) }
+    ensures done { IfOk result (λ p. IsTrue p.is_done → IsExchanged entry.now p.exchange.before p.exchange.after p.first) }
+    ensures refused { IfErr result (λ e. IsRefused e (entry_after schema.now entry.now mods.now)) }
+{
     let Plan { exchange, back } = planned(alloc, schema, entry, mods, directory.packs_entries())?;
-    let undo = Undo::modify(alloc, directory.spelled(key)?, back)?;
+    let undo = undo_of_modify(alloc, directory, key, back)?;
     let (first, is_done) = replacement(alloc, entry, &exchange)?;
+    Ok(Prepared {
+        exchange,
+        first,
+        is_done,
+        undo,
+    })
+}
+
+/// The modify that takes a modify back, if there is a modification. The name of the entry as spelled doesn't change.
+fn undo_of_modify<D: Directory>(
+    alloc: Global,
+    directory: &D,
+    key: &DnKey,
+    back: Vec<Mod>,
+) -> Result<Undo, Refusal>
+    requires { IsSome (entry_at (D.state directory.now) key.now) }
+    ensures ok { IfOk result (λ undo. undo ≡ modify_if_any (spelled_name (D.state directory.now) key.now) back.items) }
+    ensures memory { IfErr result (λ e. e ≡ refusal.Memory) }
+{
+    let dn = directory.spelled(key)?;
+    Ok(Undo::modify(alloc, dn, back)?)
+}
+
+/// Puts what first takes an entry's place there, and then, if that isn't all, the entry with its attributes exchanged.
+fn carry_out<D: Directory>(
+    alloc: Global,
+    directory: &mut D,
+    key: &DnKey,
+    exchange: Exchange,
+    first: Entry,
+    is_done: bool,
+) -> Result<(), Refusal>
+    requires there { IsSome (entry_at (D.state directory.old) key.now) }
+    requires fit { (entry : Content) → entry_at (D.state directory.old) key.now ≡ Some entry → FitAttributes entry.attributes exchange.before exchange.after }
+    requires done { (entry : Content) → entry_at (D.state directory.old) key.now ≡ Some entry → IsTrue is_done → IsExchanged entry exchange.before exchange.after first }
+    ensures ok { OnOk result ((entry : Content) → entry_at (D.state directory.old) key.now ≡ Some entry → IsExchangedAt (D.state directory.old) key.now entry exchange.before exchange.after (D.state directory.new)) }
+    ensures err { OnErr result (D.state directory.new ≡ D.state directory.old) }
+    ensures memory { IfErr result (λ e. e ≡ refusal.Memory) }
+{
     let entry = directory.replace(key, first);
     if is_done {
-        return Ok(undo);
+        return Ok(());
     }
-    settle(alloc, directory, key, entry, exchange)?;
-    Ok(undo)
+    settle(alloc, directory, key, entry, exchange)
 }
 
 /// What takes an entry's place, and whether this is the entry after the exchange: if so, it is a copy with whole attributes

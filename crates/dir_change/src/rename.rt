@@ -9,18 +9,20 @@ ghost use Rattle.dir_names.specs.NameKeys.{rdn_key};
 ghost use Rattle.dir_names.specs.Keys.{DnKeys, parent_of};
 ghost use Rattle.dir_names.specs.Orders.{attr_cmp, pair_eq};
 ghost use Rattle.dir_names.specs.Sorted.{rises, set_of, with_member};
-ghost use Rattle.dir_tree.specs.Dir.{entry_at};
-ghost use Rattle.dir_tree.specs.Moves.{IsShallow, height_below};
+ghost use Rattle.dir_tree.specs.Content.{Content};
+ghost use Rattle.dir_tree.specs.Dir.{entry_at, is_there};
+ghost use Rattle.dir_tree.specs.Moves.{IsShallow, MayMoveTo, height_below, move_subtree};
 ghost use Rattle.dir_tree.specs.NewEntry.{leaf_key, leaf_of};
 ghost use Rattle.dir_tree.specs.SpelledNames.{spelled_name};
 ghost use Rattle.dir_change.specs.Difference.{difference};
+ghost use Rattle.dir_change.specs.Inside.Renamed.{IsUndoable, new_place};
 ghost use Rattle.dir_change.specs.Inside.Touched.{AreSameApartFrom, types_of};
 ghost use Rattle.dir_change.specs.Operation.{IsRefused};
 ghost use Rattle.dir_change.specs.Rename.{directory_after_rename, pairs_missing_in, place_at, renamed_attributes, renamed_entry, slot_without_value, superior_at, superior_key, without_pair, without_pairs};
 ghost use Rattle.dir_change.specs.Undo.{rename_back_in, rename_to, superior_back_in, undo_of};
 ghost use Rattle.dir_change.specs.declared.operation.Refusal.TheVariants as refusal;
 
-use crate::add::joined_name;
+use crate::add::{joined_name, parent_key};
 use crate::difference::{difference, insert_key};
 use crate::modify::if_any;
 use crate::touched::{attributes_at, is_cheap_to_copy};
@@ -56,16 +58,108 @@ pub(crate) fn rename<D: Directory>(
     if key == directory.suffix() {
         return Err(Refusal::Code(ResultCode::UnwillingToPerform));
     }
+    let to = destination_of(alloc, schema, directory, key, newrdn, newsuperior)?;
+    let planned = move_to(alloc, schema, directory, key, entry, newrdn, delete_old, to)?;
+    carry_out(directory, key, planned)
+}
+
+/// Where a renamed entry is to be: below which entry, by which RDN, and so at which key.
+#[derive(Drop)]
+struct Destination {
+    superior: DnKey,
+    rdn: RdnKey,
+    place: DnKey,
+}
+
+/// Where the renamed entry is to be. The refusals are those of the superior, and then of the place.
+fn destination_of<D: Directory>(
+    alloc: Global,
+    schema: &Schema,
+    directory: &D,
+    key: &DnKey,
+    newrdn: &Rdn,
+    newsuperior: &Option<Dn>,
+) -> Result<Destination, Refusal>
+    requires there { IsSome (entry_at (D.state directory.now) key.now) }
+    requires shallow { IsShallow (D.state directory.now) }
+    ensures superior { IfOk result (λ to. superior_at (D.state directory.now) key.now (superior_key schema.now key.now newsuperior.now) ≡ Ok to.superior) }
+    ensures named { IfOk result (λ to. rdn_key schema.now newrdn.now ≡ Some to.rdn) }
+    ensures is { IfOk result (λ to. to.place ≡ to.superior ++ to.rdn ∷ []) }
+    ensures place { IfOk result (λ to. place_at (D.state directory.now) key.now to.place ≡ Ok to.place) }
+    ensures refused { IfErr result (λ e. IsRefused e (new_place schema.now (D.state directory.now) key.now newrdn.now newsuperior.now)) }
+{
     let superior = superior(alloc, schema, directory, key, newsuperior)?;
-    let Some(rdn_key) = key_of(alloc, schema, newrdn)? else {
+    let Some(rdn) = key_of(alloc, schema, newrdn)? else {
         return Err(Refusal::Code(ResultCode::NoSuchObject));
     };
-    let place = place(alloc, directory, key, &superior, &rdn_key)?;
+    let place = place(alloc, directory, key, &superior, &rdn)?;
+    Ok(Destination {
+        superior,
+        rdn,
+        place,
+    })
+}
+
+/// What a rename does to the directory: the entry's new key, the entry there, and what takes this back.
+#[derive(Drop)]
+struct Move {
+    place: DnKey,
+    renamed: Entry,
+    undo: Undo,
+}
+
+/// The move of an entry to a destination, complete before the directory is touched.
+fn move_to<D: Directory>(
+    alloc: Global,
+    schema: &Schema,
+    directory: &D,
+    key: &DnKey,
+    entry: &Entry,
+    newrdn: &Rdn,
+    delete_old: bool,
+    to: Destination,
+) -> Result<Move, Refusal>
+    requires named { rdn_key schema.now newrdn.now ≡ Some to.rdn }
+    requires undoable { (renamed : Content) → renamed_entry schema.now entry.now newrdn.now to.rdn delete_old ≡ Ok renamed → IsUndoable (D.state directory.now) key.now to.superior to.place renamed entry.now }
+    ensures place { IfOk result (λ m. m.place ≡ to.place) }
+    ensures renamed { IfOk result (λ m. renamed_entry schema.now entry.now newrdn.now to.rdn delete_old ≡ Ok m.renamed) }
+    ensures undo { IfOk result (λ m. m.undo ≡ rename_back_in schema.now (D.state directory.now) key.now to.superior m.renamed entry.now) }
+    ensures refused { IfErr result (λ e. IsRefused e (renamed_entry schema.now entry.now newrdn.now to.rdn delete_old)) }
+{
+    let Destination {
+        superior,
+        rdn,
+        place,
+    } = to;
     let packs = directory.packs_entries();
-    let renamed = renamed_entry(alloc, schema, entry, newrdn, rdn_key, delete_old, packs)?;
+    let renamed = renamed_entry(alloc, schema, entry, newrdn, rdn, delete_old, packs)?;
     let undo = undo_of_rename(
         alloc, schema, directory, key, &superior, &place, &renamed, entry,
     )?;
+    Ok(Move {
+        place,
+        renamed,
+        undo,
+    })
+}
+
+/// Moves the entry with all that is below it. Answers what takes this back.
+fn carry_out<D: Directory>(directory: &mut D, key: &DnKey, planned: Move) -> Result<Undo, Refusal>
+    requires there { IsSome (entry_at (D.state directory.old) key.now) }
+    requires inner { ¬ (key.now ≡ (D.state directory.old).suffix) }
+    requires parent { IsTrue (is_there (D.state directory.old) (parent_of planned.place)) }
+    requires place { MayMoveTo (D.state directory.old) key.now planned.place }
+    requires fits { length planned.place + height_below (D.state directory.old) key.now ≤ 64 }
+    ensures ok { OnOk result (D.state directory.new ≡ move_subtree (D.state directory.old) key.now planned.place planned.renamed) }
+    ensures err { OnErr result (D.state directory.new ≡ D.state directory.old) }
+    ensures undo { IfOk result (λ undo. undo ≡ planned.undo) }
+    ensures memory { IfErr result (λ e. e ≡ refusal.Memory) }
+{
+    let Move {
+        place,
+        renamed,
+        undo,
+    } = planned;
     match directory.move_subtree(key, &place, renamed) {
         Ok(_) => Ok(undo),
         Err(_) => Err(Refusal::Memory),
@@ -138,7 +232,7 @@ fn superior_key(
     ensures memory { IfErr result (λ e. e ≡ refusal.Memory) }
 {
     let Some(name) = newsuperior else {
-        return key.parent(alloc).map_err(|_| Refusal::Memory);
+        return parent_key(alloc, key);
     };
     match name.key(alloc, schema) {
         Ok(key) => Ok(Some(key)),
@@ -279,7 +373,10 @@ fn one_rdn(alloc: Global, rdn: &Rdn) -> Result<Vec<Rdn>, Refusal>
     ensures memory { IfErr result (λ e. e ≡ refusal.Memory) }
 {
     let mut own = Vec::with_capacity(alloc, 1)?;
-    own.push(rdn.try_clone(alloc).map_err(|_| Refusal::Memory)?)?;
+    let Ok(rdn) = rdn.try_clone(alloc) else {
+        return Err(Refusal::Memory);
+    };
+    own.push(rdn)?;
     Ok(own)
 }
 
@@ -373,7 +470,7 @@ fn superior_back<D: Directory>(
     ensures ok { IfOk result (λ back. IsSome (parent_of key.now) → back ≡ superior_back_in (D.state directory.now) key.now superior.now) }
     ensures memory { IfErr result (λ e. e ≡ refusal.Memory) }
 {
-    let Some(parent) = key.parent(alloc).map_err(|_| Refusal::Memory)? else {
+    let Some(parent) = parent_key(alloc, key)? else {
         return Ok(None);
     };
     if &parent == superior {
