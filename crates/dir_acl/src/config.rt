@@ -37,11 +37,25 @@ use std::alloc::Global;
 pub const MAX_CONFIG: usize = 16_777_216;
 
 /// The configuration of one database.
-#[derive(Debug, Drop)]
+#[derive(Debug)]
 pub struct Config {
     suffix: DnKey,
     root: Option<DnKey>,
     rules: Vec<Rule>,
+}
+
+// Written out, so that a drop is one call in proofs (docs/CONTRIBUTING.md).
+impl Drop for Config {
+    fn drop(self) {
+        let Config {
+            suffix,
+            root,
+            rules,
+        } = self;
+        drop(suffix);
+        drop(root);
+        drop(rules);
+    }
 }
 
 impl Config {

@@ -28,10 +28,22 @@ use std::marker::Model;
 use std::{fmt, mem};
 
 /// An attribute of an entry: its description as spelled, and its values.
-#[derive(Debug, Drop)]
+#[derive(Debug)]
 pub struct Attribute {
     description: Description,
     values: ValueMap,
+}
+
+// Written out, so that a drop is one call in proofs (docs/CONTRIBUTING.md).
+impl Drop for Attribute {
+    fn drop(self) {
+        let Attribute {
+            description,
+            values,
+        } = self;
+        drop(description);
+        drop(values);
+    }
 }
 
 impl Model for Attribute {
@@ -164,9 +176,16 @@ impl Attribute {
 }
 
 /// The attributes of an entry: an ordered map from description keys.
-#[derive(Drop)]
 pub struct AttributeMap {
     items: AttributeList,
+}
+
+// Written out, so that a drop is one call in proofs (docs/CONTRIBUTING.md).
+impl Drop for AttributeMap {
+    fn drop(self) {
+        let AttributeMap { items } = self;
+        drop(items);
+    }
 }
 
 /// Shows no attributes: there can be many.

@@ -26,11 +26,25 @@ use std::marker::Model;
 
 /// An entry: its own name as spelled, and its attributes (RFC 4512, section 2.2). The own name is one
 /// RDN, or for the entry of the suffix the whole suffix, leaf first.
-#[derive(Debug, Drop)]
+#[derive(Debug)]
 pub struct Entry {
     own: Vec<Rdn>,
     key: RdnKey,
     attributes: KeptAttributes,
+}
+
+// Written out, so that a drop is one call in proofs (docs/CONTRIBUTING.md).
+impl Drop for Entry {
+    fn drop(self) {
+        let Entry {
+            own,
+            key,
+            attributes,
+        } = self;
+        drop(own);
+        drop(key);
+        drop(attributes);
+    }
 }
 
 impl Model for Entry {

@@ -39,9 +39,16 @@ pub(crate) enum Form {
 
 /// The attributes of an entry: an ordered map from description keys, which can be looked up, and opened to be
 /// changed.
-#[derive(Drop)]
 pub struct KeptAttributes {
     form: Form,
+}
+
+// Written out, so that a drop is one call in proofs (docs/CONTRIBUTING.md).
+impl Drop for KeptAttributes {
+    fn drop(self) {
+        let KeptAttributes { form } = self;
+        drop(form);
+    }
 }
 
 /// Shows no attributes: there can be many.
@@ -139,7 +146,8 @@ impl KeptAttributes {
     pub(crate) fn packed_again(self, alloc: Global) -> KeptAttributes
         ensures { result ≡ self }
     {
-        match self.form {
+        let KeptAttributes { form } = self;
+        match form {
             Form::Open(map) => KeptAttributes::packed_up_to(alloc, map, MOST_PACKED_AGAIN),
             Form::Packed(packed) => KeptAttributes {
                 form: Form::Packed(packed),
@@ -207,7 +215,8 @@ impl KeptAttributes {
         ensures ok { IfOk result (λ map. map ≡ self) }
         ensures err { IfErr result (λ kept. kept ≡ self) }
     {
-        match self.form {
+        let KeptAttributes { form } = self;
+        match form {
             Form::Open(map) => Ok(map),
             Form::Packed(packed) => match AttributeMap::unpacked(alloc, &packed) {
                 Ok(map) => Ok(map),

@@ -20,12 +20,26 @@ mod node;
 
 /// A directory as a tree of owned nodes: each has its entry, and its children in an ordered map under the
 /// keys of their RDNs.
-#[derive(Drop)]
 pub struct TreeDirectory {
     alloc: Global,
     suffix: DnKey,
     root: Option<Node>,
     shared: Shared,
+}
+
+// Written out, so that a drop is one call in proofs (docs/CONTRIBUTING.md).
+impl Drop for TreeDirectory {
+    fn drop(self) {
+        let TreeDirectory {
+            alloc: _,
+            suffix,
+            root,
+            shared,
+        } = self;
+        drop(suffix);
+        drop(root);
+        drop(shared);
+    }
 }
 
 impl Model for TreeDirectory {

@@ -21,9 +21,16 @@ use std::fmt;
 use std::marker::Model;
 
 /// The values of an attribute: an ordered map from value keys to stored bytes.
-#[derive(Drop)]
 pub struct ValueMap {
     items: ValueList,
+}
+
+// Written out, so that a drop is one call in proofs (docs/CONTRIBUTING.md).
+impl Drop for ValueMap {
+    fn drop(self) {
+        let ValueMap { items } = self;
+        drop(items);
+    }
 }
 
 /// Shows no values: there can be many.

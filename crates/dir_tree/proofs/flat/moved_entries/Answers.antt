@@ -24,20 +24,6 @@ loop-key-preserved-in-Ok-insert-2 c =
     (ap (λ es. fin.from_entries {R = dn_key_cmp} es) c.in-Ok-insert.ensures.entries ∙ one_put dn_key_cmp_total dn_key_cmp_exact c.loop-key.moved.entries c.in_ok-key.key c.in-Ok.entry)
     c.loop-key.invariant
 
-pub loop-key-preserved-in-Ok-insert-3 : goal.loop-key-preserved-in-Ok-insert-3
-loop-key-preserved-in-Ok-insert-3 c =
-    one_moved c.args.old.now c.args.new.now c.loop-key.key-iterator.iter c.next.new.self.iter c.args.entries.now.entries c.loop-key.moved.entries c.insert.new.self.entries c.in-Some.key.now c.in-Some.entry.now c.in_ok-key.key c.in-Ok.entry
-    c.in-Some.ensures.steps c.in_ok-key.ensures c.in-Ok.ensures
-    (ap (λ es. fin.from_entries {R = dn_key_cmp} es) c.in-Ok-insert.ensures.entries ∙ one_put dn_key_cmp_total dn_key_cmp_exact c.loop-key.moved.entries c.in_ok-key.key c.in-Ok.entry)
-    c.loop-key.invariant
-
-pub loop-key-preserved-in-Ok-insert-4 : goal.loop-key-preserved-in-Ok-insert-4
-loop-key-preserved-in-Ok-insert-4 c =
-    one_moved c.args.old.now c.args.new.now c.loop-key.key-iterator.iter c.next.new.self.iter c.args.entries.now.entries c.loop-key.moved.entries c.insert.new.self.entries c.in-Some.key.now c.in-Some.entry.now c.in_ok-key.key c.in-Ok.entry
-    c.in-Some.ensures.steps c.in_ok-key.ensures c.in-Ok.ensures
-    (ap (λ es. fin.from_entries {R = dn_key_cmp} es) c.in-Ok-insert.ensures.entries ∙ one_put dn_key_cmp_total dn_key_cmp_exact c.loop-key.moved.entries c.in_ok-key.key c.in-Ok.entry)
-    c.loop-key.invariant
-
 pub returns-clause-ok : goal.returns-clause-ok
 returns-clause-ok c =
     let all = ap (λ z. z ++ c.loop-key.invariant.0) (sym c.in-None.ensures.steps.0) ∙ c.loop-key.invariant.1 in
