@@ -1,17 +1,19 @@
 //! The answers to a block of questions.
 
-ghost use Rattle.std.specs.Prelude.{◌≡◌, IfOk, Ok, map, option_copied, option_map};
+ghost use Rattle.std.specs.Prelude.{◌≡◌, IfOk, Ok, OnOk, map, option_copied, option_map};
+ghost use Rattle.dir_acl.specs.Inside.Fakes.{attributes_of};
 ghost use Rattle.dir_acl.specs.Inside.ReadingConfig.{configuration_of};
 ghost use Rattle.dir_acl.specs.Inside.Requests.{question_of};
+ghost use Rattle.dir_acl.specs.RulesFor.{IsRulesFor};
 ghost use Rattle.dir_acl.specs.declared.access.Asked.TheVariants as Asked;
 ghost use Rattle.dir_tools.specs.AccessReport.{request_for};
-ghost use Rattle.dir_questions.specs.Answers.{answered_on, answers_to, parts_of_block};
+ghost use Rattle.dir_questions.specs.Answers.{answer_on, answered_on, answers_to, parts_of_block};
 ghost use Rattle.dir_questions.specs.Inside.Answering.{answer_in, missing};
 ghost use Rattle.dir_questions.specs.Questions.{no_such_entry};
-ghost use Rattle.dir_questions.specs.Reading.{block_in};
+ghost use Rattle.dir_questions.specs.Reading.{block_in, word_in};
 
 use crate::reading::{AskedWord, Block, NO_SUCH_ENTRY};
-use dir_acl::{Asked, Config, Request};
+use dir_acl::{Asked, Config, Request, TargetRules};
 use dir_names::{DnKey, Memory};
 use dir_tools::{find_target, push_answer};
 use dir_tree::{Directory, Entry};
@@ -70,13 +72,31 @@ fn answers_on<'b, 't, D: Directory>(
     let mut answers = Vec::new(alloc);
     let mut rules = config.rules_for(alloc, &block.base.key, target);
     for asked in block.words.as_slice() {
-        let request = request_of(alloc, block, target, &asked.word.asked)?;
-        let held = rules.privileges(directory, &request);
-        let mut text = Vec::new(alloc);
-        push_answer(alloc, &mut text, &asked.word, held)?;
+        let text = answer_on(alloc, &mut rules, directory, block, target, asked)?;
         answers.push(Answer { asked, text })?;
     }
     Ok(answers)
+}
+
+/// The answer to a word, by the rules for the target.
+fn answer_on<D: Directory>(
+    alloc: Global,
+    rules: &mut TargetRules<'_>,
+    directory: &D,
+    block: &Block<'_>,
+    target: Option<&Entry>,
+    asked: &AskedWord<'_>,
+) -> Result<Vec<u8>, Memory>
+    requires { IsRulesFor block.now.base.key (attributes_of (option_copied target)) rules.old }
+    ensures text { IfOk result (λ text. text.items ≡ answer_on (configuration_of rules.old.config.now) (D.state directory.now) (block_in block.now) (Ok (option_copied target.entry)) (word_in asked.now)) }
+    ensures config { OnOk result (rules.new.config.now ≡ rules.old.config.now) }
+    ensures target { OnOk result (IsRulesFor block.now.base.key (attributes_of (option_copied target.entry)) rules.new) }
+{
+    let request = request_of(alloc, block, target, &asked.word.asked)?;
+    let held = rules.privileges(directory, &request);
+    let mut text = Vec::new(alloc);
+    push_answer(alloc, &mut text, &asked.word, held)?;
+    Ok(text)
 }
 
 /// The request of a block for what a word asks.

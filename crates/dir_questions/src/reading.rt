@@ -24,15 +24,23 @@ const MAX_QUESTIONS: usize = 16_777_216;
 pub(crate) const NO_SUCH_ENTRY: &[u8] = b"no such entry";
 
 /// A legal name, as it is written in the file, and what it spells.
-#[derive(Drop)]
 pub(crate) struct GivenName {
     pub(crate) text: Vec<u8>,
     pub(crate) name: Dn,
     pub(crate) key: DnKey,
 }
 
+// Written out, so that a drop is one call in proofs (docs/CONTRIBUTING.md).
+impl Drop for GivenName {
+    fn drop(self) {
+        let GivenName { text, name, key } = self;
+        drop(text);
+        drop(name);
+        drop(key);
+    }
+}
+
 /// A word, with its line and the answer that is expected. That is empty where the word is only asked for.
-#[derive(Drop)]
 pub(crate) struct AskedWord<'t> {
     pub(crate) line: u64,
     pub(crate) text: &'t [u8],
@@ -40,8 +48,21 @@ pub(crate) struct AskedWord<'t> {
     pub(crate) expected: Vec<u8>,
 }
 
+// Written out, so that a drop is one call in proofs (docs/CONTRIBUTING.md).
+impl Drop for AskedWord<'_> {
+    fn drop(self) {
+        let AskedWord {
+            line: _,
+            text: _,
+            word,
+            expected,
+        } = self;
+        drop(word);
+        drop(expected);
+    }
+}
+
 /// What a block of a file of questions asks.
-#[derive(Drop)]
 pub struct Block<'t> {
     /// Who asks, if somebody does.
     pub(crate) requester: Option<GivenName>,
@@ -49,6 +70,21 @@ pub struct Block<'t> {
     pub(crate) fake: bool,
     pub(crate) base: GivenName,
     pub(crate) words: Vec<AskedWord<'t>>,
+}
+
+// Written out, so that a drop is one call in proofs (docs/CONTRIBUTING.md).
+impl Drop for Block<'_> {
+    fn drop(self) {
+        let Block {
+            requester,
+            fake: _,
+            base,
+            words,
+        } = self;
+        drop(requester);
+        drop(base);
+        drop(words);
+    }
 }
 
 /// A value, with the number of its line.

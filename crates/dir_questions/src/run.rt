@@ -25,8 +25,8 @@ use crate::report::{Tally, push_block, push_lines, push_tally, tally_of};
 use dir_acl::Config;
 use dir_ldif::{DeviceFault, Sink, Source, write_whole};
 use dir_names::{Memory, Schema};
-use dir_tools::{HeldMemory, Output, ToolFault, read_config, read_copy};
-use dir_tree::{Directory, TreeDirectory};
+use dir_tools::{HeldMemory, Output, ToolFault, read_config, read_copy_under};
+use dir_tree::Directory;
 use std::alloc::Global;
 
 /// How a file of questions is answered.
@@ -256,10 +256,7 @@ fn answered<R: Source>(
     ensures unfailed { OnOk result (R.failures copy.new ≡ R.failures copy.old) }
     ensures read { result ≡ Err (ToolFault.Read Input.Copy) → HasFailed (R.failures copy.old) (R.failures copy.new) }
 {
-    let Ok(suffix) = config.suffix().try_clone(alloc) else {
-        return Err(ToolFault::Memory);
-    };
-    let directory = match read_copy(alloc, schema, TreeDirectory::new(alloc, suffix), copy) {
+    let directory = match read_copy_under(alloc, schema, config, copy) {
         Ok(directory) => directory,
         Err(fault) => return Err(fault),
     };

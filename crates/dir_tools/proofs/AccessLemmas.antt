@@ -21,7 +21,7 @@ use Rattle.dir_tools.specs.AccessReport.{AccessTerms, Configured, QuestionParts,
 use Rattle.dir_tools.specs.CompleteRecords.{CompleteRecordsLoad, GaveBytes, IsReaderFault, answers_after}
 use Rattle.dir_tools.specs.CopyFaults.{HasNoEntries, IsBadCopy, IsCopyFaultCause}
 use Rattle.dir_tools.specs.CopyOf.{CopyFault, copy_of, empty_copy}
-use Rattle.dir_tools.specs.Inside.Asking.{IsPartFault}
+use Rattle.dir_tools.specs.Inside.Asking.{IsNoReport, IsPartFault}
 
 -- ---- the question
 
@@ -91,6 +91,56 @@ copy_first t config asking copy copy' empty failures failures' (tool.BadChanges 
 copy_first t config asking copy copy' empty failures failures' (tool.Config fault) asked named h settled = absurd (h)
 copy_first t config asking copy copy' empty failures failures' tool.NoEntry asked named h settled = absurd (h)
 copy_first t config asking copy copy' empty failures failures' (tool.TooFewGroups groups) asked named h settled = absurd (h)
+
+-- ---- a directory on which there is no report
+
+module _ (target : Result (Option Content) ToolFault) where
+  -- what is said of it is not a fault of a reader
+  pub no_report_after : (e : ToolFault) → IsNoReport target e → ComesAfterConfig e
+  no_report_after tool.NoEntry h = tt
+  no_report_after tool.Memory h = tt
+  no_report_after (tool.Config why) h = absurd h
+  no_report_after (tool.BadQuestion item) h = absurd h
+  no_report_after (tool.BadCopy line why) h = absurd h
+  no_report_after (tool.Read from) h = absurd h
+  no_report_after (tool.Write to) h = absurd h
+  no_report_after (tool.BadChanges why) h = absurd h
+  no_report_after (tool.TooFewGroups groups) h = absurd h
+
+  pub no_report_unread : (e : ToolFault) → IsNoReport target e → e ≢ tool.Read input.Copy
+  no_report_unread tool.NoEntry h is = cc is
+  no_report_unread tool.Memory h is = cc is
+  no_report_unread (tool.Config why) h is = absurd h
+  no_report_unread (tool.BadQuestion item) h is = absurd h
+  no_report_unread (tool.BadCopy line why) h is = absurd h
+  no_report_unread (tool.Read from) h is = absurd h
+  no_report_unread (tool.Write to) h is = absurd h
+  no_report_unread (tool.BadChanges why) h is = absurd h
+  no_report_unread (tool.TooFewGroups groups) h is = absurd h
+
+  pub no_report_first : (t : AccessTerms) (config copy copy' : Option (List ℕ)) (e : ToolFault) → IsNoReport target e → AccessHeldBefore t config (copy, copy') e
+  no_report_first t config copy copy' tool.NoEntry h = tt
+  no_report_first t config copy copy' tool.Memory h = tt
+  no_report_first t config copy copy' (tool.Config why) h = absurd h
+  no_report_first t config copy copy' (tool.BadQuestion item) h = absurd h
+  no_report_first t config copy copy' (tool.BadCopy line why) h = absurd h
+  no_report_first t config copy copy' (tool.Read from) h = absurd h
+  no_report_first t config copy copy' (tool.Write to) h = absurd h
+  no_report_first t config copy copy' (tool.BadChanges why) h = absurd h
+  no_report_first t config copy copy' (tool.TooFewGroups groups) h = absurd h
+
+-- the base is no entry of it, or memory ran out
+pub no_report_blamed : (t : AccessTerms) (known : AccessSources) (asking : Asking) → IsAsked t known.config asking → (d : Dir) (e : ToolFault)
+    → IfSome known.copy (λ text. copy_of asking.config.rows asking.config.configuration.suffix text ≡ Ok d) → IsNoReport (target_of t.question.fake d asking.parts.base) e → IsAccessFault t known e
+no_report_blamed t known asking asked d tool.NoEntry read h = record { asking = asking; asked = asked; directory = d; copy = read; target_is = h }
+no_report_blamed t known asking asked d tool.Memory read h = tt
+no_report_blamed t known asking asked d (tool.Config why) read h = absurd h
+no_report_blamed t known asking asked d (tool.BadQuestion item) read h = absurd h
+no_report_blamed t known asking asked d (tool.BadCopy line why) read h = absurd h
+no_report_blamed t known asking asked d (tool.Read from) read h = absurd h
+no_report_blamed t known asking asked d (tool.Write to) read h = absurd h
+no_report_blamed t known asking asked d (tool.BadChanges why) read h = absurd h
+no_report_blamed t known asking asked d (tool.TooFewGroups groups) read h = absurd h
 
 -- ---- a fault before the report is written
 

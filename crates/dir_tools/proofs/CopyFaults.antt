@@ -16,6 +16,7 @@ use Rattle.dir_tree.specs.NewEntry.{IsEntryFaultOf as FailsToMake, new_entry}
 use Rattle.dir_tree.specs.declared.fault.EntryFault.{EntryFault}
 use Rattle.dir_tree.specs.declared.fault.EntryFault.TheVariants as entry
 use Rattle.dir_tree.specs.SpelledNames.{own_rdns}
+use Rattle.dir_change.specs.declared.operation.Refusal.{Refusal}
 use Rattle.dir_change.specs.declared.operation.Refusal.TheVariants as refusal
 use Rattle.dir_change.specs.declared.result_code.ResultCode.{ResultCode}
 use Rattle.dir_change.specs.declared.result_code.ResultCode.TheVariants.{NoSuchObject, EntryAlreadyExists}
@@ -30,7 +31,7 @@ use Rattle.dir_tools.specs.declared.fault.ToolFault.TheVariants as tool
 use Rattle.dir_tools.specs.CopyOf.{CopyFault, LoadedCopy, copy_of, empty_copy, refused_if, whole_directory, with_content, with_entry, with_record, with_records}
 use Rattle.dir_names.specs.Results.{and_then}
 use Rattle.dir_names.specs.Below.{is_at_or_below}
-use Rattle.dir_tools.specs.Inside.Loading.{IsCopyFault, IsLoaded, IsMadeOf, IsNotPut, IsRecordFault, LoadsOver, LoadsTo, StopsLoading, TakesRecord, copy_fault, waiting_or}
+use Rattle.dir_tools.specs.Inside.Loading.{IsCopyFault, IsLoaded, IsMadeOf, IsNotMade, IsNotPut, IsRecordFault, LoadsOver, LoadsTo, StopsLoading, TakesRecord, copy_fault, waiting_or}
 use Rattle.dir_tools.specs.CopyFaults.{HasNoEntries, IsCopyFaultCause}
 use Rattle.dir_tools.specs.ReadCalls.{FillsReadCalls}
 use Rattle.dir_tools.proofs.CopyLemmas.{complete_load, loads_all}
@@ -88,6 +89,19 @@ not_put line there fault (inr h) = subst IsRecordFault (sym h.0) tt
 pub not_put_at : {A : Type 0} (wanted : Result A CopyFault) (line : ℕ) (there : Option Content) (fault : ToolFault) → IsNotPut line there fault → (is_some there ≡ true → wanted ≡ Err (line, cause.Code EntryAlreadyExists)) → IsCopyFault wanted fault
 not_put_at wanted line there fault (inl e) taken = subst (IsCopyFault wanted) (sym e) tt
 not_put_at wanted line there fault (inr h) taken = subst (IsCopyFault wanted) (sym h.0) (taken h.1)
+
+-- why an entry is not made, as a fault of the copy
+pub not_made : (line : ℕ) (there : Option Content) (why : Refusal) (fault : ToolFault) → IsNotMade line there why fault → IsRecordFault fault
+not_made line (Some e) why fault is = subst IsRecordFault (sym is) tt
+not_made line None (refusal.Code code) fault is = subst IsRecordFault (sym is) tt
+not_made line None refusal.Memory fault is = subst IsRecordFault (sym is) tt
+
+pub not_made_at : {A : Type 0} (wanted : Result A CopyFault) (line : ℕ) (there : Option Content) (why : Refusal) (fault : ToolFault) → IsNotMade line there why fault
+    → (is_some there ≡ true → wanted ≡ Err (line, cause.Code EntryAlreadyExists)) → (there ≡ None → (code : ResultCode) → why ≡ refusal.Code code → wanted ≡ Err (line, cause.Code code))
+    → IsCopyFault wanted fault
+not_made_at wanted line (Some e) why fault is taken fails = subst (IsCopyFault wanted) (sym is) (taken refl)
+not_made_at wanted line None (refusal.Code code) fault is taken fails = subst (IsCopyFault wanted) (sym is) (fails refl code refl)
+not_made_at wanted line None refusal.Memory fault is taken fails = subst (IsCopyFault wanted) (sym is) tt
 
 pub not_free : {A : Type 0} (there : Option A) {P : Type 0} → there ≡ None → is_some there ≡ true → P
 not_free there {P} none h = absurd (true≢false (sym h ∙ ap is_some none))

@@ -9,9 +9,13 @@ mod report;
 mod word_notes;
 
 ghost use Rattle.std.specs.Io.KnownBytes.{Consumes};
-ghost use Rattle.std.specs.Prelude.{◌≡◌, ◌⊎◌, ◌≤◌, ℕ, Err, IfErr, IfOk, List, Ok, OnOk, Option, length, option_copied};
+ghost use Rattle.std.specs.Prelude.{◌≡◌, ◌⊎◌, ◌≤◌, ℕ, Err, IfErr, IfOk, IfSome, List, Ok, OnOk, Option, length, option_copied};
 ghost use Rattle.dir_names.specs.declared.schema.TypeRow.{TypeRow};
-ghost use Rattle.dir_tools.specs.Inside.Asking.{configured_under, parts_in};
+ghost use Rattle.dir_acl.specs.Inside.ReadingConfig.{configuration_of};
+ghost use Rattle.dir_tools.specs.CompleteRecords.{CompleteRecordsLoad, GaveBytes, IsReaderFault, answers_after};
+ghost use Rattle.dir_tools.specs.CopyFaults.{IsCopyFaultCause};
+ghost use Rattle.dir_tools.specs.CopyOf.{copy_of, empty_copy};
+ghost use Rattle.dir_tools.specs.Inside.Asking.{IsNoReport, IsReportOn, configured_under, parts_in};
 ghost use Rattle.dir_ldif.specs.Device.{HasFailed};
 ghost use Rattle.dir_tools.specs.AccessAnswers.{AccessHeldBefore, AnswersQuestion, ComesAfterConfig, IsAccessFault, IsStatedReport, IsTextOf, IsWholeReport, access_sources};
 ghost use Rattle.dir_tools.specs.AccessReport.{access_terms, parts_of, target_of};
@@ -40,7 +44,7 @@ use dir_tree::{Directory, Entry, TreeDirectory};
 use std::alloc::Global;
 
 /// What slapacl is asked (slapacl(8)).
-#[derive(Debug, Drop)]
+#[derive(Debug)]
 pub struct Question {
     /// The name of the target (`-b`).
     pub base: Bytes,
@@ -52,6 +56,22 @@ pub struct Question {
     pub fake: bool,
     /// The report begins with the requester's name (`-v`).
     pub verbose: bool,
+}
+
+// Written out, so that a drop is one call in proofs (docs/CONTRIBUTING.md).
+impl Drop for Question {
+    fn drop(self) {
+        let Question {
+            base,
+            authc,
+            words,
+            fake: _,
+            verbose: _,
+        } = self;
+        drop(base);
+        drop(authc);
+        drop(words);
+    }
 }
 
 /// Reports what a requester may do with an entry of a copy, under the access rules of a slapd.conf, and under the attribute
@@ -184,22 +204,59 @@ fn report_for<R: Source>(
     ensures after { IfErr result ComesAfterConfig }
     ensures read_copy { result ≡ Err (ToolFault.Read Input.Copy) → HasFailed (R.failures copy.old) (R.failures copy.new) }
 {
-    let Ok(suffix) = config.suffix().try_clone(alloc) else {
-        return Err(ToolFault::Memory);
-    };
-    let directory = match read_copy(alloc, schema, TreeDirectory::new(alloc, suffix), copy) {
+    let directory = match read_copy_under(alloc, schema, config, copy) {
         Ok(directory) => directory,
         Err(fault) => return Err(fault),
     };
-    let target = match find_target(&directory, &parts.base, question.fake) {
-        Ok(target) => target,
-        Err(fault) => return Err(fault),
-    };
-    match report_text(alloc, question.verbose, config, &directory, parts, target) {
+    match report_on(alloc, question, config, &directory, parts) {
         Ok(text) => {
             held.let_go(directory);
             Ok(text)
         }
+        Err(fault) => Err(fault),
+    }
+}
+
+/// Reads the copy that a configuration is about, under its suffix.
+///
+/// # Errors
+///
+/// Those of `read_copy`.
+pub fn read_copy_under<R: Source>(
+    alloc: Global,
+    schema: &Schema,
+    config: &Config,
+    copy: &mut R,
+) -> Result<TreeDirectory, ToolFault>
+    ensures reads { IfOk result (λ directory. IfSome (R.left copy.old) (λ text. copy_of schema.now (configuration_of config.now).suffix text ≡ Ok directory)) }
+    ensures unfailed { OnOk result (R.failures copy.new ≡ R.failures copy.old) }
+    ensures blamed { IfErr result (IsCopyFaultCause schema.now (empty_copy (configuration_of config.now).suffix).entries (R.left copy.old) (R.failures copy.old) (R.failures copy.new)) }
+    ensures settled { IfErr result (λ fault. IsReaderFault fault → GaveBytes (R.left copy.old) (R.left copy.new)
+        (λ bytes. CompleteRecordsLoad schema.now (empty_copy (configuration_of config.now).suffix) (answers_after schema.now bytes))) }
+{
+    match config.suffix().try_clone(alloc) {
+        Ok(suffix) => read_copy(alloc, schema, TreeDirectory::new(alloc, suffix), copy),
+        Err(_) => Err(ToolFault::Memory),
+    }
+}
+
+/// The report on a question with these parts, on a directory.
+fn report_on<D: Directory>(
+    alloc: Global,
+    question: &Question,
+    config: &Config,
+    directory: &D,
+    parts: &Parts<'_>,
+) -> Result<Vec<u8>, ToolFault>
+    ensures ok { IfOk result (λ text. IsReportOn question.now (configuration_of config.now) (D.state directory.now) (parts_in parts.now) text.items) }
+    ensures err { IfErr result (IsNoReport (target_of question.now.fake (D.state directory.now) (parts_in parts.now).base)) }
+{
+    let target = match find_target(directory, &parts.base, question.fake) {
+        Ok(target) => target,
+        Err(fault) => return Err(fault),
+    };
+    match report_text(alloc, question.verbose, config, directory, parts, target) {
+        Ok(text) => Ok(text),
         Err(_) => Err(ToolFault::Memory),
     }
 }

@@ -1,5 +1,5 @@
 -- The views of the parts of a question, and how they and the configuration are read.
-use Rattle.std.specs.Prelude.{◌≡◌, ℕ, ⊤, List, map, Option, option_map, Result, Err}
+use Rattle.std.specs.Prelude.{◌≡◌, ℕ, ⊤, List, map, Option, option_map, Result, Ok, Err}
 use Rattle.std.specs.Borrow.{Bor}
 use Rattle.dir_names.specs.Results.{Meets}
 use Rattle.dir_ldif.specs.Device.{HasFailed}
@@ -10,13 +10,17 @@ use Rattle.dir_acl.specs.declared.fault.ConfigCause.TheVariants as cause
 use Rattle.dir_acl.specs.declared.fault.ConfigFault.{ConfigFault}
 use Rattle.dir_acl.specs.declared.privileges.Level.{Level}
 use Rattle.dir_acl.specs.Inside.ReadingConfig.{configuration_of}
+use Rattle.dir_acl.specs.Rules.{Configuration}
+use Rattle.dir_tree.specs.Content.{Content}
+use Rattle.dir_tree.specs.Dir.{Dir}
+use Rattle.dir_tools.specs.declared.acl.Question.{Question}
 use Rattle.dir_tools.specs.declared.acl.configuration.NotedConfig.{NotedConfig}
 use Rattle.dir_tools.specs.declared.acl.parts.Parts.{Parts}
 use Rattle.dir_tools.specs.declared.acl.parts.Word as code
 use Rattle.dir_tools.specs.declared.fault.Input.TheVariants as input
 use Rattle.dir_tools.specs.declared.fault.ToolFault.{ToolFault}
 use Rattle.dir_tools.specs.declared.fault.ToolFault.TheVariants as tool
-use Rattle.dir_tools.specs.AccessReport.{Configured, QuestionParts, Word}
+use Rattle.dir_tools.specs.AccessReport.{Configured, QuestionParts, Word, report_on, target_of}
 
 -- ---- views
 
@@ -65,3 +69,16 @@ abbrev pub IsReadFault : ℕ → ℕ → ToolFault → Type 0
 IsReadFault failures failures' (tool.Read input.Config) = HasFailed failures failures'
 IsReadFault failures failures' tool.Memory = ⊤
 IsReadFault failures failures' fault = ⊥
+
+-- ---- a report on a directory
+
+-- the text is the report on this directory, in which the target is found
+abbrev pub IsReportOn : Question → Configuration → Dir → QuestionParts → List ℕ → Type 0
+IsReportOn question configuration directory parts text =
+    (target : Option Content) × (target_of question.fake directory parts.base ≡ Ok target) × (text ≡ report_on question.verbose configuration directory parts target)
+
+-- there is no target, or memory ran out
+abbrev pub IsNoReport : Result (Option Content) ToolFault → ToolFault → Type 0
+IsNoReport target tool.NoEntry = target ≡ Err tool.NoEntry
+IsNoReport target tool.Memory = ⊤
+IsNoReport target fault = ⊥

@@ -5,7 +5,9 @@ use Rattle.std.specs.BTreeMap.{get}
 use Rattle.std.specs.BTreeSet.{BTreeSet, contains}
 use Rattle.std.specs.FinMap as fin
 use Rattle.dir_names.specs.declared.schema.TypeRow.{TypeRow}
+use Rattle.dir_names.specs.Described.{Described}
 use Rattle.dir_names.specs.Keys.{DnKeys}
+use Rattle.dir_names.specs.Names.{SpelledName}
 use Rattle.dir_names.specs.NameKeys.{name_key}
 use Rattle.dir_names.specs.Orders.{dn_key_cmp}
 use Rattle.dir_names.specs.Names.Limits.{is_rdn_within_limit}
@@ -17,7 +19,10 @@ use Rattle.dir_ldif.specs.Device.{HasFailed}
 use Rattle.dir_ldif.specs.declared.faults.StreamFault.{StreamFault}
 use Rattle.dir_ldif.specs.declared.faults.StreamFault.TheVariants as stream
 use Rattle.dir_tree.specs.WellFormed.{IsSoundEntry, own_part}
-use Rattle.dir_tools.specs.CopyOf.{CopyFault, LoadedCopy, with_record, with_records}
+use Rattle.dir_tools.specs.CopyOf.{CopyFault, LoadedCopy, with_content, with_record, with_records}
+use Rattle.dir_change.specs.declared.operation.Refusal.{Refusal}
+use Rattle.dir_change.specs.declared.operation.Refusal.TheVariants as refusal
+use Rattle.dir_change.specs.declared.result_code.ResultCode.{ResultCode}
 use Rattle.dir_change.specs.declared.result_code.ResultCode.TheVariants.{EntryAlreadyExists}
 use Rattle.dir_tools.specs.declared.copy.loading.Loading.{Loading}
 use Rattle.dir_tools.specs.declared.copy.loading.Waiting.{Waiting}
@@ -77,6 +82,20 @@ IsPut k e old new (Some back) = (back ≡ e) × (has_parent old k ≡ false) × 
 abbrev pub IsNotPut : ℕ → Option Content → ToolFault → Type 0
 IsNotPut line there fault = (fault ≡ tool.Memory) ⊎ ((fault ≡ tool.BadCopy line (cause.Code EntryAlreadyExists)) × IsSome there)
 
+-- what a refusal of an entry means for the record at this line
+abbrev pub fault_of_refusal : ℕ → Refusal → ToolFault
+fault_of_refusal line (refusal.Code code) = tool.BadCopy line (cause.Code code)
+fault_of_refusal line refusal.Memory = tool.Memory
+
+-- an entry that is refused is not made: a place that is taken is told before that
+abbrev pub IsNotMade : ℕ → Option Content → Refusal → ToolFault → Type 0
+IsNotMade line (Some e) why fault = fault ≡ tool.BadCopy line (cause.Code EntryAlreadyExists)
+IsNotMade line None why fault = fault ≡ fault_of_refusal line why
+
+-- a copy with an entry more, of the record at this line
+abbrev pub with_put : LoadedCopy → ℕ → DnKeys → Content → LoadedCopy
+with_put m line k e = record { entries = put_entry m.entries k e; lines = fin.insert m.lines k line }
+
 -- an entry is sound, at its place and within the limits
 abbrev pub IsSoundAt : List TypeRow → DnKeys → DnKeys → Content → Type 0
 IsSoundAt rows suffix k e =
@@ -94,6 +113,11 @@ module _ {D : Type 0} where
   -- the records give the entries that are in the directory or wait
   abbrev pub LoadsTo : (D → Dir) → Result LoadedCopy CopyFault → Loading D → Type 0
   LoadsTo state taken loading = (m : LoadedCopy) × (taken ≡ Ok m) × IsLoaded state m loading
+
+  -- whatever was read before, an entry of this key is refused with this code, whatever it holds
+  abbrev pub RefusesPlace : (D → Dir) → Loading D → DnKeys → ResultCode → Type 0
+  RefusesPlace state loading k code =
+      (rows : List TypeRow) (m : LoadedCopy) (line : ℕ) (name : SpelledName) (lines : List (Described × List ℕ)) → IsLoaded state m loading → with_content rows m line name lines (Some k) ≡ Err (line, cause.Code code)
 
   -- what taking a record answers: more are always wanted, and its entry is in the directory or waits; or the copy has this fault
   abbrev pub TakesRecord : (D → Dir) → List TypeRow → Found → Loading D → Result Bool ToolFault → Loading D → Type 0

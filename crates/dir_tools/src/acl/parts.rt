@@ -13,11 +13,24 @@ use dir_names::{Bytes, Description, Dn, DnKey, Memory, NameFault, Schema};
 use std::alloc::Global;
 
 /// The parts of a question, as they were read.
-#[derive(Drop)]
 pub(super) struct Parts<'q> {
     pub(super) base: DnKey,
     pub(super) requester: Option<(Dn, DnKey)>,
     pub(super) words: Vec<Word<'q>>,
+}
+
+// Written out, so that a drop is one call in proofs (docs/CONTRIBUTING.md).
+impl Drop for Parts<'_> {
+    fn drop(self) {
+        let Parts {
+            base,
+            requester,
+            words,
+        } = self;
+        drop(base);
+        drop(requester);
+        drop(words);
+    }
 }
 
 /// A word of a question, `attr[/access]`. What is written of it is kept for the report.

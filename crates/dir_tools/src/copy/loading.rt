@@ -1,7 +1,8 @@
 //! A copy as far as it was read.
 
 ghost use Rattle.std.specs.Prelude.{◌≡◌, Err, IfErr, IfOk, None, Ok, OnOk, is_some, true};
-ghost use Rattle.dir_tools.specs.Inside.Loading.{IsNotPut, IsPut, copy_fault};
+ghost use Rattle.dir_change.specs.Refusals.{entry_refusal};
+ghost use Rattle.dir_tools.specs.Inside.Loading.{IsNotMade, IsNotPut, IsPut, copy_fault};
 ghost use Rattle.dir_tools.specs.CompleteRecords.{CompleteRecordsLoad, GaveBytesTo, IsReaderFault};
 ghost use Rattle.dir_tools.specs.ReadCalls.{GaveAtLeast};
 ghost use Rattle.dir_ldif.specs.declared.faults.StreamFault.TheVariants as StreamFault;
@@ -15,7 +16,7 @@ use crate::{Cause, Input, ToolFault};
 use dir_change::{Refusal, ResultCode};
 use dir_ldif::{Record, RecordFault, RecordReader, Source, StreamFault};
 use dir_names::{Dn, DnKey, Lines, NameFault, Schema};
-use dir_tree::{Directory, Entry, EntryMaker, NotAdded, own_rdns};
+use dir_tree::{Directory, Entry, EntryFault, EntryMaker, NotAdded, own_rdns};
 use std::alloc::Global;
 use std::collections::BTreeMap;
 
@@ -41,13 +42,15 @@ struct Waiting {
 }
 
 impl<D: Directory + Drop> Loading<D> {
-    ghost use Rattle.std.specs.Prelude.{◌≡◌, IfErr, IfOk, Ok, OnOk};
-    ghost use Rattle.std.specs.BTreeMap.{IsEmpty};
+    ghost use Rattle.std.specs.Prelude.{◌≡◌, IfErr, IfOk, IfSome, None, Ok, OnOk, true};
+    ghost use Rattle.std.specs.BTreeMap.{IsEmpty, get};
     ghost use Rattle.dir_ldif.specs.Reader.{IsReading, answers_to_come, schema_of, source_of, turns_left};
+    ghost use Rattle.dir_names.specs.Below.{is_at_or_below};
     ghost use Rattle.dir_names.specs.NameKeys.{name_key};
-    ghost use Rattle.dir_tree.specs.Dir.{IsClosed};
+    ghost use Rattle.dir_names.specs.Orders.{dn_key_cmp};
+    ghost use Rattle.dir_tree.specs.Dir.{IsClosed, entry_at};
     ghost use Rattle.dir_tools.specs.CopyOf.{LoadedCopy, whole_directory, with_content, with_record};
-    ghost use Rattle.dir_tools.specs.Inside.Loading.{IsCopyFault, IsLoaded, IsRecordFault, KeepsSound, LoadsOver, LoadsTo, StopsLoading};
+    ghost use Rattle.dir_tools.specs.Inside.Loading.{IsCopyFault, IsLoaded, IsNotPut, IsRecordFault, KeepsSound, LoadsOver, LoadsTo, RefusesPlace, StopsLoading, with_put};
 
     pub(super) fn new(alloc: Global, directory: D) -> Loading<D>
         ensures directory { result.directory ≡ directory }
@@ -103,34 +106,47 @@ impl<D: Directory + Drop> Loading<D> {
             Err(NameFault::Memory) => return Err(ToolFault::Memory),
             Err(_) => return Err(refused(line, ResultCode::NoSuchObject)),
         };
+        if let Some(code) = self.refusal_of_place(&key, &lines) {
+            return Err(refused(line, code));
+        }
+        let own = own_rdns(name, key == *self.directory.suffix());
+        match self.maker.make(alloc, schema, own, lines) {
+            Ok(entry) => self.put_or_keep(alloc, line, key, entry),
+            Err(fault) => Err(not_made(&self.directory, line, &key, fault)),
+        }
+    }
+
+    /// What an entry of this key and these lines is refused with for its place, as far as that is seen before it is made: it is outside the suffix, another
+    /// waits there, or it is large and its place is taken.
+    fn refusal_of_place(&self, key: &DnKey, lines: &Lines) -> Option<ResultCode>
+        ensures refused { IfSome result (RefusesPlace D.state self.now key.now) }
+        ensures inside { result ≡ None → is_at_or_below key.now (D.state self.now.directory).suffix ≡ true }
+        ensures waits { result ≡ None → get dn_key_cmp self.now.waiting key.now ≡ None }
+    {
         if !key.at_or_below(self.directory.suffix()) {
-            return Err(refused(line, ResultCode::NoSuchObject));
+            return Some(ResultCode::NoSuchObject);
         }
-        if self.waiting.contains_key(&key) {
-            return Err(refused(line, ResultCode::EntryAlreadyExists));
+        if self.waiting.contains_key(key) || is_taken_from_large(&self.directory, key, lines) {
+            return Some(ResultCode::EntryAlreadyExists);
         }
-        if is_taken_from_large(&self.directory, &key, &lines) {
-            return Err(refused(line, ResultCode::EntryAlreadyExists));
-        }
-        let is_suffix = key == *self.directory.suffix();
-        let entry = match self
-            .maker
-            .make(alloc, schema, own_rdns(name, is_suffix), lines)
-        {
-            Ok(entry) => entry,
-            Err(fault) => {
-                // A place that is taken is told before a fault of the entry.
-                if self.directory.get(&key).is_some() {
-                    return Err(refused(line, ResultCode::EntryAlreadyExists));
-                }
-                return Err(match Refusal::from(fault) {
-                    Refusal::Code(code) => refused(line, code),
-                    Refusal::Memory => ToolFault::Memory,
-                });
-            }
-        };
+        None
+    }
+
+    /// Puts an entry below its parent, or lets it wait for that.
+    fn put_or_keep(
+        &mut self,
+        alloc: Global,
+        line: u64,
+        key: DnKey,
+        entry: Entry,
+    ) -> Result<(), ToolFault>
+        requires { get dn_key_cmp self.old.waiting key ≡ None }
+        ensures suffix { OnOk result ((D.state self.new.directory).suffix ≡ (D.state self.old.directory).suffix) }
+        ensures reads { OnOk result ((m : LoadedCopy) → IsLoaded D.state m self.old → (entry_at m.entries key ≡ None) × IsLoaded D.state (with_put m line key entry) self.new) }
+        ensures fault { IfErr result (IsNotPut line (entry_at (D.state self.old.directory) key)) }
+    {
         if let Some(entry) = put(alloc, &mut self.directory, line, &key, entry)? {
-            self.waiting.insert(key, Waiting { line, entry })?;
+            drop(self.waiting.insert(key, Waiting { line, entry })?);
         }
         Ok(())
     }
@@ -191,6 +207,19 @@ impl<D: Directory + Drop> Taker for Loading<D> {
             )),
             Err(fault) => Err(ToolFault::BadCopy(line, Cause::Fault(fault))),
         }
+    }
+}
+
+/// Why an entry that can't be made is not taken. A place that is taken is told before a fault of the entry.
+fn not_made<D: Directory>(directory: &D, line: u64, key: &DnKey, fault: EntryFault) -> ToolFault
+    ensures { IsNotMade line (entry_at (D.state directory.now) key.now) (entry_refusal fault) result }
+{
+    if directory.get(key).is_some() {
+        return refused(line, ResultCode::EntryAlreadyExists);
+    }
+    match Refusal::from(fault) {
+        Refusal::Code(code) => refused(line, code),
+        Refusal::Memory => ToolFault::Memory,
     }
 }
 
