@@ -1,12 +1,12 @@
 //! `slapkit slapacl --questions`: the files that a command line names, and the questions over them.
 
-ghost use Rattle.std.specs.Prelude.{◌≡◌, ℕ, IfErr, IfSome, List, Option, Some};
+ghost use Rattle.std.specs.Prelude.{◌≡◌, ℕ, IfErr, IfSome, List, Option, Some, map};
 ghost use Rattle.std.specs.Option.{option_copied};
 ghost use Rattle.dir_acl.specs.Notes.{notes_of};
 ghost use Rattle.dir_names.specs.Table.Builtin.{builtin_rows};
-ghost use Rattle.dir_questions.specs.Runs.{question_sources};
+ghost use Rattle.dir_questions.specs.Runs.{HasLines, question_sources};
 ghost use Rattle.dir_tools.specs.AccessAnswers.{IsTextOf};
-ghost use Rattle.dir_tools.specs.Inside.Asking.{configured_of};
+ghost use Rattle.dir_tools.specs.Inside.Asking.{configured_of, configured_under};
 ghost use Rattle.dir_files.specs.FaultArguments.{TellsArgument};
 ghost use Rattle.dir_files.specs.Faults.{IsQuestionsFault};
 ghost use Rattle.dir_files.specs.Notes.{AreOnQuestions, EndsIfUntold, TellsFor, told_text};
@@ -20,7 +20,8 @@ use crate::one_output::finish;
 use crate::slapacl::{hand_over, tell};
 use crate::slapmodify::{dropped, not_created, not_opened, not_reported, run_fault};
 use crate::words::QuestionWords;
-use dir_ldif::{Sink, Source};
+use dir_acl::{Config, Note};
+use dir_ldif::{Line, Sink, Source};
 use dir_names::Schema;
 use dir_questions::{
     QuestionOptions, QuestionsFault, Tally, answer_questions, read_lines, read_questions,
@@ -232,7 +233,7 @@ fn answered<'a, T: NoteTeller, R: Source, R2: Source, R3: Source, W: Sink, W2: S
     )
 }
 
-/// Reads the questions under a configuration, tells the notes on both, and answers.
+/// Reads the lines of the questions, and answers them under a configuration.
 fn answered_under<'a, T: NoteTeller, R: Source, R2: Source, W: Sink, W2: Sink>(
     alloc: Global,
     teller: &mut T,
@@ -260,20 +261,55 @@ fn answered_under<'a, T: NoteTeller, R: Source, R2: Source, W: Sink, W2: Sink>(
         Ok(lines) => lines,
         Err(fault) => return Err(questions_fault(fault)),
     };
-    let blocks = match read_questions(alloc, &types, lines.as_slice()) {
+    answered_lines(
+        alloc,
+        teller,
+        words,
+        &types,
+        &config,
+        notes,
+        lines.as_slice(),
+        copy,
+        answers,
+        report,
+    )
+}
+
+/// Reads the questions of these lines, tells the notes on the configuration and on them, and answers.
+fn answered_lines<'a, T: NoteTeller, R: Source, W: Sink, W2: Sink>(
+    alloc: Global,
+    teller: &mut T,
+    words: &QuestionWords<'a>,
+    types: &Schema,
+    config: &Config,
+    notes: Vec<Note>,
+    lines: &[Vec<Line>],
+    copy: &mut R,
+    answers: &mut W,
+    report: &mut W2,
+) -> Result<Tally, Fault<'a>>
+    ensures faults { IfErr result (EndsAnswering words.now.strict) }
+    ensures answer { (known questions : Option (List ℕ)) → IsTextOf builtin_rows known (configured_under types.now config.now) → HasLines questions (map (λ block. block.items) lines.now)
+        → AnswersOrStops words.now (question_sources known questions (R.left copy.old)) result (W.taken answers.old, W.taken answers.new) (W2.taken report.old, W2.taken report.new) }
+    ensures notes { (known questions : Option (List ℕ)) → IsTextOf builtin_rows known (configured_under types.now config.now) → IfSome known (λ text. notes.items ≡ notes_of types.now text)
+        → HasLines questions (map (λ block. block.items) lines.now) → TellsFor (AreOnQuestions questions) words.now.strict known result (T.given teller.old) (T.given teller.new) }
+    ensures untold { EndsIfUntold result (T.failures teller.old) (T.failures teller.new) }
+    ensures argument { T.arguments teller.new ≡ T.arguments teller.old }
+{
+    let blocks = match read_questions(alloc, types, lines) {
         Ok(blocks) => blocks,
         Err(fault) => return Err(questions_fault(fault)),
     };
-    let Ok(notes) = with_notes_on_questions(alloc, &types, notes, blocks.as_slice()) else {
+    let Ok(notes) = with_notes_on_questions(alloc, types, notes, blocks.as_slice()) else {
         return Err(run_fault(ToolFault::Memory));
     };
     tell(teller, notes.as_slice(), words.strict)?;
     match answer_questions(
         alloc,
         HeldMemory::Left,
-        &types,
+        types,
         options_of(words),
-        &config,
+        config,
         blocks.as_slice(),
         copy,
         answers,

@@ -1,8 +1,10 @@
 //! `slapkit slapacl`: the files that a command line names, and the question over them.
 
-ghost use Rattle.std.specs.Prelude.{◌≡◌, ◌≢◌, ◌++◌, [], ℕ, Err, IfErr, IfOk, List, OnErr, OnOk, Option, map};
+ghost use Rattle.std.specs.Prelude.{◌≡◌, ◌≢◌, ◌++◌, [], ℕ, Err, IfErr, IfOk, IfSome, List, OnErr, OnOk, Option, map};
+ghost use Rattle.dir_acl.specs.Notes.{notes_of};
+ghost use Rattle.dir_names.specs.Table.Builtin.{builtin_rows};
 ghost use Rattle.dir_names.specs.declared.schema.TypeRow.{TypeRow};
-ghost use Rattle.dir_tools.specs.Inside.Asking.{configured_under};
+ghost use Rattle.dir_tools.specs.Inside.Asking.{configured_of, configured_under};
 ghost use Rattle.dir_tools.specs.AccessAnswers.{IsTextOf, access_sources};
 ghost use Rattle.dir_tools.specs.AccessReport.{access_terms};
 ghost use Rattle.dir_tools.specs.WordNotes.{notes_on_words};
@@ -62,7 +64,7 @@ pub fn run<'a, F: FileSystem, T: NoteTeller>(
     answer(alloc, files, teller, words, &mut config, &mut copy)
 }
 
-/// Reads the configuration, tells the notes on it and on the question, asks, and writes the report.
+/// Reads the configuration, and answers the question under it.
 fn answer<'a, F: FileSystem, T: NoteTeller, R: Source, R2: Source>(
     alloc: Global,
     files: &mut F,
@@ -80,17 +82,37 @@ fn answer<'a, F: FileSystem, T: NoteTeller, R: Source, R2: Source>(
     let Ok(schema) = Schema::builtin(alloc) else {
         return Err(run_fault(ToolFault::Memory));
     };
+    match read_config_with_argument(alloc, &schema, config) {
+        Ok(noted) => answer_under(alloc, files, teller, words, noted, copy),
+        Err(why) => {
+            hand_over(teller, words.verbose, why.argument);
+            Err(run_fault(why.fault))
+        }
+    }
+}
+
+/// Tells the notes on a configuration and on the question, asks, and writes the report.
+fn answer_under<'a, F: FileSystem, T: NoteTeller, R: Source>(
+    alloc: Global,
+    files: &mut F,
+    teller: &mut T,
+    words: &AccessWords<'a>,
+    noted: NotedConfig,
+    copy: &mut R,
+) -> Result<(), Fault<'a>>
+    ensures faults { IfErr result (NamesItsFile words.now) }
+    ensures calls { (known : Option (List ℕ)) → IsTextOf builtin_rows known (configured_of noted)
+        → Made (F.disk files.old) (F.disk files.new) (λ _. AsksOrStops words.now (access_sources known (R.left copy.old)) result) }
+    ensures notes { (known : Option (List ℕ)) → IsTextOf builtin_rows known (configured_of noted) → IfSome known (λ text. noted.notes.items ≡ notes_of noted.types text)
+        → TellsFor (AreOnWords (asked_for words.now).words) words.now.strict known result (T.given teller.old) (T.given teller.new) }
+    ensures untold { EndsIfUntold result (T.failures teller.old) (T.failures teller.new) }
+    ensures argument { T.arguments teller.new ≡ T.arguments teller.old }
+{
     let NotedConfig {
         types,
         config,
         notes,
-    } = match read_config_with_argument(alloc, &schema, config) {
-        Ok(noted) => noted,
-        Err(why) => {
-            hand_over(teller, words.verbose, why.argument);
-            return Err(run_fault(why.fault));
-        }
-    };
+    } = noted;
     let (question, notes) = match noted_question(alloc, &types, words, notes) {
         Ok(asked) => asked,
         Err(_) => return Err(run_fault(ToolFault::Memory)),

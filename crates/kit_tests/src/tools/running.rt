@@ -121,12 +121,27 @@ pub(crate) const IN_EIGHTS: Devices = Devices { piece: 8, ..WHOLE };
 const ROOM: usize = 65536;
 
 /// What one run answered and wrote.
-#[derive(Drop)]
 pub(crate) struct Ran {
     pub(crate) answer: Result<Summary, ToolFault>,
     pub(crate) undo: String,
     pub(crate) out: String,
     pub(crate) report: String,
+}
+
+// Written out, so that a drop is one call in proofs (docs/CONTRIBUTING.md).
+impl Drop for Ran {
+    fn drop(self) {
+        let Ran {
+            answer,
+            undo,
+            out,
+            report,
+        } = self;
+        drop(answer);
+        drop(undo);
+        drop(out);
+        drop(report);
+    }
 }
 
 /// A reader of these devices, that fails from this call on.
