@@ -39,10 +39,6 @@ question_blamed t known c (tool.TooFewGroups groups) reads h = absurd (h)
 
 -- ---- the copy
 
--- the directory that was read
-pub read_under : (rows : List TypeRow) (copy : Option (List ℕ)) (suffix key : DnKeys) (d : Dir) → suffix ≡ key → IfSome copy (λ text. copy_of rows key text ≡ Ok d) → IfSome copy (λ text. copy_of rows suffix text ≡ Ok d)
-read_under rows copy suffix key d same h = subst (λ k. IfSome copy (λ text. copy_of rows k text ≡ Ok d)) (sym same) h
-
 -- a copy's fault, as a fault of the copy's text
 pub copy_blamed : (t : AccessTerms) (known : AccessSources) (asking : Asking) (empty : Dir) (failures failures' : ℕ) (fault : ToolFault)
     → IsAsked t known.config asking → asking.config.configuration.suffix ≡ empty.suffix → HasNoEntries empty → IsCopyFaultCause asking.config.rows empty known.copy failures failures' fault → IsAccessFault t known fault

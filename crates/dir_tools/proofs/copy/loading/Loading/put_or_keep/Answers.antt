@@ -1,6 +1,5 @@
 use Rattle.std.proofs.Common.{◌≡◌, rules, false, None, is_some, sym, subst, ◌∙◌}
 use Rattle.std.specs.BTreeMap.{get}
-use Rattle.std.specs.FinMap as fin
 use Rattle.dir_names.specs.Orders.{dn_key_cmp}
 use Rattle.dir_tree.specs.Dir.{entry_at, put_entry}
 use Rattle.dir_tools.specs.declared.copy.loading.Waiting.{Waiting}

@@ -1,4 +1,4 @@
-use Rattle.std.proofs.Common.{◌≡◌, rules, cond, take, true, None, Some, Ok, refl, sym, ap, subst, ◌∙◌}
+use Rattle.std.proofs.Common.{◌≡◌, rules, cond, take, true, None, Some, Ok, sym, ap, subst, ◌∙◌}
 use Rattle.std.specs.BTreeMap.{get}
 use Rattle.dir_names.specs.NameKeys.{name_key}
 use Rattle.dir_names.specs.Orders.{dn_key_cmp, dn_key_eq}
