@@ -1,8 +1,7 @@
 """Wrong bodies, as they stand in bugs/ and must-fail/: which lines each changes, and of which function.
 
 Each is a file with a line `file:`, pairs of lines `old:` (once in that file) and `new:`, and where the function that the prover must refuse
-isn't the one whose line changes first, a line `fn:` with its path. No line comes or goes. Where the line of a pair stands in the file more than once, a line
-`after:` before the pair has a text, once in that file, after which it stands once.
+isn't the one whose line changes first, a line `fn:` with its path. No line comes or goes.
 """
 import collections
 import dataclasses
@@ -47,25 +46,18 @@ def lines_of(path):
 
 def changes_of(edit, crate):
     """The lines that an edit changes. Tells why it can't be planted, if so."""
-    after, name, old, mark = {}, None, None, None
+    after, name, old = {}, None, None
     for line in edit.read_text().split("\n"):
         if line.startswith("file:"):
             name = line[5:].strip()
-        elif line.startswith("after:"):
-            mark = line[6:].removeprefix(" ")
         elif line.startswith("old:"):
             old = line[4:].removeprefix(" ")
         elif line.startswith("new:"):
             path = ROOT / "crates" / crate / name
             text = after.setdefault(path, text_of(path))
-            if mark and text.count(mark) != 1:
-                return None, f"its mark stands {text.count(mark)} times in {name}: {mark.strip()}"
-            begin = text.index(mark) if mark else 0
-            count = text.count(old, begin)
-            if count != 1:
-                return None, f"its line stands {count} times in {name}: {old.strip()}"
-            at, mark = text.index(old, begin), None
-            after[path] = text[:at] + line[4:].removeprefix(" ") + text[at + len(old) :]
+            if text.count(old) != 1:
+                return None, f"its line stands {text.count(old)} times in {name}: {old.strip()}"
+            after[path] = text.replace(old, line[4:].removeprefix(" "))
     changes = [
         Change(path, number, old, new)
         for path, text in after.items()
