@@ -11,9 +11,10 @@ mod word_notes;
 ghost use Rattle.std.specs.Io.KnownBytes.{Consumes};
 ghost use Rattle.std.specs.Prelude.{◌≡◌, ◌⊎◌, ◌≤◌, ℕ, Err, IfErr, IfOk, IfSome, List, Ok, OnOk, Option, length, option_copied};
 ghost use Rattle.dir_names.specs.declared.schema.TypeRow.{TypeRow};
+ghost use Rattle.dir_tree.specs.WellFormed.{IsWellFormed, IsWithinLimits};
 ghost use Rattle.dir_acl.specs.Inside.ReadingConfig.{configuration_of};
 ghost use Rattle.dir_tools.specs.CompleteRecords.{CompleteRecordsLoad, GaveBytes, IsReaderFault, answers_after};
-ghost use Rattle.dir_tools.specs.CopyFaults.{IsCopyFaultCause};
+ghost use Rattle.dir_tools.specs.CopyFaults.{HasRdn, IsCopyFaultCause};
 ghost use Rattle.dir_tools.specs.CopyOf.{copy_of, empty_copy};
 ghost use Rattle.dir_tools.specs.Inside.Asking.{IsNoReport, IsReportOn, configured_under, parts_in};
 ghost use Rattle.dir_ldif.specs.Device.{HasFailed};
@@ -228,7 +229,9 @@ pub fn read_copy_under<R: Source>(
     config: &Config,
     copy: &mut R,
 ) -> Result<TreeDirectory, ToolFault>
+    ensures suffix { IfOk result (λ directory. directory.suffix ≡ (configuration_of config.now).suffix) }
     ensures reads { IfOk result (λ directory. IfSome (R.left copy.old) (λ text. copy_of schema.now (configuration_of config.now).suffix text ≡ Ok directory)) }
+    ensures sound { IfOk result (λ directory. HasRdn (configuration_of config.now).suffix → IsWellFormed schema.now directory × IsWithinLimits directory) }
     ensures unfailed { OnOk result (R.failures copy.new ≡ R.failures copy.old) }
     ensures blamed { IfErr result (IsCopyFaultCause schema.now (empty_copy (configuration_of config.now).suffix).entries (R.left copy.old) (R.failures copy.old) (R.failures copy.new)) }
     ensures settled { IfErr result (λ fault. IsReaderFault fault → GaveBytes (R.left copy.old) (R.left copy.new)
