@@ -4,9 +4,9 @@
 usage: gate.py
 
 The last line is that of `rt ci`, with the wrong bodies that were refused counted among what passed. It is held back until all has passed; where
-something fails, the last line tells so. The line before it has the time that all took, and what was left of memory and disk; the one before that has what
-the proof of each crate took of it, and that of its tests, by looks at the processes every two seconds. Where something
-failed, the ends of what was said of it come once more before these, since of a long log often only the end is kept.
+something fails, the last line tells so. The line before it has the time that all took, and what was left of memory and disk; the one before that how fast
+the machine was meanwhile; and the one before that what the proof of each crate took, and that of its tests, by looks at the processes every two seconds.
+Where something failed, the ends of what was said of it come once more before these, since of a long log often only the end is kept.
 
 Each proof has one processor. Where some are idle, `rt ci` would give one proof several, which ends sooner and takes half as much
 processor time again. RT_JOBS says otherwise. `rt ci` tries wrong bodies too, those of crates/*/must-fail/, each by a check of the whole crate, after it
@@ -74,6 +74,34 @@ class ProofTimes(threading.Thread):
         return ", ".join(f"{name} {seconds / 60:.1f}" for name, seconds in sums.items()) or "none was made"
 
 
+class Speed(threading.Thread):
+    """Watches how fast the machine is: what a fixed loop takes of a processor, tried every half minute.
+
+    Other work on the machine, on its host, or on the other half of a core makes the loop longer, and the proofs too. So two runs of the gate are compared
+    where it took about the same.
+    """
+
+    SECONDS = 30
+    TURNS = 600_000
+
+    def __init__(self):
+        super().__init__(daemon=True)
+        self.taken, self.is_over = [], threading.Event()
+
+    def run(self):
+        while True:
+            before, number = time.thread_time(), 0
+            for turn in range(self.TURNS):
+                number = (number * 31 + turn) & 0xFFFFFFFF
+            self.taken.append(time.thread_time() - before)
+            if self.is_over.wait(self.SECONDS):
+                return
+
+    def __str__(self):
+        mean = sum(self.taken) / len(self.taken)
+        return f"a fixed loop took {min(self.taken):.2f} to {max(self.taken):.2f} seconds of a processor, {mean:.2f} on the mean"
+
+
 def prove():
     """Runs `rt ci`, and returns its exit status, its last line, which is not printed yet, and the ends of what failed."""
     last, ends, failures = "", collections.deque(maxlen=LINES), []
@@ -122,8 +150,9 @@ def tell_time(begin):
 
 
 def main():
-    begin, times = time.monotonic(), ProofTimes()
+    begin, times, speed = time.monotonic(), ProofTimes(), Speed()
     times.start()
+    speed.start()
     status, last, failures = prove()
     times.is_over.set()
     times.join()
@@ -138,9 +167,14 @@ def main():
     for failure in failures:
         print(f"gate: what failed:\n{failure}", end="", flush=True)
     print(f"gate: minutes of processor time of the proofs: {times}", flush=True)
+    speed.is_over.set()
+    speed.join()
+    print(f"gate: the machine's speed: {speed}", flush=True)
     tell_time(begin)
     print(last, end="", flush=True)
     sys.exit(1 if status or failed else 0)
 
 
+if len(sys.argv) > 1:
+    sys.exit(__doc__)
 main()
