@@ -1,13 +1,13 @@
 #!/bin/sh
 # Applies examples/changes.ldif to examples/company.ldif by a build of the program that is not proved, and shows the report, the
-# undo file and the new copy. It wants the toolchain, and no run of it before: about a minute.
+# undo file and the new copy. It wants the toolchain, and no run of it before: one to three minutes.
 # usage: try.sh
 set -eu
 examples=$(cd "$(dirname "$0")" && pwd)
 work=$(mktemp -d)
 trap 'rm -rf "$work"' EXIT
 
-echo "Building the program without any proof: nothing that you see here is proved yet (make demo proves it). About a minute."
+echo "Building the program without any proof: nothing that you see here is proved yet (make demo proves it). One to three minutes."
 cd "$examples/../crates/slapkit"
 if ! rt try -- slapmodify -b dc=example,dc=com --data "$examples/company.ldif" -l "$examples/changes.ldif" \
     --out "$work/new.ldif" --undo "$work/undo.ldif" -v > "$work/report" 2> "$work/messages"; then
