@@ -77,8 +77,8 @@ class ProofTimes(threading.Thread):
 class Speed(threading.Thread):
     """Watches how fast the machine is: what a fixed loop takes of a processor, tried every half minute.
 
-    Other work on the machine, on its host, or on the other half of a core makes the loop longer, and the proofs too. So two runs of the gate are compared
-    where it took about the same.
+    Other work on the machine, on its host, or on the other half of a core makes the loop longer, and the proofs too, though not by the same factor. So two
+    runs of the gate are compared where it took about the same.
     """
 
     SECONDS = 30
