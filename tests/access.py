@@ -395,48 +395,73 @@ def shown_text(text):
     return "".join(f"\\x{ord(char):02x}" if unicodedata.category(char) == "Cc" else char for char in text)
 
 
+def type_of(spelling):
+    """The type of a description, which its options follow."""
+    return spelling.split(";")[0]
+
+
 def unknown_type(spelling):
-    """The note on a description, unless its type, which its options follow, is known."""
-    return [] if names.is_known(spelling.split(";")[0]) else [f'unknown attribute "{spelling}"']
+    """The note on a description, unless its type is known."""
+    return [] if names.is_known(type_of(spelling)) else [f'unknown attribute "{spelling}"']
 
 
-def notes_on_test(spelling, is_for_more):
+def supertypes_of(data):
+    """The keys of the types from which definitions of the configuration derive others, and of the two above built-in types."""
+    texts = [definitions.definition_in(line) for _, line in definitions.lines_of(data)]
+    above = [definitions.Definition(text).sup for text in texts if text is not None]
+    return {names.type_key(type_of(spelling)) for spelling in ("name", "distinguishedName", *above) if spelling is not None}
+
+
+def notes_on_type(spelling, supertypes):
+    """The note on a description in a rule, unless its type is a known one from which no other is derived."""
+    has_others = names.type_key(type_of(spelling)) in supertypes
+    return unknown_type(spelling) or [f'types derived from "{spelling}" are not looked at'] * has_others
+
+
+def notes_on_test(spelling, is_for_more, supertypes):
     """The notes on a test of a filter, which may ask for more than presence."""
     asks_for_class = is_for_more and spelling.lower() in ("objectclass", "2.5.4.0")
-    return [*unknown_type(spelling), *([CLASSES] if asks_for_class else [])]
+    return [*notes_on_type(spelling, supertypes), *([CLASSES] if asks_for_class else [])]
 
 
-def notes_on_what(word):
+def notes_on_what(word, supertypes):
     form, _, value = word.partition("=")
     if form.lower() == "attrs":
-        return [note for text in value.split(",") if text.lower() not in ("entry", "children") for note in unknown_type(text)]
+        return [note for text in value.split(",") if text.lower() not in ("entry", "children") for note in notes_on_type(text, supertypes)]
     if form.lower() == "filter":
         reader = FilterReader(as_bytes(value))
         reader.whole()
-        return [note for test in reader.tests for note in notes_on_test(*test)]
+        return [note for test in reader.tests for note in notes_on_test(*test, supertypes)]
     return []
 
 
-def notes_on_line(keyword, words):
+def notes_on_who(word, supertypes):
+    form, _, value = word.partition("=")
+    return notes_on_type(value, supertypes) if form.lower() == "dnattr" else []
+
+
+def notes_on_line(keyword, words, supertypes):
     """The notes on a line that is in no part which is passed over."""
     if keyword == "include":
         return [f'include "{shown_text(words[0] if words else "")}" is not read']
     if keyword == "access":
-        whats = itertools.takewhile(lambda word: word.lower() != "by", words[1:])
-        return [note for word in whats for note in notes_on_what(word)]
+        whats = list(itertools.takewhile(lambda word: word.lower() != "by", words[1:]))
+        whos = words[1 + len(whats) :]
+        return [note for word in whats for note in notes_on_what(word, supertypes)] + [note for word in whos for note in notes_on_who(word, supertypes)]
     return []
 
 
 def notes_of(data):
     """What is told of a configuration that can be read: a line for each note."""
     told, has_rule, is_passed_over = "", False, False
+    supertypes = supertypes_of(data)
     for number, line in logical_lines(data):
         keyword, *words = Arguments(line)
         keyword = keyword.lower()
         if is_passed_over:
             notes = [OTHER_DATABASE] if keyword == "access" else []
         else:
-            notes = notes_on_line(keyword, words)
+            notes = notes_on_line(keyword, words, supertypes)
             has_rule |= keyword == "access"
         if keyword == "database":
             is_passed_over = words[0].lower() in ("config", "monitor")

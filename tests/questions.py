@@ -34,6 +34,10 @@ def unknown(description):
     return f'unknown attribute "{description}"'
 
 
+def derived(description):
+    return f'types derived from "{description}" are not looked at'
+
+
 def not_read(file):
     return f'include "{file}" is not read'
 
@@ -496,6 +500,10 @@ class Noted:
     answer: str = "=0"
 
 
+ADDRESSES = "attributetype ( 2.5.4.16 NAME 'postalAddress' )\nattributetype ( 2.5.4.26 NAME 'registeredAddress' SUP postalAddress )\n"
+ADDRESS = ("postalAddress", "postalAddress;x-a", "2.5.4.16")
+ABOVE = "attributetype ( 1.2.1 NAME 'head' SUP distinguishedName )\nattributetype ( 1.2.2 NAME 'deputy' SUP head )\n"
+
 NOTED = [
     Noted("include acl.conf", (on_line(3, not_read("acl.conf")), NO_RULE), "=rscxd"),
     Noted("", (NO_RULE,), "=rscxd"),
@@ -543,6 +551,27 @@ NOTED = [
         "access to attrs=name,distinguishedName by * none",
         (on_line(3, unknown("name")), on_line(3, unknown("distinguishedName"))),
     ),
+    # a type from which another is derived: in slapd a rule, a filter and dnattr= on the first are about the second too
+    Noted(f"{ADDRESSES}access to attrs=postalAddress by * none\n{READ_BY_ALL}", (on_line(5, derived("postalAddress")),), "=rscxd"),
+    Noted(f"access to attrs=cn,postalAddress,postalAddress;x-a,2.5.4.16 by * read\n{ADDRESSES}", tuple(on_line(3, derived(it)) for it in ADDRESS)),
+    Noted(
+        f"{ADDRESSES}access to filter=(&(postalAddress=*)(!(POSTALADDRESS;x=a))(cn=a)) by * none\n{READ_BY_ALL}",
+        (on_line(5, derived("postalAddress")), on_line(5, derived("POSTALADDRESS;x"))),
+        "=rscxd",
+    ),
+    Noted(f"{ABOVE}access to * by dnattr=head read by dnattr=owner write by dnattr=Head;x read", (on_line(5, derived("head")), on_line(5, derived("Head;x")))),
+    Noted(f"{ABOVE}access to attrs=owner by dnattr=owner write by group/groupOfNames/head=cn=a,dc=com read", ()),
+    Noted(f"attributetype ( 1.2.1 NAME 'a1' SUP 2.5.4.32 )\naccess to attrs=Owner by * none\n{READ_BY_ALL}", (on_line(4, derived("Owner")),), "=rscxd"),
+    Noted(f"attributetype ( 2.5.4.3 NAME 'fullName' SUP sn )\naccess to attrs=surname,cn by * none\n{READ_BY_ALL}", (on_line(4, derived("surname")),), "=rscxd"),
+    Noted(
+        "attributetype ( 2.5.4.41 NAME 'name' EQUALITY caseIgnoreMatch )\naccess to attrs=name,distinguishedName,cn by * read",
+        (on_line(4, derived("name")), on_line(4, unknown("distinguishedName"))),
+    ),
+    Noted(
+        "access to * by dnattr=distinguishedName read\nattributetype ( 2.5.4.49 NAME 'distinguishedName' EQUALITY distinguishedNameMatch )",
+        (on_line(3, derived("distinguishedName")),),
+    ),
+    Noted("access to attrs=cn by * read\ndatabase monitor\nattributetype ( 1.2.1 NAME 'a1' SUP cn )", (on_line(3, derived("cn")),)),
     # nothing to note; the first filter has as many levels as one may have
     Noted(f"access to filter={'(!' * 63}(cn=a){')' * 63} by * read", (), "=rscxd"),
     Noted("access to * by * read", (), "=rscxd"),
@@ -590,7 +619,8 @@ INCLUDE = f"{HEAD}include acl.conf\n{READ_BY_ALL}"
 INCLUDED = (on_line(3, not_read("acl.conf")),)
 EACH_NOTE = (
     'include "my\x1b[2Jacl"\ndatabase mdb\nsuffix dc=com\naccess to attrs=userPasswrd\n by * none\n'
-    "access to filter=(objectClass=person) by * read\ndatabase monitor\naccess to * by * none\n"
+    "access to filter=(objectClass=person) by * read\naccess to attrs=owner by * none\ndatabase monitor\naccess to * by * none\n"
+    "attributetype ( 1.2.3 NAME 'a1' SUP owner )\n"
 )
 NAMED = f"{HEAD}access to attrs=givenName,entry,children by * none\n{READ_BY_ALL}"
 # in another order than that of the alphabet, a type that only the server writes, and another name of a type, twice
@@ -603,7 +633,7 @@ TOLD = [
         "each note on a configuration but that on no rule, and control characters",
         EACH_NOTE,
         report="entry: =0\n",
-        notes=(on_line(1, not_read("my\\x1b[2Jacl")), on_line(4, unknown("userPasswrd")), on_line(6, CLASSES), on_line(8, PASSED_OVER)),
+        notes=(on_line(1, not_read("my\\x1b[2Jacl")), on_line(4, unknown("userPasswrd")), on_line(6, CLASSES), on_line(7, derived("owner")), on_line(9, PASSED_OVER)),
     ),
     Told("notes come before a fault of the copy", INCLUDE, notes=INCLUDED, fault="copy, line 1: L9 N4 BadDn", copy=NO_NAME),
     Told("a strict question ends before the copy is read", INCLUDE, notes=INCLUDED, fault=HAS_NOTES, is_strict=True, copy=NO_NAME),

@@ -32,10 +32,11 @@ COPY, CHANGES, CONF, QUESTIONS = (EXAMPLES / name for name in ("company.ldif", "
 NOTES = notes_of(CONF.read_bytes())
 
 # A configuration that defines an attribute type, and a copy with changes that are accepted only where values are compared by it. Its rule names
-# the type, on which there is a note where it is not known.
+# the type, on which there is a note where it is not known, and where another type is derived from it.
 TYPED = {
     "conf": "include x\ndatabase mdb\nsuffix dc=com\naccess to attrs=roomName by * read\n"
-    "attributetype ( 1.3.6.1.4.1.32473.1 NAME ( 'room' 'roomName' )\n  EQUALITY caseIgnoreMatch SINGLE-VALUE )\n",
+    "attributetype ( 1.3.6.1.4.1.32473.1 NAME ( 'room' 'roomName' )\n  EQUALITY caseIgnoreMatch SINGLE-VALUE )\n"
+    "attributetype ( 1.3.6.1.4.1.32473.2 NAME 'floor' SUP room )\n",
     "copy": "dn: dc=com\ndc: com\nroom: A 1\n\n",
     "changes": "dn: dc=com\nchangetype: modify\ndelete: roomName\nroomName: a  1\n-\n",
 }

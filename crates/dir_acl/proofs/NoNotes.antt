@@ -1,7 +1,8 @@
--- A configuration without a note has a rule, and its rules name known types alone.
+-- A configuration without a note has a rule, and its rules name known types alone, and but for the attributes of groups none from which another is derived.
 pub mod Filters
 pub mod Lists
 pub mod Lines
 pub mod Rules
+pub mod Types
 pub mod Whats
 pub mod Whos

@@ -3,6 +3,7 @@ pub mod Escapes
 pub mod Fakes
 pub mod FirstPiece
 pub mod LinesToCome
+pub mod NotedTypes
 pub mod Noting
 pub mod ReadingConfig
 pub mod Requests

@@ -9,6 +9,7 @@ ghost use Rattle.dir_acl.specs.Filters.{IsTooDeep, Spells, Tree, in_parentheses}
 ghost use Rattle.dir_acl.specs.Filters.Reading.{filter_of};
 ghost use Rattle.dir_acl.specs.Notes.{notes_of};
 ghost use Rattle.dir_acl.specs.Notes.Known.{AreUnderstood};
+ghost use Rattle.dir_acl.specs.Notes.Supertypes.{noted_types};
 ghost use Rattle.dir_acl.specs.Privileges.{privileges_text};
 ghost use Rattle.dir_acl.specs.Rules.{Configuration};
 ghost use Rattle.dir_acl.specs.Substrings.{HasPieces, has_pieces};
@@ -26,9 +27,10 @@ pub fn reading_is_the_grammar()
     ensures told { (rows : List TypeRow) (text : List ℕ) → IsTooDeep rows 64 (in_parentheses text) → filter_of rows text ≡ Err FilterFault.TooDeep }
 {}
 
-/// Where there is no note, there is a rule, and the rules name known types alone.
+/// Where there is no note, there is a rule, and the rules name known types alone; but for the attributes of groups, none from which
+/// another is derived.
 pub fn rules_without_notes_are_understood()
-    ensures { (rows : List TypeRow) (text : List ℕ) (config : Configuration) → config_of rows text ≡ Ok config → notes_of rows text ≡ [] → AreUnderstood rows config }
+    ensures { (rows : List TypeRow) (text : List ℕ) (config : Configuration) → config_of rows text ≡ Ok config → notes_of rows text ≡ [] → AreUnderstood (noted_types rows text) config }
 {}
 
 /// The test of a substring assertion tells whether some cut of the text has the pieces.

@@ -1,17 +1,21 @@
 //! Notes on a configuration: what it says that is passed over here, or that is taken for something of its own, so that an answer
-//! may rest on what isn't known. `lines` goes through the lines, `words` through the words of a rule, and `filters` through a filter.
+//! may rest on what isn't known. `types` finds the types from which others are derived, `lines` goes through the lines, `words` through
+//! the words of a rule, and `filters` through a filter.
 //! A note on a word of a question has the same form; whoever reads the question makes it.
 
 ghost use Rattle.std.specs.Prelude.{◌++◌, ◌∷◌, [], Ok};
-ghost use Rattle.dir_acl.specs.Notes.{note_at, unknown_notes};
+ghost use Rattle.dir_acl.specs.Notes.{note_at, type_notes};
+ghost use Rattle.dir_acl.specs.Inside.NotedTypes.{noted_by};
 ghost use Rattle.dir_acl.specs.Outcome.{GivesPart};
 
 mod filters;
 pub(crate) mod lines;
+mod types;
 mod words;
 
 use crate::ConfigCause;
-use dir_names::{Bytes, Description, Schema};
+use crate::note::types::RuleTypes;
+use dir_names::{Bytes, Description};
 use std::alloc::Global;
 
 /// What a configuration says on a line, or a word of a question, that answers may rest on, and that isn't known or not looked at here.
@@ -31,6 +35,9 @@ pub enum NoteCause {
     /// another name of a type, the name of an object class, or that of a type from which others are derived. Here it is a type of its
     /// own, whose values are compared byte by byte.
     UnknownType(Bytes),
+    /// An attribute description, in `attrs=`, in a test of a filter or in `dnattr=`, of a type from which the configuration derives
+    /// another one (`SUP`; RFC 4512, section 2.5.1). In slapd it stands for the attributes of both, and here for those of the one type.
+    Supertype(Bytes),
     /// A test of a filter for a value of `objectClass`. The classes that an entry lists are looked at, and not those above them.
     ObjectClass,
     /// An access rule in the part of `database config` or `database monitor`, which is passed over.
@@ -51,19 +58,28 @@ fn with_note(notes: Vec<Note>, line: u64, cause: NoteCause) -> Result<Vec<Note>,
     Ok(notes)
 }
 
-/// The notes with one if the type of this description isn't known.
-fn with_unknown(
+/// The notes with one if the type of this description isn't known, or if others are derived from it.
+fn with_type(
     alloc: Global,
-    schema: &Schema,
+    types: &RuleTypes<'_>,
     notes: Vec<Note>,
     line: u64,
     description: &Description,
 ) -> Result<Vec<Note>, ConfigCause>
-    ensures { GivesPart (λ notes. notes.items) result (Ok (notes.items ++ unknown_notes schema.now line description.now)) }
+    ensures { GivesPart (λ notes. notes.items) result (Ok (notes.items ++ type_notes (noted_by types.now) line description.now)) }
 {
-    if schema.knows(description.key()) {
+    let is_known = types.schema().knows(description.key());
+    if is_known && !types.is_supertype(alloc, description.spelling())? {
         return Ok(notes);
     }
-    let text = description.spelling().to_vec(alloc)?;
-    with_note(notes, line, NoteCause::UnknownType(Bytes::new(text)))
+    let text = Bytes::new(description.spelling().to_vec(alloc)?);
+    with_note(
+        notes,
+        line,
+        if is_known {
+            NoteCause::Supertype(text)
+        } else {
+            NoteCause::UnknownType(text)
+        },
+    )
 }

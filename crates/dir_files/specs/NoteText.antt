@@ -5,7 +5,7 @@ use Rattle.std.specs.Str.{is_utf8}
 use Rattle.dir_acl.specs.declared.deciding.FaultArgument.{FaultArgument}
 use Rattle.dir_acl.specs.declared.note.Note.{Note}
 use Rattle.dir_acl.specs.declared.note.NoteCause.{NoteCause}
-use Rattle.dir_acl.specs.declared.note.NoteCause.TheVariants.{Include, UnknownType, ObjectClass, OtherDatabase, NoRule, UnknownInWord}
+use Rattle.dir_acl.specs.declared.note.NoteCause.TheVariants.{Include, UnknownType, Supertype, ObjectClass, OtherDatabase, NoRule, UnknownInWord}
 use Rattle.dir_files.specs.Escape.{escaped}
 
 -- a text of the configuration or of the question, its control characters escaped
@@ -22,6 +22,9 @@ place_text line = at_line (codes "note: config, line ") line
 abbrev pub unknown_text : List ℕ → List ℕ
 unknown_text description = codes "unknown attribute \"" ++ shown_bytes description ++ codes "\""
 
+abbrev pub derived_text : List ℕ → List ℕ
+derived_text description = codes "types derived from \"" ++ shown_bytes description ++ codes "\" are not looked at"
+
 -- a word of a file of questions stands on a line, and one of a command line on none
 abbrev pub word_place : ℕ → List ℕ
 word_place line = cond (nat_lt 0 line) (at_line (codes "note: questions, line ") line) (codes "note: ")
@@ -32,6 +35,7 @@ word_text line word = word_place line ++ (codes "word \"" ++ shown_bytes word ++
 abbrev pub noted_text : ℕ → NoteCause → List ℕ
 noted_text line (Include file) = place_text line ++ (codes "include \"" ++ shown_bytes file ++ codes "\" is not read")
 noted_text line (UnknownType description) = place_text line ++ unknown_text description
+noted_text line (Supertype description) = place_text line ++ derived_text description
 noted_text line ObjectClass = place_text line ++ codes "objectClass: only the classes that an entry lists are looked at"
 noted_text line OtherDatabase = place_text line ++ codes "access rule of database config or monitor is passed over"
 noted_text line NoRule = codes "note: config: no access rule, so everybody may read"

@@ -5,7 +5,7 @@ ghost use Rattle.std.specs.Fmt.{WritesOnOk, WritesStyledOnOk};
 ghost use Rattle.dir_acl.specs.declared.deciding.FaultArgument.{FaultArgument};
 ghost use Rattle.dir_acl.specs.declared.note.Note.{Note};
 ghost use Rattle.dir_ldif.specs.Device.{Counts};
-ghost use Rattle.dir_files.specs.NoteText.{at_line, note_text, place_text, shown_bytes, unknown_text, word_place, word_text};
+ghost use Rattle.dir_files.specs.NoteText.{at_line, derived_text, note_text, place_text, shown_bytes, unknown_text, word_place, word_text};
 ghost use Rattle.dir_files.specs.Notes.{WereGiven};
 
 use crate::escape::show_escaped;
@@ -64,6 +64,10 @@ impl Display for ShownNote<'_> {
             NoteCause::UnknownType(description) => {
                 show_place(f, *line)?;
                 show_unknown(f, description.as_slice())
+            }
+            NoteCause::Supertype(description) => {
+                show_place(f, *line)?;
+                show_derived(f, description.as_slice())
             }
             NoteCause::ObjectClass => {
                 show_place(f, *line)?;
@@ -129,6 +133,19 @@ fn show_unknown<W: fmt::Write>(f: &mut fmt::Formatter<W>, description: &[u8]) ->
     ensures styled { WritesStyledOnOk W.write_str_gives f.old result (unknown_text description.now) f.new }
 {
     show_between(f, "unknown attribute \"", description, "\"")
+}
+
+/// Shows that the types below that of a description are not looked at.
+fn show_derived<W: fmt::Write>(f: &mut fmt::Formatter<W>, description: &[u8]) -> fmt::Result
+    ensures writes { WritesOnOk W.write_str_gives f.old result (derived_text description.now) f.new }
+    ensures styled { WritesStyledOnOk W.write_str_gives f.old result (derived_text description.now) f.new }
+{
+    show_between(
+        f,
+        "types derived from \"",
+        description,
+        "\" are not looked at",
+    )
 }
 
 /// Shows a text of the configuration or of the question between words.

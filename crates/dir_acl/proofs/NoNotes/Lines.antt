@@ -16,6 +16,7 @@ use Rattle.dir_acl.specs.Config.Lines.{logical_lines}
 use Rattle.dir_acl.specs.Config.Names.{is_word, name_at}
 use Rattle.dir_acl.specs.Notes.{begins_with, file_of, is_rule, line_notes, lines_notes, note_at, notes_of, passed_after, read_notes, rule_notes}
 use Rattle.dir_acl.specs.Notes.Known.{AreUnderstood, rule_known}
+use Rattle.dir_acl.specs.Notes.Supertypes.{NotedTypes, noted_types}
 use Rattle.dir_acl.specs.Rules.{AccessRule, Configuration}
 use Rattle.dir_acl.proofs.NoNotes.Lists.{all_pushed, both_words, left_empty, right_empty}
 use Rattle.dir_acl.proofs.NoNotes.Rules.{rule_is_known}
@@ -43,8 +44,8 @@ keeps_last [] c s = (refl, refl)
 keeps_last (None ∷ more) c s = tt
 keeps_last (Some argument ∷ more) c s = tt
 
-module _ (rows : List TypeRow) where
-  keeps_suffix : (s : Settings) (arguments : List (Option (List ℕ))) → Keeps s.rules s.is_passed_over (suffix rows s arguments)
+module _ (types : NotedTypes) where
+  keeps_suffix : (s : Settings) (arguments : List (Option (List ℕ))) → Keeps s.rules s.is_passed_over (suffix types.rows s arguments)
   keeps_suffix s arguments = by s.has_database (is_some s.suffix) (first_argument arguments)
     where
       named : (more : List (Option (List ℕ))) (r : Result DnKeys ConfigCause) → Keeps s.rules s.is_passed_over (and_then r (λ name. if_last more SecondSuffix (record s { suffix = Some name })))
@@ -52,13 +53,13 @@ module _ (rows : List TypeRow) where
       named more (Ok name) = keeps_last more SecondSuffix (record s { suffix = Some name })
 
       by : (a b : Bool) (r : Result (List ℕ × List (Option (List ℕ))) ConfigCause)
-          → Keeps s.rules s.is_passed_over (cond (not a) (Err BadDirective) (cond b (Err SecondSuffix) (and_then r (λ p. and_then (suffix_at rows p.0) (λ name. if_last p.1 SecondSuffix (record s { suffix = Some name }))))))
+          → Keeps s.rules s.is_passed_over (cond (not a) (Err BadDirective) (cond b (Err SecondSuffix) (and_then r (λ p. and_then (suffix_at types.rows p.0) (λ name. if_last p.1 SecondSuffix (record s { suffix = Some name }))))))
       by false b r = tt
       by true true r = tt
       by true false (Err c) = tt
-      by true false (Ok p) = named p.1 (suffix_at rows p.0)
+      by true false (Ok p) = named p.1 (suffix_at types.rows p.0)
 
-  keeps_rootdn : (s : Settings) (arguments : List (Option (List ℕ))) → Keeps s.rules s.is_passed_over (rootdn rows s arguments)
+  keeps_rootdn : (s : Settings) (arguments : List (Option (List ℕ))) → Keeps s.rules s.is_passed_over (rootdn types.rows s arguments)
   keeps_rootdn s arguments = by (not s.has_database || is_some s.root) (first_argument arguments)
     where
       named : (more : List (Option (List ℕ))) (r : Result DnKeys ConfigCause) → Keeps s.rules s.is_passed_over (and_then r (λ name. if_last more BadDirective (record s { root = Some name })))
@@ -66,10 +67,10 @@ module _ (rows : List TypeRow) where
       named more (Ok name) = keeps_last more BadDirective (record s { root = Some name })
 
       by : (a : Bool) (r : Result (List ℕ × List (Option (List ℕ))) ConfigCause)
-          → Keeps s.rules s.is_passed_over (cond a (Err BadDirective) (and_then r (λ p. and_then (name_at rows p.0) (λ name. if_last p.1 BadDirective (record s { root = Some name })))))
+          → Keeps s.rules s.is_passed_over (cond a (Err BadDirective) (and_then r (λ p. and_then (name_at types.rows p.0) (λ name. if_last p.1 BadDirective (record s { root = Some name })))))
       by true r = tt
       by false (Err c) = tt
-      by false (Ok p) = named p.1 (name_at rows p.0)
+      by false (Ok p) = named p.1 (name_at types.rows p.0)
 
   keeps_database : (s : Settings) (name : List ℕ) (more : List (Option (List ℕ))) → Keeps s.rules (is_word name (codes "config") || is_word name (codes "monitor")) (of_database s name more)
   keeps_database s name more = by (is_word name (codes "config") || is_word name (codes "monitor")) s.has_database
@@ -84,7 +85,7 @@ module _ (rows : List TypeRow) where
   module _ (n : ℕ) where
     -- what is so after a line without a note, where `has` tells whether there was a rule before
     abbrev IsSo : Bool → Settings → Type 0
-    IsSo has s = (has ≡ true → s.rules ≡ [] → ⊥) × (list_all (rule_known rows) s.rules ≡ true)
+    IsSo has s = (has ≡ true → s.rules ≡ [] → ⊥) × (list_all (rule_known types) s.rules ≡ true)
 
     abbrev GoesOn : Bool → Bool → Result Settings ConfigCause → Type 0
     GoesOn passed has (Err c) = Unit {0}
@@ -94,7 +95,7 @@ module _ (rows : List TypeRow) where
       -- a line that is no rule
       kept : (passed : Bool) (r : Result Settings ConfigCause) → Keeps s.rules passed r → GoesOn passed has r
       kept passed (Err c) k = tt
-      kept passed (Ok next) k = (k.1, ((λ e f. so.0 e (sym k.0 ∙ f)), ap (list_all (rule_known rows)) k.0 ∙ so.1))
+      kept passed (Ok next) k = (k.1, ((λ e f. so.0 e (sym k.0 ∙ f)), ap (list_all (rule_known types)) k.0 ∙ so.1))
 
       no_more : (passed : Bool) (r : Result Settings ConfigCause) (more : Bool) → more ≡ false → GoesOn passed has r → GoesOn passed (has || more) r
       no_more passed (Err c) more w g = tt
@@ -104,18 +105,18 @@ module _ (rows : List TypeRow) where
           or_false true y w e = refl
           or_false false y w e = absurd (cc)
 
-      rule_goes_on : (words : List (Option (List ℕ))) → rule_notes rows n words ≡ [] → (passed : Bool) → s.is_passed_over ≡ passed → GoesOn passed (has || true) (access rows s words)
-      rule_goes_on words notes passed same = by s.has_database (access_rule_of rows words) refl
+      rule_goes_on : (words : List (Option (List ℕ))) → rule_notes types n words ≡ [] → (passed : Bool) → s.is_passed_over ≡ passed → GoesOn passed (has || true) (access types.rows s words)
+      rule_goes_on words notes passed same = by s.has_database (access_rule_of types.rows words) refl
         where
-          by : (b : Bool) (r : Result AccessRule ConfigCause) → access_rule_of rows words ≡ r → GoesOn passed (has || true) (cond (not b) (Err GlobalAccess) (and_then r (λ rule. Ok (with_rule s rule))))
+          by : (b : Bool) (r : Result AccessRule ConfigCause) → access_rule_of types.rows words ≡ r → GoesOn passed (has || true) (cond (not b) (Err GlobalAccess) (and_then r (λ rule. Ok (with_rule s rule))))
           by false r w = tt
           by true (Err c) w = tt
           by true (Ok rule) w =
-              (same, ((λ e f. pushed_is_some s.rules rule f), all_pushed (rule_known rows) s.rules rule so.1 (rule_is_known rows n words rule w notes)))
+              (same, ((λ e f. pushed_is_some s.rules rule f), all_pushed (rule_known types) s.rules rule so.1 (rule_is_known types n words rule w notes)))
 
       -- a directive other than `database`
-      other_goes_on : (keyword : List ℕ) (words : List (Option (List ℕ))) (passed : Bool) → s.is_passed_over ≡ passed → line_notes rows passed n (Some keyword ∷ words) ≡ []
-          → GoesOn passed (has || (not passed && is_word keyword (codes "access"))) (other_than_database rows s keyword words)
+      other_goes_on : (keyword : List ℕ) (words : List (Option (List ℕ))) (passed : Bool) → s.is_passed_over ≡ passed → line_notes types passed n (Some keyword ∷ words) ≡ []
+          → GoesOn passed (has || (not passed && is_word keyword (codes "access"))) (other_than_database types.rows s keyword words)
       other_goes_on keyword words passed same notes = by passed same notes
         where
           complete : Keeps s.rules s.is_passed_over (if_complete words s)
@@ -128,22 +129,22 @@ module _ (rows : List TypeRow) where
               either false w = refl
               either true w = let both = both_words keyword word (codes "access") is w in absurd (cc)
 
-          directives : s.is_passed_over ≡ false → read_notes rows n (Some keyword ∷ words) ≡ []
+          directives : s.is_passed_over ≡ false → read_notes types n (Some keyword ∷ words) ≡ []
               → (a b c : Bool) → is_word keyword (codes "suffix") ≡ a → is_word keyword (codes "rootdn") ≡ b → is_word keyword (codes "access") ≡ c
-              → GoesOn false (has || c) (cond a (suffix rows s words) (cond b (rootdn rows s words) (cond c (access rows s words) (if_complete words s))))
+              → GoesOn false (has || c) (cond a (suffix types.rows s words) (cond b (rootdn types.rows s words) (cond c (access types.rows s words) (if_complete words s))))
           directives same notes true b c u v w =
-              no_more false (suffix rows s words) c (sym w ∙ not_rule (codes "suffix") u refl) (subst (λ p. GoesOn p has (suffix rows s words)) same (kept s.is_passed_over (suffix rows s words) (keeps_suffix s words)))
+              no_more false (suffix types.rows s words) c (sym w ∙ not_rule (codes "suffix") u refl) (subst (λ p. GoesOn p has (suffix types.rows s words)) same (kept s.is_passed_over (suffix types.rows s words) (keeps_suffix s words)))
           directives same notes false true c u v w =
-              no_more false (rootdn rows s words) c (sym w ∙ not_rule (codes "rootdn") v refl) (subst (λ p. GoesOn p has (rootdn rows s words)) same (kept s.is_passed_over (rootdn rows s words) (keeps_rootdn s words)))
+              no_more false (rootdn types.rows s words) c (sym w ∙ not_rule (codes "rootdn") v refl) (subst (λ p. GoesOn p has (rootdn types.rows s words)) same (kept s.is_passed_over (rootdn types.rows s words) (keeps_rootdn s words)))
           directives same notes false false true u v w =
-              rule_goes_on words (sym (ap (λ t. cond t (rule_notes rows n words) (cond (is_word keyword (codes "include")) (note_at n (Include (file_of words)) ∷ []) [])) w) ∙ notes) false same
+              rule_goes_on words (sym (ap (λ t. cond t (rule_notes types n words) (cond (is_word keyword (codes "include")) (note_at n (Include (file_of words)) ∷ []) [])) w) ∙ notes) false same
           directives same notes false false false u v w =
               no_more false (if_complete words s) false refl (subst (λ p. GoesOn p has (if_complete words s)) same (kept s.is_passed_over (if_complete words s) complete))
 
           unpassed : Result Settings ConfigCause
-          unpassed = cond (is_word keyword (codes "suffix")) (suffix rows s words) (cond (is_word keyword (codes "rootdn")) (rootdn rows s words) (cond (is_word keyword (codes "access")) (access rows s words) (if_complete words s)))
+          unpassed = cond (is_word keyword (codes "suffix")) (suffix types.rows s words) (cond (is_word keyword (codes "rootdn")) (rootdn types.rows s words) (cond (is_word keyword (codes "access")) (access types.rows s words) (if_complete words s)))
 
-          by : (p : Bool) → s.is_passed_over ≡ p → line_notes rows p n (Some keyword ∷ words) ≡ []
+          by : (p : Bool) → s.is_passed_over ≡ p → line_notes types p n (Some keyword ∷ words) ≡ []
               → GoesOn p (has || (not p && is_word keyword (codes "access"))) (cond s.is_passed_over (if_complete words s) unpassed)
           by true same notes =
               subst (λ t. GoesOn true (has || false) (cond t (if_complete words s) unpassed)) (sym same)
@@ -153,8 +154,8 @@ module _ (rows : List TypeRow) where
               (directives same notes (is_word keyword (codes "suffix")) (is_word keyword (codes "rootdn")) (is_word keyword (codes "access")) refl refl refl)
 
       -- the words of a line
-      words_go_on : (words : List (Option (List ℕ))) → line_notes rows s.is_passed_over n words ≡ []
-          → GoesOn (passed_after s.is_passed_over words) (has || is_rule s.is_passed_over words) (after_arguments rows s words)
+      words_go_on : (words : List (Option (List ℕ))) → line_notes types s.is_passed_over n words ≡ []
+          → GoesOn (passed_after s.is_passed_over words) (has || is_rule s.is_passed_over words) (after_arguments types.rows s words)
       words_go_on [] notes = no_more s.is_passed_over (Ok s) (not s.is_passed_over && false) (and_false (not s.is_passed_over)) (refl, so)
         where
           and_false : (b : Bool) → (b && false) ≡ false
@@ -178,24 +179,24 @@ module _ (rows : List TypeRow) where
               (kept (is_word name (codes "config") || is_word name (codes "monitor")) (of_database s name words) (keeps_database s name words)))
 
           by : (b : Bool) → is_word keyword (codes "database") ≡ b
-              → GoesOn (passed_after s.is_passed_over (Some keyword ∷ words)) (has || is_rule s.is_passed_over (Some keyword ∷ words)) (cond b (database s words) (other_than_database rows s keyword words))
+              → GoesOn (passed_after s.is_passed_over (Some keyword ∷ words)) (has || is_rule s.is_passed_over (Some keyword ∷ words)) (cond b (database s words) (other_than_database types.rows s keyword words))
           by true w = named words w (is_rule s.is_passed_over (Some keyword ∷ words)) (no_rule w s.is_passed_over (is_word keyword (codes "access")) refl)
           by false w =
-              subst (λ t. GoesOn (cond t (begins_with words (codes "config") || begins_with words (codes "monitor")) s.is_passed_over) (has || is_rule s.is_passed_over (Some keyword ∷ words)) (other_than_database rows s keyword words)) (sym w)
+              subst (λ t. GoesOn (cond t (begins_with words (codes "config") || begins_with words (codes "monitor")) s.is_passed_over) (has || is_rule s.is_passed_over (Some keyword ∷ words)) (other_than_database types.rows s keyword words)) (sym w)
               (other_goes_on keyword words s.is_passed_over refl notes)
 
-      line_goes_on : (line : List ℕ) → line_notes rows s.is_passed_over n (words_of line) ≡ []
-          → GoesOn (passed_after s.is_passed_over (words_of line)) (has || is_rule s.is_passed_over (words_of line)) (after_line rows s line)
+      line_goes_on : (line : List ℕ) → line_notes types s.is_passed_over n (words_of line) ≡ []
+          → GoesOn (passed_after s.is_passed_over (words_of line)) (has || is_rule s.is_passed_over (words_of line)) (after_line types.rows s line)
       line_goes_on line notes = words_go_on (words_of line) notes
 
   -- ---- all lines
 
   abbrev AllSo : Result Settings ConfigFault → Type 0
   AllSo (Err fault) = Unit {0}
-  AllSo (Ok s) = (s.rules ≡ [] → ⊥) × (list_all (rule_known rows) s.rules ≡ true)
+  AllSo (Ok s) = (s.rules ≡ [] → ⊥) × (list_all (rule_known types) s.rules ≡ true)
 
-  all_lines : (lines : List (ℕ × List ℕ)) (s : Settings) (passed has : Bool) → s.is_passed_over ≡ passed → (has ≡ true → s.rules ≡ [] → ⊥) → list_all (rule_known rows) s.rules ≡ true → lines_notes rows passed has lines ≡ []
-      → AllSo (after_lines rows s lines)
+  all_lines : (lines : List (ℕ × List ℕ)) (s : Settings) (passed has : Bool) → s.is_passed_over ≡ passed → (has ≡ true → s.rules ≡ [] → ⊥) → list_all (rule_known types) s.rules ≡ true → lines_notes types passed has lines ≡ []
+      → AllSo (after_lines types.rows s lines)
   all_lines [] s passed has same some known notes = (some (by has notes), known)
     where
       by : (b : Bool) → cond b [] (note_at 0 NoRule ∷ []) ≡ [] → b ≡ true
@@ -203,29 +204,30 @@ module _ (rows : List TypeRow) where
       by false e = absurd (cc)
   all_lines (line ∷ lines) s passed has same some known notes =
       by (λ next. all_lines lines next (passed_after s.is_passed_over (words_of line.1)) (has || is_rule s.is_passed_over (words_of line.1)))
-      (after_line rows s line.1)
-      (line_goes_on line.0 s has (some, known) line.1 (ap (λ p. line_notes rows p line.0 (words_of line.1)) same ∙ left_empty (line_notes rows passed line.0 (words_of line.1)) _ notes))
+      (after_line types.rows s line.1)
+      (line_goes_on line.0 s has (some, known) line.1 (ap (λ p. line_notes types p line.0 (words_of line.1)) same ∙ left_empty (line_notes types passed line.0 (words_of line.1)) _ notes))
     where
-      rest : lines_notes rows (passed_after passed (words_of line.1)) (has || is_rule passed (words_of line.1)) lines ≡ []
-      rest = right_empty (line_notes rows passed line.0 (words_of line.1)) _ notes
+      rest : lines_notes types (passed_after passed (words_of line.1)) (has || is_rule passed (words_of line.1)) lines ≡ []
+      rest = right_empty (line_notes types passed line.0 (words_of line.1)) _ notes
 
-      by : ((next : Settings) → next.is_passed_over ≡ passed_after s.is_passed_over (words_of line.1) → ((has || is_rule s.is_passed_over (words_of line.1)) ≡ true → next.rules ≡ [] → ⊥) → list_all (rule_known rows) next.rules ≡ true
-          → lines_notes rows (passed_after s.is_passed_over (words_of line.1)) (has || is_rule s.is_passed_over (words_of line.1)) lines ≡ [] → AllSo (after_lines rows next lines))
+      by : ((next : Settings) → next.is_passed_over ≡ passed_after s.is_passed_over (words_of line.1) → ((has || is_rule s.is_passed_over (words_of line.1)) ≡ true → next.rules ≡ [] → ⊥) → list_all (rule_known types) next.rules ≡ true
+          → lines_notes types (passed_after s.is_passed_over (words_of line.1)) (has || is_rule s.is_passed_over (words_of line.1)) lines ≡ [] → AllSo (after_lines types.rows next lines))
           → (r : Result Settings ConfigCause) → GoesOn line.0 (passed_after s.is_passed_over (words_of line.1)) (has || is_rule s.is_passed_over (words_of line.1)) r
-          → AllSo (and_then (at_line line.0 r) (λ next. after_lines rows next lines))
+          → AllSo (and_then (at_line line.0 r) (λ next. after_lines types.rows next lines))
       by more (Err c) g = tt
-      by more (Ok next) g = more next g.0 g.1.0 g.1.1 (ap (λ p. lines_notes rows (passed_after p (words_of line.1)) (has || is_rule p (words_of line.1)) lines) same ∙ rest)
+      by more (Ok next) g = more next g.0 g.1.0 g.1.1 (ap (λ p. lines_notes types (passed_after p (words_of line.1)) (has || is_rule p (words_of line.1)) lines) same ∙ rest)
 
-  pub understood : (text : List ℕ) (config : Configuration) → config_of rows text ≡ Ok config → notes_of rows text ≡ [] → AreUnderstood rows config
-  understood text config e notes = by (nat_lt 16777216 (length text)) (after_lines rows no_settings (logical_lines text)) (all_lines (logical_lines text) no_settings false false refl (λ no. absurd (cc)) refl notes) e
+module _ (rows : List TypeRow) where
+  pub understood : (text : List ℕ) (config : Configuration) → config_of rows text ≡ Ok config → notes_of rows text ≡ [] → AreUnderstood (noted_types rows text) config
+  understood text config e notes = by (nat_lt 16777216 (length text)) (after_lines rows no_settings (logical_lines text)) (all_lines (noted_types rows text) (logical_lines text) no_settings false false refl (λ no. absurd (cc)) refl notes) e
     where
-      named : (s : Settings) (name : Option DnKeys) → (s.rules ≡ [] → ⊥) × (list_all (rule_known rows) s.rules ≡ true) → of_suffix s name ≡ Ok config → AreUnderstood rows config
+      named : (s : Settings) (name : Option DnKeys) → (s.rules ≡ [] → ⊥) × (list_all (rule_known (noted_types rows text)) s.rules ≡ true) → of_suffix s name ≡ Ok config → AreUnderstood (noted_types rows text) config
       named s None so e = absurd (cc)
       named s (Some name) so e =
           let same : record { suffix = name; root = s.root; rules = s.rules } ≡ config = cc in
-          subst (AreUnderstood rows) same so
+          subst (AreUnderstood (noted_types rows text)) same so
 
-      by : (b : Bool) (r : Result Settings ConfigFault) → AllSo r → cond b (Err (record { line = 0; cause = ConfigTooLong })) (and_then r (λ s. of_suffix s s.suffix)) ≡ Ok config → AreUnderstood rows config
+      by : (b : Bool) (r : Result Settings ConfigFault) → AllSo (noted_types rows text) r → cond b (Err (record { line = 0; cause = ConfigTooLong })) (and_then r (λ s. of_suffix s s.suffix)) ≡ Ok config → AreUnderstood (noted_types rows text) config
       by true r so e = absurd (cc)
       by false (Err fault) so e = absurd (cc)
       by false (Ok s) so e = named s s.suffix so e

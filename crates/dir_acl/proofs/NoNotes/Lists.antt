@@ -1,16 +1,11 @@
 -- Lists of notes that are empty, and tests that all elements of a list pass.
-use Rattle.std.proofs.Common.{◌≡◌, ℕ, Bool, true, false, cond, List, [], ◌∷◌, ◌++◌, refl, sym, ap, ◌∙◌}
+use Rattle.std.proofs.Common.{◌≡◌, ℕ, Bool, true, List, [], ◌∷◌, ◌++◌, refl, sym, ap, ◌∙◌}
 use Rattle.std.specs.Prelude.{◌&&◌}
 use Rattle.std.specs.List.{list_all}
 use Rattle.std.specs.Str.{str_to_ascii_lowercase}
-use Rattle.dir_names.specs.Described.{Described}
 use Rattle.dir_names.specs.Orders.{bytes_eq, bytes_eq_decides}
-use Rattle.dir_names.specs.Table.{is_known}
-use Rattle.dir_names.specs.declared.schema.TypeRow.{TypeRow}
 use Rattle.dir_acl.specs.declared.note.Note.{Note}
-use Rattle.dir_acl.specs.declared.note.NoteCause.TheVariants.{UnknownType}
 use Rattle.dir_acl.specs.Config.Names.{is_word}
-use Rattle.dir_acl.specs.Notes.{note_at, unknown_notes}
 use Rattle.dir_acl.proofs.Grammar.Sound.{first_true, second_true}
 
 pub left_empty : (xs ys : List Note) → xs ++ ys ≡ [] → xs ≡ []
@@ -31,11 +26,3 @@ pub both_words : (text one another : List ℕ) → is_word text one ≡ true →
 both_words text one another e f =
     let same : str_to_ascii_lowercase text ≡ str_to_ascii_lowercase one = (bytes_eq_decides (str_to_ascii_lowercase text) (str_to_ascii_lowercase one)).0 e in
     sym (ap (λ bytes. bytes_eq bytes (str_to_ascii_lowercase another)) same) ∙ f
-
--- a type of which there is no note
-pub known_if : (rows : List TypeRow) (n : ℕ) (d : Described) → unknown_notes rows n d ≡ [] → is_known rows d.key ≡ true
-known_if rows n d e = by (is_known rows d.key) e
-  where
-    by : (k : Bool) → cond k [] (note_at n (UnknownType d.spelling) ∷ []) ≡ [] → k ≡ true
-    by true e = refl
-    by false e = absurd (cc)

@@ -1,23 +1,29 @@
--- What a configuration without a note is: it has a rule, and its rules name known types alone.
-use Rattle.std.specs.Prelude.{◌≡◌, Bool, true, ◌&&◌, List, []}
+-- What a configuration without a note is: it has a rule, and its rules name known types alone; in `attrs=`, in the tests of filters and in `dnattr=` none from which
+-- another is derived.
+use Rattle.std.specs.Prelude.{◌≡◌, Bool, true, not, ◌&&◌, []}
 use Rattle.std.specs.List.{list_all}
+use Rattle.dir_names.specs.Attr.{Attr}
 use Rattle.dir_names.specs.Table.{is_known}
-use Rattle.dir_names.specs.declared.schema.TypeRow.{TypeRow}
 use Rattle.dir_acl.specs.declared.access.Asked.{Asked}
 use Rattle.dir_acl.specs.declared.access.Asked.TheVariants as asked
 use Rattle.dir_acl.specs.declared.access.Who.{Who}
 use Rattle.dir_acl.specs.declared.access.Who.TheVariants as who
 use Rattle.dir_acl.specs.Filters.{Tree, Trees, conjunction, disjunction, negation, test, none, first}
+use Rattle.dir_acl.specs.Notes.Supertypes.{NotedTypes, without_options}
 use Rattle.dir_acl.specs.Rules.{AccessClause, AccessRule, Configuration, Restriction, to_names, to_filter, to_attrs}
 
-module _ (rows : List TypeRow) where
+module _ (types : NotedTypes) where
+  -- a known type from which no other is derived
+  abbrev pub is_clear : Attr → Bool
+  is_clear attr = is_known types.rows attr && not (types.has_subtypes (without_options attr))
+
   abbrev mutual
-    -- each test is of a known type
+    -- each test is of such a type
     pub tests_known : Tree → Bool
     tests_known (conjunction ts) = each_known ts
     tests_known (disjunction ts) = each_known ts
     tests_known (negation t) = tests_known t
-    tests_known (test t) = is_known rows t.attr
+    tests_known (test t) = is_clear t.attr
 
     pub each_known : Trees → Bool
     each_known none = true
@@ -27,7 +33,7 @@ module _ (rows : List TypeRow) where
   abbrev pub asked_known : Asked → Bool
   asked_known asked.Entry = true
   asked_known asked.Children = true
-  asked_known (asked.Attribute attr) = is_known rows attr
+  asked_known (asked.Attribute attr) = is_clear attr
 
   abbrev pub what_known : Restriction → Bool
   what_known (to_names style name) = true
@@ -40,8 +46,8 @@ module _ (rows : List TypeRow) where
   who_known who.Users = true
   who_known who.Myself = true
   who_known (who.Dn style name) = true
-  who_known (who.DnAttr attr) = is_known rows attr
-  who_known (who.Group name class_attr class_key attr) = is_known rows attr
+  who_known (who.DnAttr attr) = is_clear attr
+  who_known (who.Group name class_attr class_key attr) = is_known types.rows attr
 
   abbrev pub clause_known : AccessClause → Bool
   clause_known clause = list_all who_known clause.who

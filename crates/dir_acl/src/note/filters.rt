@@ -3,29 +3,31 @@
 ghost use Rattle.std.specs.Prelude.{◌≡◌, ◌++◌, ◌∷◌, Ok, option_copied};
 ghost use Rattle.dir_names.specs.Descriptions.{description_of};
 ghost use Rattle.dir_acl.specs.Filters.{begins_test};
-ghost use Rattle.dir_acl.specs.Notes.{asks_presence, class_notes, compared_notes, filter_notes, is_object_class, test_notes, tested_notes, tests_notes, unknown_notes};
+ghost use Rattle.dir_acl.specs.Notes.{asks_presence, class_notes, compared_notes, filter_notes, is_object_class, test_notes, tested_notes, tests_notes, type_notes};
+ghost use Rattle.dir_acl.specs.Inside.NotedTypes.{noted_by};
 ghost use Rattle.dir_acl.specs.Outcome.{GivesPart};
 
 use crate::cut::split_once;
 use crate::filter::assertion::{described_by, operator_of};
 use crate::filter::reading::in_parentheses;
-use crate::note::{with_note, with_unknown};
+use crate::note::types::RuleTypes;
+use crate::note::{with_note, with_type};
 use crate::{ConfigCause, FilterFault, Note, NoteCause};
-use dir_names::{Description, NameFault, Schema};
+use dir_names::{Description, NameFault};
 use std::alloc::Global;
 
 /// The notes with those on the filter of a rule on this line.
 pub(crate) fn with_filter(
     alloc: Global,
-    schema: &Schema,
+    types: &RuleTypes<'_>,
     notes: Vec<Note>,
     line: u64,
     text: &[u8],
 ) -> Result<Vec<Note>, ConfigCause>
-    ensures { GivesPart (λ notes. notes.items) result (Ok (notes.items ++ filter_notes schema.now line text.now)) }
+    ensures { GivesPart (λ notes. notes.items) result (Ok (notes.items ++ filter_notes (noted_by types.now) line text.now)) }
 {
     match in_parentheses(alloc, text) {
-        Ok(whole) => with_tests(alloc, schema, notes, line, whole.as_slice()),
+        Ok(whole) => with_tests(alloc, types, notes, line, whole.as_slice()),
         Err(FilterFault::Memory) => Err(ConfigCause::Memory),
         Err(_) => Err(ConfigCause::BadFilter),
     }
@@ -33,17 +35,17 @@ pub(crate) fn with_filter(
 
 fn with_tests(
     alloc: Global,
-    schema: &Schema,
+    types: &RuleTypes<'_>,
     notes: Vec<Note>,
     line: u64,
     text: &[u8],
 ) -> Result<Vec<Note>, ConfigCause>
-    ensures { GivesPart (λ notes. notes.items) result (Ok (notes.items ++ tests_notes schema.now line text.now)) }
+    ensures { GivesPart (λ notes. notes.items) result (Ok (notes.items ++ tests_notes (noted_by types.now) line text.now)) }
 {
     let mut notes = notes;
     let mut rest = text;
     while let Some((b, after)) = rest.split_first() {
-        notes = with_opened(alloc, schema, notes, line, *b, after)?;
+        notes = with_opened(alloc, types, notes, line, *b, after)?;
         rest = after;
     }
     Ok(notes)
@@ -52,16 +54,16 @@ fn with_tests(
 /// After a `(` stands a test, unless a list of filters or a negation begins.
 fn with_opened(
     alloc: Global,
-    schema: &Schema,
+    types: &RuleTypes<'_>,
     notes: Vec<Note>,
     line: u64,
     b: u8,
     after: &[u8],
 ) -> Result<Vec<Note>, ConfigCause>
-    ensures { GivesPart (λ notes. notes.items ++ tests_notes schema.now line after.now) result (Ok (notes.items ++ tests_notes schema.now line (b ∷ after.now))) }
+    ensures { GivesPart (λ notes. notes.items ++ tests_notes (noted_by types.now) line after.now) result (Ok (notes.items ++ tests_notes (noted_by types.now) line (b ∷ after.now))) }
 {
     if b == b'(' && begins_test(after) {
-        return with_test(alloc, schema, notes, line, after);
+        return with_test(alloc, types, notes, line, after);
     }
     Ok(notes)
 }
@@ -75,31 +77,35 @@ fn begins_test(text: &[u8]) -> bool
 /// The test that a text begins with.
 fn with_test(
     alloc: Global,
-    schema: &Schema,
+    types: &RuleTypes<'_>,
     notes: Vec<Note>,
     line: u64,
     text: &[u8],
 ) -> Result<Vec<Note>, ConfigCause>
-    ensures { GivesPart (λ notes. notes.items) result (Ok (notes.items ++ test_notes schema.now line text.now)) }
+    ensures { GivesPart (λ notes. notes.items) result (Ok (notes.items ++ test_notes (noted_by types.now) line text.now)) }
 {
     let (before, value) = split_once(text, b'=');
-    with_compared(alloc, schema, notes, line, before, value)
+    with_compared(alloc, types, notes, line, before, value)
 }
 
 /// A test of what is before the operator, for what is after it.
 fn with_compared(
     alloc: Global,
-    schema: &Schema,
+    types: &RuleTypes<'_>,
     notes: Vec<Note>,
     line: u64,
     before: &[u8],
     value: Option<&[u8]>,
 ) -> Result<Vec<Note>, ConfigCause>
-    ensures { GivesPart (λ notes. notes.items) result (Ok (notes.items ++ compared_notes schema.now line before.now (option_copied value.entry))) }
+    ensures { GivesPart (λ notes. notes.items) result (Ok (notes.items ++ compared_notes (noted_by types.now) line before.now (option_copied value.entry))) }
 {
-    match Description::read(alloc, schema, described_by(operator_of(before), before)) {
+    match Description::read(
+        alloc,
+        types.schema(),
+        described_by(operator_of(before), before),
+    ) {
         Ok(description) => {
-            let notes = with_unknown(alloc, schema, notes, line, &description)?;
+            let notes = with_type(alloc, types, notes, line, &description)?;
             with_class(notes, line, &description, value)
         }
         Err(NameFault::Memory) => Err(ConfigCause::Memory),

@@ -1,13 +1,16 @@
 //! The notes on the lines of a configuration that reads.
 
-ghost use Rattle.std.specs.Prelude.{◌≡◌, ◌≤◌, ◌++◌, [], Ok, false, length};
-ghost use Rattle.dir_acl.specs.Notes.{after_keyword, begins_with, file_of, is_rule, line_notes, lines_notes, notes_of, passed_after, passed_notes, read_notes};
+ghost use Rattle.std.specs.Prelude.{◌≡◌, ◌≤◌, ◌++◌, Ok, false, length};
+ghost use Rattle.dir_acl.specs.Notes.{after_keyword, begins_with, end_notes, file_of, is_rule, line_notes, lines_notes, notes_of, passed_after, passed_notes, read_notes};
 ghost use Rattle.dir_acl.specs.Config.Arguments.{words_of};
+ghost use Rattle.dir_acl.specs.Config.Lines.{logical_lines};
 ghost use Rattle.dir_acl.specs.Inside.Noting.{after_words, noting_of};
+ghost use Rattle.dir_acl.specs.Inside.NotedTypes.{noted_by};
 ghost use Rattle.dir_acl.specs.Outcome.{GivesPart};
 
 use crate::config::arguments::read_words;
 use crate::config::lines::LogicalLines;
+use crate::note::types::RuleTypes;
 use crate::note::with_note;
 use crate::note::words::with_rule;
 use crate::{ConfigCause, Note, NoteCause};
@@ -32,6 +35,14 @@ pub(crate) fn read_notes(
     requires { length text.now ≤ 16777216 }
     ensures { GivesPart (λ notes. notes.items) result (Ok (notes_of schema.now text.now)) }
 {
+    let types = RuleTypes::read(alloc, schema, text)?;
+    read_lines(alloc, &types, text)
+}
+
+fn read_lines(alloc: Global, types: &RuleTypes<'_>, text: &[u8]) -> Result<Vec<Note>, ConfigCause>
+    requires { length text.now ≤ 16777216 }
+    ensures { GivesPart (λ notes. notes.items) result (Ok (lines_notes (noted_by types.now) false false (logical_lines text.now))) }
+{
     let mut noting = Noting {
         notes: Vec::new(alloc),
         is_passed_over: false,
@@ -39,14 +50,14 @@ pub(crate) fn read_notes(
     };
     let mut lines = LogicalLines::new(alloc, text)?;
     while let Some((number, line)) = lines.next(alloc)? {
-        noting = after_line(alloc, schema, noting, number, line.as_slice())?;
+        noting = after_line(alloc, types, noting, number, line.as_slice())?;
     }
     finished(noting)
 }
 
 /// Last comes that there is no rule.
 fn finished(noting: Noting) -> Result<Vec<Note>, ConfigCause>
-    ensures { GivesPart (λ notes. notes.items) result (Ok (noting.notes.items ++ lines_notes [] false noting.has_rule [])) }
+    ensures { GivesPart (λ notes. notes.items) result (Ok (noting.notes.items ++ end_notes noting.has_rule)) }
 {
     if noting.has_rule {
         return Ok(noting.notes);
@@ -57,25 +68,25 @@ fn finished(noting: Noting) -> Result<Vec<Note>, ConfigCause>
 /// The notes after one logical line more.
 fn after_line(
     alloc: Global,
-    schema: &Schema,
+    types: &RuleTypes<'_>,
     noting: Noting,
     number: u64,
     line: &[u8],
 ) -> Result<Noting, ConfigCause>
-    ensures { GivesPart noting_of result (Ok (after_words schema.now (noting_of noting) number (words_of line.now))) }
+    ensures { GivesPart noting_of result (Ok (after_words (noted_by types.now) (noting_of noting) number (words_of line.now))) }
 {
     let words = read_words(alloc, line)?;
-    after_words(alloc, schema, noting, number, words.as_slice())
+    after_words(alloc, types, noting, number, words.as_slice())
 }
 
 fn after_words(
     alloc: Global,
-    schema: &Schema,
+    types: &RuleTypes<'_>,
     noting: Noting,
     number: u64,
     words: &[Option<Bytes>],
 ) -> Result<Noting, ConfigCause>
-    ensures { GivesPart noting_of result (Ok (after_words schema.now (noting_of noting) number words.now)) }
+    ensures { GivesPart noting_of result (Ok (after_words (noted_by types.now) (noting_of noting) number words.now)) }
 {
     let Noting {
         notes,
@@ -83,7 +94,7 @@ fn after_words(
         has_rule,
     } = noting;
     Ok(Noting {
-        notes: with_line(alloc, schema, notes, is_passed_over, number, words)?,
+        notes: with_line(alloc, types, notes, is_passed_over, number, words)?,
         is_passed_over: passed_after(is_passed_over, words),
         has_rule: has_rule || is_rule(is_passed_over, words),
     })
@@ -91,18 +102,18 @@ fn after_words(
 
 fn with_line(
     alloc: Global,
-    schema: &Schema,
+    types: &RuleTypes<'_>,
     notes: Vec<Note>,
     is_passed_over: bool,
     number: u64,
     words: &[Option<Bytes>],
 ) -> Result<Vec<Note>, ConfigCause>
-    ensures { GivesPart (λ notes. notes.items) result (Ok (notes.items ++ line_notes schema.now is_passed_over number words.now)) }
+    ensures { GivesPart (λ notes. notes.items) result (Ok (notes.items ++ line_notes (noted_by types.now) is_passed_over number words.now)) }
 {
     if is_passed_over {
         with_passed(notes, number, words)
     } else {
-        with_read(alloc, schema, notes, number, words)
+        with_read(alloc, types, notes, number, words)
     }
 }
 
@@ -122,15 +133,15 @@ fn with_passed(
 
 fn with_read(
     alloc: Global,
-    schema: &Schema,
+    types: &RuleTypes<'_>,
     notes: Vec<Note>,
     number: u64,
     words: &[Option<Bytes>],
 ) -> Result<Vec<Note>, ConfigCause>
-    ensures { GivesPart (λ notes. notes.items) result (Ok (notes.items ++ read_notes schema.now number words.now)) }
+    ensures { GivesPart (λ notes. notes.items) result (Ok (notes.items ++ read_notes (noted_by types.now) number words.now)) }
 {
     if begins_with(words, b"access") {
-        return with_rule(alloc, schema, notes, number, after_keyword(words));
+        return with_rule(alloc, types, notes, number, after_keyword(words));
     }
     if begins_with(words, b"include") {
         let file = file_of(alloc, after_keyword(words))?;

@@ -2,11 +2,12 @@ use Rattle.std.proofs.Common.{◌≡◌, ◌+◌, ◌++◌, length}
 use Rattle.std.specs.Option.{option_copied, option_map_or}
 use Rattle.dir_names.specs.Cut.{parts_at}
 use Rattle.dir_names.specs.Inside.Left.{parts_left}
+use Rattle.dir_acl.specs.Inside.NotedTypes.{noted_by}
 use Rattle.dir_acl.specs.Notes.{items_notes}
 use Rattle.dir_acl.proofs.note.words.with_items.Given as goal
 
 abbrev pub invariant-loop-rest : goal.invariant-loop-rest
-invariant-loop-rest l = l.initial.notes.items ++ items_notes l.schema l.line (parts_at 44 l.text) ≡ l.notes.items ++ items_notes l.schema l.line (parts_left 44 (option_copied l.rest))
+invariant-loop-rest l = l.initial.notes.items ++ items_notes (noted_by l.types) l.line (parts_at 44 l.text) ≡ l.notes.items ++ items_notes (noted_by l.types) l.line (parts_left 44 (option_copied l.rest))
 
 abbrev pub decreases-loop-rest : goal.decreases-loop-rest
 decreases-loop-rest l = option_map_or (λ text. length text + 1) (option_copied l.rest) 0

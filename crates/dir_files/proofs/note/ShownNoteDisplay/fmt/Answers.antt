@@ -1,7 +1,7 @@
 use Rattle.std.proofs.Common.{◌++◌, ℕ, List, Ok, Result, ap, codes, refl, ◌∙◌}
 use Rattle.std.specs.declared.fmt.Error.{Error}
 use Rattle.dir_tools.proofs.Shown.{two_shown}
-use Rattle.dir_files.specs.NoteText.{note_text, place_text, shown_bytes, unknown_text, word_text}
+use Rattle.dir_files.specs.NoteText.{derived_text, note_text, place_text, shown_bytes, unknown_text, word_text}
 use Rattle.dir_files.proofs.NoteLemmas.{two_written}
 use Rattle.dir_files.proofs.note.ShownNoteDisplay.fmt.Goals as goal
 
@@ -32,6 +32,20 @@ returns-in_ok-show_place-in-UnknownType-clause-styled g c =
     let line = c.args.self.now.0.now.line in
     two_shown g.W.Write.write_str_gives c.args.f.now c.show_place-in-UnknownType.new.f c.show_unknown.new.f ok c.show_unknown.result
     (place_text line) (unknown_text c.as_slice-in-UnknownType.result.now) (note_text c.args.self.now.0.now) c.in_ok-show_place-in-UnknownType.ensures.styled refl c.show_unknown.ensures.styled (rw c.in-UnknownType.is (ap (λ (t : List ℕ). place_text line ++ unknown_text t) c.as_slice-in-UnknownType.ensures))
+
+pub returns-in_ok-show_place-in-Supertype-clause-writes : goal.returns-in_ok-show_place-in-Supertype-clause-writes
+returns-in_ok-show_place-in-Supertype-clause-writes g c =
+    let ok : Result (Unit {0}) Error = Ok tt in
+    let line = c.args.self.now.0.now.line in
+    two_written g.W.Write.write_str_gives c.args.f.now c.show_place-in-Supertype.new.f c.show_derived.new.f ok c.show_derived.result
+    (place_text line) (derived_text c.as_slice-in-Supertype.result.now) (note_text c.args.self.now.0.now) c.in_ok-show_place-in-Supertype.ensures.writes refl c.show_derived.ensures.writes (rw c.in-Supertype.is (ap (λ (t : List ℕ). place_text line ++ derived_text t) c.as_slice-in-Supertype.ensures))
+
+pub returns-in_ok-show_place-in-Supertype-clause-styled : goal.returns-in_ok-show_place-in-Supertype-clause-styled
+returns-in_ok-show_place-in-Supertype-clause-styled g c =
+    let ok : Result (Unit {0}) Error = Ok tt in
+    let line = c.args.self.now.0.now.line in
+    two_shown g.W.Write.write_str_gives c.args.f.now c.show_place-in-Supertype.new.f c.show_derived.new.f ok c.show_derived.result
+    (place_text line) (derived_text c.as_slice-in-Supertype.result.now) (note_text c.args.self.now.0.now) c.in_ok-show_place-in-Supertype.ensures.styled refl c.show_derived.ensures.styled (rw c.in-Supertype.is (ap (λ (t : List ℕ). place_text line ++ derived_text t) c.as_slice-in-Supertype.ensures))
 
 pub returns-in_ok-show_place-in-ObjectClass-clause-styled : goal.returns-in_ok-show_place-in-ObjectClass-clause-styled
 returns-in_ok-show_place-in-ObjectClass-clause-styled g c =

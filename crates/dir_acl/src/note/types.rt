@@ -1,0 +1,137 @@
+//! The types that rules may name: those that are known, and those of them from which a configuration derives others (RFC 4512,
+//! section 2.5.1).
+
+ghost use Rattle.std.specs.Prelude.{◌≡◌, ◌≤◌, IfErr, IfOk, Ok, OnOk, Some, length};
+ghost use Rattle.dir_acl.specs.Inside.NotedTypes.{AreStandard, IsWith, noted_by};
+ghost use Rattle.dir_acl.specs.Notes.Supertypes.{derives_from, is_named, is_supertype, sup_in, type_named};
+ghost use Rattle.dir_acl.specs.Outcome.{GivesPart};
+ghost use Rattle.dir_acl.specs.declared.fault.ConfigCause.TheVariants as ConfigCause;
+
+use crate::ConfigCause;
+use crate::config::lines::LogicalLines;
+use crate::config::types::definition_in;
+use crate::cut::split_once;
+use dir_names::{AttrKey, Bytes, Description, NameFault, Schema, TypeDefinition};
+use std::alloc::Global;
+use std::collections::BTreeSet;
+
+/// The types that are known, and those from which others are derived.
+#[derive(Drop)]
+pub(crate) struct RuleTypes<'s> {
+    schema: &'s Schema,
+    /// Without options.
+    supertypes: BTreeSet<AttrKey>,
+}
+
+impl<'s> RuleTypes<'s> {
+    ghost use Rattle.dir_acl.specs.Notes.Supertypes.{noted_types};
+
+    /// Those of a configuration. The one fault is `Memory`.
+    pub(super) fn read(
+        alloc: Global,
+        schema: &'s Schema,
+        text: &[u8],
+    ) -> Result<RuleTypes<'s>, ConfigCause>
+        requires { length text.now ≤ 16777216 }
+        ensures types { IfOk result (λ types. noted_by types ≡ noted_types schema.now text.now) }
+        ensures fault { IfErr result (λ cause. cause ≡ ConfigCause.Memory) }
+    {
+        let mut types = RuleTypes::of_standards(alloc, schema)?;
+        let mut lines = LogicalLines::new(alloc, text)?;
+        while let Some((_, line)) = lines.next(alloc)? {
+            types.add_line(alloc, line.as_slice())?;
+        }
+        Ok(types)
+    }
+
+    /// The two that are above built-in types.
+    fn of_standards(alloc: Global, schema: &'s Schema) -> Result<RuleTypes<'s>, ConfigCause>
+        ensures types { IfOk result (λ types. AreStandard schema.now (noted_by types)) }
+        ensures fault { IfErr result (λ cause. cause ≡ ConfigCause.Memory) }
+    {
+        let mut types = RuleTypes {
+            schema,
+            supertypes: BTreeSet::new(alloc),
+        };
+        types.add(alloc, b"name")?;
+        types.add(alloc, b"distinguishedName")?;
+        Ok(types)
+    }
+
+    /// Adds the type from which the one that a line defines is derived.
+    fn add_line(&mut self, alloc: Global, line: &[u8]) -> Result<(), ConfigCause>
+        ensures types { OnOk result (IsWith (λ attr. derives_from self.old.schema.now attr line.now) (noted_by self.old) (noted_by self.new)) }
+        ensures fault { IfErr result (λ cause. cause ≡ ConfigCause.Memory) }
+    {
+        match read_sup(alloc, line)? {
+            Some(sup) => self.add(alloc, sup.as_slice()),
+            None => Ok(()),
+        }
+    }
+
+    /// Adds the type of this description.
+    fn add(&mut self, alloc: Global, spelling: &[u8]) -> Result<(), ConfigCause>
+        ensures types { OnOk result (IsWith (λ attr. is_named attr (type_named self.old.schema.now spelling.now)) (noted_by self.old) (noted_by self.new)) }
+        ensures fault { IfErr result (λ cause. cause ≡ ConfigCause.Memory) }
+    {
+        if let Some(attr) = read_type(alloc, self.schema, spelling)? {
+            self.supertypes.insert(attr)?;
+        }
+        Ok(())
+    }
+
+    pub(super) fn schema(&self) -> &Schema
+        ensures { result.now ≡ self.now.schema.now }
+    {
+        self.schema
+    }
+
+    /// Whether others are derived from the type of this description. The one fault is `Memory`.
+    pub(super) fn is_supertype(&self, alloc: Global, spelling: &[u8]) -> Result<bool, ConfigCause>
+        ensures { GivesPart (λ is. is) result (Ok (is_supertype (noted_by self.now) spelling.now)) }
+    {
+        Ok(match read_type(alloc, self.schema, spelling)? {
+            Some(attr) => self.supertypes.contains(&attr),
+            None => false,
+        })
+    }
+}
+
+/// What the definition that a line has names after `SUP`. The one fault is `Memory`.
+fn read_sup(alloc: Global, line: &[u8]) -> Result<Option<Bytes>, ConfigCause>
+    ensures { GivesPart (λ sup. sup) result (Ok (sup_in line.now)) }
+{
+    let Some(definition) = definition_in(line) else {
+        return Ok(None);
+    };
+    match TypeDefinition::read(alloc, definition) {
+        Ok(Some(definition)) => Ok(definition.sup),
+        Ok(None) => Ok(None),
+        Err(_) => Err(ConfigCause::Memory),
+    }
+}
+
+/// The type that a description begins with. The one fault is `Memory`.
+fn read_type(
+    alloc: Global,
+    schema: &Schema,
+    spelling: &[u8],
+) -> Result<Option<AttrKey>, ConfigCause>
+    ensures { GivesPart (λ attr. attr) result (Ok (type_named schema.now spelling.now)) }
+{
+    let (name, _) = split_once(spelling, b';');
+    match Description::read(alloc, schema, name) {
+        Ok(description) => key_of(alloc, &description),
+        Err(NameFault::Memory) => Err(ConfigCause::Memory),
+        Err(_) => Ok(None),
+    }
+}
+
+fn key_of(alloc: Global, description: &Description) -> Result<Option<AttrKey>, ConfigCause>
+    ensures { GivesPart (λ attr. attr) result (Ok (Some description.now.key)) }
+{
+    match description.key().try_clone(alloc) {
+        Ok(attr) => Ok(Some(attr)),
+        Err(_) => Err(ConfigCause::Memory),
+    }
+}
