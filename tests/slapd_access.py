@@ -1,7 +1,7 @@
 #!/usr/bin/env python3
 """Asks OpenLDAP's slapacl and `slapkit slapacl` the same random questions under the same random rules, and compares the answers.
 
-usage: slapd_access.py PROGRAM [--seed S] [--sets N] [--keep FOLDER]
+usage: slapd_access.py PROGRAM [--seed S] [--sets N] [--derived] [--keep FOLDER]
 
 It is outside the gate, and wants OpenLDAP's slapacl and slapadd with their schema files (Debian's package slapd). Each set of rules has
 5 questions, each of 20 words, so 200 sets have 20,000 answers. Half of the sets have rules of the forms that the kit reads, over the types
@@ -11,6 +11,9 @@ among attributes, tests of objectClass, an include with a rule in it, a rule in 
 What else README.md names under "What differs from slapd's slapacl" is left out, but for rules that run out: each word asks for a level, and there
 slapacl decides as a running slapd does. A word may ask for a type that the kit doesn't know: another name of a known one, or an operational
 attribute that only slapd writes. Such a word has a note.
+
+With --derived both have types that are derived from known ones (SUP), entries have values of them, and words ask for them: what slapd answers by a rule,
+a filter or dnattr= on the type above has a note.
 
 An answer may differ from slapd's only where there was a note on the rules or on its word, and slapd may refuse the rules only where there was
 one on them. Else it fails, and tells the rules and the question; and so it does where the notes are not those of access.py.
@@ -25,6 +28,8 @@ import shutil
 import sys
 import tempfile
 
+import definitions
+import names
 import slapd
 from access import note_on_word, notes_of, notes_on_words
 from slapd import SCHEMA, answers, run
@@ -43,6 +48,10 @@ MISSPELT = ("foo", "userPasswrd")
 CLASSES = ("posixAccount", "inetOrgPerson", "organizationalPerson", "person", "top", "groupOfNames", "domain")
 # What words ask for: of those that the kit doesn't know, types, other names of known ones, and what nobody but slapd writes.
 ASKED = ("entry", "children", "objectClass", *TYPES, "mobile", "employeeType", "gn", "rfc822Mailbox", "streetAddress", "entryUUID", "createTimestamp")
+# Types that are derived from known ones, with what defines them and the class of entries that have them.
+DERIVED = {"nick": "cn", "deputy": "manager", "aide": "member"}
+DEFINED = "".join(f"attributetype ( 1.3.6.1.4.1.32473.{at} NAME '{name}' SUP {above} )\n" for at, (name, above) in enumerate(DERIVED.items(), 1))
+EXTRA = f"objectclass ( 1.3.6.1.4.1.32473.9 NAME 'extra' SUP top AUXILIARY MAY ( {' $ '.join(DERIVED)} ) )\n"
 GIVEN = ("Anna", "Björn", "Chen", "Dag", "Eve", "Farah", "Gül", "Hugo", "Ines", "Jörg", "Kim", "Lars")
 
 
@@ -72,6 +81,12 @@ def person(at, name):
         yield from (f"description: Number {at}", "description: a  b*c", f"seeAlso: {people()[(at + 1) % 12]}", "loginShell: /bin/Sh")
 
 
+def derived_values(at):
+    """What an entry has of the derived types."""
+    values = {"nick": GIVEN[(at + 5) % 12], "deputy": people()[(at + 3) % 12], "aide": people()[(at + 7) % 12]}
+    return ("objectClass: extra", *(f"{name}: {value}" for number, (name, value) in enumerate(values.items()) if (at + number) % 3))
+
+
 def with_texts(lines):
     """The lines, with values in other scripts in base64."""
     for line in lines:
@@ -79,15 +94,16 @@ def with_texts(lines):
         yield line if value.isascii() else f"{name}:: {base64.b64encode(value.encode()).decode()}"
 
 
-def directory():
+def directory(has_derived):
     text = entry(SUFFIX, ("objectClass: domain", "dc: example"))
     for ou in ("staff", "guests", "groups"):
         text += entry(f"ou={ou},{SUFFIX}", ("objectClass: organizationalUnit", f"ou: {ou}"))
     for at, name in enumerate(people()):
-        text += entry(name, with_texts(person(at, name)))
+        text += entry(name, with_texts([*person(at, name), *(derived_values(at) if has_derived else ())]))
     for at, name in enumerate(groups()):
         members = [f"member: {who}" for who in people()[at :: 3]]
-        text += entry(name, ("objectClass: groupOfNames", f"cn: {name.split(',')[0][3:]}", *members, f"owner: {people()[at]}"))
+        own = ("objectClass: groupOfNames", f"cn: {name.split(',')[0][3:]}", *members, f"owner: {people()[at]}")
+        text += entry(name, with_texts([*own, *(derived_values(at) if has_derived else ())]))
     return text
 
 
@@ -210,8 +226,9 @@ def rules(rng, folder):
     return "".join(f"{line}\n" for line in lines)
 
 
-def words(rng):
-    return [f"{rng.choice(ASKED)}/{rng.choice(LEVELS)}" for _ in range(WORDS)]
+def words(rng, has_derived):
+    asked_for = (*ASKED, *DERIVED, *DERIVED) if has_derived else ASKED
+    return [f"{rng.choice(asked_for)}/{rng.choice(LEVELS)}" for _ in range(WORDS)]
 
 
 NOTED = ("without a note", "with a note on the word alone", "with a note on the rules")
@@ -222,10 +239,10 @@ COUNTED = ("sets of rules", "sets of rules with a note", "questions", "allowed",
 # ---- the two tools
 
 
-def head(folder):
+def head(folder, has_derived):
     """The configuration of slapd but for its rules."""
     loads = "".join(f"include {SCHEMA}/{name}.schema\n" for name in SCHEMAS)
-    return f"{loads}modulepath /usr/lib/ldap\nmoduleload back_mdb\nmoduleload back_monitor\ndatabase mdb\nsuffix {SUFFIX}\ndirectory {folder}/db\n"
+    return f"{loads}{DEFINED + EXTRA if has_derived else ''}modulepath /usr/lib/ldap\nmoduleload back_mdb\nmoduleload back_monitor\ndatabase mdb\nsuffix {SUFFIX}\ndirectory {folder}/db\n"
 
 
 def asked(tool, conf, copy, base, requester, wanted):
@@ -233,19 +250,19 @@ def asked(tool, conf, copy, base, requester, wanted):
     return run(command)
 
 
-def compare(program, folder, rng, counts):
+def compare(program, folder, rng, has_derived, counts):
     """Asks under one set of rules. Tells where the two differ without a note."""
     text = rules(rng, folder)
     theirs, ours = folder / "slapd.conf", folder / "slapkit.conf"
-    theirs.write_text(head(folder) + text)
-    ours.write_text(f"database mdb\nsuffix {SUFFIX}\n{text}")
+    theirs.write_text(head(folder, has_derived) + text)
+    ours.write_text(f"{DEFINED if has_derived else ''}database mdb\nsuffix {SUFFIX}\n{text}")
     notes = notes_of(ours.read_bytes())
     counts["sets of rules"] += 1
     counts["sets of rules with a note"] += notes != ""
     for _ in range(QUESTIONS):
         base = rng.choice([SUFFIX, f"ou=staff,{SUFFIX}", *people(), *groups()])
         requester = rng.choice([None, *people(), f"uid=nobody,{SUFFIX}"])
-        wanted = words(rng)
+        wanted = words(rng, has_derived)
         told = notes + notes_on_words(wanted)
         original = asked(["slapacl"], theirs, None, base, requester, wanted)
         slapkit = asked([program, "slapacl"], ours, folder / "copy.ldif", base, requester, wanted)
@@ -275,6 +292,7 @@ def main():
     parser.add_argument("program")
     parser.add_argument("--seed", type=int, default=1)
     parser.add_argument("--sets", type=int, default=200)
+    parser.add_argument("--derived", action="store_true")
     parser.add_argument("--keep", metavar="FOLDER")
     args = parser.parse_args()
     slapd.demand("slapd_access.py", "slapacl", "slapadd")
@@ -282,14 +300,16 @@ def main():
         folder = pathlib.Path(args.keep or made).resolve()
         shutil.rmtree(folder / "db", ignore_errors=True)
         (folder / "db").mkdir(parents=True)
-        (folder / "copy.ldif").write_text(directory())
-        (folder / "load.conf").write_text(head(folder))
+        (folder / "copy.ldif").write_text(directory(args.derived))
+        (folder / "load.conf").write_text(head(folder, args.derived))
         loaded = run(["slapadd", "-q", "-f", str(folder / "load.conf"), "-l", str(folder / "copy.ldif")])
         if loaded.returncode:
             sys.exit(f"slapd_access.py: slapadd: {loaded.stderr}")
         counts = collections.Counter()
-        for number in range(args.sets):
-            compare(os.path.abspath(args.program), folder, random.Random(f"{args.seed} {number}"), counts)
+        types = definitions.table_of(DEFINED.encode() if args.derived else b"")
+        with names.types_of(types):
+            for number in range(args.sets):
+                compare(os.path.abspath(args.program), folder, random.Random(f"{args.seed} {number}"), args.derived, counts)
     for name in COUNTED:
         print(f"{counts[name]:9} {name}")
     sys.exit(1 if any(counts[name] for name in FAILURES) else 0)
