@@ -81,10 +81,10 @@ def person(at, name):
         yield from (f"description: Number {at}", "description: a  b*c", f"seeAlso: {people()[(at + 1) % 12]}", "loginShell: /bin/Sh")
 
 
-def derived_values(at):
-    """What an entry has of the derived types."""
+def with_derived(at, lines):
+    """The lines of an entry, with values of derived types and their class."""
     values = {"nick": GIVEN[(at + 5) % 12], "deputy": people()[(at + 3) % 12], "aide": people()[(at + 7) % 12]}
-    return ("objectClass: extra", *(f"{name}: {value}" for number, (name, value) in enumerate(values.items()) if (at + number) % 3))
+    return ("objectClass: extra", *lines, *(f"{name}: {value}" for number, (name, value) in enumerate(values.items()) if (at + number) % 3))
 
 
 def with_texts(lines):
@@ -99,11 +99,12 @@ def directory(has_derived):
     for ou in ("staff", "guests", "groups"):
         text += entry(f"ou={ou},{SUFFIX}", ("objectClass: organizationalUnit", f"ou: {ou}"))
     for at, name in enumerate(people()):
-        text += entry(name, with_texts([*person(at, name), *(derived_values(at) if has_derived else ())]))
+        lines = person(at, name)
+        text += entry(name, with_texts(with_derived(at, lines) if has_derived else lines))
     for at, name in enumerate(groups()):
         members = [f"member: {who}" for who in people()[at :: 3]]
-        own = ("objectClass: groupOfNames", f"cn: {name.split(',')[0][3:]}", *members, f"owner: {people()[at]}")
-        text += entry(name, with_texts([*own, *(derived_values(at) if has_derived else ())]))
+        lines = ("objectClass: groupOfNames", f"cn: {name.split(',')[0][3:]}", *members, f"owner: {people()[at]}")
+        text += entry(name, with_texts(with_derived(at, lines) if has_derived else lines))
     return text
 
 
