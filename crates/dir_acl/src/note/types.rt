@@ -106,8 +106,8 @@ fn read_sup(alloc: Global, line: &[u8]) -> Result<Option<Bytes>, ConfigCause>
     };
     match TypeDefinition::read(alloc, definition) {
         Ok(Some(definition)) => Ok(definition.sup),
-        Ok(None) => Ok(None),
-        Err(_) => Err(ConfigCause::Memory),
+        Err(NameFault::Memory) => Err(ConfigCause::Memory),
+        _ => Ok(None),
     }
 }
 
