@@ -1,6 +1,6 @@
 -- The types from which others are derived (RFC 4512, section 2.5.1). In slapd what names such a type, in `attrs=`, in a test of a filter or in `dnattr=`, is about the
 -- attributes of the types below it too (slapd.access(5)). Here it is about the attributes of the type alone.
-use Rattle.std.specs.Prelude.{ℕ, Bool, false, ◌||◌, ◌==◌, List, [], codes, Option, Some, None, option_and_then, Result, Ok, Err}
+use Rattle.std.specs.Prelude.{ℕ, Bool, false, ◌&&◌, ◌||◌, ◌==◌, List, [], codes, Option, Some, None, option_and_then, Result, Ok, Err}
 use Rattle.std.specs.List.{before_first, list_any}
 use Rattle.dir_names.specs.Ascii.{semicolon}
 use Rattle.dir_names.specs.Attr.{Attr}
@@ -8,12 +8,13 @@ use Rattle.dir_names.specs.Definitions.{definition_of}
 use Rattle.dir_names.specs.Described.{Described}
 use Rattle.dir_names.specs.Descriptions.{description_of}
 use Rattle.dir_names.specs.Orders.{attr_eq}
+use Rattle.dir_names.specs.Table.{is_known}
 use Rattle.dir_names.specs.declared.fault.NameFault.{NameFault}
 use Rattle.dir_names.specs.declared.schema.TypeRow.{TypeRow}
 use Rattle.dir_acl.specs.Config.Lines.{logical_lines}
 use Rattle.dir_acl.specs.Config.Types.{definition_in}
 
--- the types that rules may name: those that are known, and those of which others are derived
+-- the types that rules may name: those that are known, and those of them from which others are derived
 pub record NotedTypes : Type 0 where
   pub rows : List TypeRow
   pub has_subtypes : Attr → Bool
@@ -36,17 +37,18 @@ type_named rows spelling = attr_read (description_of rows (before_first (λ b. b
 abbrev pub sup_in : List ℕ → Option (List ℕ)
 sup_in line = option_and_then (λ d. d.sup) (option_and_then definition_of (definition_in line))
 
-abbrev pub is_named : Attr → Option Attr → Bool
-is_named attr None = false
-is_named attr (Some named) = attr_eq named attr
+-- it is the type that was named, and that is known
+abbrev pub is_named : List TypeRow → Attr → Option Attr → Bool
+is_named rows attr None = false
+is_named rows attr (Some named) = is_known rows named && attr_eq named attr
 
 -- a line derives a type from this one
 abbrev pub derives_from : List TypeRow → Attr → List ℕ → Bool
-derives_from rows attr line = is_named attr (option_and_then (type_named rows) (sup_in line))
+derives_from rows attr line = is_named rows attr (option_and_then (type_named rows) (sup_in line))
 
--- those of the standards, from which built-in types are derived, if the text defines them (RFC 4519, sections 2.18 and 2.7)
+-- those of the standards, from which built-in types are derived (RFC 4519, sections 2.18 and 2.7)
 abbrev pub is_standard : List TypeRow → Attr → Bool
-is_standard rows attr = is_named attr (type_named rows (codes "name")) || is_named attr (type_named rows (codes "distinguishedName"))
+is_standard rows attr = is_named rows attr (type_named rows (codes "name")) || is_named rows attr (type_named rows (codes "distinguishedName"))
 
 abbrev pub noted_types : List TypeRow → List ℕ → NotedTypes
 noted_types rows text = record { rows = rows; has_subtypes = λ attr. is_standard rows attr || list_any (λ line. derives_from rows attr line.1) (logical_lines text) }

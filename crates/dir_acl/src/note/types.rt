@@ -69,15 +69,18 @@ impl<'s> RuleTypes<'s> {
         }
     }
 
-    /// Adds the type of this description.
+    /// Adds the type of this description, if it is known.
     fn add(&mut self, alloc: Global, spelling: &[u8]) -> Result<(), ConfigCause>
-        ensures types { OnOk result (IsWith (λ attr. is_named attr (type_named self.old.schema.now spelling.now)) (noted_by self.old) (noted_by self.new)) }
+        ensures types { OnOk result (IsWith (λ attr. is_named self.old.schema.now attr (type_named self.old.schema.now spelling.now)) (noted_by self.old) (noted_by self.new)) }
         ensures fault { IfErr result (λ cause. cause ≡ ConfigCause.Memory) }
     {
-        if let Some(attr) = read_type(alloc, self.schema, spelling)? {
-            self.supertypes.insert(attr)?;
+        match read_type(alloc, self.schema, spelling)? {
+            Some(attr) if self.schema.knows(&attr) => {
+                self.supertypes.insert(attr)?;
+                Ok(())
+            }
+            _ => Ok(()),
         }
-        Ok(())
     }
 
     pub(super) fn schema(&self) -> &Schema
@@ -90,6 +93,9 @@ impl<'s> RuleTypes<'s> {
     pub(super) fn is_supertype(&self, alloc: Global, spelling: &[u8]) -> Result<bool, ConfigCause>
         ensures { GivesPart (λ is. is) result (Ok (is_supertype (noted_by self.now) spelling.now)) }
     {
+        if self.supertypes.is_empty() {
+            return Ok(false);
+        }
         Ok(match read_type(alloc, self.schema, spelling)? {
             Some(attr) => self.supertypes.contains(&attr),
             None => false,
