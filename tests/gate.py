@@ -1,5 +1,5 @@
 #!/usr/bin/env python3
-"""The gate: `rt ci`, then the wrong bodies of must-fail/, and then the trial of the program that it has built.
+"""The gate: `rt ci`, and then the wrong bodies of must-fail/, beside the trial of the program that it has built.
 
 usage: gate.py
 
@@ -11,7 +11,8 @@ Where something failed, the ends of what was said of it come once more before th
 Each proof has one processor. Where some are idle, `rt ci` would give one proof several, which ends sooner and takes half as much
 processor time again. RT_JOBS says otherwise. `rt ci` tries wrong bodies too, those of crates/*/must-fail/, each by a check of the whole crate, after it
 has proved that crate a second time: a third of the gate's time. So there are none there: tests/bugs.py has each tried by a check of the function
-that must be refused, over the libraries that `rt ci` has just built.
+that must be refused, over the libraries that `rt ci` has just built. The trial has work for one processor at most times, so it runs meanwhile; what it says is
+printed after it.
 """
 import collections
 import contextlib
@@ -22,6 +23,7 @@ import resource
 import shutil
 import subprocess
 import sys
+import tempfile
 import threading
 import time
 
@@ -131,6 +133,23 @@ def try_wrong_bodies():
     return running.returncode, refused
 
 
+def start_trial(said):
+    """Starts the trial of the program that `rt ci` has built. What it says goes into this file."""
+    program = ROOT / "crates/slapkit/out/slapkit"
+    return subprocess.Popen([sys.executable, ROOT / "tests/trial.py", program], stdin=subprocess.DEVNULL, stdout=said, stderr=subprocess.STDOUT)
+
+
+def try_all():
+    """Tries the wrong bodies and the program at the same time. Returns how many wrong bodies were refused, and what failed."""
+    with tempfile.TemporaryFile("w+", errors="replace") as said:
+        with start_trial(said) as trial:
+            ended, refused = try_wrong_bodies()
+        said.seek(0)
+        shutil.copyfileobj(said, sys.stdout)
+    failed = ["must-fail/"] * (ended != 0) + ["tests/trial.py"] * (trial.returncode != 0)
+    return refused, failed
+
+
 def passed_in(line):
     """How many crates passed, by the last line of `rt ci`."""
     count = re.match(r"\d+(?= passed)", line)
@@ -158,10 +177,7 @@ def main():
     times.join()
     failed = []
     if status == 0:
-        ended, refused = try_wrong_bodies()
-        failed += ["must-fail/"] * (ended != 0)
-        trial = subprocess.run([sys.executable, ROOT / "tests/trial.py", ROOT / "crates/slapkit/out/slapkit"])
-        failed += ["tests/trial.py"] * (trial.returncode != 0)
+        refused, failed = try_all()
         of_what = f" ({' '.join(failed)})" if failed else ""
         last = f"{passed_in(last) + refused} passed, {len(failed)} failed{of_what}\n"
     for failure in failures:
