@@ -383,6 +383,7 @@ def read_config(data):
 
 
 CLASSES = "objectClass: only the classes that an entry lists are looked at"
+HALF_OF_WRITE = "for -a or -z slapd takes all of w away"
 OTHER_DATABASE = "access rule of database config or monitor is passed over"
 NO_RULE = "slapkit: note: config: no access rule, so everybody may read\n"
 HAS_NOTES = "not answered, because there are notes"
@@ -435,7 +436,16 @@ def notes_on_what(word, supertypes):
     return []
 
 
-def notes_on_who(word, supertypes):
+def takes_half_of_write(word):
+    """Whether an access takes `a` or `z` away, and not both, as `w` does."""
+    sign, letters = word[:1], set(word[1:].lower())
+    return sign == "-" and "w" not in letters and len(letters & {"a", "z"}) == 1
+
+
+def notes_on_clause(word, supertypes):
+    """The notes on a word of a clause: one that names who asks, or an access."""
+    if takes_half_of_write(word):
+        return [HALF_OF_WRITE]
     form, _, value = word.partition("=")
     return notes_on_type(value, supertypes) if form.lower() == "dnattr" else []
 
@@ -446,8 +456,8 @@ def notes_on_line(keyword, words, supertypes):
         return [f'include "{shown_text(words[0] if words else "")}" is not read']
     if keyword == "access":
         whats = list(itertools.takewhile(lambda word: word.lower() != "by", words[1:]))
-        whos = words[1 + len(whats) :]
-        return [note for word in whats for note in notes_on_what(word, supertypes)] + [note for word in whos for note in notes_on_who(word, supertypes)]
+        clauses = words[1 + len(whats) :]
+        return [note for word in whats for note in notes_on_what(word, supertypes)] + [note for word in clauses for note in notes_on_clause(word, supertypes)]
     return []
 
 

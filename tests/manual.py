@@ -74,7 +74,7 @@ def notes_told(program):
     """Each kind of note, and the fault where there are some, as the program tells them. What a configuration or a word names stands in capitals."""
     told = []
     below = "attributetype ( 1.2.1 NAME 'below' SUP description )\n"
-    rules = f"{below}include FILE\naccess to attrs=X-DESCRIPTION,DESCRIPTION filter=(objectClass=a) by * read\ndatabase config\naccess to *\n"
+    rules = f"{below}include FILE\naccess to attrs=X-DESCRIPTION,DESCRIPTION filter=(objectClass=a) by * -z\ndatabase config\naccess to *\n"
     with tempfile.TemporaryDirectory() as name:
         folder = pathlib.Path(name)
         (folder / "copy").write_text("")
@@ -89,7 +89,7 @@ def notes_told(program):
 
 def the_documents_have_the_notes(program):
     notes = notes_told(program)
-    expect(len(notes), 9, f"kinds of notes, and the fault: {notes}")
+    expect(len(notes), 10, f"kinds of notes, and the fault: {notes}")
     explained = set(re.findall(r"^\| `(config(?:, line N)?: [^`]*|(?:questions, line N: )?word \"[^`]*|not answered[^`]*)` \|", (ROOT / "docs/CODES.md").read_text(), re.M))
     expect(explained, notes, "explained by docs/CODES.md")
     items = re.findall(r"^\.It ((?:config(?:, line N)?: (?!C\d)|(?:questions, line N: )?word \"|not answered).*)", page_of("slapacl").replace("\\(dq", '"'), re.M)

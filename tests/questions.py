@@ -23,6 +23,7 @@ COPY = (
 HEAD = "database mdb\nsuffix dc=com\n"
 READ_BY_ALL = "access to * by * read\n"
 CLASSES = "objectClass: only the classes that an entry lists are looked at"
+HALF_OF_WRITE = "for -a or -z slapd takes all of w away"
 PASSED_OVER = "access rule of database config or monitor is passed over"
 NO_RULE = "config: no access rule, so everybody may read"
 HAS_NOTES = "not answered, because there are notes"
@@ -572,6 +573,17 @@ NOTED = [
         (on_line(3, derived("distinguishedName")),),
     ),
     Noted("access to attrs=cn by * read\ndatabase monitor\nattributetype ( 1.2.1 NAME 'a1' SUP cn )", (on_line(3, derived("cn")),)),
+    # `w` is `a` and `z`: where one of them alone is taken away, slapd grants neither, and by slapd.access(5) the other one stays
+    Noted("access to * by * write continue by * -z", (on_line(3, HALF_OF_WRITE),), "=arscxd"),
+    Noted("access to * by * =wz continue by * -RA stop", (on_line(3, HALF_OF_WRITE),), "=z"),
+    Noted("access to * by * add continue by users -z\n\tcontinue by * -dzd", (on_line(3, HALF_OF_WRITE),) * 2, "=arscx"),
+    Noted(
+        "access to attrs=gn,entry by * +w break\naccess to * by dnattr=member -a by * -z break\naccess to attrs=entry by * -m",
+        (on_line(3, unknown("gn")), on_line(4, HALF_OF_WRITE), on_line(4, HALF_OF_WRITE)),
+        "=a",
+    ),
+    Noted("access to * by * write continue by * -w continue by * +a continue by * -az", (), "=rscxd"),
+    Noted("access to * by * =az continue by * -ZdA continue by * +z continue by * -r continue by * -wa continue by * -0", ()),
     # nothing to note; the first filter has as many levels as one may have
     Noted(f"access to filter={'(!' * 63}(cn=a){')' * 63} by * read", (), "=rscxd"),
     Noted("access to * by * read", (), "=rscxd"),

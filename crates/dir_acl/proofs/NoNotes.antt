@@ -1,4 +1,5 @@
--- A configuration without a note has a rule, and its rules name known types alone, and but for the attributes of groups none from which another is derived.
+-- A configuration without a note has a rule, and its rules name known types alone, and but for the attributes of groups none from which another is derived. No clause
+-- takes one of `a` and `z` away alone.
 pub mod Filters
 pub mod Lists
 pub mod Lines

@@ -2,6 +2,7 @@
 -- slapd.access(5)). `notes_of` at the end of this page is the whole: the notes of each line in turn, and last that there is no rule. A description in `dnattr=` or
 -- `group/CLASS/ATTR` is of a known type wherever the rule is read: of a type that isn't known nobody knows that its values are names. In slapd too the attribute of a
 -- group is of this type alone, and not of one that is derived from it.
+pub mod Halves
 pub mod Known
 pub mod Supertypes
 use Rattle.std.specs.Prelude.{ℕ, Bool, true, false, cond, not, ◌&&◌, ◌||◌, ◌==◌, nat_eq, List, [], ◌∷◌, ◌++◌, codes, Option, Some, None, Result, Ok, Err}
@@ -13,13 +14,16 @@ use Rattle.dir_names.specs.Descriptions.{description_of}
 use Rattle.dir_names.specs.Table.{is_known}
 use Rattle.dir_names.specs.declared.fault.NameFault.{NameFault}
 use Rattle.dir_names.specs.declared.schema.TypeRow.{TypeRow}
+use Rattle.dir_acl.specs.declared.access.Edit.{Edit}
 use Rattle.dir_acl.specs.declared.note.Note.{Note}
 use Rattle.dir_acl.specs.declared.note.NoteCause.{NoteCause}
-use Rattle.dir_acl.specs.declared.note.NoteCause.TheVariants.{Include, UnknownType, Supertype, ObjectClass, OtherDatabase, NoRule}
+use Rattle.dir_acl.specs.declared.note.NoteCause.TheVariants.{Include, UnknownType, Supertype, ObjectClass, HalfOfWrite, OtherDatabase, NoRule}
 use Rattle.dir_acl.specs.Config.Arguments.{words_of}
 use Rattle.dir_acl.specs.Config.Lines.{logical_lines}
 use Rattle.dir_acl.specs.Config.Names.{form_of, is_word}
+use Rattle.dir_acl.specs.Config.Permissions.{edit_of}
 use Rattle.dir_acl.specs.Filters.{begins_test, in_parentheses}
+use Rattle.dir_acl.specs.Notes.Halves.{takes_half}
 use Rattle.dir_acl.specs.Notes.Supertypes.{NotedTypes, is_supertype, noted_types}
 use Rattle.dir_acl.specs.Signs.{open_parenthesis}
 use Rattle.dir_acl.specs.Tests.{described_by, operator_of}
@@ -89,6 +93,12 @@ tests_notes types n (b ∷ after) = opened_notes types n b after ++ tests_notes 
 abbrev pub filter_notes : NotedTypes → ℕ → List ℕ → List Note
 filter_notes types n text = tests_notes types n (in_parentheses text)
 
+-- ---- an <access>
+
+abbrev pub edit_notes : ℕ → Option Edit → List Note
+edit_notes n None = []
+edit_notes n (Some edit) = cond (takes_half edit) (note_at n HalfOfWrite ∷ []) []
+
 -- ---- the words of a rule
 
 abbrev pub dnattr_notes : NotedTypes → ℕ → List ℕ → List ℕ → List Note
@@ -104,7 +114,7 @@ form_notes types n form (Some text) =
 
 abbrev pub word_notes : NotedTypes → ℕ → Option (List ℕ) → List Note
 word_notes types n None = []
-word_notes types n (Some word) = form_notes types n (form_of word) (after_first_separator equals_sign word)
+word_notes types n (Some word) = edit_notes n (edit_of word) ++ form_notes types n (form_of word) (after_first_separator equals_sign word)
 
 abbrev pub rule_notes : NotedTypes → ℕ → List (Option (List ℕ)) → List Note
 rule_notes types n [] = []

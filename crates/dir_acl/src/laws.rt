@@ -28,7 +28,7 @@ pub fn reading_is_the_grammar()
 {}
 
 /// Where there is no note, there is a rule, and the rules name known types alone; but for the attributes of groups, none from which
-/// another is derived.
+/// another is derived. No clause takes one of `a` and `z` away alone.
 pub fn rules_without_notes_are_understood()
     ensures { (rows : List TypeRow) (text : List ℕ) (config : Configuration) → config_of rows text ≡ Ok config → notes_of rows text ≡ [] → AreUnderstood (noted_types rows text) config }
 {}

@@ -36,10 +36,13 @@ pub enum NoteCause {
     /// own, whose values are compared byte by byte.
     UnknownType(Bytes),
     /// An attribute description, in `attrs=`, in a test of a filter or in `dnattr=`, of a type from which the configuration derives
-    /// another one (`SUP`; RFC 4512, section 2.5.1). In slapd it stands for the attributes of both, and here for those of the one type.
+    /// another one (`SUP`; RFC 4512, section 2.5.1). In slapd it names the attributes of both, and here those of the one type.
     Supertype(Bytes),
     /// A test of a filter for a value of `objectClass`. The classes that an entry lists are looked at, and not those above them.
     ObjectClass,
+    /// An `<access>` that takes `a` or `z` away, and not both, as `-z` does. In slapd 2.5 neither is left then, until one of them is
+    /// added again; here the other one is.
+    HalfOfWrite,
     /// An access rule in the part of `database config` or `database monitor`, which is passed over.
     OtherDatabase,
     /// No access rule was read, so everybody may read everything.

@@ -5,7 +5,7 @@ use Rattle.std.specs.Str.{is_utf8}
 use Rattle.dir_acl.specs.declared.deciding.FaultArgument.{FaultArgument}
 use Rattle.dir_acl.specs.declared.note.Note.{Note}
 use Rattle.dir_acl.specs.declared.note.NoteCause.{NoteCause}
-use Rattle.dir_acl.specs.declared.note.NoteCause.TheVariants.{Include, UnknownType, Supertype, ObjectClass, OtherDatabase, NoRule, UnknownInWord}
+use Rattle.dir_acl.specs.declared.note.NoteCause.TheVariants.{Include, UnknownType, Supertype, ObjectClass, HalfOfWrite, OtherDatabase, NoRule, UnknownInWord}
 use Rattle.dir_files.specs.Escape.{escaped}
 
 -- a text of the configuration or of the question, its control characters escaped
@@ -37,6 +37,7 @@ noted_text line (Include file) = place_text line ++ (codes "include \"" ++ shown
 noted_text line (UnknownType description) = place_text line ++ unknown_text description
 noted_text line (Supertype description) = place_text line ++ derived_text description
 noted_text line ObjectClass = place_text line ++ codes "objectClass: only the classes that an entry lists are looked at"
+noted_text line HalfOfWrite = place_text line ++ codes "for -a or -z slapd takes all of w away"
 noted_text line OtherDatabase = place_text line ++ codes "access rule of database config or monitor is passed over"
 noted_text line NoRule = codes "note: config: no access rule, so everybody may read"
 noted_text line (UnknownInWord word description) = word_text line word ++ unknown_text description

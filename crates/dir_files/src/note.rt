@@ -73,6 +73,10 @@ impl Display for ShownNote<'_> {
                 show_place(f, *line)?;
                 f.write_str("objectClass: only the classes that an entry lists are looked at")
             }
+            NoteCause::HalfOfWrite => {
+                show_place(f, *line)?;
+                f.write_str("for -a or -z slapd takes all of w away")
+            }
             NoteCause::OtherDatabase => {
                 show_place(f, *line)?;
                 f.write_str("access rule of database config or monitor is passed over")

@@ -17,10 +17,11 @@ use Rattle.dir_acl.specs.declared.fault.ConfigCause.{ConfigCause}
 use Rattle.dir_acl.specs.declared.fault.ConfigCause.TheVariants as cause
 use Rattle.dir_acl.specs.declared.fault.FilterFault.{FilterFault}
 use Rattle.dir_acl.specs.Config.Names.{attr_by, form_of, is_word, name_at, style_of}
+use Rattle.dir_acl.specs.Config.Permissions.{edit_of}
 use Rattle.dir_acl.specs.Config.Whats.{filter_by, is_of_form, item_at, items_after, items_at, with_attrs, with_filter, with_form, with_style, with_value, with_what}
 use Rattle.dir_acl.specs.Filters.{Tree, in_parentheses}
 use Rattle.dir_acl.specs.Filters.Reading.{filter_of}
-use Rattle.dir_acl.specs.Notes.{dnattr_notes, filter_notes, form_notes, item_notes, items_notes, named_notes, tests_notes, word_notes}
+use Rattle.dir_acl.specs.Notes.{dnattr_notes, edit_notes, filter_notes, form_notes, item_notes, items_notes, named_notes, tests_notes, word_notes}
 use Rattle.dir_acl.specs.Notes.Known.{asked_known, what_known}
 use Rattle.dir_acl.specs.Notes.Supertypes.{NotedTypes}
 use Rattle.dir_acl.specs.Rules.{Restriction, to_names, to_filter, to_attrs}
@@ -109,7 +110,9 @@ module _ (types : NotedTypes) (n : ℕ) where
         by false false notes = style_fine (style_of form) text
 
     pub what_fine : (word : List ℕ) → word_notes types n (Some word) ≡ [] → whats_fine (with_what types.rows whats word) ≡ true
-    what_fine word notes = by (is_word word (codes "*")) (after_first_separator 61 word) notes
+    what_fine word notes =
+        by (is_word word (codes "*")) (after_first_separator 61 word)
+        (right_empty (edit_notes n (edit_of word)) (form_notes types n (form_of word) (after_first_separator 61 word)) notes)
       where
         by : (b : Bool) (value : Option (List ℕ)) → form_notes types n (form_of word) value ≡ [] → whats_fine (cond b (Ok whats) (with_value types.rows whats (form_of word) value)) ≡ true
         by true value notes = so

@@ -18,11 +18,12 @@ use Rattle.dir_acl.specs.declared.access.Who.{Who}
 use Rattle.dir_acl.specs.declared.access.Who.TheVariants as who
 use Rattle.dir_acl.specs.declared.fault.ConfigCause.{ConfigCause}
 use Rattle.dir_acl.specs.Config.Names.{attr_at, attr_by, by_rule, class_key_at, form_of, if_of_names, is_word, name_at, names_attr_at, style_of}
+use Rattle.dir_acl.specs.Config.Permissions.{edit_of}
 use Rattle.dir_acl.specs.Config.Whos.{group_at, group_of, group_of_parts, group_with, slash, who_of, who_of_style, who_with_value, without_exact}
-use Rattle.dir_acl.specs.Notes.{dnattr_notes, filter_notes, form_notes, items_notes, named_notes, word_notes}
+use Rattle.dir_acl.specs.Notes.{dnattr_notes, edit_notes, filter_notes, form_notes, items_notes, named_notes, word_notes}
 use Rattle.dir_acl.specs.Notes.Known.{is_clear, who_known}
 use Rattle.dir_acl.specs.Notes.Supertypes.{NotedTypes}
-use Rattle.dir_acl.proofs.NoNotes.Lists.{both_words}
+use Rattle.dir_acl.proofs.NoNotes.Lists.{both_words, right_empty}
 use Rattle.dir_acl.proofs.NoNotes.Types.{clear_if}
 
 module _ (types : NotedTypes) (n : ℕ) where
@@ -158,7 +159,8 @@ module _ (types : NotedTypes) (n : ℕ) where
       by false w = parts_fine (parts_at slash (without_exact form)) text
 
   pub read_fine : (word : List ℕ) → word_notes types n (Some word) ≡ [] → who_fine (who_of types.rows word) ≡ true
-  read_fine word notes = by (is_word word (codes "*")) (is_word word (codes "anonymous")) (is_word word (codes "users")) (is_word word (codes "self")) (after_first_separator 61 word) notes
+  read_fine word notes = by (is_word word (codes "*")) (is_word word (codes "anonymous")) (is_word word (codes "users")) (is_word word (codes "self")) (after_first_separator 61 word)
+      (right_empty (edit_notes n (edit_of word)) (form_notes types n (form_of word) (after_first_separator 61 word)) notes)
     where
       by : (a b c d : Bool) (value : Option (List ℕ)) → form_notes types n (form_of word) value ≡ []
           → who_fine (cond a (Ok (Some who.Anyone)) (cond b (Ok (Some who.Anonymous)) (cond c (Ok (Some who.Users)) (cond d (Ok (Some who.Myself)) (who_with_value types.rows (form_of word) value))))) ≡ true

@@ -1,5 +1,5 @@
 -- What a configuration without a note is: it has a rule, and its rules name known types alone; in `attrs=`, in the tests of filters and in `dnattr=` none from which
--- another is derived.
+-- another is derived. No clause takes one of `a` and `z` away alone.
 use Rattle.std.specs.Prelude.{◌≡◌, Bool, true, not, ◌&&◌, []}
 use Rattle.std.specs.List.{list_all}
 use Rattle.dir_names.specs.Attr.{Attr}
@@ -9,6 +9,7 @@ use Rattle.dir_acl.specs.declared.access.Asked.TheVariants as asked
 use Rattle.dir_acl.specs.declared.access.Who.{Who}
 use Rattle.dir_acl.specs.declared.access.Who.TheVariants as who
 use Rattle.dir_acl.specs.Filters.{Tree, Trees, conjunction, disjunction, negation, test, none, first}
+use Rattle.dir_acl.specs.Notes.Halves.{takes_half}
 use Rattle.dir_acl.specs.Notes.Supertypes.{NotedTypes, without_options}
 use Rattle.dir_acl.specs.Rules.{AccessClause, AccessRule, Configuration, Restriction, to_names, to_filter, to_attrs}
 
@@ -50,7 +51,7 @@ module _ (types : NotedTypes) where
   who_known (who.Group name class_attr class_key attr) = is_known types.rows attr
 
   abbrev pub clause_known : AccessClause → Bool
-  clause_known clause = list_all who_known clause.who
+  clause_known clause = list_all who_known clause.who && not (takes_half clause.edit)
 
   abbrev pub rule_known : AccessRule → Bool
   rule_known rule = list_all what_known rule.what && list_all clause_known rule.clauses

@@ -1,17 +1,19 @@
-//! The notes on an access rule: on its words that name attributes or have a filter.
+//! The notes on an access rule: on its words that name attributes, have a filter, or take privileges away.
 
 ghost use Rattle.std.specs.Prelude.{◌≡◌, ◌++◌, Ok, Some, option_copied};
 ghost use Rattle.dir_names.specs.Cut.{parts_at};
 ghost use Rattle.dir_names.specs.Descriptions.{description_of};
-ghost use Rattle.dir_acl.specs.Notes.{attrs_notes, dnattr_notes, form_notes, item_notes, items_notes, named_notes, rule_notes, word_notes};
+ghost use Rattle.dir_acl.specs.Notes.{attrs_notes, dnattr_notes, edit_notes, form_notes, item_notes, items_notes, named_notes, rule_notes, word_notes};
+ghost use Rattle.dir_acl.specs.Notes.Halves.{takes_half};
 ghost use Rattle.dir_acl.specs.Inside.NotedTypes.{noted_by};
 ghost use Rattle.dir_acl.specs.Outcome.{GivesPart};
 
+use crate::config::permissions::edit_of;
 use crate::cut::split_once;
 use crate::note::filters::with_filter;
 use crate::note::types::RuleTypes;
-use crate::note::with_type;
-use crate::{ConfigCause, Note};
+use crate::note::{with_note, with_type};
+use crate::{ConfigCause, Edit, Note, NoteCause};
 use dir_names::{Bytes, Description, NameFault};
 use std::alloc::Global;
 
@@ -44,10 +46,30 @@ fn with_word(
     let Some(word) = word else {
         return Ok(notes);
     };
+    let notes = with_edit(notes, line, edit_of(word.as_slice()))?;
     let (form, value) = split_once(word.as_slice(), b'=');
     match value {
         Some(text) => with_form(alloc, types, notes, line, form, text),
         None => Ok(notes),
+    }
+}
+
+fn with_edit(notes: Vec<Note>, line: u64, edit: Option<Edit>) -> Result<Vec<Note>, ConfigCause>
+    ensures { GivesPart (λ notes. notes.items) result (Ok (notes.items ++ edit_notes line edit)) }
+{
+    match edit {
+        Some(edit) if takes_half(edit) => with_note(notes, line, NoteCause::HalfOfWrite),
+        _ => Ok(notes),
+    }
+}
+
+/// Whether `a` or `z` is taken away, and not both.
+fn takes_half(edit: Edit) -> bool
+    ensures { result ≡ takes_half edit }
+{
+    match edit {
+        Edit::Remove(set) => set.add != set.delete,
+        Edit::Set(_) | Edit::Add(_) => false,
     }
 }
 

@@ -54,6 +54,13 @@ returns-in_ok-show_place-in-ObjectClass-clause-styled g c =
     two_shown g.W.Write.write_str_gives c.args.f.now c.show_place-in-ObjectClass.new.f c.write_str-in-ObjectClass.new.self ok c.write_str-in-ObjectClass.result
     (place_text line) (codes "objectClass: only the classes that an entry lists are looked at") (note_text c.args.self.now.0.now) c.in_ok-show_place-in-ObjectClass.ensures.styled refl c.write_str-in-ObjectClass.ensures.styled (rw c.in-ObjectClass.is refl)
 
+pub returns-in_ok-show_place-in-HalfOfWrite-clause-styled : goal.returns-in_ok-show_place-in-HalfOfWrite-clause-styled
+returns-in_ok-show_place-in-HalfOfWrite-clause-styled g c =
+    let ok : Result (Unit {0}) Error = Ok tt in
+    let line = c.args.self.now.0.now.line in
+    two_shown g.W.Write.write_str_gives c.args.f.now c.show_place-in-HalfOfWrite.new.f c.write_str-in-HalfOfWrite.new.self ok c.write_str-in-HalfOfWrite.result
+    (place_text line) (codes "for -a or -z slapd takes all of w away") (note_text c.args.self.now.0.now) c.in_ok-show_place-in-HalfOfWrite.ensures.styled refl c.write_str-in-HalfOfWrite.ensures.styled (rw c.in-HalfOfWrite.is refl)
+
 pub returns-in_ok-show_place-in-OtherDatabase-clause-styled : goal.returns-in_ok-show_place-in-OtherDatabase-clause-styled
 returns-in_ok-show_place-in-OtherDatabase-clause-styled g c =
     let ok : Result (Unit {0}) Error = Ok tt in
