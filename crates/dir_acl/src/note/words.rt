@@ -4,6 +4,7 @@ ghost use Rattle.std.specs.Prelude.{◌≡◌, ◌++◌, Ok, Some, option_copied
 ghost use Rattle.dir_names.specs.Cut.{parts_at};
 ghost use Rattle.dir_names.specs.Descriptions.{description_of};
 ghost use Rattle.dir_acl.specs.Notes.{attrs_notes, dnattr_notes, edit_notes, form_notes, item_notes, items_notes, named_notes, rule_notes, word_notes};
+ghost use Rattle.dir_acl.specs.Config.Permissions.{edit_of};
 ghost use Rattle.dir_acl.specs.Notes.Halves.{takes_half};
 ghost use Rattle.dir_acl.specs.Inside.NotedTypes.{noted_by};
 ghost use Rattle.dir_acl.specs.Outcome.{GivesPart};
@@ -46,7 +47,7 @@ fn with_word(
     let Some(word) = word else {
         return Ok(notes);
     };
-    let notes = with_edit(notes, line, edit_of(word.as_slice()))?;
+    let notes = with_edit(notes, line, word.as_slice())?;
     let (form, value) = split_once(word.as_slice(), b'=');
     match value {
         Some(text) => with_form(alloc, types, notes, line, form, text),
@@ -54,7 +55,17 @@ fn with_word(
     }
 }
 
-fn with_edit(notes: Vec<Note>, line: u64, edit: Option<Edit>) -> Result<Vec<Note>, ConfigCause>
+/// Most words are no `<access>` that takes something away, as their first byte tells.
+fn with_edit(notes: Vec<Note>, line: u64, word: &[u8]) -> Result<Vec<Note>, ConfigCause>
+    ensures { GivesPart (λ notes. notes.items) result (Ok (notes.items ++ edit_notes line (edit_of word.now))) }
+{
+    match word {
+        [b'-', ..] => with_removal(notes, line, edit_of(word)),
+        _ => Ok(notes),
+    }
+}
+
+fn with_removal(notes: Vec<Note>, line: u64, edit: Option<Edit>) -> Result<Vec<Note>, ConfigCause>
     ensures { GivesPart (λ notes. notes.items) result (Ok (notes.items ++ edit_notes line edit)) }
 {
     match edit {
