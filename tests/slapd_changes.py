@@ -1,0 +1,335 @@
+#!/usr/bin/env python3
+"""Makes the same random changes on a running slapd, by OpenLDAP's ldapmodify, and by `slapkit slapmodify`, and compares what comes of them.
+
+usage: slapd_changes.py PROGRAM [--seed S] [--runs N] [--changes C]
+
+It is outside the gate, and wants OpenLDAP's slapd with its tools and schema files (Debian's packages slapd and ldap-utils). Each run has a random directory,
+whose entries are of one class that allows every type, and as many random adds, deletes, modifies and renames as are asked for. Then
+
+- each change is accepted by both, or refused by both, and after each both have the same entries, attributes and values, as the types' rules compare them;
+- slapd, running, takes the records of slapkit's undo file one by one, and has the first entries again.
+
+The code of a refusal may be another one: how many are is told. What README.md names under "What differs from slapd's slapmodify" is left out of the draw, but
+for a name or a value that is only spelled in another way: how often that leaves other bytes is told too. So is where slapd refuses a change with 80, which is
+no answer about the change. Else the script fails where the two differ, and tells the change.
+"""
+import argparse
+import collections
+import contextlib
+import os
+import pathlib
+import random
+import subprocess
+import sys
+import tempfile
+import time
+import urllib.parse
+
+import ldif
+import model
+import names
+import operations
+import slapd
+from model import Add, Modify, Refused, Rename
+from names import Rule, description_key, name_key, value_key
+from slapd import SCHEMA
+from texts import block
+
+SUFFIX = "dc=com"
+ROOT = "cn=root,dc=com"
+CLASS = ("objectClass", "thing")
+# Types beside those of operations.py, with values that are of their syntax: here no syntax is checked beyond what comparing needs.
+MORE = {
+    "displayname": (["displayName", "DISPLAYNAME"], ["A b", "a  B", "c"]),
+    "homedirectory": (["homeDirectory"], ["/home/a", "/home/A", "/home/a "]),
+    "mail": (["mail", "Mail"], ["a@b.c", "A@B.C", " a@b.c", "d@e"]),
+    "member": (["member", "Member"], ["cn=a,dc=com", "CN=A, dc=com", "cn=b+sn=c,dc=com", "sn=C+cn=B,DC=com", "cn=x\\,y,dc=com", "cn=x\\2cY,dc=com"]),
+    "telephonenumber": (["telephoneNumber"], ["+49 30 12", "+49-30-12", "+493012", "12", "1 2"]),
+    "userpassword": (["userPassword"], ["x", "X", "x ", "{SSHA}a"]),
+}
+# The one of all types that slapd's schema files lack, and the class of all entries.
+DEFINED = """attributetype ( 1.3.6.1.4.1.32473.3 NAME 'note' EQUALITY octetStringMatch SYNTAX 1.3.6.1.4.1.1466.115.121.1.40 )
+objectclass ( 1.3.6.1.4.1.32473.9 NAME 'thing' SUP top STRUCTURAL MAY ( cn $ dc $ description $ displayName $ homeDirectory $ mail $ member $ note $ sn $
+  telephoneNumber $ uidNumber $ userPassword ) )
+"""
+# What only slapd writes.
+OPERATIONAL = frozenset("structuralobjectclass entryuuid creatorsname createtimestamp entrycsn modifiersname modifytimestamp".split())
+# slapd's code for what went wrong in itself.
+OTHER = 80
+COUNTED = (
+    "changes", "accepted by both", "refused by both", "with another code", "refused by slapd with 80", "accepted, with other bytes",
+    "records of undo files", "taken by slapd", "taken, with other bytes", "refused with 80 on the way back",
+)
+FAILURES = ("accepted by one of them", "other entries", "not taken by slapd", "other entries on the way back", "another new copy of slapkit")
+
+
+# ---- what a text and a directory hold
+
+
+def content(text):
+    """The entries of a text of LDIF by their names' keys: the values of each attribute by theirs. The class and what only slapd writes are left out."""
+    return {name_key(record.dn): attributes_of(record.lines) for _, record in ldif.records(text.encode())}
+
+
+def attributes_of(lines):
+    attributes = collections.defaultdict(dict)
+    for name, value in lines:
+        kind = description_key(name)
+        if kind != "objectclass" and kind not in OPERATIONAL:
+            attributes[kind][value_key(kind, value)] = value
+    return dict(attributes)
+
+
+def content_of(directory):
+    return {key: {kind: dict(values) for kind, (_, values) in entry.attributes.items()} for key, entry in directory.entries.items()}
+
+
+def keys(entries):
+    """The same without the bytes of values."""
+    return {name: {kind: set(values) for kind, values in attributes.items()} for name, attributes in entries.items()}
+
+
+def text_of(directory):
+    """The directory's text, with the class of each entry."""
+    in_order = sorted(directory.entries, key=names.order)
+    return "".join(block(("dn", names.printed_name(directory.name(key))), CLASS, *model.lines_of(directory.entries[key].attributes)) for key in in_order)
+
+
+# ---- random changes
+
+
+def is_left_out(change):
+    """Whether README.md tells that slapd goes another way here."""
+    match change:
+        case Modify():
+            return any(is_left_out_of_modify(*mod) for mod in change.mods)
+        case Rename():
+            return any(names.rule_of(description_key(kind)) is Rule.NAME for kind, _ in change.newrdn)
+        case _:
+            return False
+
+
+def is_left_out_of_modify(op, spelling, values):
+    """An add or an increment without values; or a value that is deleted twice."""
+    return op in ("add", "increment") and not values or op == "delete" and has_twice(description_key(spelling), values)
+
+
+def has_twice(kind, values):
+    with contextlib.suppress(names.NoKey):
+        return len({value_key(kind, value) for value in values}) < len(values)
+    return False
+
+
+def under_one_name(change):
+    """An add under one name of each attribute, and with the class."""
+    if not isinstance(change, Add):
+        return change
+    spellings = {}
+    lines = [(spellings.setdefault(description_key(name), name), value) for name, value in change.lines]
+    return Add(change.dn, lines)
+
+
+def drawn(rng, directory):
+    while is_left_out(change := operations.random_change(rng, directory)):
+        pass
+    return under_one_name(change)
+
+
+def without_class(change):
+    return Add(change.dn, [pair for pair in change.lines if pair != CLASS]) if isinstance(change, Add) else change
+
+
+def sent(change, printed):
+    """The text of a change, in an add with the class."""
+    return (Add(change.dn, [CLASS, *change.lines]) if isinstance(change, Add) else change).text(printed)
+
+
+def short_lines(rng, make=operations.many_lines):
+    """Many lines of an entry; no value is longer than slapd's database takes in a name."""
+    return [(name, value.lstrip("x")) for name, value in make(rng)]
+
+
+def any_value(rng, kind, make=operations.random_value):
+    return rng.choice(MORE[kind][1]) if kind in MORE else make(rng, kind)
+
+
+def set_draw():
+    """Draws the changes of operations.py among more types, without the letter that slapd holds apart from "ss", and without numbers past its 64 bits."""
+    operations.BUILT_IN_SPELLINGS.update((kind, spellings) for kind, (spellings, _) in MORE.items())
+    operations.set_types(operations.BUILT_IN_SPELLINGS)
+    operations.TEXTS[:] = [text for text in operations.TEXTS if "\u00df" not in text]
+    operations.AMOUNTS[:] = [amount for amount in operations.AMOUNTS if len(amount) < 19]
+    operations.many_lines, operations.random_value = short_lines, any_value
+
+
+# ---- slapd
+
+
+class Server:
+    """A slapd that runs in a folder."""
+
+    def __init__(self, folder):
+        self.folder, self.running = pathlib.Path(folder), None
+        self.url = "ldapi://" + urllib.parse.quote(f"{folder}/socket", safe="")
+        loads = "".join(f"include {SCHEMA}/{name}.schema\n" for name in ("core", "cosine", "nis", "inetorgperson"))
+        database = f"database mdb\nsuffix {SUFFIX}\nrootdn {ROOT}\nrootpw secret\ndirectory {folder}/db\ndbnosync\n"
+        self.folder.joinpath("conf").write_text(f"{loads}{DEFINED}modulepath /usr/lib/ldap\nmoduleload back_mdb\n{database}")
+
+    def __enter__(self):
+        return self
+
+    def __exit__(self, *fault):
+        self.stop()
+
+    def stop(self):
+        if self.running:
+            self.running.terminate()
+            self.running.wait()
+            self.running = None
+
+    def tool(self, *words):
+        return slapd.run([words[0], "-f", "conf", *words[1:]], self.folder)
+
+    def load(self, directory):
+        """Begins anew with these entries."""
+        self.stop()
+        database = self.folder / "db"
+        database.mkdir(exist_ok=True)
+        for file in database.iterdir():
+            file.unlink()
+        self.folder.joinpath("copy").write_text(text_of(directory))
+        loaded = self.tool("slapadd", "-q", "-l", "copy")
+        if loaded.returncode:
+            sys.exit(f"slapd_changes.py: slapadd: {loaded.stderr}")
+        self.start()
+
+    def start(self):
+        how = {"cwd": self.folder, "stdin": subprocess.DEVNULL, "stdout": subprocess.DEVNULL, "stderr": subprocess.DEVNULL}
+        self.running = subprocess.Popen(["slapd", "-f", "conf", "-h", self.url, "-d", "0"], env={**os.environ, "PATH": slapd.TOOLS}, **how)
+        end = time.monotonic() + slapd.SECONDS
+        while slapd.run(["ldapwhoami", "-x", "-H", self.url]).returncode:
+            if time.monotonic() > end:
+                sys.exit("slapd_changes.py: slapd does not answer")
+            time.sleep(0.02)
+
+    def change(self, text):
+        """Makes a change, and returns the code of the answer, and what was said."""
+        self.folder.joinpath("change").write_text(text)
+        ended = slapd.run(["ldapmodify", "-x", "-D", ROOT, "-w", "secret", "-H", self.url, "-f", "change"], self.folder)
+        return ended.returncode, ended.stdout + ended.stderr
+
+    def content(self):
+        return content(slapd.ended_well(["slapcat", "-f", "conf"], self.folder))
+
+
+# ---- a run
+
+
+def told(what, text, said):
+    print(f"{what}:\n{text}{said}", flush=True)
+
+
+def code_of(directory, change):
+    """Makes a change as slapkit does, and returns 0 or the code by which it is refused."""
+    try:
+        directory.apply(change)
+    except Refused as refused:
+        return refused.code
+    return 0
+
+
+def compare_change(server, directory, change, text, counts):
+    mine, (theirs, said) = code_of(directory, change), server.change(text)
+    counts["changes"] += 1
+    if theirs == OTHER and not mine:
+        counts["refused by slapd with 80"] += 1
+        server.load(directory)
+    elif bool(mine) != bool(theirs):
+        counts["accepted by one of them"] += 1
+        told(f"{mine} by slapkit", text, said)
+        server.load(directory)
+    elif mine:
+        counts["refused by both"] += 1
+        counts["with another code"] += mine != theirs
+    else:
+        counts["accepted by both"] += 1
+        compare_entries(server, directory, text, counts, "accepted, with other bytes", "other entries")
+
+
+def compare_entries(server, directory, text, counts, with_bytes, different):
+    """After a change that both made. Where they differ slapd begins anew."""
+    here, there = content_of(directory), server.content()
+    if here == there:
+        return
+    if keys(here) == keys(there):
+        counts[with_bytes] += 1
+    else:
+        counts[different] += 1
+        unlike = (name for name in {*here, *there} if here.get(name) != there.get(name))
+        told(different, text, "".join(f"  {name}: {here.get(name)} here, {there.get(name)} in slapd\n" for name in unlike))
+    server.load(directory)
+
+
+def compare_way_back(server, directory, undo, counts):
+    """Has slapd take the records of an undo file, each of which the model of slapkit takes too."""
+    for (_, change), text in zip(ldif.records(undo.encode()), undo.split("\n\n")[1:]):
+        theirs, said = server.change(f"{text}\n")
+        code = code_of(directory, without_class(change))
+        counts["records of undo files"] += 1
+        if theirs == OTHER and not code:
+            counts["refused with 80 on the way back"] += 1
+            server.load(directory)
+        elif theirs or code:
+            counts["not taken by slapd"] += 1
+            told(f"{code} by slapkit, on the way back", text, said)
+            server.load(directory)
+        else:
+            counts["taken by slapd"] += 1
+            compare_entries(server, directory, text, counts, "taken, with other bytes", "other entries on the way back")
+
+
+def slapkit_run(program, folder, copy, changes):
+    """The new copy and the undo file."""
+    for name, text in (("copy.ldif", copy), ("changes.ldif", changes)):
+        folder.joinpath(name).write_text(text)
+    operations.run(program, folder, "copy.ldif", "changes.ldif", "new.ldif", "undo.ldif", "-c")
+    return folder.joinpath("new.ldif").read_text(), folder.joinpath("undo.ldif").read_text()
+
+
+def a_run(program, seed, count, counts):
+    rng = random.Random(f"slapd {seed}")
+    directory = operations.random_directory(rng, 0)
+    copy, first, texts = text_of(directory), content_of(directory), []
+    printed = operations.freely_printed(rng)
+    with tempfile.TemporaryDirectory() as folder, Server(folder) as server:
+        server.load(directory)
+        for _ in range(count):
+            change = drawn(rng, directory)
+            texts.append(sent(change, printed))
+            compare_change(server, directory, change, texts[-1], counts)
+        new, undo = slapkit_run(program, server.folder, copy, "".join(texts))
+        if content(new) != content_of(directory):
+            counts["another new copy of slapkit"] += 1
+            return
+        compare_way_back(server, directory, undo, counts)
+        counts["other entries on the way back"] += content_of(directory) != first
+
+
+def main():
+    parser = argparse.ArgumentParser(description=__doc__, formatter_class=argparse.RawDescriptionHelpFormatter)
+    parser.add_argument("program")
+    parser.add_argument("--seed", type=int, default=1)
+    parser.add_argument("--runs", type=int, default=20)
+    parser.add_argument("--changes", type=int, default=100)
+    args = parser.parse_args()
+    slapd.demand("slapd_changes.py", "slapd", "slapadd", "slapcat", "ldapmodify", "ldapwhoami")
+    set_draw()
+    counts = collections.Counter()
+    for number in range(args.runs):
+        a_run(os.path.abspath(args.program), f"{args.seed} {number}", args.changes, counts)
+    for name in (*COUNTED, *FAILURES):
+        print(f"{counts[name]:9} {name}")
+    sys.exit(1 if any(counts[name] for name in FAILURES) else 0)
+
+
+main()
