@@ -1,13 +1,15 @@
 #!/usr/bin/env python3
 """Makes the same random changes on a running slapd, by OpenLDAP's ldapmodify, and by `slapkit slapmodify`, and compares what comes of them.
 
-usage: slapd_changes.py PROGRAM [--seed S] [--runs N] [--changes C]
+usage: slapd_changes.py PROGRAM [--seed S] [--runs N] [--changes C] [--types]
 
 It is outside the gate, and wants OpenLDAP's slapd with its tools and schema files (Debian's packages slapd and ldap-utils). Each run has a random directory,
 whose entries are of one class that allows every type, and as many random adds, deletes, modifies and renames as are asked for. Then
 
 - each change is accepted by both, or refused by both, and after each both have the same entries, attributes and values, as the types' rules compare them;
 - slapd, running, takes the records of slapkit's undo file one by one, and has the first entries again.
+
+With --types slapkit is under all types of slapd's schema files (`slapkit slapconf`, and `slapmodify -f`), and changes name more of them.
 
 The code of a refusal may be another one: how many are is told. What README.md names under "What differs from slapd's slapmodify" is left out of the draw, but
 for a name or a value that is only spelled in another way: how often that leaves other bytes is told too. So is where slapd refuses a change with 80, which is
@@ -16,6 +18,7 @@ no answer about the change. Else the script fails where the two differ, and tell
 import argparse
 import collections
 import contextlib
+import functools
 import os
 import pathlib
 import random
@@ -25,6 +28,7 @@ import tempfile
 import time
 import urllib.parse
 
+import definitions
 import ldif
 import model
 import names
@@ -38,6 +42,7 @@ from texts import block
 SUFFIX = "dc=com"
 ROOT = "cn=root,dc=com"
 CLASS = ("objectClass", "thing")
+CONF = "slapd.conf"
 # Types beside those of operations.py, with values that are of their syntax: here no syntax is checked beyond what comparing needs.
 MORE = {
     "displayname": (["displayName", "DISPLAYNAME"], ["A b", "a  B", "c"]),
@@ -47,11 +52,21 @@ MORE = {
     "telephonenumber": (["telephoneNumber"], ["+49 30 12", "+49-30-12", "+493012", "12", "1 2"]),
     "userpassword": (["userPassword"], ["x", "X", "x ", "{SSHA}a"]),
 }
-# The one of all types that slapd's schema files lack, and the class of all entries.
-DEFINED = """attributetype ( 1.3.6.1.4.1.32473.3 NAME 'note' EQUALITY octetStringMatch SYNTAX 1.3.6.1.4.1.1466.115.121.1.40 )
-objectclass ( 1.3.6.1.4.1.32473.9 NAME 'thing' SUP top STRUCTURAL MAY ( cn $ dc $ description $ displayName $ homeDirectory $ mail $ member $ note $ sn $
-  telephoneNumber $ uidNumber $ userPassword ) )
-"""
+# The same of types that slapkit knows by its option -f alone.
+TAUGHT = {
+    "drink": (["drink", "favouriteDrink"], ["Tea", "tea", "T ea"]),
+    "homephone": (["homePhone", "homeTelephoneNumber"], ["+49 1", "+49-1", "2"]),
+    "initials": (["initials", "INITIALS"], ["A B", "a  b", "C"]),
+    "iphostnumber": (["ipHostNumber"], ["1.2.3.4", " 1.2.3.4", "::A", "::a"]),
+    "memberuid": (["memberUid"], ["a", "A", "a ", "b"]),
+    "mobile": (["mobile", "mobileTelephoneNumber"], ["+49 1", "+491", "3 4"]),
+    "preferredlanguage": (["preferredLanguage"], ["de", "DE", "en"]),
+    "secretary": (["secretary"], ["cn=a,dc=com", "CN=A, dc=com", "uid=B,dc=com"]),
+    "shadowlastchange": (["shadowLastChange"], ["1", "2", "-3"]),
+    "st": (["stateOrProvinceName", "st"], ["Hessen", "HESSEN", "B"]),
+}
+# The one of all types that slapd's schema files lack.
+NOTE = "attributetype ( 1.3.6.1.4.1.32473.3 NAME 'note' EQUALITY octetStringMatch SYNTAX 1.3.6.1.4.1.1466.115.121.1.40 )\n"
 # What only slapd writes.
 OPERATIONAL = frozenset("structuralobjectclass entryuuid creatorsname createtimestamp entrycsn modifiersname modifytimestamp".split())
 # slapd's code for what went wrong in itself.
@@ -149,17 +164,17 @@ def short_lines(rng, make=operations.many_lines):
     return [(name, value.lstrip("x")) for name, value in make(rng)]
 
 
-def any_value(rng, kind, make=operations.random_value):
-    return rng.choice(MORE[kind][1]) if kind in MORE else make(rng, kind)
+def any_value(make, types, rng, kind):
+    return rng.choice(types[kind][1]) if kind in types else make(rng, kind)
 
 
-def set_draw():
+def set_draw(types):
     """Draws the changes of operations.py among more types, without the letter that slapd holds apart from "ss", and without numbers past its 64 bits."""
-    operations.BUILT_IN_SPELLINGS.update((kind, spellings) for kind, (spellings, _) in MORE.items())
+    operations.BUILT_IN_SPELLINGS.update((kind, spellings) for kind, (spellings, _) in types.items())
     operations.set_types(operations.BUILT_IN_SPELLINGS)
     operations.TEXTS[:] = [text for text in operations.TEXTS if "\u00df" not in text]
     operations.AMOUNTS[:] = [amount for amount in operations.AMOUNTS if len(amount) < 19]
-    operations.many_lines, operations.random_value = short_lines, any_value
+    operations.many_lines, operations.random_value = short_lines, functools.partial(any_value, operations.random_value, types)
 
 
 # ---- slapd
@@ -172,8 +187,10 @@ class Server:
         self.folder, self.running = pathlib.Path(folder), None
         self.url = "ldapi://" + urllib.parse.quote(f"{folder}/socket", safe="")
         loads = "".join(f"include {SCHEMA}/{name}.schema\n" for name in ("core", "cosine", "nis", "inetorgperson"))
+        types = " $ ".join({spellings[0].partition(";")[0] for spellings in operations.TYPES.values()})
+        thing = f"objectclass ( 1.3.6.1.4.1.32473.9 NAME 'thing' SUP top STRUCTURAL MAY ( {types} ) )\n"
         database = f"database mdb\nsuffix {SUFFIX}\nrootdn {ROOT}\nrootpw secret\ndirectory {folder}/db\ndbnosync\n"
-        self.folder.joinpath("conf").write_text(f"{loads}{DEFINED}modulepath /usr/lib/ldap\nmoduleload back_mdb\n{database}")
+        self.folder.joinpath(CONF).write_text(f"{loads}{NOTE}{thing}modulepath /usr/lib/ldap\nmoduleload back_mdb\n{database}")
 
     def __enter__(self):
         return self
@@ -188,7 +205,7 @@ class Server:
             self.running = None
 
     def tool(self, *words):
-        return slapd.run([words[0], "-f", "conf", *words[1:]], self.folder)
+        return slapd.run([words[0], "-f", CONF, *words[1:]], self.folder)
 
     def load(self, directory):
         """Begins anew with these entries."""
@@ -205,7 +222,7 @@ class Server:
 
     def start(self):
         how = {"cwd": self.folder, "stdin": subprocess.DEVNULL, "stdout": subprocess.DEVNULL, "stderr": subprocess.DEVNULL}
-        self.running = subprocess.Popen(["slapd", "-f", "conf", "-h", self.url, "-d", "0"], env={**os.environ, "PATH": slapd.TOOLS}, **how)
+        self.running = subprocess.Popen(["slapd", "-f", CONF, "-h", self.url, "-d", "0"], env={**os.environ, "PATH": slapd.TOOLS}, **how)
         end = time.monotonic() + slapd.SECONDS
         while slapd.run(["ldapwhoami", "-x", "-H", self.url]).returncode:
             if time.monotonic() > end:
@@ -219,7 +236,7 @@ class Server:
         return ended.returncode, ended.stdout + ended.stderr
 
     def content(self):
-        return content(slapd.ended_well(["slapcat", "-f", "conf"], self.folder))
+        return content(slapd.ended_well(["slapcat", "-f", CONF], self.folder))
 
 
 # ---- a run
@@ -288,6 +305,19 @@ def compare_way_back(server, directory, undo, counts):
             compare_entries(server, directory, text, counts, "taken, with other bytes", "other entries on the way back")
 
 
+@contextlib.contextmanager
+def under_types(program):
+    """Goes by the types of slapd's schema files, and yields the configuration that slapkit makes of them."""
+    with tempfile.TemporaryDirectory() as folder:
+        Server(folder)
+        made = subprocess.run([program, "slapconf", "-b", SUFFIX, "-f", CONF, "--out", "flat"], cwd=folder, stdin=subprocess.DEVNULL, capture_output=True)
+        if made.returncode:
+            sys.exit(f"slapd_changes.py: slapconf: {made.stderr.decode()}")
+        flat = pathlib.Path(folder, "flat").read_bytes()
+    with names.types_of(definitions.table_of(flat)):
+        yield flat
+
+
 def slapkit_run(program, folder, copy, changes):
     """The new copy and the undo file."""
     for name, text in (("copy.ldif", copy), ("changes.ldif", changes)):
@@ -296,12 +326,14 @@ def slapkit_run(program, folder, copy, changes):
     return folder.joinpath("new.ldif").read_text(), folder.joinpath("undo.ldif").read_text()
 
 
-def a_run(program, seed, count, counts):
+def a_run(program, seed, count, flat, counts):
     rng = random.Random(f"slapd {seed}")
     directory = operations.random_directory(rng, 0)
     copy, first, texts = text_of(directory), content_of(directory), []
     printed = operations.freely_printed(rng)
     with tempfile.TemporaryDirectory() as folder, Server(folder) as server:
+        if flat:
+            server.folder.joinpath("conf").write_bytes(flat)
         server.load(directory)
         for _ in range(count):
             change = drawn(rng, directory)
@@ -321,12 +353,14 @@ def main():
     parser.add_argument("--seed", type=int, default=1)
     parser.add_argument("--runs", type=int, default=20)
     parser.add_argument("--changes", type=int, default=100)
+    parser.add_argument("--types", action="store_true")
     args = parser.parse_args()
     slapd.demand("slapd_changes.py", "slapd", "slapadd", "slapcat", "ldapmodify", "ldapwhoami")
-    set_draw()
-    counts = collections.Counter()
-    for number in range(args.runs):
-        a_run(os.path.abspath(args.program), f"{args.seed} {number}", args.changes, counts)
+    set_draw({**MORE, **TAUGHT} if args.types else MORE)
+    program, counts = os.path.abspath(args.program), collections.Counter()
+    with under_types(program) if args.types else contextlib.nullcontext() as flat:
+        for number in range(args.runs):
+            a_run(program, f"{args.seed} {number}", args.changes, flat, counts)
     for name in (*COUNTED, *FAILURES):
         print(f"{counts[name]:9} {name}")
     sys.exit(1 if any(counts[name] for name in FAILURES) else 0)
