@@ -12,8 +12,8 @@ whose entries are of one class that allows every type, and as many random adds, 
 With --types slapkit is under all types of slapd's schema files (`slapkit slapconf`, and `slapmodify -f`), and changes name more of them.
 
 The code of a refusal may be another one: how many are is told. What README.md names under "What differs from slapd's slapmodify" is left out of the draw, but
-for a name or a value that is only spelled in another way: how often that leaves other bytes is told too. So is where slapd refuses a change with 80, which is
-no answer about the change. Else the script fails where the two differ, and tells the change.
+for a name or a value that is only spelled in another way: how often that leaves other bytes is told too. Where slapd answers 80, its code for what goes wrong
+in itself, it is asked once more, over a database that was just loaded. The script fails where the two differ, and tells the change.
 """
 import argparse
 import collections
@@ -69,11 +69,11 @@ TAUGHT = {
 NOTE = "attributetype ( 1.3.6.1.4.1.32473.3 NAME 'note' EQUALITY octetStringMatch SYNTAX 1.3.6.1.4.1.1466.115.121.1.40 )\n"
 # What only slapd writes.
 OPERATIONAL = frozenset("structuralobjectclass entryuuid creatorsname createtimestamp entrycsn modifiersname modifytimestamp".split())
-# slapd's code for what went wrong in itself.
+# The code for what goes wrong in slapd itself.
 OTHER = 80
 COUNTED = (
-    "changes", "accepted by both", "refused by both", "with another code", "refused by slapd with 80", "accepted, with other bytes",
-    "records of undo files", "taken by slapd", "taken, with other bytes", "refused with 80 on the way back",
+    "changes", "accepted by both", "refused by both", "with another code", "accepted, with other bytes",
+    "records of undo files", "taken by slapd", "taken, with other bytes", "asked again after 80",
 )
 FAILURES = ("accepted by one of them", "other entries", "not taken by slapd", "other entries on the way back", "another new copy of slapkit")
 
@@ -255,13 +255,21 @@ def code_of(directory, change):
     return 0
 
 
-def compare_change(server, directory, change, text, counts):
-    mine, (theirs, said) = code_of(directory, change), server.change(text)
-    counts["changes"] += 1
-    if theirs == OTHER and not mine:
-        counts["refused by slapd with 80"] += 1
+def answer(server, directory, text, counts):
+    """The code of slapd's answer to a change of these entries, and what was said. After 80 it is asked once more, over a database that was just loaded."""
+    code, said = server.change(text)
+    if code == OTHER:
+        counts["asked again after 80"] += 1
         server.load(directory)
-    elif bool(mine) != bool(theirs):
+        code, said = server.change(text)
+    return code, said
+
+
+def compare_change(server, directory, change, text, counts):
+    theirs, said = answer(server, directory, text, counts)
+    mine = code_of(directory, change)
+    counts["changes"] += 1
+    if bool(mine) != bool(theirs):
         counts["accepted by one of them"] += 1
         told(f"{mine} by slapkit", text, said)
         server.load(directory)
@@ -290,13 +298,10 @@ def compare_entries(server, directory, text, counts, with_bytes, different):
 def compare_way_back(server, directory, undo, counts):
     """Has slapd take the records of an undo file, each of which the model of slapkit takes too."""
     for (_, change), text in zip(ldif.records(undo.encode()), undo.split("\n\n")[1:]):
-        theirs, said = server.change(f"{text}\n")
+        theirs, said = answer(server, directory, f"{text}\n", counts)
         code = code_of(directory, without_class(change))
         counts["records of undo files"] += 1
-        if theirs == OTHER and not code:
-            counts["refused with 80 on the way back"] += 1
-            server.load(directory)
-        elif theirs or code:
+        if theirs or code:
             counts["not taken by slapd"] += 1
             told(f"{code} by slapkit, on the way back", text, said)
             server.load(directory)
