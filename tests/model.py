@@ -108,7 +108,7 @@ def without(attributes, pairs):
 
 def renamed_attributes(attributes, old, rdn, delete_old):
     gained = with_missing(attributes, rdn)
-    return without(gained, set(old) - set(rdn_key(rdn))) if delete_old else gained
+    return without(gained, sorted(set(old) - set(rdn_key(rdn)), key=names.order)) if delete_old else gained
 
 
 def check_single(attributes):
