@@ -6,7 +6,8 @@ usage: slapd_changes.py PROGRAM [--seed S] [--runs N] [--changes C] [--types]
 It is outside the gate, and wants OpenLDAP's slapd with its tools and schema files (Debian's packages slapd and ldap-utils). Each run has a random directory,
 whose entries are of one class that allows every type, and as many random adds, deletes, modifies and renames as are asked for. Then
 
-- each change is accepted by both, or refused by both, and after each both have the same entries, attributes and values, as the types' rules compare them;
+- each change is accepted by both, or refused by both, and after each both have the same entries, attributes and values, as the types' rules compare them. What
+  slapkit answers to a change is asked of its model (model.py); the report and the new copy of slapkit's run of all changes must be the model's;
 - slapd, running, takes the records of slapkit's undo file one by one, and has the first entries again.
 
 With --types slapkit is under all types of slapd's schema files (`slapkit slapconf`, and `slapmodify -f`), and changes name more of them.
@@ -75,7 +76,7 @@ COUNTED = (
     "changes", "accepted by both", "refused by both", "with another code", "accepted, with other bytes",
     "records of undo files", "taken by slapd", "taken, with other bytes", "asked again after 80",
 )
-FAILURES = ("accepted by one of them", "other entries", "not taken by slapd", "other entries on the way back", "another new copy of slapkit")
+FAILURES = ("accepted by one of them", "other entries", "not taken by slapd", "other entries on the way back", "another report or new copy of slapkit")
 
 
 # ---- what a text and a directory hold
@@ -266,6 +267,7 @@ def answer(server, directory, text, counts):
 
 
 def compare_change(server, directory, change, text, counts):
+    """Compares what comes of a change, and returns the code that slapkit's report is to have."""
     theirs, said = answer(server, directory, text, counts)
     mine = code_of(directory, change)
     counts["changes"] += 1
@@ -279,6 +281,7 @@ def compare_change(server, directory, change, text, counts):
     else:
         counts["accepted by both"] += 1
         compare_entries(server, directory, text, counts, "accepted, with other bytes", "other entries")
+    return mine
 
 
 def compare_entries(server, directory, text, counts, with_bytes, different):
@@ -323,18 +326,27 @@ def under_types(program):
         yield flat
 
 
+def report_of(texts, codes):
+    """The exit status and the report of a run of these changes, which are accepted (0) or refused with these codes."""
+    report, number = "", 1
+    for text, code in zip(texts, codes):
+        report += f"line {number}: refused, {model.CODES[code]}\n" if code else ""
+        number += text.count("\n")
+    return int(any(codes)), f"{report}accepted {codes.count(0)}, refused {len(codes) - codes.count(0)}\n"
+
+
 def slapkit_run(program, folder, copy, changes):
-    """The new copy and the undo file."""
+    """The exit status and the report, the new copy and the undo file."""
     for name, text in (("copy.ldif", copy), ("changes.ldif", changes)):
         folder.joinpath(name).write_text(text)
-    operations.run(program, folder, "copy.ldif", "changes.ldif", "new.ldif", "undo.ldif", "-c")
-    return folder.joinpath("new.ldif").read_text(), folder.joinpath("undo.ldif").read_text()
+    answer = operations.run(program, folder, "copy.ldif", "changes.ldif", "new.ldif", "undo.ldif", "-c")
+    return answer, folder.joinpath("new.ldif").read_text(), folder.joinpath("undo.ldif").read_text()
 
 
 def a_run(program, seed, count, flat, counts):
     rng = random.Random(f"slapd {seed}")
     directory = operations.random_directory(rng, 0)
-    copy, first, texts = text_of(directory), content_of(directory), []
+    copy, first, texts, codes = text_of(directory), content_of(directory), [], []
     printed = operations.freely_printed(rng)
     with tempfile.TemporaryDirectory() as folder, Server(folder) as server:
         if flat:
@@ -343,10 +355,11 @@ def a_run(program, seed, count, flat, counts):
         for _ in range(count):
             change = drawn(rng, directory)
             texts.append(sent(change, printed))
-            compare_change(server, directory, change, texts[-1], counts)
-        new, undo = slapkit_run(program, server.folder, copy, "".join(texts))
-        if content(new) != content_of(directory):
-            counts["another new copy of slapkit"] += 1
+            codes.append(compare_change(server, directory, change, texts[-1], counts))
+        reported, new, undo = slapkit_run(program, server.folder, copy, "".join(texts))
+        if reported != report_of(texts, codes) or content(new) != content_of(directory):
+            counts["another report or new copy of slapkit"] += 1
+            print(f"by slapkit: {reported}, by the model: {report_of(texts, codes)}", flush=True)
             return
         compare_way_back(server, directory, undo, counts)
         counts["other entries on the way back"] += content_of(directory) != first
