@@ -21,8 +21,8 @@ use Rattle.dir_tree.proofs.DirLemmas.{parent_child, same_key}
 use Rattle.dir_tree.specs.SpelledNames.{own_rdns}
 use Rattle.dir_change.specs.Operation.{IsRefused, directory_after_add, directory_after_delete, with_new_entry}
 use Rattle.dir_change.specs.Refusals.{unless}
-use Rattle.dir_change.specs.declared.operation.Refusal.{Refusal}
-use Rattle.dir_change.specs.declared.operation.Refusal.TheVariants as refusal
+use Rattle.dir_change.specs.declared.refusal.Refusal.{Refusal}
+use Rattle.dir_change.specs.declared.refusal.Refusal.TheVariants as refusal
 use Rattle.dir_change.specs.declared.result_code.ResultCode.{ResultCode}
 use Rattle.dir_change.specs.declared.result_code.ResultCode.TheVariants.{NoSuchObject, NotAllowedOnNonLeaf, EntryAlreadyExists}
 

@@ -22,8 +22,8 @@ use Rattle.dir_change.specs.Inside.Overlaid.{overlaid}
 use Rattle.dir_change.specs.Modify.{attributes_after, entry_after, with_attributes}
 use Rattle.dir_change.specs.Operation.{IsRefused}
 use Rattle.dir_change.specs.Refusals.{entry_or_code}
-use Rattle.dir_change.specs.declared.operation.Refusal.{Refusal}
-use Rattle.dir_change.specs.declared.operation.Refusal.TheVariants as refusal
+use Rattle.dir_change.specs.declared.refusal.Refusal.{Refusal}
+use Rattle.dir_change.specs.declared.refusal.Refusal.TheVariants as refusal
 use Rattle.dir_change.specs.declared.result_code.ResultCode.{ResultCode}
 use Rattle.dir_change.proofs.AttributesBack.{attr_itself, same_attributes}
 use Rattle.dir_change.proofs.ExchangedParts.{fit_alike}

@@ -16,8 +16,8 @@ use Rattle.dir_change.specs.Inside.ValuesInTurn.{are_new, are_there, without_eac
 use Rattle.dir_change.specs.Modify.{KeyedValues, are_distinct, has_any, if_keyed, keyed_value, keyed_values, no_slot, slot_after_op, slot_of_given, slot_with, slot_without, values_with}
 use Rattle.dir_change.specs.Operation.{IsRefused}
 use Rattle.dir_change.specs.Refusals.{IsRefusedWith, unless}
-use Rattle.dir_change.specs.declared.operation.Refusal.{Refusal}
-use Rattle.dir_change.specs.declared.operation.Refusal.TheVariants as refusal
+use Rattle.dir_change.specs.declared.refusal.Refusal.{Refusal}
+use Rattle.dir_change.specs.declared.refusal.Refusal.TheVariants as refusal
 use Rattle.dir_change.specs.declared.result_code.ResultCode.{ResultCode}
 use Rattle.dir_change.specs.declared.result_code.ResultCode.TheVariants.{AttributeOrValueExists, InvalidAttributeSyntax, NoSuchAttribute, ProtocolError}
 use Rattle.dir_change.proofs.InTurn.{new_is, there_is, without_is}

@@ -19,7 +19,7 @@ use Rattle.dir_change.specs.Inside.Renamed.{new_place}
 use Rattle.dir_change.specs.Operation.{IsRefused}
 use Rattle.dir_change.specs.Refusals.{unless}
 use Rattle.dir_change.specs.Rename.{directory_after_rename, place_at, renamed_entry, superior_at, superior_key, with_renamed_entry}
-use Rattle.dir_change.specs.declared.operation.Refusal.{Refusal}
+use Rattle.dir_change.specs.declared.refusal.Refusal.{Refusal}
 use Rattle.dir_change.specs.declared.result_code.ResultCode.{ResultCode}
 use Rattle.dir_change.specs.declared.result_code.ResultCode.TheVariants.{AdminLimitExceeded, NoSuchObject, UnwillingToPerform, EntryAlreadyExists}
 use Rattle.dir_change.proofs.Conditions.{parent_snoc, refused_before}

@@ -19,8 +19,8 @@ use Rattle.dir_names.specs.Results.{and_then}
 use Rattle.dir_change.specs.Modify.{entry_after}
 use Rattle.dir_change.specs.Refusals.{entry_or_code, unless}
 use Rattle.dir_change.specs.Rename.{directory_after_rename}
-use Rattle.dir_change.specs.declared.operation.Refusal.{Refusal}
-use Rattle.dir_change.specs.declared.operation.Refusal.TheVariants as refusal
+use Rattle.dir_change.specs.declared.refusal.Refusal.{Refusal}
+use Rattle.dir_change.specs.declared.refusal.Refusal.TheVariants as refusal
 use Rattle.dir_change.specs.declared.result_code.ResultCode.{ResultCode}
 use Rattle.dir_change.specs.declared.result_code.ResultCode.TheVariants.{NoSuchObject, NotAllowedOnNonLeaf, EntryAlreadyExists}
 

@@ -3,8 +3,8 @@ use Rattle.std.specs.Prelude.{◌≡◌, Bool, true, ⊤, cond, Result, Ok, Err}
 use Rattle.dir_tree.specs.Content.{Content}
 use Rattle.dir_tree.specs.declared.fault.EntryFault.{EntryFault}
 use Rattle.dir_tree.specs.declared.fault.EntryFault.TheVariants as entry
-use Rattle.dir_change.specs.declared.operation.Refusal.{Refusal}
-use Rattle.dir_change.specs.declared.operation.Refusal.TheVariants as refusal
+use Rattle.dir_change.specs.declared.refusal.Refusal.{Refusal}
+use Rattle.dir_change.specs.declared.refusal.Refusal.TheVariants as refusal
 use Rattle.dir_change.specs.declared.result_code.ResultCode.{ResultCode}
 use Rattle.dir_change.specs.declared.result_code.ResultCode.TheVariants.{InvalidAttributeSyntax, AttributeOrValueExists, ConstraintViolation, NotAllowedOnRdn, UnwillingToPerform}
 

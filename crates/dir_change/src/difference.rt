@@ -8,7 +8,7 @@ ghost use Rattle.dir_names.specs.Attr.{Attr};
 ghost use Rattle.dir_names.specs.Orders.{attr_cmp};
 ghost use Rattle.dir_names.specs.Sorted.{rises, set_of, with_member};
 ghost use Rattle.dir_change.specs.Difference.{bytes_of, difference_at, has_exactly, modification, modification_if_any, slot_difference, values_missing_in};
-ghost use Rattle.dir_change.specs.declared.operation.Refusal.TheVariants as refusal;
+ghost use Rattle.dir_change.specs.declared.refusal.Refusal.TheVariants as refusal;
 
 use crate::Refusal;
 use dir_ldif::{Mod, ModOp};

@@ -11,7 +11,7 @@ ghost use Rattle.dir_names.specs.Orders.{bytes_eq};
 ghost use Rattle.dir_tree.specs.Content.{StoredAttributes};
 ghost use Rattle.dir_tree.specs.Slots.{with_slot};
 ghost use Rattle.dir_change.specs.Inside.Exchanged.{AreGrowing, AreGrowingAttributes, FitAttributes, all_grown, all_settled, all_shrunk, exchanged_slot, grown_at, grown_by, settled_by, settled_slot, shrunk_by, shrunk_slot};
-ghost use Rattle.dir_change.specs.declared.operation.Refusal.TheVariants as refusal;
+ghost use Rattle.dir_change.specs.declared.refusal.Refusal.TheVariants as refusal;
 
 use crate::Refusal;
 use dir_names::{Bytes, ValueKey};

@@ -10,7 +10,7 @@ ghost use Rattle.dir_change.specs.Increment.{keyed_integer, number_within, sum_t
 ghost use Rattle.dir_change.specs.Modify.{has_integers, keyed_value, slot_after_op, slot_with_sums, values_with};
 ghost use Rattle.dir_change.specs.Operation.{IsRefused};
 ghost use Rattle.dir_change.specs.Refusals.{IsRefusedWith};
-ghost use Rattle.dir_change.specs.declared.operation.Refusal.TheVariants as refusal;
+ghost use Rattle.dir_change.specs.declared.refusal.Refusal.TheVariants as refusal;
 ghost use Rattle.dir_change.specs.declared.result_code.ResultCode.TheVariants as code;
 
 use crate::exchange::add_if_missing;

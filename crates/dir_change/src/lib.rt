@@ -12,6 +12,7 @@ mod laws;
 mod looked;
 mod modify;
 mod operation;
+mod refusal;
 mod rename;
 mod result_code;
 mod touched;
@@ -21,6 +22,7 @@ pub use history::History;
 pub use laws::{
     groups_undo_changes, runs_are_taken_back, runs_stay_in_order, undo_texts_read_back,
 };
-pub use operation::{Refusal, apply};
+pub use operation::apply;
+pub use refusal::Refusal;
 pub use result_code::ResultCode;
 pub use undo::Undo;

@@ -7,7 +7,7 @@ ghost use Rattle.std.specs.FinMap as fin;
 ghost use Rattle.dir_names.specs.Orders.{attr_eq};
 ghost use Rattle.dir_change.specs.Inside.Looked.{AreLooks, LooksAt, adds_or_deletes, all_name_values, all_named, is_free, names_values, with_each, with_names};
 ghost use Rattle.dir_tree.specs.Lent.{lent_key};
-ghost use Rattle.dir_change.specs.declared.operation.Refusal.TheVariants as refusal;
+ghost use Rattle.dir_change.specs.declared.refusal.Refusal.TheVariants as refusal;
 
 use crate::Refusal;
 use crate::exchange::add_if_missing;

@@ -18,7 +18,7 @@ ghost use Rattle.dir_change.specs.Modify.{attributes_after, attributes_after_one
 ghost use Rattle.dir_change.specs.Operation.{IsRefused, directory_after_modify};
 ghost use Rattle.dir_change.specs.Refusals.{IsRefusedWith};
 ghost use Rattle.dir_change.specs.Undo.{modify_if_any, undo_of};
-ghost use Rattle.dir_change.specs.declared.operation.Refusal.TheVariants as refusal;
+ghost use Rattle.dir_change.specs.declared.refusal.Refusal.TheVariants as refusal;
 ghost use Rattle.dir_change.specs.declared.result_code.ResultCode.TheVariants as code;
 
 use crate::difference::{difference, named_keys};

@@ -1,9 +1,7 @@
 //! One change on a directory: accepted with its undo, or refused with a result code.
 
 ghost use Rattle.std.specs.Prelude.{◌≡◌, IfErr, IfOk, IsOk, IsTrue, Ok, OnErr, OnOk, Some};
-ghost use Rattle.dir_change.specs.declared.operation.Refusal.TheVariants.{Memory};
 ghost use Rattle.dir_change.specs.Operation.{IsRefused, IsRefusedWithoutKey, directory_after, step};
-ghost use Rattle.dir_change.specs.Refusals.{entry_refusal};
 ghost use Rattle.dir_names.specs.NameKeys.{name_key};
 ghost use Rattle.dir_tree.specs.WellFormed.{Each, IsWellFormed, IsWithinLimits};
 ghost use Rattle.dir_change.specs.Runs.{group_of};
@@ -14,20 +12,11 @@ use crate::add::add;
 use crate::delete::delete;
 use crate::modify::modify;
 use crate::rename::rename;
-use crate::{ResultCode, Undo};
+use crate::{Refusal, ResultCode, Undo};
 use dir_ldif::{Change, ChangeKind};
-use dir_names::{Dn, DnKey, Memory, NameFault, Schema};
-use dir_tree::{Directory, EntryFault};
-use std::alloc::{AllocError, AllocFailed, Global};
-
-/// Why a change is not applied.
-#[derive(Clone, Copy, PartialEq, Eq, Debug)]
-pub enum Refusal {
-    /// The operation's result code.
-    Code(ResultCode),
-    /// Memory ran out.
-    Memory,
-}
+use dir_names::{Dn, DnKey, NameFault, Schema};
+use dir_tree::Directory;
+use std::alloc::Global;
 
 /// Applies one change as the root identity (RFC 4511, sections 4.6 to 4.9): an add, a delete, a modify
 /// or a rename. Answers the changes that take it back.
@@ -101,43 +90,5 @@ fn key_of(alloc: Global, schema: &Schema, name: &Dn) -> Result<DnKey, Refusal>
         Ok(key) => Ok(key),
         Err(NameFault::Memory) => Err(Refusal::Memory),
         Err(_) => Err(Refusal::Code(ResultCode::NoSuchObject)),
-    }
-}
-
-impl From<AllocError> for Refusal {
-    ghost from_gives = { λ _ e. e ≡ Memory };
-
-    fn from(_error: AllocError) -> Refusal {
-        Refusal::Memory
-    }
-}
-
-impl<T: Drop> From<AllocFailed<T>> for Refusal {
-    ghost from_gives = { λ _ e. e ≡ Memory };
-
-    fn from(_error: AllocFailed<T>) -> Refusal {
-        Refusal::Memory
-    }
-}
-
-impl From<Memory> for Refusal {
-    ghost from_gives = { λ _ e. e ≡ Memory };
-
-    fn from(_error: Memory) -> Refusal {
-        Refusal::Memory
-    }
-}
-
-impl From<EntryFault> for Refusal {
-    ghost from_gives = { λ fault refusal. refusal ≡ entry_refusal fault };
-
-    fn from(fault: EntryFault) -> Refusal {
-        match fault {
-            EntryFault::BadValue => Refusal::Code(ResultCode::InvalidAttributeSyntax),
-            EntryFault::Twice => Refusal::Code(ResultCode::AttributeOrValueExists),
-            EntryFault::NotNamed => Refusal::Code(ResultCode::NotAllowedOnRdn),
-            EntryFault::Single => Refusal::Code(ResultCode::ConstraintViolation),
-            EntryFault::Memory => Refusal::Memory,
-        }
     }
 }

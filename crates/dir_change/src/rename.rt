@@ -20,7 +20,7 @@ ghost use Rattle.dir_change.specs.Inside.Touched.{AreSameApartFrom, types_of};
 ghost use Rattle.dir_change.specs.Operation.{IsRefused};
 ghost use Rattle.dir_change.specs.Rename.{directory_after_rename, pairs_missing_in, place_at, renamed_attributes, renamed_entry, slot_without_value, superior_at, superior_key, without_pair, without_pairs};
 ghost use Rattle.dir_change.specs.Undo.{rename_back_in, rename_to, superior_back_in, undo_of};
-ghost use Rattle.dir_change.specs.declared.operation.Refusal.TheVariants as refusal;
+ghost use Rattle.dir_change.specs.declared.refusal.Refusal.TheVariants as refusal;
 
 use crate::add::{joined_name, parent_key};
 use crate::difference::{difference, insert_key};

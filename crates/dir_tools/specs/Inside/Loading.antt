@@ -20,8 +20,8 @@ use Rattle.dir_ldif.specs.declared.faults.StreamFault.{StreamFault}
 use Rattle.dir_ldif.specs.declared.faults.StreamFault.TheVariants as stream
 use Rattle.dir_tree.specs.WellFormed.{IsSoundEntry, own_part}
 use Rattle.dir_tools.specs.CopyOf.{CopyFault, LoadedCopy, with_content, with_record, with_records}
-use Rattle.dir_change.specs.declared.operation.Refusal.{Refusal}
-use Rattle.dir_change.specs.declared.operation.Refusal.TheVariants as refusal
+use Rattle.dir_change.specs.declared.refusal.Refusal.{Refusal}
+use Rattle.dir_change.specs.declared.refusal.Refusal.TheVariants as refusal
 use Rattle.dir_change.specs.declared.result_code.ResultCode.{ResultCode}
 use Rattle.dir_change.specs.declared.result_code.ResultCode.TheVariants.{EntryAlreadyExists}
 use Rattle.dir_tools.specs.declared.copy.loading.Loading.{Loading}
