@@ -1,11 +1,11 @@
-//! Devices over the system's files and standard streams.
+//! Devices over the system's files and standard streams, and one that drops what it takes.
 
 ghost use Rattle.std.specs.Prelude.{◌≡◌, ◌<◌, ◌≤◌, ⊤, IfOk, None, length};
 ghost use Rattle.std.specs.Io.{ReadsAtMost, WritesAtMost};
 ghost use Rattle.std.specs.Io.KnownBytes.{WriteAppends};
 ghost use Rattle.dir_ldif.specs.Device.{Counts};
 
-use dir_ldif::{DeviceFault, Sink, Source};
+use dir_ldif::{DeviceFault, Sink, Source, Writer};
 use std::io::{self, ErrorKind, Read, Write};
 
 /// A source over a reader. A read that a signal interrupts is made again.
@@ -140,4 +140,11 @@ pub fn write_at_most<W: Sink>(sink: &mut W, bytes: &[u8], most: usize) -> Result
 {
     let n = most.min(bytes.len());
     sink.write(&bytes[..n])
+}
+
+/// A sink that drops what it takes.
+pub(crate) fn dropped() -> Writer<io::Sink>
+    ensures { ⟦<Writer<io::Sink> as Sink>⟧.taken result ≡ None }
+{
+    Writer::new(io::sink())
 }

@@ -6,9 +6,9 @@ ghost use Rattle.dir_conf.specs.SlapdConf.Files.{file_of, includes_in};
 ghost use Rattle.dir_files.specs.Including.{Does, IncludedBelow, IsLevel, IsNotRead, IsUnreadAt, ReadsFiles, ReadsMore, ReadsOrStops, files_of_level, included_by_text, is_known, is_passed_over, new_paths, room_before, text_size};
 ghost use Rattle.dir_files.specs.declared.including.Unread.TheVariants as unread;
 
+use crate::call_faults::not_opened;
 use crate::fault::Fault;
 use crate::files::{FileSystem, Refusal};
-use crate::slapmodify::not_opened;
 use dir_acl::MAX_CONFIG;
 use dir_conf::{ConfFault, ConfFile, FileFault, includes_in};
 use dir_ldif::Source;

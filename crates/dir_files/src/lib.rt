@@ -3,6 +3,7 @@
 #![tactic(auto)]
 
 mod argument;
+mod call_faults;
 mod devices;
 mod escape;
 mod fault;
@@ -19,6 +20,7 @@ pub mod slapacl;
 pub mod slapconf;
 pub mod slapmodify;
 mod system;
+mod teller;
 mod words;
 
 pub use argument::ShownArgument;

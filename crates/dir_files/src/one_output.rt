@@ -4,9 +4,9 @@ ghost use Rattle.std.specs.Prelude.{IfErr};
 ghost use Rattle.dir_files.specs.OneOutput.{Finishes, IsNotPublished, IsUnfinished};
 ghost use Rattle.dir_files.specs.Runs.{Made};
 
+use crate::call_faults::{not_created, not_reported};
 use crate::fault::Fault;
 use crate::files::{FileSystem, Refusal};
-use crate::slapmodify::{not_created, not_reported};
 
 /// Syncs the draft of a file and publishes it, and then writes the report. After a fault nothing is left of the file.
 ///

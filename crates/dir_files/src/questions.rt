@@ -13,12 +13,13 @@ ghost use Rattle.dir_files.specs.Notes.{AreOnQuestions, EndsIfUntold, TellsFor, 
 ghost use Rattle.dir_files.specs.QuestionRuns.{AllQuestionCalls, AnswersOrStops, EndsAnswering, NamesItsAnswers, RefusesRepeated, ReportsAnswers, WritesAnswers, first_repeated_of, options_of};
 ghost use Rattle.dir_files.specs.Runs.{Made};
 
+use crate::call_faults::{not_created, not_opened, not_reported, run_fault};
+use crate::devices::dropped;
 use crate::fault::Fault;
 use crate::files::FileSystem;
 use crate::note::NoteTeller;
 use crate::one_output::finish;
-use crate::slapacl::{hand_over, tell};
-use crate::slapmodify::{dropped, not_created, not_opened, not_reported, run_fault};
+use crate::teller::{hand_over, tell};
 use crate::words::QuestionWords;
 use dir_acl::{Config, Note};
 use dir_ldif::{Line, Sink, Source};

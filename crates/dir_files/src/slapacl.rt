@@ -1,6 +1,6 @@
 //! `slapkit slapacl`: the files that a command line names, and the question over them.
 
-ghost use Rattle.std.specs.Prelude.{◌≡◌, ◌≢◌, ◌++◌, [], ℕ, Err, IfErr, IfOk, IfSome, List, OnErr, OnOk, Option, map};
+ghost use Rattle.std.specs.Prelude.{◌≡◌, ◌++◌, ℕ, IfErr, IfOk, IfSome, List, Option, map};
 ghost use Rattle.dir_acl.specs.Notes.{notes_of};
 ghost use Rattle.dir_names.specs.Table.Builtin.{builtin_rows};
 ghost use Rattle.dir_names.specs.declared.schema.TypeRow.{TypeRow};
@@ -8,17 +8,18 @@ ghost use Rattle.dir_tools.specs.Inside.Asking.{configured_of, configured_under}
 ghost use Rattle.dir_tools.specs.AccessAnswers.{IsTextOf, access_sources};
 ghost use Rattle.dir_tools.specs.AccessReport.{access_terms};
 ghost use Rattle.dir_tools.specs.WordNotes.{notes_on_words};
-ghost use Rattle.dir_files.specs.AccessRuns.{AllAccessCalls, Asks, AsksOrStops, IsEndOfNotes, NamesItsFile, RefusesSameFile, asked_for, first_repeated_file};
-ghost use Rattle.dir_files.specs.FaultArguments.{TellsArgument, handed_over};
-ghost use Rattle.dir_files.specs.Notes.{AreOnWords, EndsIfUntold, IsAfterConfig, MayBeAnswered, TellsFor, WereGiven, told_text};
+ghost use Rattle.dir_files.specs.AccessRuns.{AllAccessCalls, Asks, AsksOrStops, NamesItsFile, RefusesSameFile, asked_for, first_repeated_file};
+ghost use Rattle.dir_files.specs.FaultArguments.{TellsArgument};
+ghost use Rattle.dir_files.specs.Notes.{AreOnWords, EndsIfUntold, IsAfterConfig, TellsFor, told_text};
 ghost use Rattle.dir_files.specs.Runs.{Made};
 
+use crate::call_faults::{not_opened, not_reported, run_fault};
 use crate::fault::Fault;
 use crate::files::FileSystem;
 use crate::note::NoteTeller;
-use crate::slapmodify::{not_opened, not_reported, run_fault};
+use crate::teller::{hand_over, tell};
 use crate::words::AccessWords;
-use dir_acl::{Config, FaultArgument, Note};
+use dir_acl::{Config, Note};
 use dir_ldif::Source;
 use dir_names::{Bytes, Memory, Schema, Texts};
 use dir_tools::{
@@ -119,49 +120,6 @@ fn answer_under<'a, F: FileSystem, T: NoteTeller, R: Source>(
     };
     tell(teller, notes.as_slice(), words.strict)?;
     report(alloc, files, &types, &question, &config, copy)
-}
-
-/// Hands over the argument that a fault is about, where more is to be told than the fault.
-pub(crate) fn hand_over<T: NoteTeller>(
-    teller: &mut T,
-    verbose: bool,
-    argument: Result<Option<FaultArgument>, Memory>,
-)
-    ensures kept { WereGiven (T.arguments teller.old) (T.arguments teller.new) (handed_over verbose argument) }
-    ensures given { T.given teller.new ≡ T.given teller.old }
-    ensures count { T.failures teller.new ≡ T.failures teller.old }
-{
-    if !verbose {
-        return;
-    }
-    if let Ok(Some(argument)) = argument {
-        teller.keep(argument);
-    }
-}
-
-/// Tells the notes, if there are any. Where a strict answer is wanted, that ends the run.
-pub(crate) fn tell<'a, T: NoteTeller>(
-    teller: &mut T,
-    notes: &[Note],
-    strict: bool,
-) -> Result<(), Fault<'a>>
-    ensures given { WereGiven (T.given teller.old) (T.given teller.new) notes.now }
-    ensures untold { EndsIfUntold result (T.failures teller.old) (T.failures teller.new) }
-    ensures ok { OnOk result (MayBeAnswered strict notes.now) }
-    ensures some { OnErr result (notes.now ≢ []) }
-    ensures err { IfErr result (IsEndOfNotes strict) }
-    ensures arguments { T.arguments teller.new ≡ T.arguments teller.old }
-{
-    if notes.is_empty() {
-        return Ok(());
-    }
-    if teller.tell(notes).is_err() {
-        return Err(Fault::NotesUntold);
-    }
-    if strict {
-        return Err(Fault::HasNotes);
-    }
-    Ok(())
 }
 
 /// Asks, and writes the report.

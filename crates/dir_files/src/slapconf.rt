@@ -9,11 +9,11 @@ ghost use Rattle.dir_files.specs.ConfRuns.{AllConfCalls, IsConfFault, MakesForSu
 ghost use Rattle.dir_files.specs.Runs.{Made};
 ghost use Rattle.dir_names.specs.Table.Builtin.{builtin_rows};
 
+use crate::call_faults::{not_created, not_opened, run_fault};
 use crate::fault::Fault;
 use crate::files::FileSystem;
 use crate::including::{not_read, read_files, whole_text};
 use crate::one_output::finish;
-use crate::slapmodify::{not_created, not_opened, run_fault};
 use crate::words::{ConfSource, ConfWords};
 use dir_acl::MAX_CONFIG;
 use dir_conf::{ConfFault, FileFault, Flat, Tally, flat_of_config, flat_of_files};

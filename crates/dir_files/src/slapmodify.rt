@@ -1,6 +1,6 @@
 //! `slapkit slapmodify`: the files that a command line names, and the run over them.
 
-ghost use Rattle.std.specs.Prelude.{◌≡◌, IfErr, IfOk, IfSome, None, Some};
+ghost use Rattle.std.specs.Prelude.{◌≡◌, IfErr, IfOk, IfSome, Some};
 ghost use Rattle.std.specs.Option.{option_copied};
 ghost use Rattle.dir_names.specs.Table.Builtin.{builtin_rows};
 ghost use Rattle.dir_tools.specs.AccessAnswers.{IsTypesFault};
@@ -8,18 +8,19 @@ ghost use Rattle.dir_tools.specs.Headline.{RunOutput};
 ghost use Rattle.dir_tools.specs.RunAnswers.{AnswersRun, IsWholeRun, sources};
 ghost use Rattle.dir_tools.specs.StoppedReading.{HeldBefore};
 ghost use Rattle.dir_tools.specs.Writing.{FlushedInOrder, WroteInOrder};
-ghost use Rattle.dir_files.specs.Faults.{IsModifyFault, IsNotCreated, IsNotOpened, IsNotReported, IsNotWritten, IsRunFault, NamesNoPath};
+ghost use Rattle.dir_files.specs.Faults.{IsModifyFault, NamesNoPath};
 ghost use Rattle.dir_files.specs.Paths.{IsWriteFaultOf, NamesItsPath, RefusesSamePath, first_repeated, outputs_of};
 ghost use Rattle.dir_files.specs.Runs.{AllCalls, AreTypesOf, CallsUnder, Made, Publishes, RunsOver, Syncs, WritesAll, WritesOutputs, WritesReport, changes_text, terms_of, sources_of};
 
+use crate::call_faults::{not_created, not_opened, not_reported, not_written, run_fault};
+use crate::devices::dropped;
 use crate::fault::Fault;
-use crate::files::{FileSystem, Refusal};
+use crate::files::FileSystem;
 use crate::words::{ModifyWords, OutputPaths};
-use dir_ldif::{Sink, Source, Writer};
+use dir_ldif::{Sink, Source};
 use dir_names::Schema;
 use dir_tools::{Buffer, HeldMemory, Output, Summary, ToolFault, run_modify_holding, run_schema};
 use std::alloc::Global;
-use std::io;
 
 /// Runs `slapmodify` on the files that the words name. The attribute types that a configuration defines are read first, in a dry run too,
 /// and its file is let go before another is opened.
@@ -352,62 +353,4 @@ fn modify_fault<'a>(last: Option<u64>, fault: ToolFault) -> Fault<'a>
         (Some(wanted), ToolFault::TooFewGroups(groups)) => Fault::TooFewGroups { wanted, groups },
         (_, fault) => run_fault(fault),
     }
-}
-
-/// The tool's fault, as the program's. The report is written into memory first.
-pub(crate) fn run_fault<'a>(fault: ToolFault) -> Fault<'a>
-    ensures { IsRunFault fault result }
-{
-    match fault {
-        ToolFault::Write(Output::Report) => Fault::Tool(ToolFault::Memory),
-        fault => Fault::Tool(fault),
-    }
-}
-
-/// What it means that a file isn't opened.
-pub(crate) fn not_opened<'a>(path: &'a str, why: Refusal) -> Fault<'a>
-    ensures { IsNotOpened path.entry.now why result }
-{
-    match why {
-        Refusal::Memory => Fault::Tool(ToolFault::Memory),
-        Refusal::Exists | Refusal::Other => Fault::CannotOpen(path),
-    }
-}
-
-/// What it means that a file isn't created.
-pub(crate) fn not_created<'a>(path: &'a str, why: Refusal) -> Fault<'a>
-    ensures { IsNotCreated path.entry.now why result }
-{
-    match why {
-        Refusal::Exists => Fault::Exists(path),
-        Refusal::Memory => Fault::Tool(ToolFault::Memory),
-        Refusal::Other => Fault::CannotOpen(path),
-    }
-}
-
-/// What it means that a file isn't synced or published.
-fn not_written<'a>(path: &'a str, output: Output, why: Refusal) -> Fault<'a>
-    ensures { IsNotWritten path.entry.now output why result }
-{
-    match why {
-        Refusal::Other => Fault::Tool(ToolFault::Write(output)),
-        why => not_created(path, why),
-    }
-}
-
-/// What it means that the report isn't written.
-pub(crate) fn not_reported<'a>(why: Refusal) -> Fault<'a>
-    ensures { IsNotReported why result }
-{
-    match why {
-        Refusal::Memory => Fault::Tool(ToolFault::Memory),
-        Refusal::Exists | Refusal::Other => Fault::Tool(ToolFault::Write(Output::Report)),
-    }
-}
-
-/// A sink that drops what it takes.
-pub(crate) fn dropped() -> Writer<io::Sink>
-    ensures { ⟦<Writer<io::Sink> as Sink>⟧.taken result ≡ None }
-{
-    Writer::new(io::sink())
 }
