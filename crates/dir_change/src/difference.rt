@@ -18,7 +18,7 @@ use std::alloc::Global;
 
 /// The keys of more modifications than this are sorted before they are put together: then each comes after those before it, and
 /// moves none of them. Of fewer, it takes longer to sort them than to move some.
-const MANY_MODS: usize = 64;
+const MOST_UNSORTED_MODS: usize = 64;
 
 /// The modifications that lead from some attributes to others, at these keys. The values that an attribute
 /// keeps are not repeated.
@@ -43,7 +43,7 @@ pub(crate) fn named_keys(alloc: Global, mods: &[Mod]) -> Result<Vec<AttrKey>, Re
     ensures ok { IfOk result (λ keys. keys.items ≡ set_of attr_cmp (map (λ m. m.description.key) mods.now)) }
     ensures memory { IfErr result (λ e. e ≡ refusal.Memory) }
 {
-    if mods.len() > MANY_MODS {
+    if mods.len() > MOST_UNSORTED_MODS {
         return distinct_keys(alloc, sorted_keys(alloc, mods)?.as_slice());
     }
     let mut keys = Vec::new(alloc);

@@ -19,7 +19,7 @@ use std::alloc::Global;
 
 /// If modifications name more keys than this, they look at whole attributes: to find those of each key among all of them
 /// would take time that grows with the square of their number.
-const MANY_KEYS: usize = 1024;
+const MOST_NAMED_KEYS: usize = 1024;
 
 /// What modifications look at under the keys that they name.
 pub(crate) fn looked_at(
@@ -56,7 +56,7 @@ fn looked_part(
     ensures memory { IfErr result (λ e. e ≡ refusal.Memory) }
 {
     let key = attribute.description().key();
-    if count <= MANY_KEYS && is_free(schema, own, key) && all_name_values(key, mods) {
+    if count <= MOST_NAMED_KEYS && is_free(schema, own, key) && all_name_values(key, mods) {
         let named = named_values(alloc, schema, key, mods)?;
         if let Some((one, bytes)) = other_value(attribute, &named) {
             return part_with(alloc, attribute, &named, one, bytes);

@@ -23,8 +23,9 @@ use crate::cn_config::macros::{Macro, definition, with_macros};
 use crate::cn_config::records::{Attribute, read_record, values_of};
 use crate::cn_config::values::Value;
 use crate::fault::ConfFault;
-use crate::flat::{Flat, MAX_TEXT, flat_of_site};
+use crate::flat::{Flat, flat_of_site};
 use crate::site::{Directive, Line, Site};
+use dir_acl::MAX_CONFIG;
 use dir_ldif::{Line as LdifLine, StreamFault, read_blocks};
 use dir_names::{Bytes, DnKey, Schema, Texts};
 use std::alloc::Global;
@@ -46,7 +47,7 @@ pub fn flat_of_config(
 ) -> Result<Flat, ConfFault>
     ensures { GivesConf flat_parts result (flat_of_config schema.now suffix.now text.now) }
 {
-    if text.len() > MAX_TEXT {
+    if text.len() > MAX_CONFIG {
         return Err(ConfFault::TooLong);
     }
     let entries = entries_of(alloc, text)?;

@@ -10,12 +10,9 @@ ghost use Rattle.dir_conf.specs.OwnTypes.{own_types};
 use crate::fault::ConfFault;
 use crate::own_types::own_text;
 use crate::site::{Directive, Line, Site, Tally};
-use dir_acl::push_argument;
+use dir_acl::{MAX_CONFIG, push_argument};
 use dir_names::{Bytes, Memory};
 use std::alloc::Global;
-
-/// The greatest number of bytes of a configuration, and of a flat one.
-pub(crate) const MAX_TEXT: usize = 16_777_216;
 
 /// A flat configuration.
 #[derive(Debug, Drop)]
@@ -31,7 +28,7 @@ pub(crate) fn flat_of_site(alloc: Global, site: &Site) -> Result<Flat, ConfFault
     ensures { GivesConf flat_parts result (flat_of_site (content_of site.now)) }
 {
     let text = flat_text(alloc, site)?;
-    if text.len() > MAX_TEXT {
+    if text.len() > MAX_CONFIG {
         return Err(ConfFault::TooLong);
     }
     let tally = tally_of(site);

@@ -15,5 +15,5 @@ pub use fault::ConfFault;
 pub use flat::{Flat, flat_text};
 pub use laws::{flat_configs_are_read, flat_files_are_read, flat_texts_are_read};
 pub use site::{Directive, Line, Site, Tally};
-pub use slapd_conf::files::{ConfFile, includes_in};
+pub use slapd_conf::files::{ConfFile, MAX_INCLUDE_DEPTH, includes_in};
 pub use slapd_conf::{FileFault, flat_of_files};

@@ -10,17 +10,14 @@ use crate::call_faults::not_opened;
 use crate::fault::Fault;
 use crate::files::{FileSystem, Refusal};
 use dir_acl::MAX_CONFIG;
-use dir_conf::{ConfFault, ConfFile, FileFault, includes_in};
+use dir_conf::{ConfFault, ConfFile, FileFault, MAX_INCLUDE_DEPTH, includes_in};
 use dir_ldif::Source;
 use dir_names::{Bytes, Memory};
 use dir_tools::{Input, ToolFault, read_bounded};
 use std::alloc::{AllocError, AllocFailed, Global};
 
-/// How many files deep the first file's own files may include others.
-const MOST_BELOW: u32 = 15;
-
 /// How many files are read at most, the first one and those that can't be opened among them.
-const MOST_FILES: usize = 1000;
+const MAX_FILES: usize = 1000;
 
 /// The files of a configuration.
 #[derive(Drop)]
@@ -155,7 +152,14 @@ fn read_included<F: FileSystem>(
     let mut known = Vec::new(alloc);
     known.push(Bytes::new(path.to_vec(alloc)?))?;
     let room = MAX_CONFIG - text.len();
-    read_below(alloc, files, MOST_BELOW, known, wanted.as_slice(), room)
+    read_below(
+        alloc,
+        files,
+        MAX_INCLUDE_DEPTH,
+        known,
+        wanted.as_slice(),
+        room,
+    )
 }
 
 /// The files of these paths that are not known, with those that these include, so many times below.
@@ -239,7 +243,7 @@ fn with_new<F: FileSystem>(
 fn is_passed_over(known: &[Bytes], more: &[Bytes], path: &Bytes) -> bool
     ensures { result ≡ is_passed_over (known.now ++ more.now) path.now }
 {
-    known.len().saturating_add(more.len()) >= MOST_FILES
+    known.len().saturating_add(more.len()) >= MAX_FILES
         || is_known(known, path)
         || is_known(more, path)
 }

@@ -11,14 +11,14 @@ ghost use Rattle.dir_questions.specs.Questions.{asked_word, base_in, collect, fa
 ghost use Rattle.dir_questions.specs.Runs.{HasLines, HasNoLines};
 
 use crate::fault::{QuestionCause, QuestionsFault};
-use dir_acl::{Level, Privileges};
+use dir_acl::{Level, MAX_CONFIG, Privileges};
 use dir_ldif::{Line, Source, StreamFault, line_parts, read_blocks};
 use dir_names::{Dn, DnKey, Memory, Schema};
 use dir_tools::{ToolFault, Word, read_bounded, read_name, read_word};
 use std::alloc::Global;
 
-/// The greatest length of a file of questions, in bytes.
-const MAX_QUESTIONS: usize = 16_777_216;
+/// The greatest length of a file of questions, in bytes: `read_bounded` reads it as it reads a configuration.
+const MAX_QUESTIONS: usize = MAX_CONFIG;
 
 /// The answer where the copy has no such entry.
 pub(crate) const NO_SUCH_ENTRY: &[u8] = b"no such entry";

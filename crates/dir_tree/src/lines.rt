@@ -16,7 +16,7 @@ use std::alloc::Global;
 
 /// If an entry has more lines than this, they are sorted before they are added, so that each value goes
 /// to the end of its attribute.
-const MANY_LINES: usize = 64;
+const MOST_UNSORTED_LINES: usize = 64;
 
 /// A line of an entry with the key of its value.
 #[derive(Drop)]
@@ -68,7 +68,7 @@ fn attributes_if_distinct(alloc: Global, lines: Vec<KeyedLine>) -> Result<Attrib
 {
     let mut lines = lines;
     let mut attributes = AttributeMap::empty(alloc);
-    if lines.len() > MANY_LINES {
+    if lines.len() > MOST_UNSORTED_LINES {
         attributes = sort_lines(alloc, &mut lines)?;
     }
     add_all(alloc, &mut attributes, lines)?;

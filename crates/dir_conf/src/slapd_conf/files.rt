@@ -6,14 +6,13 @@ ghost use Rattle.dir_conf.specs.SlapdConf.Files.{after_file, after_line, file_of
 ghost use Rattle.dir_conf.specs.SlapdConf.Lines.{line_by};
 
 use crate::fault::ConfFault;
-use crate::flat::MAX_TEXT;
 use crate::slapd_conf::lines::{TextLine, lines_in};
-use dir_acl::line_words;
+use dir_acl::{MAX_CONFIG, line_words};
 use dir_names::{Bytes, Memory};
 use std::alloc::Global;
 
-/// How many files deep the first file's own files may include others.
-const MOST_BELOW: u32 = 15;
+/// How many files deep a configuration may include others, below its first file.
+pub const MAX_INCLUDE_DEPTH: u32 = 15;
 
 /// A file of a configuration.
 #[derive(Debug, Drop)]
@@ -89,7 +88,7 @@ pub(crate) fn lines_of_files(
         lines: Vec::new(alloc),
     };
     let found = match text_of_first(files) {
-        Some(text) => after_file(alloc, files, MOST_BELOW, 0, text, found)?,
+        Some(text) => after_file(alloc, files, MAX_INCLUDE_DEPTH, 0, text, found)?,
         None => found,
     };
     Ok(found.lines)
@@ -108,7 +107,7 @@ fn after_file(
     ensures { GivesConf found_by result (after_file (map file_of files.now) below (file, text.now) (found_by found)) }
 {
     let size = match found.size.checked_add(text.len()) {
-        Some(size) if size <= MAX_TEXT => size,
+        Some(size) if size <= MAX_CONFIG => size,
         _ => return Err(ConfFault::TooLong),
     };
     let lines = lines_in(alloc, text)?;

@@ -21,7 +21,7 @@ use std::mem;
 pub const MAX_LINE: usize = 2_097_152;
 
 /// For at most how many lines room is made at once: as many as the block before had.
-const MAX_ROOM: usize = 64;
+const MOST_ROOM: usize = 64;
 
 /// A logical line of a text: its physical lines, unfolded (RFC 2849, notes 1 to 3), with the number of the first of them.
 #[derive(Debug, Drop)]
@@ -240,7 +240,7 @@ impl Unfolder {
         ensures number { self.new.number ≡ self.old.number }
         ensures partial { self.new.partial ≡ self.old.partial }
     {
-        let room = self.block.len().min(MAX_ROOM);
+        let room = self.block.len().min(MOST_ROOM);
         let next = match Vec::with_capacity(self.alloc, room) {
             Ok(next) => next,
             Err(_) => Vec::new(self.alloc),

@@ -29,16 +29,16 @@ const MISSES: u8 = 16;
 const MULTIPLIER: u64 = 0x9e37_79b9_7f4a_7c15;
 
 /// The length of the longest text whose parent is sought, in bytes. A longer one takes as long without it.
-const MAX_TEXT: usize = 2048;
+const MOST_TEXT: usize = 2048;
 
 /// The length of the longest text of a parent that is remembered, in bytes.
-const MAX_PARENT_TEXT: usize = 256;
+const MOST_PARENT_TEXT: usize = 256;
 
 /// The greatest number of pairs of type and value, in all RDNs, of a parent that is remembered.
-const MAX_PARENT_PAIRS: usize = 8;
+const MOST_PARENT_PAIRS: usize = 8;
 
 /// The length of the longest text that the key of a parent is ordered by, in bytes, if it is remembered.
-const MAX_PARENT_KEY: usize = 1024;
+const MOST_PARENT_KEY: usize = 1024;
 
 /// Reads names one after the other. After some of them it remembers parents that come again: of a name below
 /// one of these only the leaf is read.
@@ -88,12 +88,12 @@ impl NameReader {
             self.first_names += 1;
             return None;
         }
-        if text.len() > MAX_TEXT {
+        if text.len() > MOST_TEXT {
             return None;
         }
         let (leaf, above) = split_once_unescaped(text, b',');
         let above = above?;
-        if above.is_empty() || above.len() > MAX_PARENT_TEXT {
+        if above.is_empty() || above.len() > MOST_PARENT_TEXT {
             return None;
         }
         let hash = hash_of(above);
@@ -226,7 +226,7 @@ impl KnownParent {
         ensures { IfOk result (λ parent. IfSome parent (λ parent. parent.text.items ≡ text.now)) }
     {
         schema.keeps_builtin_types();
-        if pairs_at_most(text) > MAX_PARENT_PAIRS {
+        if pairs_at_most(text) > MOST_PARENT_PAIRS {
             return Ok(None);
         }
         let name = Dn::read(alloc, text)?;
@@ -234,7 +234,7 @@ impl KnownParent {
             return Ok(None);
         }
         let key = name.key(alloc, schema)?;
-        if key.sort_text().len() > MAX_PARENT_KEY {
+        if key.sort_text().len() > MOST_PARENT_KEY {
             return Ok(None);
         }
         let text = text.to_vec(alloc)?;

@@ -21,10 +21,10 @@ use std::alloc::Global;
 use std::collections::BTreeMap;
 
 /// An entry with more lines than this is large.
-const FEW_LINES: usize = 64;
+const MOST_LINES: usize = 64;
 
 /// An entry whose values have more bytes than this is large.
-const FEW_BYTES: usize = 4096;
+const MOST_BYTES: usize = 4096;
 
 /// A copy as far as it was read: the entries whose parents were there, and those that wait for theirs.
 #[derive(Drop)]
@@ -233,14 +233,14 @@ fn is_taken_from_large<D: Directory>(directory: &D, key: &DnKey, lines: &Lines) 
 /// Whether lines are many or have many bytes.
 fn is_large(lines: &Lines) -> bool {
     let lines = lines.as_slice();
-    if lines.len() > FEW_LINES {
+    if lines.len() > MOST_LINES {
         return true;
     }
     let mut bytes: usize = 0;
     for (_, value) in lines {
         bytes = bytes.saturating_add(value.as_slice().len());
     }
-    bytes > FEW_BYTES
+    bytes > MOST_BYTES
 }
 
 /// Puts an entry into a directory. It comes back where its parent is missing.

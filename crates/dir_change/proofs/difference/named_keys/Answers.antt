@@ -14,8 +14,8 @@ if_ok (Err e) f p = p
 pub insert_key-requires : goal.insert_key-requires
 insert_key-requires c = ap (rises attr_cmp) c.loop-m.invariant ∙ set_rises (map (λ (m : Mod). m.description.key) (take c.loop-m.m-index c.args.mods.now))
 
-pub returns-then-mods-gt-MANY_MODS-clause-ok : goal.returns-then-mods-gt-MANY_MODS-clause-ok
-returns-then-mods-gt-MANY_MODS-clause-ok c =
+pub returns-then-mods-gt-MOST_UNSORTED_MODS-clause-ok : goal.returns-then-mods-gt-MOST_UNSORTED_MODS-clause-ok
+returns-then-mods-gt-MOST_UNSORTED_MODS-clause-ok c =
     if_ok c.distinct_keys.result (λ keys distinct. distinct ∙ ap (set_of attr_cmp) c.as_slice.ensures.value ∙ same_set _ _ c.in_ok-sorted_keys.ensures.ok) c.distinct_keys.ensures.ok
 
 pub loop-m-preserved : goal.loop-m-preserved
