@@ -13,8 +13,8 @@ use std::alloc::Global;
 /// part, and all would be made twice. A change of a person names fewer.
 const MOST_KEYS: usize = 16;
 
-/// Attributes that have more values than this together, but for one of each, are not copied whole to be changed. One is
-/// looked at in any case; to copy eight for a modify that is refused at its first value takes longer than to look at less.
+/// Copy whole attributes only if they have at most this many values beyond the first of each. The first is looked at in any
+/// case; to copy eight for a modify that is refused at its first value takes longer than to look at less.
 const MOST_OTHER_VALUES: usize = 4;
 
 /// Attributes whose values have more bytes than this together are not copied whole to be changed, for the same reason.

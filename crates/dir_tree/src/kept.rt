@@ -25,7 +25,7 @@ use std::marker::Model;
 /// An entry with more values than this is not packed, so that its first change need not open it.
 const MOST_PACKED: usize = 1024;
 
-/// An entry with more values than this is not packed again after a change, so that the next one need not open it.
+/// The most values of an entry that is packed again after a change. Larger entries stay unpacked, so the next change needs no unpacking.
 const MOST_PACKED_AGAIN: usize = 64;
 
 /// The form of an entry's attributes.
