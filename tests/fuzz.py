@@ -3,7 +3,7 @@
 
 usage: fuzz.py PROGRAM [--seed S] [--runs N] [--minutes M] [--jobs J] [--failures FOLDER]
 
-Each case begins with texts that are right, or with the random directories of operations.py, and changes bytes, lines, words, records,
+Each case begins with texts that are right, or with the random directories of random_changes.py, and changes bytes, lines, words, records,
 folds, base64, names, options and characters of them, and tokens of definitions of attribute types. Some runs are under the types of the
 configuration (slapmodify -f); questions always are. Some are of the first groups of changes that have marks (slapmodify --last). Then
 
@@ -35,7 +35,7 @@ import traceback
 import definitions
 import flat
 import names
-import operations
+import random_changes
 import type_forms
 from access import Question, access_answer, read_config
 from answers import answer
@@ -120,7 +120,7 @@ CONFIGS = WHOLE_CONFIGS + [rules.config for rules in RULES.values()]
 FIXED = [example()] + [
     (texts.suffix, texts.copy, texts.changes, texts.config and CONFIG_OF_TYPES + texts.config) for texts in TEXTS.values() if len(texts.copy) < 4096
 ]
-# definitions beside those of operations.py: of types that the rules above and the words below name, and of each right form
+# definitions beside those of random_changes.py: of types that the rules above and the words below name, and of each right form
 DEFINITIONS = [
     "( 2.5.4.42 NAME ( 'givenName' 'gn' ) )",
     "( 0.9.2342.19200300.100.1.3 NAME ( 'mail' 'rfc822Mailbox' ) SUP x )",
@@ -136,7 +136,7 @@ RIGHT_DEFINITIONS = [names.as_text(text) for right, _ in type_forms.DEFINITIONS.
 def more_definitions(rng):
     """Lines that define other types, the most often such that fit together."""
     chosen = rng.sample(DEFINITIONS, rng.choice([0, 1, 2])) + rng.sample(RIGHT_DEFINITIONS, rng.choice([0, 0, 1]))
-    return [operations.random_line(rng, definition) for definition in chosen]
+    return [random_changes.random_line(rng, definition) for definition in chosen]
 
 
 def with_lines_between(rng, config, lines):
@@ -149,12 +149,12 @@ def with_lines_between(rng, config, lines):
 
 def random_texts(rng):
     """A random directory with changes of it."""
-    directory = operations.random_directory(rng, rng.choice([0, 0, 0, 3]), rng.choice([2, 5, 9]))
-    copy, planned, printed = directory.text(), operations.Planned(), operations.freely_printed(rng)
+    directory = random_changes.random_directory(rng, rng.choice([0, 0, 0, 3]), rng.choice([2, 5, 9]))
+    copy, planned, printed = directory.text(), random_changes.Planned(), random_changes.freely_printed(rng)
     for _ in range(rng.choice([1, 3, 6, 12])):
         if not directory.entries:
             break
-        planned.make(directory, operations.random_change(rng, directory), printed)
+        planned.make(directory, random_changes.random_change(rng, directory), printed)
     return "dc=com", copy.encode(), planned.text.encode(), None
 
 
@@ -347,9 +347,9 @@ def random_question(rng, suffix, copy):
 
 
 def random_case(rng):
-    types, spellings = operations.random_definitions(rng)
+    types, spellings = random_changes.random_definitions(rng)
     has_definitions = rng.random() < 0.5
-    with operations.under_types("".join(types), spellings) if has_definitions else contextlib.nullcontext():
+    with random_changes.under_types("".join(types), spellings) if has_definitions else contextlib.nullcontext():
         suffix, copy, changes, config = random_texts(rng) if rng.random() < 0.5 else rng.choice(FIXED)
     if config is None:
         config = rng.choice(CONFIGS).replace(b"dc=com", suffix.encode())
@@ -413,7 +413,7 @@ def with_site_word(rng, data):
 def random_site(rng):
     """Files that are right, most often after some changes."""
     config = rng.choice(CONFIGS)
-    types, _ = operations.random_definitions(rng)
+    types, _ = random_changes.random_definitions(rng)
     config = with_lines_between(rng, config, types + more_definitions(rng)) if rng.random() < 0.5 else config
     if rng.random() < 0.5:
         files = {"config": rng.choice([SITES["a cn=config"]["config"], in_cn_config(config)])}

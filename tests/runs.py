@@ -1,12 +1,14 @@
-"""Runs the program many times: on short texts, in a folder in memory."""
+"""Runs the program: many times on short texts, in a folder in memory, or on the changes of a folder."""
 import os
 import pathlib
 import signal
+import subprocess
 import tempfile
 
-from checks import Wrong
+from checks import Wrong, expect
 
 SECONDS = 10
+SECONDS_OF_CHANGES = 60
 MEMORY = "/dev/shm"
 # where folders are made, for many short runs
 IN_MEMORY = MEMORY if os.path.isdir(MEMORY) else None
@@ -87,3 +89,13 @@ def is_message(message, tool):
 
 def too_long(*_):
     raise TimeoutError
+
+
+def run_changes(program, folder, copy, changes, new, undo, *options):
+    """The exit status and the report of a run in a folder, under its configuration `conf`, if it has one."""
+    words = [program, "slapmodify", "-b", "dc=com", "--data", copy, "-l", changes, "--out", new, "--undo", undo, *options]
+    if pathlib.Path(folder, "conf").exists():
+        words += ["-f", "conf"]
+    ended = subprocess.run(words, cwd=folder, stdin=subprocess.DEVNULL, capture_output=True, timeout=SECONDS_OF_CHANGES)
+    expect(ended.stderr.decode(), "", "standard error")
+    return ended.returncode, ended.stdout.decode()

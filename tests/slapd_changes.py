@@ -33,10 +33,11 @@ import definitions
 import ldif
 import model
 import names
-import operations
+import random_changes
 import slapd
 from model import Add, Modify, Refused, Rename
 from names import Rule, description_key, name_key, value_key
+from runs import run_changes
 from slapd import SCHEMA
 from texts import block
 
@@ -44,7 +45,7 @@ SUFFIX = "dc=com"
 ROOT = "cn=root,dc=com"
 CLASS = ("objectClass", "thing")
 CONF = "slapd.conf"
-# Types beside those of operations.py, with values that are of their syntax: here no syntax is checked beyond what comparing needs.
+# Types beside those of random_changes.py, with values that are of their syntax: here no syntax is checked beyond what comparing needs.
 MORE = {
     "displayname": (["displayName", "DISPLAYNAME"], ["A b", "a  B", "c"]),
     "homedirectory": (["homeDirectory"], ["/home/a", "/home/A", "/home/a "]),
@@ -146,7 +147,7 @@ def under_one_name(change):
 
 
 def drawn(rng, directory):
-    while is_left_out(change := operations.random_change(rng, directory)):
+    while is_left_out(change := random_changes.random_change(rng, directory)):
         pass
     return under_one_name(change)
 
@@ -160,7 +161,7 @@ def sent(change, printed):
     return (Add(change.dn, [CLASS, *change.lines]) if isinstance(change, Add) else change).text(printed)
 
 
-def short_lines(rng, make=operations.many_lines):
+def short_lines(rng, make=random_changes.many_lines):
     """Many lines of an entry; no value is longer than slapd's database takes in a name."""
     return [(name, value.lstrip("x")) for name, value in make(rng)]
 
@@ -170,12 +171,12 @@ def any_value(make, types, rng, kind):
 
 
 def set_draw(types):
-    """Draws the changes of operations.py among more types, without the letter that slapd holds apart from "ss", and without numbers past its 64 bits."""
-    operations.BUILT_IN_SPELLINGS.update((kind, spellings) for kind, (spellings, _) in types.items())
-    operations.set_types(operations.BUILT_IN_SPELLINGS)
-    operations.TEXTS[:] = [text for text in operations.TEXTS if "\u00df" not in text]
-    operations.AMOUNTS[:] = [amount for amount in operations.AMOUNTS if len(amount) < 19]
-    operations.many_lines, operations.random_value = short_lines, functools.partial(any_value, operations.random_value, types)
+    """Draws the changes of random_changes.py among more types, without the letter that slapd holds apart from "ss", and without numbers past its 64 bits."""
+    random_changes.BUILT_IN_SPELLINGS.update((kind, spellings) for kind, (spellings, _) in types.items())
+    random_changes.set_types(random_changes.BUILT_IN_SPELLINGS)
+    random_changes.TEXTS[:] = [text for text in random_changes.TEXTS if "\u00df" not in text]
+    random_changes.AMOUNTS[:] = [amount for amount in random_changes.AMOUNTS if len(amount) < 19]
+    random_changes.many_lines, random_changes.random_value = short_lines, functools.partial(any_value, random_changes.random_value, types)
 
 
 # ---- slapd
@@ -188,7 +189,7 @@ class Server:
         self.folder, self.running = pathlib.Path(folder), None
         self.url = "ldapi://" + urllib.parse.quote(f"{folder}/socket", safe="")
         loads = "".join(f"include {SCHEMA}/{name}.schema\n" for name in ("core", "cosine", "nis", "inetorgperson"))
-        types = " $ ".join({spellings[0].partition(";")[0] for spellings in operations.TYPES.values()})
+        types = " $ ".join({spellings[0].partition(";")[0] for spellings in random_changes.TYPES.values()})
         thing = f"objectclass ( 1.3.6.1.4.1.32473.9 NAME 'thing' SUP top STRUCTURAL MAY ( {types} ) )\n"
         database = f"database mdb\nsuffix {SUFFIX}\nrootdn {ROOT}\nrootpw secret\ndirectory {folder}/db\ndbnosync\n"
         self.folder.joinpath(CONF).write_text(f"{loads}{NOTE}{thing}modulepath /usr/lib/ldap\nmoduleload back_mdb\n{database}")
@@ -339,15 +340,15 @@ def slapkit_run(program, folder, copy, changes):
     """The exit status and the report, the new copy and the undo file."""
     for name, text in (("copy.ldif", copy), ("changes.ldif", changes)):
         folder.joinpath(name).write_text(text)
-    answer = operations.run(program, folder, "copy.ldif", "changes.ldif", "new.ldif", "undo.ldif", "-c")
+    answer = run_changes(program, folder, "copy.ldif", "changes.ldif", "new.ldif", "undo.ldif", "-c")
     return answer, folder.joinpath("new.ldif").read_text(), folder.joinpath("undo.ldif").read_text()
 
 
 def a_run(program, seed, count, flat, counts):
     rng = random.Random(f"slapd {seed}")
-    directory = operations.random_directory(rng, 0)
+    directory = random_changes.random_directory(rng, 0)
     copy, first, texts, codes = text_of(directory), content_of(directory), [], []
-    printed = operations.freely_printed(rng)
+    printed = random_changes.freely_printed(rng)
     with tempfile.TemporaryDirectory() as folder, Server(folder) as server:
         if flat:
             server.folder.joinpath("conf").write_bytes(flat)
