@@ -19,7 +19,7 @@ test:
 
 # Runs the program on files and on large inputs, with each of its calls for memory and on files refused in turn, and kills it at many moments.
 trial: $(PROGRAM)
-	tests/trial.py $(PROGRAM)
+	tests/trial/trial.py $(PROGRAM)
 
 # Plants the bugs that the gate leaves out, of all crates or of one (make bugs CRATE=dir_ldif): the prover must refuse each.
 bugs:

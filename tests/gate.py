@@ -136,7 +136,7 @@ def try_wrong_bodies():
 def start_trial(said):
     """Starts the trial of the program that `rt ci` has built. What it says goes into this file."""
     program = ROOT / "crates/slapkit/out/slapkit"
-    return subprocess.Popen([sys.executable, ROOT / "tests/trial.py", program], stdin=subprocess.DEVNULL, stdout=said, stderr=subprocess.STDOUT)
+    return subprocess.Popen([sys.executable, ROOT / "tests/trial/trial.py", program], stdin=subprocess.DEVNULL, stdout=said, stderr=subprocess.STDOUT)
 
 
 def try_all():
@@ -146,7 +146,7 @@ def try_all():
             ended, refused = try_wrong_bodies()
         said.seek(0)
         shutil.copyfileobj(said, sys.stdout)
-    failed = ["must-fail/"] * (ended != 0) + ["tests/trial.py"] * (trial.returncode != 0)
+    failed = ["must-fail/"] * (ended != 0) + ["tests/trial/trial.py"] * (trial.returncode != 0)
     return refused, failed
 
 

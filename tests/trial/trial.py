@@ -7,7 +7,7 @@ import pathlib
 import subprocess
 import sys
 
-HERE = pathlib.Path(__file__).resolve().parent
+TESTS = pathlib.Path(__file__).resolve().parents[1]
 SCRIPTS = (
     "program.py",
     "records.py",
@@ -37,7 +37,7 @@ def main():
     failed = []
     for script in SCRIPTS:
         print(f"== tests/{script}", flush=True)
-        if subprocess.run([sys.executable, HERE / script, *sys.argv[1:]]).returncode:
+        if subprocess.run([sys.executable, TESTS / script, *sys.argv[1:]]).returncode:
             failed.append(f"tests/{script}")
     print(f"trial: FAILED: {' '.join(failed)}" if failed else f"trial: {len(SCRIPTS)} scripts passed")
     sys.exit(1 if failed else 0)
