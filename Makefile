@@ -23,7 +23,7 @@ trial: $(PROGRAM)
 
 # Plants the bugs that the gate leaves out, of all crates or of one (make bugs CRATE=dir_ldif): the prover must refuse each.
 bugs:
-	tests/bugs.py $(CRATE)
+	tests/prover/bugs.py $(CRATE)
 
 # The program, its manual pages, and completions for bash, zsh and fish.
 install: $(PROGRAM)

@@ -10,7 +10,7 @@ Where something failed, the ends of what was said of it come once more before th
 
 Each proof has one processor. Where some are idle, `rt ci` would give one proof several, which ends sooner and takes half as much
 processor time again. RT_JOBS says otherwise. `rt ci` tries wrong bodies too, those of crates/*/must-fail/, each by a check of the whole crate, after it
-has proved that crate a second time: a third of the gate's time. So there are none there: tests/bugs.py has each tried by a check of the function
+has proved that crate a second time: a third of the gate's time. So there are none there: tests/prover/bugs.py has each tried by a check of the function
 that must be refused, over the libraries that `rt ci` has just built. The trial has work for one processor at most times, so it runs meanwhile; what it says is
 printed after it.
 """
@@ -27,10 +27,8 @@ import tempfile
 import threading
 import time
 
-from machine import proofs_at_once
-
-ROOT = pathlib.Path(__file__).resolve().parent.parent
-
+from harness.repository import ROOT
+from prover.machine import proofs_at_once
 
 # How many lines of what failed are printed again.
 LINES = 12
@@ -126,7 +124,7 @@ def try_wrong_bodies():
     """Has the prover try the wrong bodies of must-fail/, and returns the exit status and how many were refused."""
     refused = 0
     print("== wrong bodies (must-fail/)", flush=True)
-    with subprocess.Popen([sys.executable, ROOT / "tests/bugs.py", "--listed", "--after-ci"], stdout=subprocess.PIPE, text=True, errors="replace") as running:
+    with subprocess.Popen([sys.executable, ROOT / "tests/prover/bugs.py", "--listed", "--after-ci"], stdout=subprocess.PIPE, text=True, errors="replace") as running:
         for line in running.stdout:
             print(line, end="", flush=True)
             refused += ": refused, as it must be: " in line

@@ -1,0 +1,1 @@
+"""Texts that more than one script tries."""

@@ -1,0 +1,1 @@
+"""What works on the Rattle sources, their proofs and the prover."""

@@ -1,0 +1,56 @@
+"""Short texts of slapd.conf(5) that try how slapd joins lines, and what its includes, parts, definitions and macros mean."""
+from slapd.openldap import SCHEMA
+
+HEAD = f"include {SCHEMA}/core.schema\ninclude {SCHEMA}/cosine.schema\nmodulepath /usr/lib/ldap\nmoduleload back_mdb\n"
+PART = "database mdb\nsuffix dc=com\ndirectory @/data\n"
+CN, SN = "access to attrs=cn by * read\n", "access to attrs=sn by * search\n"
+ROOM = "attributetype ( 1.3.6.1.4.1.32473.1 NAME 'room' SUP name )\n"
+# short texts after the schema files, and the files that they include; `@` is their folder
+LINES = [
+    (f"{CN}backend mdb\n{SN}{PART}access to * by * none\n", {}),
+    ("DATABASE FRONTEND\nAccess TO attrs=cn BY * Read\nDatabase MDB\nSUFFIX dc=com\nDirectory @/data\nROOTDN cn=r,dc=com\nACCESS to * by Self =W BY users +R Break\n", {}),
+    (f"database Config\n{CN}rootpw x\ndatabase MONITOR\n{SN}{PART}access to * by * none\n", {}),
+    (f"include {SCHEMA}/nis.schema\n  {CN}{PART}{SN}", {}),
+    (f"{PART}{SN}InClude @/x\n\taccess to attrs=l by * read\n{CN}", {"x": "access to attrs=st by * read\n"}),
+    (f"include @/x\\\n{PART}{SN}", {"x\\": CN}),
+    (f"{PART}access to attrs=c\\\nn by * read\n{SN}", {}),
+    (f"{PART}access to attrs=cn \\\nby self write \\\n  by * read\n{SN}", {}),
+    (f"{PART}# a note \\\n{CN}{SN}", {}),
+    (f"{PART}# a note\n  {CN}{SN}", {}),
+    (f"{PART}loglevel stats \\\nnone\n{SN}", {}),
+    (f"{PART}{CN}logfile @/log\\\\\n{SN}", {}),
+    (f"{PART}{CN}  # a note\n{SN}", {}),
+    (f"{PART}{CN[:-1]} \\\n\n{SN}", {}),
+    (f"{PART}{CN[:-1]}\r\n{SN[:-1]}\r\n", {}),
+    (f"{PART}access to attrs=cn\n \n  by * read\n{SN}", {}),
+    (f"{PART}access to attrs=cn\n\x0c by self write\n\x0bby * read\n{SN}", {}),
+    (f"{PART}access to attrs=cn\t by  *\t\tread\n{SN}", {}),
+    (f"{PART}include @/x\n  {SN}", {"x": CN[:-1]}),
+    (f"{PART}include @/x\n{SN}", {"x": CN[:-1]}),
+    (f"{PART}include @/x\n{SN}", {"x": "logfile @/log\\\n"}),
+    (f"{CN}include @/x\naccess to attrs=l by * read\n", {"x": f"{PART}{SN}"}),
+    (f"include @/x\n{PART}access to attrs=l by * read\ninclude @/y\n{SN}", {"x": CN, "y": "database frontend\naccess to attrs=st by * read\n"}),
+    (f"{PART}{CN}include @/x\n{SN}", {"x": f"access to attrs=l by * read\ndatabase mdb\nsuffix dc=org\ndirectory @/other\n{CN}"}),
+    (f"{PART}include \"@/x y\"\ninclude @/x\\ y\n{SN}", {"x y": CN}),
+    (f"{PART}include @/x\ninclude @/x\n{SN}", {"x": CN}),
+    (f"include x\n{PART}{SN}", {"x": "include y\n", "y": CN}),
+    (f"rootdn cn=g,dc=com\n{PART}rootdn cn=r,dc=com\nrootdn cn=s,dc=com\n{SN}", {}),
+    (f"rootdn cn=g,dc=com\n{PART}{SN}", {}),
+    (f"{PART}rootdn\n{SN}", {}),
+    (f"moduleload memberof\n{PART}{CN}overlay memberof\n{SN}rootdn cn=r,dc=com\n", {}),
+    (f"moduleload memberof\noverlay memberof\n{CN}{PART}{SN}", {}),
+    (f"\"access\" to attrs=cn by * read\n{PART}{SN}", {}),
+    (f"{PART}access to dn.base=\"o=a\\\\2cb,dc=com\" by dn.base=cn=\\a,dc=com read by dn.base=cn=\"b\"c,dc=com search\n{SN}", {}),
+    (f"{PART}access to filter=\"(cn=a b)\" by * read\naccess to \"filter=(cn=a\\\\28b)\" by * read\n", {}),
+    *((f"{word}{ROOM[13:]}{PART}access to attrs=room by * read\n", {}) for word in ("attribute", "attributetypes", "AttributeType", "attributefoo", "attributeoption", "attributeoptionsx")),
+    (f"attributeoptions x- y-\n{PART}access to attrs=cn;x-a by * read\n", {}),
+    (f"{ROOM[:-1]} # a note\n{PART}access to attrs=room by * read\n", {}),
+    (f"\"attributetype\"{ROOM[13:]}{PART}access to attrs=room by * read\n", {}),
+    (f"attributetype \"{ROOM[14:-1]}\"\n{PART}access to attrs=room by * read\n", {}),
+    (f"attributetype(1.3.6.1.4.1.32473.1 NAME 'room' SUP name)\n{PART}{SN}", {}),
+    (f"attributetype (1.3.6.1.4.1.32473.1\n\tname 'room'\n\tDESC 'a \"b  c\\'\n\tsup name)\n{PART}access to attrs=room by * read\n", {}),
+    (f"{PART}{ROOM}access to attrs=room by * read\n", {}),
+    (f"objectidentifier my 1.3.6.1.4.1.32473\nobjectidentifier at my:1\nobjectidentifier MY 1.3.6.1.4.1.32473.9\n{ROOM.replace('1.3.6.1.4.1.32473.1', 'at:5')}{ROOM.replace('1.3.6.1.4.1.32473.1', 'MY:1.2').replace('room', 'hall')}{PART}access to attrs=room,hall by * read\n", {}),
+    (f"objectidentifier my 1.3.6.1.4.1.32473\nobjectidentifier my 1.3.6.1.4.1.32473\n{ROOM.replace('1.3.6.1.4.1.32473.1', 'my:1')}{PART}access to attrs=room by * read\n", {}),
+    (f"objectidentifier \"my\" \"1.3.6.1.4.1.32473.1\"\nobjectidentifier str 1.3.6.1.4.1.1466.115.121.1.15\nattributetype ( my NAME 'room' EQUALITY caseIgnoreMatch SYNTAX str{{64}} )\n{PART}access to attrs=room by * read\n", {}),
+]
