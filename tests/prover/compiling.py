@@ -5,7 +5,8 @@ import tempfile
 
 from harness.repository import ROOT
 from prover.copies import check_command, copy_of_crates
-from prover.edits import are_apart, folder_of, function_at, in_groups, lines_of, plant, read, unplant, words
+from prover.edits import are_apart, folder_of, in_groups, plant, read, unplant, words
+from prover.rattle_source import source_of
 
 
 def code(text):
@@ -29,15 +30,16 @@ def names_taken_away(crate, changes):
     """Names that the proofs of a changed function cite, and that the function has no more."""
     gone = set()
     for change in changes:
-        before = lines_of(change.file)
-        name, begin, end = function_at(before, change.line)
-        if name is None:
+        source = source_of(change.file)
+        function = source.function_at(change.line)
+        if function is None:
             continue
-        after = [next((c.new for c in changes if (c.file, c.line) == (change.file, n)), before[n]) for n in range(begin, end)]
+        new = {it.line: it.new for it in changes if it.file == change.file}
+        after = "\n".join(new.get(number, source.lines[number]) for number in function.lines)
         cited = set()
-        for proof in (ROOT / "crates" / crate / "proofs").glob(f"**/{name}/*.antt"):
+        for proof in (ROOT / "crates" / crate / "proofs").glob(f"**/{function.name}/*.antt"):
             cited |= words(proof.read_text())
-        gone |= (words("\n".join(before[begin:end])) - words("\n".join(after))) & cited
+        gone |= (words(source.text_of(function)) - words(after)) & cited
     return gone
 
 

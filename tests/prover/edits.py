@@ -11,6 +11,7 @@ import re
 import sys
 
 from harness.repository import ROOT
+from prover.rattle_source import module_of, path_of, source_of
 
 # Edits that are planted together are as many lines apart, so that none stands in the code of another.
 APART = 4
@@ -71,56 +72,6 @@ def words(text):
     return set(re.findall(r"[A-Za-z_]\w*", text))
 
 
-def function_at(lines, number):
-    """The name of the function in which a line stands, or else of the one before it, and where its lines begin and end."""
-    begin = next((n for n in range(number, -1, -1) if re.search(r"\bfn \w+", lines[n])), None)
-    if begin is None:
-        return None, 0, 0
-    indent = re.match(" *", lines[begin])[0]
-    end = next((n for n in range(begin, len(lines)) if lines[n] == f"{indent}}}"), len(lines))
-    return re.search(r"\bfn (\w+)", lines[begin])[1], begin, end
-
-
-def module_of(file):
-    """The path of a source file's module below its crate: `history` of src/history.rt, nothing of src/lib.rt."""
-    names = list(pathlib.PurePath(file).with_suffix("").parts[1:])
-    return names[:-1] if names[-1] in ("lib", "main", "mod") else names
-
-
-def owner_of(header):
-    """How the prover names the methods of an impl: by their type, or by the type, the trait and its types."""
-    header = re.sub(r"'\w+,? ?|\w+::", "", header)
-    name = re.match(r"impl(?:<.*?>)? (.*?)(?: where .*)?\{", header)[1].strip()
-    trait, _, of = name.rpartition(" for ")
-    return "".join(re.findall(r"\w+", re.sub(r"<.*", "", of) + trait if trait else re.sub(r"<.*", "", of)))
-
-
-def module_of_type(home, name):
-    """The path of the module below a crate that declares a type, and None where none does."""
-    declares = re.compile(rf"^(?:pub(?:\(\w+\))? )?(?:struct|enum) {name}\b", re.M)
-    return next((module_of(file.relative_to(home)) for file in sorted((home / "src").rglob("*.rt")) if declares.search(text_of(file))), None)
-
-
-def path_of(home, file, number):
-    """The path below its crate of the function that has a line of a source file, and None where none has it. A method of an impl of no trait has that of its type,
-    and one with a body in its trait that of the trait."""
-    lines = lines_of(file)
-    name, begin, end = function_at(lines, number)
-    if name is None or number > end:
-        return None
-    module, owner = module_of(file.relative_to(home)), []
-    if lines[begin].startswith(" "):
-        header = next((n for n in range(begin, -1, -1) if re.match(r"(impl|trait|pub trait|pub\(crate\) trait)\b", lines[n])), None)
-        if header is not None and lines[header].startswith("impl"):
-            text = " ".join(lines[header : header + 4])
-            owner = [owner_of(text)]
-            if " for " not in text.split("{")[0] and not re.search(rf"\b(struct|enum) {owner[0]}\b", text_of(file)):
-                module = module_of_type(home, owner[0]) or module
-        elif header is not None:
-            owner = [re.search(r"trait (\w+)", lines[header])[1]]
-    return "::".join([*module, *owner, name])
-
-
 @dataclasses.dataclass(frozen=True, eq=False)
 class WrongBody:
     """An edit that can be planted."""
@@ -153,9 +104,9 @@ class WrongBody:
         """The words of the functions that the changes are in, after these."""
         found = set()
         for change in self.changes:
-            lines = lines_of(change.file)
-            _, begin, end = function_at(lines, change.line)
-            found |= words("\n".join([*lines[begin:end], change.new]))
+            source = source_of(change.file)
+            function = source.function_at(change.line)
+            found |= words(change.new) | words(source.text_of(function) if function else "")
         return found
 
     def kept(self):

@@ -22,6 +22,7 @@ sys.path.insert(0, str(pathlib.Path(__file__).resolve().parents[1]))
 from harness import checks
 from harness.checks import Wrong
 from harness.repository import ROOT
+from prover.rattle_source import closed, source_of
 
 # Calls that hand back what could not be put where it was to go, or opened: their only fault is out of memory.
 HANDS_BACK = {"from_vec", "grow_at", "insert", "into_vec", "move_subtree", "open", "push"}
@@ -29,8 +30,8 @@ HANDS_BACK = {"from_vec", "grow_at", "insert", "into_vec", "move_subtree", "open
 # Functions that answer out of memory for a fault of a sink in memory, which takes all that it is given unless an allocation is refused.
 BUFFERED = {"run_fault"}
 
-# A count of values that has no next number: no memory holds so many. An index past 32 bits: the entry then stays as it was
-# made, and nobody is told of a fault (`KeptAttributes::packed`).
+# A count of values that has no next number: no memory holds so many. An index past 16 bits: then attributes are kept unpacked, or changed
+# another way, and nobody is told of a fault (`KeptAttributes::packed_up_to` and `with_part`).
 COUNTS = {"index", "one_more"}
 
 # A function that makes the fault of out of memory: each call of it is such an answer.
@@ -39,37 +40,9 @@ MAKES = "out_of_memory"
 ANSWER = re.compile(rf"\b(?:\w+::)*(?:(?:Memory|AllocError|OutOfMemory)\b|{MAKES}\(\))")
 
 
-def blanked(text, start, end):
-    """The text with a part overwritten by spaces; its line ends stay."""
-    return text[:start] + re.sub(r"[^\n]", " ", text[start:end]) + text[end:]
-
-
-def closed(text, at):
-    """The index after the bracket that closes the one at this index."""
-    depth = 0
-    for i in range(at, len(text)):
-        depth += (text[i] in "({[") - (text[i] in ")}]")
-        if depth == 0:
-            return i + 1
-    raise Wrong(f"nothing closes {text[at : at + 40]!r}")
-
-
-def code_of(text):
-    """The text without comments, quoted texts, contracts, ghost items and tests."""
-    for found in re.finditer(r"//[^\n]*|b?\"(?:[^\"\\]|\\.)*\"|b?'(?:[^'\\\n]|\\.)'|\bghost use [^;]*;|\buse [^;]*;", text):
-        text = blanked(text, found.start(), found.end())
-    for begin in (r"\b(?:ensures|requires)\b[^{;]*(?=\{)", r"\bghost \w+[^{;]*(?=\{)", r"#\[cfg\(test\)\]\s*mod \w+\s*(?=\{)"):
-        while found := re.search(begin, text):
-            text = blanked(text, found.start(), closed(text, found.end()))
-    return text
-
-
-def functions_of(text, code):
-    """Each function with a body: its name, its signature with its contract, and where the body begins and ends."""
-    for head in re.finditer(r"\bfn (\w+)", code):
-        body, end = code.find("{", head.end()), code.find(";", head.end())
-        if body != -1 and not -1 < end < body:
-            yield head[1], text[head.start() : body], body, closed(code, body)
+def functions_of(source):
+    """The functions of a file that have bodies, but for tests."""
+    return [it for it in source.functions if it.body and not it.is_of_tests]
 
 
 def may_only_lack_memory(signature):
@@ -135,35 +108,32 @@ def answered(code, body, at):
     return None, []
 
 
-def line_of(text, at):
-    return text.count("\n", 0, at) + 1
-
-
-def places_of(text, only_memory):
-    """The places of a text that answer out of memory where no allocation was refused."""
-    code = code_of(text)
-    for function, signature, body, end in functions_of(text, code):
-        converts = re.search(r"^fn from\(\w+: (?:AllocError|AllocFailed<\w+>|Memory)\)", signature)
+def places_of(source, only_memory):
+    """The places of a file that answer out of memory where no allocation was refused."""
+    code = source.code
+    for function in functions_of(source):
+        body, end = function.body
+        converts = re.search(r"^fn from\(\w+: (?:AllocError|AllocFailed<\w+>|Memory)\)", function.signature)
         for found in ANSWER.finditer(code, body, end):
-            if converts or function == MAKES or re.match(r"[\s),}]*(?:\|[^=]*)?=>|\(_\)\)* =>", code[found.end() :]):
+            if converts or function.name == MAKES or re.match(r"[\s),}]*(?:\|[^=]*)?=>|\(_\)\)* =>", code[found.end() :]):
                 continue
             pattern, calls = answered(code, body, found.start())
             if pattern is not None and ANSWER.search(pattern):
                 continue
-            if function in BUFFERED and pattern and pattern.endswith("Write(Output::Report)"):
+            if function.name in BUFFERED and pattern and pattern.endswith("Write(Output::Report)"):
                 continue
-            if function in COUNTS:
+            if function.name in COUNTS:
                 continue
             if calls and all(call in only_memory or call in HANDS_BACK for call in calls):
                 continue
-            yield f"line {line_of(code, found.start())}, {function}, of {' and '.join(calls)}"
+            yield f"line {source.line_of(found.start()) + 1}, {function.name}, of {' and '.join(calls)}"
 
 
 def all_sources():
     for path in sorted(ROOT.glob("crates/*/src/**/*.rt")):
         name = path.relative_to(ROOT / "crates")
         if not name.parts[0].endswith("_tests") and path.name != "tests.rt" and "tests" not in name.parts:
-            yield name.as_posix(), path.read_text()
+            yield name.as_posix(), source_of(path)
 
 
 def crate_of(name):
@@ -173,21 +143,21 @@ def crate_of(name):
 def main():
     sources = dict(all_sources())
     signatures = {}
-    for name, text in sources.items():
-        for function, signature, _, _ in functions_of(text, code_of(text)):
-            signatures.setdefault(function, {}).setdefault(crate_of(name), []).append(signature)
+    for name, source in sources.items():
+        for function in functions_of(source):
+            signatures.setdefault(function.name, {}).setdefault(crate_of(name), []).append(function.signature)
 
     def only_memory_in(crate):
         """The functions of which out of memory is the only fault, as a crate calls them: its own, where it has one of that name."""
         seen = {name: given.get(crate) or sum(given.values(), []) for name, given in signatures.items()}
         return {name for name, given in seen.items() if all(map(may_only_lack_memory, given))}
 
-    def check(name, text):
-        places = list(places_of(text, only_memory_in(crate_of(name))))
+    def check(name, source):
+        places = list(places_of(source, only_memory_in(crate_of(name))))
         if places:
             raise Wrong(f"out of memory is answered where no allocation was refused: {'; '.join(places)}")
 
-    trials = [(name, lambda name=name, text=text: check(name, text)) for name, text in sources.items()]
+    trials = [(name, lambda name=name, source=source: check(name, source)) for name, source in sources.items()]
     sys.exit(checks.run("memory answers", trials))
 
 

@@ -8,8 +8,10 @@ import re
 import shutil
 
 from harness.repository import ROOT
-from prover.edits import path_of
+from prover.rattle_source import Source, path_of
 
+# The line of a function whose body can be taken away.
+DECLARED = re.compile(r"(?:    )?(?:pub(?:\(\w+\))? )?fn \w+")
 # The one goal of a body that control never reaches, left open.
 HOLE = """use Rattle.{path}.Goals as goal
 
@@ -18,71 +20,54 @@ unreachable-requires c = ?
 """
 
 
-def body_at(lines, begin):
-    """Where the body of the function begins and ends whose signature begins at this line: the lines of its braces. None where it has no lines of its own."""
-    indent = re.match(" *", lines[begin])[0]
-    has_clauses = False
-    for number in range(begin, len(lines)):
-        line = lines[number]
-        has_clauses |= bool(re.match(rf"{indent}    (requires|ensures|ghost)\b", line))
-        if line == f"{indent}{{" or (line.endswith("{") and not has_clauses):
-            end = next((it for it in range(number + 1, len(lines)) if lines[it] == f"{indent}}}"), None)
-            return end and (number, end)
-        if line == f"{indent}{{}}" or (line.endswith((";", "}")) and not has_clauses):
-            return None
-    return None
+def functions_in(source):
+    """The functions of a file that stand by themselves or in an impl of no trait."""
+    return [it for it in source.functions if it.is_inherent and DECLARED.match(source.lines[it.lines[0]])]
 
 
-def functions_in(lines):
-    """The functions of a file that stand by themselves or in an impl of no trait: the lines where they begin, and their names."""
-    is_inherent = False
-    for number, line in enumerate(lines):
-        if re.match(r"[a-z]", line):
-            header = " ".join(lines[number : number + 4]).split("{")[0]
-            is_inherent = line.startswith("impl") and " for " not in header
-        found = re.match(r"(    )?(?:pub(?:\(\w+\))? )?fn (\w+)", line)
-        if found and (is_inherent or not found[1]):
-            yield number, found[2]
-
-
-def cycles_in(lines):
+def cycles_in(source):
     """The functions of a file that call one another in a cycle which has a name: for each its line with that name, and the name."""
     found = {}
-    for number, name in functions_in(lines):
-        cycle = re.match(r" *#\[cycle\((\w+)\)\]", lines[number - 1])
+    for function in functions_in(source):
+        before = function.lines[0] - 1
+        cycle = re.match(r" *#\[cycle\((\w+)\)\]", source.lines[before])
         if cycle:
-            found[name] = number - 1, cycle[1]
+            found[function.name] = before, cycle[1]
     return found
 
 
-def without_bodies(text, kept):
+def has_lines(function):
+    """Whether a function has a body that has lines of its own."""
+    return function.braces is not None and function.braces[0] < function.braces[1]
+
+
+def without_bodies(source, kept):
     """The text with the bodies of its functions taken away, but for those whose names are kept, and the lines where these functions begin in the text as it was.
 
     Of a cycle with a name all functions keep their bodies, or none does; then there is no cycle, and its name goes.
     """
-    lines = text.split("\n")
-    cycles = cycles_in(lines)
+    cycles = cycles_in(source)
     kept_cycles = {cycle for name, (_, cycle) in cycles.items() if name in kept}
     kept = {*kept, *(name for name, (_, cycle) in cycles.items() if cycle in kept_cycles)}
-    bodies = [(number, body_at(lines, number)) for number, name in functions_in(lines) if name not in kept]
-    gone = [(number, body) for number, body in bodies if body]
-    after = list(lines)
+    gone = [it for it in functions_in(source) if it.name not in kept and has_lines(it)]
+    after = list(source.lines)
     for number, cycle in cycles.values():
         if cycle not in kept_cycles:
             after[number] = ""
-    for number, (begin, end) in reversed(gone):
-        indent = re.match(" *", lines[number])[0]
+    for function in reversed(gone):
+        indent = re.match(" *", source.lines[function.lines[0]])[0]
+        begin, end = function.braces
         after[begin + 1 : end] = [f"{indent}    unreachable!()"]
-    return "\n".join(after), [number for number, _ in gone]
+    return "\n".join(after), [it.lines[0] for it in gone]
 
 
 def take_away(home, kept):
     """Takes bodies away in a copy of a crate of this checkout, but for those of the functions whose names are kept. In the copy as many lines stand before each function as here."""
     crate = ROOT / "crates" / home.name
     for file in sorted((home / "src").rglob("*.rt")):
-        before = file.read_text()
-        cycles = cycles_in(before.split("\n"))
-        text, gone = without_bodies(before, kept)
+        source = Source(file.read_text())
+        cycles = cycles_in(source)
+        text, gone = without_bodies(source, kept)
         file.write_text(text)
         for number in gone:
             path = path_of(crate, crate / file.relative_to(home), number).split("::")
