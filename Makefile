@@ -1,9 +1,12 @@
 # The quick start, the tests and the installation of slapkit. The toolchain's command is rt.
 
 PREFIX ?= /usr/local
-PROGRAM = crates/slapkit/out/slapkit
+ZSH_COMPLETIONS ?= $(PREFIX)/share/zsh/site-functions
+# The program that is tried, installed or packed: the one that is built here, or one that was built elsewhere (make install PROGRAM=PATH).
+BUILT = crates/slapkit/out/slapkit
+PROGRAM ?= $(BUILT)
 
-.PHONY: try demo test trial bugs install
+.PHONY: try demo test trial bugs install deb
 
 # Runs the changes of the example on its copy by a build without any proof: in one to three minutes.
 try:
@@ -30,8 +33,12 @@ install: $(PROGRAM)
 	install -D $(PROGRAM) $(DESTDIR)$(PREFIX)/bin/slapkit
 	install -D -m 644 -t $(DESTDIR)$(PREFIX)/share/man/man1 share/man/man1/*.1
 	install -D -m 644 share/completions/slapkit.bash $(DESTDIR)$(PREFIX)/share/bash-completion/completions/slapkit
-	install -D -m 644 share/completions/_slapkit $(DESTDIR)$(PREFIX)/share/zsh/site-functions/_slapkit
+	install -D -m 644 share/completions/_slapkit $(DESTDIR)$(ZSH_COMPLETIONS)/_slapkit
 	install -D -m 644 share/completions/slapkit.fish $(DESTDIR)$(PREFIX)/share/fish/vendor_completions.d/slapkit.fish
 
-$(PROGRAM): crates.txt $(wildcard crates/*/src/*.rt crates/*/src/*/*.rt crates/*/specs/*.antt crates/*/specs/*/*.antt crates/*/proofs/*.antt)
+# A Debian package of the same, slapkit_VERSION_amd64.deb. packaging/deb/try.sh tries it in a clean root.
+deb: $(PROGRAM)
+	packaging/deb/build.sh $(PROGRAM)
+
+$(BUILT): crates.txt $(wildcard crates/*/src/*.rt crates/*/src/*/*.rt crates/*/specs/*.antt crates/*/specs/*/*.antt crates/*/proofs/*.antt)
 	cd crates/slapkit && rt run -- --help > /dev/null

@@ -1,0 +1,92 @@
+#!/bin/sh
+# Tries a package in a clean root of Debian, which has no toolchain: lintian, apt install, the session of its README (by nobody, in a
+# folder that has a copy of the examples), its manual pages, its completions, apt purge, after which no file may be left or changed.
+# usage: try.sh PACKAGE [ROOT]
+#
+# It wants to be run as root, lintian, and a mirror of Debian: debootstrap makes the root of bookworm (minbase) there, and man-db is
+# added. ROOT, a folder, is kept and taken again as it is; without it the root is a temporary one. Nothing is skipped: the first step
+# that fails, or lacks what it wants, ends the trial with its status.
+set -eu
+
+fail() {
+    echo "try.sh: $*" >&2
+    exit 1
+}
+
+step() {
+    echo "== $*"
+}
+
+within() {
+    chroot "$root" env -i PATH=/usr/sbin:/usr/bin:/sbin:/bin LC_ALL=C.UTF-8 DEBIAN_FRONTEND=noninteractive "$@"
+}
+
+# As somebody who may write into /tmp alone.
+as_nobody() {
+    chroot --userspec=nobody:nogroup "$root" env -i PATH=/usr/bin:/bin LC_ALL=C.UTF-8 HOME=/tmp "$@"
+}
+
+# All files and folders, with their modes and owners, sizes and links, but for the databases and logs of dpkg and apt.
+listing() {
+    (cd "$root" && find . -xdev \( -path ./proc -o -path ./sys -o -path ./dev -o -path ./tmp -o -path ./var/lib/dpkg -o -path ./var/log \
+        -o -path ./var/lib/apt -o -path ./var/cache/apt \) -prune -o -type d -printf '%p %m %u:%g\n' -o -printf '%p %y %m %u:%g %s %l\n' | sort)
+}
+
+# The session of the README that is installed, each command on one line.
+session() {
+    zcat -f "$root"/usr/share/doc/slapkit/README.md* | sed -n '/^## A session$/,/^```$/p' | sed -e '1,/^```console$/d' -e '/^```$/d' |
+        sed -e ':next' -e '/\\$/ { N; s/\\\n//; b next' -e '}'
+}
+
+[ $# -eq 1 ] || [ $# -eq 2 ] || fail "usage: try.sh PACKAGE [ROOT]"
+[ "$(id -u)" -eq 0 ] || fail "only root can make a root and enter it"
+package=$(realpath "$1")
+work=$(mktemp -d)
+trap 'rm -rf --one-file-system "$work"' EXIT
+root=${2:-$work/root}
+
+step "lintian"
+lintian --allow-root --fail-on error,warning "$package"
+
+if [ ! -e "$root/etc/debian_version" ]; then
+    step "debootstrap: a root of bookworm in $root"
+    debootstrap --variant=minbase --include=man-db bookworm "$root" > "$work/debootstrap" || { tail "$work/debootstrap" >&2; exit 1; }
+fi
+within dpkg --status man-db > /dev/null || fail "$root lacks man-db"
+! within sh -c 'command -v rt || command -v slapkit' || fail "$root has a toolchain, or the program"
+
+step "apt install"
+listing > "$work/before"
+cp "$package" "$root/tmp"
+within apt-get install --option Dpkg::Use-Pty=0 --yes "/tmp/${package##*/}"
+rm "$root/tmp/${package##*/}"
+
+step "the session of README.md"
+session | sed -n 's/^\$ //p' > "$work/commands"
+session | sed '/^\$ /d' > "$work/expected"
+[ -s "$work/commands" ] || fail "README.md has no session"
+cat "$work/commands"
+mkdir -m 777 "$root/tmp/session"
+cp -r "$root/usr/share/doc/slapkit/examples" "$root/tmp/session"
+as_nobody sh -c 'cd /tmp/session && exec sh -e' < "$work/commands" > "$work/printed" 2>&1 || { cat "$work/printed" >&2; exit 1; }
+diff "$work/expected" "$work/printed"
+rm -r "$root/tmp/session"
+
+step "the manual pages"
+for page in slapkit slapkit-slapacl slapkit-slapconf slapkit-slapmodify; do
+    as_nobody man --warnings "$page" > "$work/page" 2> "$work/warnings"
+    [ ! -s "$work/warnings" ] || { cat "$work/warnings" >&2; exit 1; }
+    grep -q '^NAME' "$work/page" && grep -q '^SEE ALSO' "$work/page" || fail "man $page has no name or no end"
+    echo "$page: $(wc -l < "$work/page") lines"
+done
+
+step "the completions"
+within bash -c '. /usr/share/bash-completion/completions/slapkit && complete -p slapkit'
+head -n 1 "$root/usr/share/zsh/vendor-completions/_slapkit" | grep '^#compdef slapkit'
+grep -c '^complete -c slapkit' "$root/usr/share/fish/vendor_completions.d/slapkit.fish"
+
+step "apt purge"
+within apt-get purge --option Dpkg::Use-Pty=0 --yes slapkit
+listing > "$work/after"
+diff "$work/before" "$work/after" || fail "the package left the lines above (< before, > after)"
+echo "All is as it was: $(wc -l < "$work/after") files and folders."
