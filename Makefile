@@ -8,7 +8,7 @@ PROGRAM ?= $(BUILT)
 
 .PHONY: try demo test trial bugs install deb
 
-# Runs the changes of the example on its copy by a build without any proof: in one to three minutes.
+# Runs the changes of the example on its copy by a build without any proof: in about two minutes.
 try:
 	examples/try.sh
 
@@ -41,4 +41,4 @@ deb: $(PROGRAM)
 	packaging/deb/build.sh $(PROGRAM)
 
 $(BUILT): crates.txt $(wildcard crates/*/src/*.rt crates/*/src/*/*.rt crates/*/specs/*.antt crates/*/specs/*/*.antt crates/*/proofs/*.antt)
-	cd crates/slapkit && rt run -- --help > /dev/null
+	packaging/building.py prove

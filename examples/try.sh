@@ -1,19 +1,15 @@
 #!/bin/sh
 # Applies examples/changes.ldif to examples/company.ldif by a build of the program that is not proved, and shows the report, the
-# undo file and the new copy. It wants the toolchain, and no run of it before: one to three minutes.
+# undo file and the new copy. It wants the toolchain, and no run of it before: two minutes where two processors are free.
 # usage: try.sh
 set -eu
 examples=$(cd "$(dirname "$0")" && pwd)
 work=$(mktemp -d)
 trap 'rm -rf "$work"' EXIT
 
-echo "Building the program without any proof: nothing that you see here is proved yet (make demo proves it). One to three minutes."
-cd "$examples/../crates/slapkit"
-if ! rt try -- slapmodify -b dc=example,dc=com --data "$examples/company.ldif" -l "$examples/changes.ldif" \
-    --out "$work/new.ldif" --undo "$work/undo.ldif" -v > "$work/report" 2> "$work/messages"; then
-    cat "$work/report" "$work/messages" >&2
-    exit 1
-fi
+echo "Nothing that you see here is proved yet: make demo proves it. The build takes about two minutes."
+"$examples/../packaging/building.py" try slapmodify -b dc=example,dc=com --data "$examples/company.ldif" -l "$examples/changes.ldif" \
+    --out "$work/new.ldif" --undo "$work/undo.ldif" -v > "$work/report" || { cat "$work/report" >&2; exit 1; }
 
 echo
 echo "slapkit slapmodify -b dc=example,dc=com --data company.ldif -l changes.ldif --out new.ldif --undo undo.ldif -v"
