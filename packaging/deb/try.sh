@@ -1,6 +1,6 @@
 #!/bin/sh
 # Tries a package in a clean root of Debian, which has no toolchain: lintian, apt install, the session of its README (by nobody, in a
-# folder that has a copy of the examples), its manual pages, its completions, apt purge, after which no file may be left or changed.
+# folder that has a copy of the examples), its manual pages, its completions, apt purge, after which all files must be as before.
 # usage: try.sh PACKAGE [ROOT]
 #
 # It wants to be run as root, lintian, and a mirror of Debian: debootstrap makes the root of bookworm (minbase) there, and man-db is
@@ -26,10 +26,16 @@ as_nobody() {
     chroot --userspec=nobody:nogroup "$root" env -i PATH=/usr/bin:/bin LC_ALL=C.UTF-8 HOME=/tmp "$@"
 }
 
-# All files and folders, with their modes and owners, sizes and links, but for the databases and logs of dpkg and apt.
+# All files and folders, but for the databases and logs of dpkg, apt and man-db: find's last words say what to do with them.
+found() {
+    (cd "$root" && find . -xdev \( -path ./proc -o -path ./sys -o -path ./dev -o -path ./tmp -o -path ./var/lib/dpkg -o -path ./var/lib/apt \
+        -o -path ./var/log -o -path ./var/cache/apt -o -path ./var/cache/man \) -prune -o "$@")
+}
+
+# Their modes, owners, links and contents.
 listing() {
-    (cd "$root" && find . -xdev \( -path ./proc -o -path ./sys -o -path ./dev -o -path ./tmp -o -path ./var/lib/dpkg -o -path ./var/log \
-        -o -path ./var/lib/apt -o -path ./var/cache/apt \) -prune -o -type d -printf '%p %m %u:%g\n' -o -printf '%p %y %m %u:%g %s %l\n' | sort)
+    found -printf '%p %y %m %u:%g %l\n' | sort
+    found -type f -exec sha256sum {} + | sort -k 2
 }
 
 # The session of the README that is installed, each command on one line.
@@ -43,7 +49,7 @@ session() {
 package=$(realpath "$1")
 work=$(mktemp -d)
 trap 'rm -rf --one-file-system "$work"' EXIT
-root=${2:-$work/root}
+root=$(realpath --canonicalize-missing "${2:-$work/root}")
 
 step "lintian"
 lintian --allow-root --fail-on error,warning "$package"
@@ -89,4 +95,4 @@ step "apt purge"
 within apt-get purge --option Dpkg::Use-Pty=0 --yes slapkit
 listing > "$work/after"
 diff "$work/before" "$work/after" || fail "the package left the lines above (< before, > after)"
-echo "All is as it was: $(wc -l < "$work/after") files and folders."
+echo "All is as it was: $(found -printf '.\n' | wc -l) files and folders."
