@@ -1,13 +1,16 @@
 # Makes Debian's changelog of CHANGELOG.md: awk -v maintainer="NAME <MAIL>" -v epoch=SECONDS -f changelog.awk CHANGELOG.md
-# A heading is '## VERSION - DATE', or '## VERSION - unreleased', which gets the time epoch. Lines have at most 78 columns.
+# A version's heading is '## VERSION - DATE', or '## VERSION - unreleased', which gets the time epoch. What stands under another heading
+# is left out. Lines have at most 78 columns, so that those of the result have 80.
 
 function end_version() {
     if (version != "")
         printf "\n -- %s  %s\n\n", maintainer, stamp
+    version = ""
 }
 
-/^## / {
-    end_version()
+/^## / { end_version() }
+
+/^## .* - / {
     version = $2
     released = $4 != "unreleased"
     command = "date --utc --rfc-email --date=" (released ? $4 : "@" epoch)
