@@ -8,6 +8,7 @@ What rt says is told where it fails. The exit status is that of rt.
 """
 import pathlib
 import re
+import shutil
 import subprocess
 import sys
 import threading
@@ -59,7 +60,8 @@ def prove():
     progress = Progress(seconds_between=300)
     progress.tell(f"reading the sources of {len(crates)} crates")
     said = []
-    with subprocess.Popen(["rt", "run", "--", "--help"], cwd=PROGRAM, stdout=subprocess.DEVNULL, stderr=subprocess.PIPE, text=True) as rt:
+    outputs = {"stdout": subprocess.DEVNULL, "stderr": subprocess.PIPE, "text": True, "errors": "replace"}
+    with subprocess.Popen(["rt", "run", "--", "--help"], cwd=PROGRAM, **outputs) as rt:
         for line in rt.stderr:
             said.append(line)
             begins = re.match(r"rt: chose --jobs \d+ for (\w+)$", line)
@@ -77,7 +79,7 @@ def prove():
 def try_unproved(words):
     progress = Progress(seconds_between=15)
     progress.tell("building the program without any proof, and running it")
-    ran = subprocess.run(["rt", "try", "--", *words], cwd=PROGRAM, capture_output=True, text=True)
+    ran = subprocess.run(["rt", "try", "--", *words], cwd=PROGRAM, capture_output=True, text=True, errors="replace")
     sys.stdout.write(ran.stdout)
     if ran.returncode:
         sys.stderr.write(ran.stderr)
@@ -88,6 +90,9 @@ def try_unproved(words):
 
 def main():
     verb, words = sys.argv[1:2], sys.argv[2:]
+    if not shutil.which("rt"):
+        print("building.py: the toolchain's command rt is not on the path", file=sys.stderr)
+        return 127
     if verb == ["prove"] and not words:
         return prove()
     if verb == ["try"]:

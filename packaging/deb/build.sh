@@ -39,11 +39,11 @@ make --no-print-directory -C "$top" install DESTDIR="$root" PREFIX=/usr ZSH_COMP
 strip "$root/usr/bin/slapkit"
 gzip -9n "$root"/usr/share/man/man1/*.1
 
-# The pages for whoever runs the program; the others are for whoever builds on the code.
+# The pages for whoever runs the program (DEFINITIONS.md has the built-in types); the others are for whoever builds on the code.
 install -m 644 -t "$docs" "$top/README.md" "$here/copyright"
 for page in "$top"/docs/*.md; do
     case ${page##*/} in
-        ARCHITECTURE.md | CONTRIBUTING.md | DECISIONS.md | DEFINITIONS.md | PERF.md) ;;
+        ARCHITECTURE.md | CONTRIBUTING.md | DECISIONS.md | PERF.md) ;;
         *) install -m 644 -t "$docs/docs" "$page" ;;
     esac
 done
