@@ -1,6 +1,6 @@
 #!/bin/sh
-# Tries a package in a clean root of Debian, which has no toolchain: lintian, apt install, the session of its README (by nobody, in a
-# folder that has a copy of the examples), its manual pages, its completions, apt purge, after which all files must be as before.
+# Tries a package in a clean root of Debian, which has no toolchain: lintian, apt install, the sessions of its README, its manual
+# pages, its completions, and apt purge, after which all files must be as before.
 # usage: try.sh PACKAGE [ROOT]
 #
 # It wants to be run as root, lintian, and a mirror of Debian: debootstrap makes the root of bookworm (minbase) there, and man-db is
@@ -38,10 +38,27 @@ listing() {
     found -type f -exec sha256sum {} + | sort -k 2
 }
 
-# The session of the README that is installed, each command on one line.
-session() {
-    zcat -f "$root"/usr/share/doc/slapkit/README.md* | sed -n '/^## A session$/,/^```$/p' | sed -e '1,/^```console$/d' -e '/^```$/d' |
-        sed -e ':next' -e '/\\$/ { N; s/\\\n//; b next' -e '}'
+# The sessions of the README that is installed: of each a file of its commands, each on one line, and one of what they print.
+sessions() {
+    zcat -f "$root"/usr/share/doc/slapkit/README.md* | awk -v to="$work/session" '
+        /^```console$/ { inside = 1; number++; printf "" > (to number ".commands"); printf "" > (to number ".expected"); next }
+        /^```$/ { inside = 0 }
+        !inside { next }
+        { $0 = begun $0; begun = "" }
+        /\\$/ { begun = substr($0, 1, length($0) - 1); next }
+        /^\$ / { print substr($0, 3) > (to number ".commands"); next }
+        { print > (to number ".expected") }'
+}
+
+# Runs the commands of a session as nobody, in a folder that has the examples, and compares what they print with what is expected.
+run_session() {
+    cat "$1.commands"
+    [ -s "$1.commands" ] || fail "a session of README.md has no commands"
+    mkdir -m 777 "$root/tmp/session"
+    cp -r "$root/usr/share/doc/slapkit/examples" "$root/tmp/session"
+    as_nobody sh -c 'cd /tmp/session && exec sh -e' < "$1.commands" > "$1.printed" 2>&1 || { cat "$1.printed" >&2; exit 1; }
+    diff "$1.expected" "$1.printed"
+    rm -r "$root/tmp/session"
 }
 
 [ $# -eq 1 ] || [ $# -eq 2 ] || fail "usage: try.sh PACKAGE [ROOT]"
@@ -67,16 +84,12 @@ cp "$package" "$root/tmp"
 within apt-get install --option Dpkg::Use-Pty=0 --yes "/tmp/${package##*/}"
 rm "$root/tmp/${package##*/}"
 
-step "the session of README.md"
-session | sed -n 's/^\$ //p' > "$work/commands"
-session | sed '/^\$ /d' > "$work/expected"
-[ -s "$work/commands" ] || fail "README.md has no session"
-cat "$work/commands"
-mkdir -m 777 "$root/tmp/session"
-cp -r "$root/usr/share/doc/slapkit/examples" "$root/tmp/session"
-as_nobody sh -c 'cd /tmp/session && exec sh -e' < "$work/commands" > "$work/printed" 2>&1 || { cat "$work/printed" >&2; exit 1; }
-diff "$work/expected" "$work/printed"
-rm -r "$root/tmp/session"
+step "the sessions of README.md"
+sessions
+[ -e "$work/session1.commands" ] || fail "README.md has no session"
+for commands in "$work"/session*.commands; do
+    run_session "${commands%.commands}"
+done
 
 step "the manual pages"
 for page in slapkit slapkit-slapacl slapkit-slapconf slapkit-slapmodify; do
