@@ -4,7 +4,7 @@ PREFIX ?= /usr/local
 ZSH_COMPLETIONS ?= $(PREFIX)/share/zsh/site-functions
 # The program that is tried, installed or packed: the one that is built here, or one that was built elsewhere (make install PROGRAM=PATH).
 BUILT = crates/slapkit/out/slapkit
-PROGRAM ?= $(BUILT)
+PROGRAM = $(BUILT)
 
 .PHONY: try demo test trial bugs install deb
 
