@@ -58,7 +58,7 @@ def crates_in_order(name):
 def prove():
     crates = crates_in_order("slapkit")
     progress = Progress(seconds_between=300)
-    progress.tell(f"reading the sources of {len(crates)} crates")
+    progress.tell(f"reading the sources of {len(crates)} crates, before any proof")
     said = []
     outputs = {"stdout": subprocess.DEVNULL, "stderr": subprocess.PIPE, "text": True, "errors": "replace"}
     with subprocess.Popen(["rt", "run", "--", "--help"], cwd=PROGRAM, **outputs) as rt:
