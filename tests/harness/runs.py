@@ -70,10 +70,24 @@ class Place:
             raise Wrong(f"no end within {self.seconds} s: {words}") from None
         finally:
             signal.setitimer(signal.ITIMER_REAL, 0)
-        status, report, message = os.waitstatus_to_exitcode(status), self.read(REPORT), self.read(MESSAGE)
+        status, report, message = os.waitstatus_to_exitcode(status), self.read(REPORT), without_hints(self.read(MESSAGE), words[0])
         if status not in (0, 1) or not is_message(message, words[0]):
             raise Wrong(f"status {status}, standard error: {message!r}")
         return status, report.decode(), message.decode()
+
+
+NOTE = b"slapkit: note: "
+
+
+def without_hints(message, tool):
+    """What went to standard error, without the notes that are told beside a fault or a refused record, at which trial/hints.py looks.
+
+    All notes of a tool but slapacl are such ones, and of slapacl those after the fault, but for the one on its argument.
+    """
+    lines = message.splitlines(keepends=True)
+    faults = [number for number, line in enumerate(lines) if not line.startswith(NOTE)]
+    kept = 0 if tool != "slapacl" else faults[0] if faults else len(lines)
+    return b"".join(line for number, line in enumerate(lines) if number < kept or not line.startswith(NOTE) or line.startswith(NOTE + b"line "))
 
 
 def is_message(message, tool):
@@ -97,5 +111,5 @@ def run_changes(program, folder, copy, changes, new, undo, *options):
     if pathlib.Path(folder, "conf").exists():
         words += ["-f", "conf"]
     ended = subprocess.run(words, cwd=folder, stdin=subprocess.DEVNULL, capture_output=True, timeout=SECONDS_OF_CHANGES)
-    expect(ended.stderr.decode(), "", "standard error")
+    expect(without_hints(ended.stderr, "slapmodify").decode(), "", "standard error")
     return ended.returncode, ended.stdout.decode()

@@ -26,6 +26,7 @@ UNDO = "version: 1\n\n# undo 1\ndn: ou=people,dc=com\nchangetype: delete\n\n"
 REDO = "version: 1\n\n# undo 1\ndn: ou=people,dc=com\nchangetype: add\ndescription: staff\nou: people\n\n"
 MISSING = "dn: ou=none,dc=com\nchangetype: delete\n"
 REFUSED = "line 1: refused, 32 noSuchObject\n"
+NOT_FOUND = "slapkit: note: No such file or directory (os error 2)\n"
 ONTO = ["--out", "new", "--undo", "undo"]
 
 
@@ -73,6 +74,11 @@ class Trial:
 
     def expect_no_files(self):
         expect(self.names(), [], "files made")
+
+
+def with_reason(fault):
+    """The lines of a fault, of which one that a file can't be opened has what the system said."""
+    return f"slapkit: {fault}\n" + NOT_FOUND * fault.startswith("cannot open")
 
 
 def an_add_is_taken_back(trial):
@@ -134,7 +140,7 @@ def changes_come_from_their_file_alone(trial):
 
 def the_copy_and_the_changes_are_not_exchanged(trial):
     # content records are changes of no kind (L5), and change records are no copy
-    expect(trial.modify("-l", "other", *ONTO)[2], "slapkit: cannot open other\n")
+    expect(trial.modify("-l", "other", *ONTO)[2], "slapkit: cannot open other\n" + NOT_FOUND)
     trial.write("other", COPY)
     report = "line 1: refused, L5 BadChangetype\naccepted 0, refused 1\n"
     expect(trial.modify("-l", "other", *ONTO), (1, report, ""))
@@ -435,7 +441,7 @@ def the_first_path_that_is_repeated_is_told(trial):
         words = ["slapmodify", "-b", "dc=com", "-f", config, "--data", data, "--out", out, "--undo", undo, "-l", changes]
         told = f"same path twice: {named}" if named else f"cannot open {config}"
         for dry in ([], ["-u"]):
-            expect(trial.run([*words, *dry]), (1, "", f"slapkit: {told}\n"), paths)
+            expect(trial.run([*words, *dry]), (1, "", with_reason(told)), paths)
             trial.expect_no_files()
 
 
@@ -497,11 +503,11 @@ def the_types_are_read_before_the_copy_is_opened(trial):
         trial.write("conf", conf)
         for words in (ONTO, ["-u"]):
             found = trial.run(["slapmodify", "-b", "dc=com", "--data", "none", "-f", "conf", *words], typed=ADD)
-            expect(found, (1, "", f"slapkit: {told}\n"), conf[:200])
+            expect(found, (1, "", with_reason(told)), conf[:200])
             expect(trial.names(), ["conf"], "files")
     for words in (ONTO, ["-u"]):
         found = trial.run(["slapmodify", "-b", "cn", "--data", "none", "-l", "nothing", "-f", "no", *words])
-        expect(found, (1, "", "slapkit: cannot open no\n"))
+        expect(found, (1, "", "slapkit: cannot open no\n" + NOT_FOUND))
         expect(trial.modify("-f", ".", *words), (1, "", "slapkit: cannot read config\n"))
 
 
@@ -528,8 +534,8 @@ def the_copy_is_not_written_over(trial):
 
 def the_copy_is_opened_before_the_changes(trial):
     words = ["slapmodify", "-b", "dc=com", "--data", "none", "-l", "nothing", *ONTO]
-    expect(trial.run(words), (1, "", "slapkit: cannot open none\n"))
-    expect(trial.modify("-l", "nothing", *ONTO), (1, "", "slapkit: cannot open nothing\n"))
+    expect(trial.run(words), (1, "", "slapkit: cannot open none\n" + NOT_FOUND))
+    expect(trial.modify("-l", "nothing", *ONTO), (1, "", "slapkit: cannot open nothing\n" + NOT_FOUND))
     trial.expect_no_files()
 
 
@@ -604,15 +610,15 @@ def control_characters_of_a_path_are_escaped(trial):
         ("\x80\x9bm", "\\x80\\x9bm"),
         ("M\u00fcller \\ \u65e5\u672c \xa0", "M\u00fcller \\ \u65e5\u672c \xa0"),
     ):
-        expect(trial.modify("-l", path, "-u"), (1, "", f"slapkit: cannot open {told}\n"))
+        expect(trial.modify("-l", path, "-u"), (1, "", f"slapkit: cannot open {told}\n" + NOT_FOUND))
         expect(trial.modify("--out", path, "--undo", path), (1, "", f"slapkit: same path twice: {told}\n"))
         trial.write(path, "kept")
         expect(trial.modify("--out", path, "--undo", "undo"), (1, "", f"slapkit: exists already: {told}\n"))
 
 
 def a_folder_that_is_missing_is_told(trial):
-    expect(trial.modify("--out", "none/new", "--undo", "undo"), (1, "", "slapkit: cannot open none/new\n"))
-    expect(trial.modify("--out", "new", "--undo", "none/undo"), (1, "", "slapkit: cannot open none/undo\n"))
+    expect(trial.modify("--out", "none/new", "--undo", "undo"), (1, "", "slapkit: cannot open none/new\n" + NOT_FOUND))
+    expect(trial.modify("--out", "new", "--undo", "none/undo"), (1, "", "slapkit: cannot open none/undo\n" + NOT_FOUND))
     trial.expect_no_files()
 
 
@@ -659,7 +665,7 @@ def faults_of_questions_are_told(trial):
         ("database mdb\n", [], "config, line 0: C10 NoSuffix"),
         (CONF, ["-D", "cn"], "bad question: authcDN"),
         (CONF, ["cn", "cn/peek"], "bad question: word 2"),
-        (CONF.replace("dc=com", "dc=org"), [], "copy, line 1: 32 noSuchObject"),
+        (CONF.replace("dc=com", "dc=org"), [], "copy, line 1: 32 noSuchObject\nslapkit: note: no record of copy is the suffix's; the first is dc=com"),
     ]
     for conf, words, told in rows:
         trial.write("conf", conf)
@@ -667,7 +673,7 @@ def faults_of_questions_are_told(trial):
     trial.write("conf", CONF)
     expect(trial.run(["slapacl", "-b", "cn", "-f", "conf", "--data", "copy"]), (1, "", "slapkit: bad question: base\n"))
     for conf, data, told in (("copy", "copy", "same path twice: copy"), ("none", "no", "cannot open none"), ("copy", "no", "cannot open no")):
-        expect(trial.run(["slapacl", "-b", "dc=com", "-f", conf, "--data", data]), (1, "", f"slapkit: {told}\n"))
+        expect(trial.run(["slapacl", "-b", "dc=com", "-f", conf, "--data", data]), (1, "", with_reason(told)))
 
 
 RULED = "database mdb\nsuffix dc=com\n"
@@ -774,7 +780,7 @@ def notes_come_before_the_faults_of_what_is_read_later(trial):
     told = noted((1, 'include "x" is not read')) + NO_RULE
     for words, copy, fault in (
         ([], f"{COPY}dn: cn=a,ou=none,dc=com\ncn: a\n\n", "copy, line 4: 32 noSuchObject"),
-        ([], "", "no such entry"),
+        ([], "", "no such entry\nslapkit: note: copy has no record"),
         (["-D", "x"], COPY, "bad question: authcDN"),
         (["cn/peek"], COPY, "bad question: word 1"),
     ):
@@ -795,7 +801,7 @@ def a_faulty_configuration_has_its_fault_and_no_note(trial):
             expect(question_under(trial, with_notes + more, *words), (1, "", f"slapkit: config, {fault}\n"), fault)
     # nor has one that was not read, since a file can't be opened
     words = ["slapacl", "-b", "dc=com", "-f", "conf", "--data", "none"]
-    expect(trial.run(words), (1, "", "slapkit: cannot open none\n"))
+    expect(trial.run(words), (1, "", "slapkit: cannot open none\n" + NOT_FOUND))
 
 
 def the_argument_of_a_fault_is_told_with_its_option(trial):

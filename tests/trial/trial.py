@@ -10,6 +10,7 @@ import sys
 TESTS = pathlib.Path(__file__).resolve().parents[1]
 SCRIPTS = (
     "trial/program.py",
+    "trial/hints.py",
     "trial/records.py",
     "trial/rows.py",
     "trial/refusals.py",

@@ -6,3 +6,4 @@ pub mod Laws
 pub mod Outcome
 pub mod OwnTypes
 pub mod SlapdConf
+pub mod Suffixes

@@ -14,8 +14,8 @@ pub(crate) mod arguments;
 pub(crate) mod cut;
 pub(crate) mod databases;
 pub(crate) mod macros;
-mod records;
-mod values;
+pub(crate) mod records;
+pub(crate) mod values;
 
 use crate::cn_config::arguments::read_arguments;
 use crate::cn_config::databases::{database_of, is_frontend};
@@ -55,7 +55,7 @@ pub fn flat_of_config(
     flat_of_site(alloc, &site)
 }
 
-fn entries_of(alloc: Global, text: &[u8]) -> Result<Vec<Vec<Attribute>>, ConfFault>
+pub(crate) fn entries_of(alloc: Global, text: &[u8]) -> Result<Vec<Vec<Attribute>>, ConfFault>
     requires { length text.now ≤ 16777216 }
     ensures { GivesConf (λ found. map (λ entry. entry.items) found.items) result (entries_of text.now) }
 {

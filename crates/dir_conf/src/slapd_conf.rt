@@ -11,7 +11,7 @@ ghost use Rattle.dir_conf.specs.SlapdConf.Statements.{statement_of};
 pub(crate) mod files;
 mod lines;
 mod parts;
-mod statements;
+pub(crate) mod statements;
 
 use crate::cn_config::macros::{Macro, definition, with_macro_of};
 use crate::fault::ConfFault;

@@ -5,7 +5,23 @@ ghost use Rattle.std.specs.Prelude.{◌≡◌, ◌<◌};
 ghost use Rattle.std.specs.Fmt.{WritesOnOk, WritesStyledOnOk};
 ghost use Rattle.dir_files.specs.Escape.{escaped, hex_digit, shown_char};
 
-use std::fmt;
+use std::fmt::{self, Display};
+
+/// A text of the command line within a message, with its control characters escaped.
+#[derive(Drop)]
+pub struct ShownText<'a>(pub &'a str);
+
+impl Display for ShownText<'_> {
+    ghost use Rattle.std.specs.Prelude.{Some};
+
+    ghost output = { λ text. Some (escaped text.0.now) };
+
+    ghost styled_output = { λ text _. Some (escaped text.0.now) };
+
+    fn fmt<W: fmt::Write>(&self, f: &mut fmt::Formatter<W>) -> fmt::Result {
+        show_escaped(f, self.0)
+    }
+}
 
 /// Shows a text with its control characters escaped.
 pub fn show_escaped<W: fmt::Write>(f: &mut fmt::Formatter<W>, text: &str) -> fmt::Result

@@ -24,6 +24,7 @@ mod teller;
 mod words;
 
 pub use argument::ShownArgument;
+pub use escape::ShownText;
 pub use fault::Fault;
 pub use files::{FileSystem, Opened, Refusal};
 pub use note::{NoteTeller, ShownNote};

@@ -16,13 +16,23 @@ use crate::including::{not_read, read_files, whole_text};
 use crate::one_output::finish;
 use crate::words::{ConfSource, ConfWords};
 use dir_acl::MAX_CONFIG;
-use dir_conf::{ConfFault, FileFault, Flat, Tally, flat_of_config, flat_of_files};
+use dir_conf::{
+    ConfFault, FileFault, Flat, Tally, flat_of_config, flat_of_files, suffixes_of_config,
+    suffixes_of_files,
+};
 use dir_ldif::{DeviceFault, Sink, write_whole};
-use dir_names::{DnKey, Memory, Schema};
+use dir_names::{DnKey, Memory, Schema, Texts};
 use dir_tools::{ToolFault, suffix_key};
 use std::alloc::Global;
 
-/// Makes one flat slapd.conf of the configuration that the words name, for the database of a suffix.
+/// Whoever tells an administrator which suffixes a configuration has, where none is the wanted one.
+pub trait SuffixTeller {
+    /// Keeps the suffixes of all databases, to be told after the fault.
+    fn keep(&mut self, suffixes: Texts);
+}
+
+/// Makes one flat slapd.conf of the configuration that the words name, for the database of a suffix. Where no database has it, the teller is handed the
+/// suffixes that there are.
 ///
 /// All files are read before anything is made. The flat configuration gets its name only when it is whole and synced, and the report is written last. After a
 /// fault nothing is left of what the run has made. It has the mode of the configuration.
@@ -32,9 +42,10 @@ use std::alloc::Global;
 /// In this order: two paths that are the same; a suffix that is no legal name, or has no RDN; a file of the configuration that can't be opened, unless another
 /// includes it, or can't be read; the configuration's first fault; the flat configuration can't be created, written, synced or published, or the report can't
 /// be written.
-pub fn run<'a, F: FileSystem>(
+pub fn run<'a, F: FileSystem, T: SuffixTeller>(
     alloc: Global,
     files: &mut F,
+    teller: &mut T,
     words: &ConfWords<'a>,
 ) -> Result<Tally, Fault<'a>>
     ensures faults { RefusesSameConf words.now (repeated_path words.now) result }
@@ -42,7 +53,7 @@ pub fn run<'a, F: FileSystem>(
 {
     match repeated_path(words) {
         Some(path) => Err(Fault::SamePath(path)),
-        None => make(alloc, files, words),
+        None => make(alloc, files, teller, words),
     }
 }
 
@@ -58,9 +69,10 @@ fn repeated_path<'a>(words: &ConfWords<'a>) -> Option<&'a str>
 }
 
 /// Makes the flat configuration of words whose paths differ.
-fn make<'a, F: FileSystem>(
+fn make<'a, F: FileSystem, T: SuffixTeller>(
     alloc: Global,
     files: &mut F,
+    teller: &mut T,
     words: &ConfWords<'a>,
 ) -> Result<Tally, Fault<'a>>
     ensures faults { IfErr result (NamesTheseConf (source_path words.now.source) words.now.out.now) }
@@ -75,9 +87,11 @@ fn make<'a, F: FileSystem>(
     };
     match words.source {
         ConfSource::SlapdConf(path) => of_slapd_conf(
-            alloc, files, &schema, &suffix, path, words.out,
+            alloc, files, teller, &schema, &suffix, path, words.out,
         ),
-        ConfSource::CnConfig(path) => of_cn_config(alloc, files, &schema, &suffix, path, words.out),
+        ConfSource::CnConfig(path) => of_cn_config(
+            alloc, files, teller, &schema, &suffix, path, words.out,
+        ),
     }
 }
 
@@ -91,9 +105,10 @@ fn path_of<'a>(source: ConfSource<'a>) -> &'a str
 }
 
 /// Makes a flat configuration of a slapd.conf and of the files that it includes.
-fn of_slapd_conf<'a, F: FileSystem>(
+fn of_slapd_conf<'a, F: FileSystem, T: SuffixTeller>(
     alloc: Global,
     files: &mut F,
+    teller: &mut T,
     schema: &Schema,
     suffix: &DnKey,
     path: &'a str,
@@ -106,14 +121,20 @@ fn of_slapd_conf<'a, F: FileSystem>(
     let read = read_files(alloc, files, path)?;
     match flat_of_files(alloc, schema, suffix, read.files.as_slice()) {
         Ok(flat) => write_flat(alloc, files, out, read.mode, &flat),
-        Err(fault) => Err(conf_fault(fault)),
+        Err(fault) => {
+            if fault.fault == ConfFault::NoDatabase {
+                tell(teller, suffixes_of_files(alloc, read.files.as_slice()));
+            }
+            Err(conf_fault(fault))
+        }
     }
 }
 
 /// Makes a flat configuration of the LDIF of cn=config.
-fn of_cn_config<'a, F: FileSystem>(
+fn of_cn_config<'a, F: FileSystem, T: SuffixTeller>(
     alloc: Global,
     files: &mut F,
+    teller: &mut T,
     schema: &Schema,
     suffix: &DnKey,
     path: &'a str,
@@ -133,7 +154,19 @@ fn of_cn_config<'a, F: FileSystem>(
     };
     match flat_of_config(alloc, schema, suffix, text.as_slice()) {
         Ok(flat) => write_flat(alloc, files, out, opened.mode, &flat),
-        Err(fault) => Err(conf_fault(FileFault { file: None, fault })),
+        Err(fault) => {
+            if fault == ConfFault::NoDatabase {
+                tell(teller, suffixes_of_config(alloc, text.as_slice()));
+            }
+            Err(conf_fault(FileFault { file: None, fault }))
+        }
+    }
+}
+
+/// Hands the suffixes to the teller. Where they can't be had, since memory ran out, the fault is told without them.
+fn tell<T: SuffixTeller>(teller: &mut T, suffixes: Result<Texts, ConfFault>) {
+    if let Ok(suffixes) = suffixes {
+        teller.keep(suffixes);
     }
 }
 

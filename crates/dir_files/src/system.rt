@@ -29,15 +29,42 @@ pub struct SystemFiles<'a, R> {
     rt: &'a R,
     line: &'a ProgressLine,
     alloc: Global,
+    /// What the system last said where a file could not be opened or created.
+    reason: Option<io::Error>,
 }
 
 impl<'a, R: Files + Input + Print> SystemFiles<'a, R> {
     pub fn new(rt: &'a R, line: &'a ProgressLine, alloc: Global) -> SystemFiles<'a, R> {
-        SystemFiles { rt, line, alloc }
+        SystemFiles {
+            rt,
+            line,
+            alloc,
+            reason: None,
+        }
+    }
+
+    /// What the system last said where a file could not be opened or created.
+    pub fn reason(&self) -> Option<&io::Error> {
+        self.reason.as_ref()
+    }
+
+    /// Whether a path names a file of bytes that can be read once more: no pipe, no terminal, and no device.
+    pub fn is_regular(&self, path: &str) -> bool {
+        match fs::metadata(self.rt, path) {
+            Ok(metadata) => metadata.is_file(),
+            Err(_) => false,
+        }
+    }
+
+    /// What it means that a file can't be opened or created, which the system says of it.
+    fn refused(&mut self, error: io::Error) -> Refusal {
+        let why = meaning_of(error.kind());
+        self.reason = Some(error);
+        why
     }
 
     /// A new file beside the path, under a name that no file has.
-    fn new_draft(&self, path: &str, mode: u32) -> Result<Draft<'a, R::File>, Refusal> {
+    fn new_draft(&mut self, path: &str, mode: u32) -> Result<Draft<'a, R::File>, Refusal> {
         for n in 0..MOST_DRAFTS {
             let Ok(name) = draft_name(self.alloc, path, n) else {
                 return Err(Refusal::Memory);
@@ -50,7 +77,7 @@ impl<'a, R: Files + Input + Print> SystemFiles<'a, R> {
                     return Ok(Draft { name, file });
                 }
                 Err(error) => {
-                    let why = meaning_of(error.kind());
+                    let why = self.refused(error);
                     if why != Refusal::Exists {
                         return Err(why);
                     }
@@ -112,7 +139,7 @@ where
                 let file = TellingReader::new(file, self.line, self.alloc, path, size);
                 Ok(Opened { file, mode })
             }
-            Err(error) => Err(meaning_of(error.kind())),
+            Err(error) => Err(self.refused(error)),
         }
     }
 
@@ -146,7 +173,7 @@ where
         let name = draft.name.as_str();
         if let Err(error) = give_name(self.rt, name, path) {
             remove(self.rt, name);
-            return Err(meaning_of(error.kind()));
+            return Err(self.refused(error));
         }
         if sync_folder(self.rt, path).is_err() {
             self.withdraw(path);

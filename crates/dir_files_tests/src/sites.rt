@@ -2,8 +2,9 @@
 
 use crate::folder::Folder;
 use crate::runs::{ALL, push_calls};
-use dir_files::slapconf::run;
+use dir_files::slapconf::{SuffixTeller, run};
 use dir_files::{ConfSource, ConfWords};
+use dir_names::Texts;
 use std::alloc::Global;
 use std::process::Abort;
 
@@ -160,6 +161,45 @@ fn each_flat_configuration_makes_its_calls_in_their_order(rt: HostRuntime) {
     }
 }
 
+/// How many suffixes it was handed, if any were.
+#[derive(Drop)]
+struct Counted(Option<usize>);
+
+impl SuffixTeller for Counted {
+    fn keep(&mut self, suffixes: Texts) {
+        self.0 = Some(suffixes.as_slice().len());
+    }
+}
+
+#[test]
+fn suffixes_are_told_where_none_is_the_wanted_one(rt: HostRuntime) {
+    for (source, suffix, told) in &SUFFIXES {
+        let folder = Folder::new(rt.alloc(), b"", RULE, b"", ALL);
+        let config = if matches!(source, ConfSource::CnConfig(_)) {
+            LDIF
+        } else {
+            MAIN
+        };
+        let mut folder = folder.with_config(config);
+        let words = ConfWords {
+            suffix: *suffix,
+            source: *source,
+            out: "out",
+        };
+        let mut teller = Counted(None);
+        let is_made = run(rt.alloc(), &mut folder, &mut teller, &words).is_ok();
+        assert!(rt; teller.0 == *told && is_made == told.is_none(), "{suffix}");
+    }
+}
+
+/// Configurations, a suffix, and how many suffixes are told: none where it is found.
+static SUFFIXES: [(ConfSource<'static>, &str, Option<usize>); 4] = [
+    (ConfSource::SlapdConf("config"), "dc=com", None),
+    (ConfSource::SlapdConf("config"), "dc=org", Some(2)),
+    (ConfSource::CnConfig("config"), "dc=com", None),
+    (ConfSource::CnConfig("config"), "dc=org", Some(1)),
+];
+
 fn assert_made(rt: &impl Abort, alloc: Global, made: &Made) {
     let folder = Folder::new(alloc, b"", made.included, b"", made.good);
     let mut folder = folder.with_config(made.config);
@@ -168,7 +208,7 @@ fn assert_made(rt: &impl Abort, alloc: Global, made: &Made) {
         source: made.source,
         out: made.out,
     };
-    let answer = run(alloc, &mut folder, &words);
+    let answer = run(alloc, &mut folder, &mut Counted(None), &words);
     let mut told = String::new(alloc);
     push_calls(rt, &mut told, &folder);
     if let Err(fault) = &answer {
