@@ -1,10 +1,8 @@
 -- Bytes that a reader takes one after the other may be taken at once, and a search by `memchr` finds where they end.
-use Rattle.std.proofs.Common.{◌≡◌, ℕ, zero, suc, ◌+◌, ◌<◌, Bool, true, false, not, cond, List, [], ◌∷◌, ◌++◌, length, take, drop, get_or, Option, Some, None, Result, Ok, refl, sym, ap, subst, ◌∙◌, arith}
-use Rattle.std.specs.Prelude.{◌==◌, nat_lt, position}
+use Rattle.std.proofs.Common.{◌≡◌, ℕ, suc, ◌+◌, Bool, true, false, not, cond, List, [], ◌∷◌, ◌++◌, length, take, drop, Result, Ok, refl, sym, ap, subst, ◌∙◌, arith}
+use Rattle.std.specs.Prelude.{◌==◌}
 use Rattle.std.specs.List.{position_or_len}
-use Rattle.std.proofs.lemmas.Bool.{false_from_ne_true}
 use Rattle.std.proofs.lemmas.List.{append-nil, append_assoc}
-use Rattle.memchr.specs.Find.{IsFirstByte}
 use Rattle.dir_names.specs.Results.{and_then}
 use Rattle.dir_names.specs.declared.schema.TypeRow.{TypeRow}
 use Rattle.dir_acl.specs.Config.Arguments.{after_step, arguments_from, step_of}
@@ -22,19 +20,6 @@ takes_more spot b item run rest is =
     ∙ ap (λ bytes. arguments_from spot bytes rest) (append_assoc item run (b ∷ []))
 
 module _ (test : ℕ → Bool) where
-  first_is : (xs : List ℕ) (k : ℕ) → k < length xs → test (get_or xs k 0) ≡ true → ((j : ℕ) → j < k → test (get_or xs j 0) ≡ false) → position_or_len test xs ≡ k
-  first_is [] k lt e h = absurd (omega arith)
-  first_is (x ∷ xs) zero lt e h = ap (λ t. cond (not t) (1 + position_or_len test xs) 0) e
-  first_is (x ∷ xs) (suc k) lt e h =
-      let later = first_is xs k (omega arith) e (λ j l. h (suc j) (omega arith)) in
-      ap (λ t. cond (not t) (1 + position_or_len test xs) 0) (h 0 (omega arith)) ∙ omega (arith, later)
-
-  none_is : (xs : List ℕ) → ((j : ℕ) → j < length xs → test (get_or xs j 0) ≡ false) → position_or_len test xs ≡ length xs
-  none_is [] h = refl
-  none_is (x ∷ xs) h =
-      let later = none_is xs (λ j l. h (suc j) (omega arith)) in
-      ap (λ t. cond (not t) (1 + position_or_len test xs) 0) (h 0 (omega arith)) ∙ omega (arith, later)
-
   pub before_first_len : (xs : List ℕ) → length (take (position_or_len test xs) xs) ≡ position_or_len test xs
   before_first_len [] = refl
   before_first_len (x ∷ xs) = by (before_first_len xs) (test x)
@@ -42,17 +27,6 @@ module _ (test : ℕ → Bool) where
       by : length (take (position_or_len test xs) xs) ≡ position_or_len test xs → (t : Bool) → length (take (cond (not t) (1 + position_or_len test xs) 0) (x ∷ xs)) ≡ cond (not t) (1 + position_or_len test xs) 0
       by later true = refl
       by later false = subst (λ n. length (take n (x ∷ xs)) ≡ n) (omega arith) (ap suc later)
-
-  pub first_place : (xs : List ℕ) (r : Option ℕ) → IsFirstByte test xs r → r ≡ position test xs
-  first_place xs None h =
-      let all = none_is xs (λ j l. false_from_ne_true _ (h j (omega arith) l)) in
-      let within : nat_lt (position_or_len test xs) (length xs) ≡ false = grind (arith, all) in
-      ap (λ t. cond t (Some (position_or_len test xs)) None) (sym within)
-  first_place xs (Some k) h =
-      let at = first_is xs k h.0.high h.1 (λ j l. false_from_ne_true _ (h.0.before j (omega arith) l)) in
-      let high = h.0.high in
-      let within : nat_lt (position_or_len test xs) (length xs) ≡ true = grind (arith, at, high) in
-      ap Some (sym at) ∙ ap (λ t. cond t (Some (position_or_len test xs)) None) (sym within)
 
 -- how many bytes come before the first `)`
 abbrev pub before_end : List ℕ → ℕ

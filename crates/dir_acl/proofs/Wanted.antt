@@ -9,7 +9,7 @@ use Rattle.dir_acl.specs.declared.config.arguments.Spot.TheVariants.{Between, Pl
 use Rattle.dir_acl.specs.declared.config.arguments.Step.{Step}
 use Rattle.dir_acl.specs.declared.config.arguments.Step.TheVariants.{Skip, Take, Close}
 use Rattle.dir_acl.specs.Config.Arguments.{after_step, arguments_from, arguments_of, step_in_argument, step_of}
-use Rattle.dir_acl.specs.Config.Lines.{is_white}
+use Rattle.dir_names.specs.Trimming.{is_blank}
 use Rattle.dir_acl.specs.FaultArgument.{line_with}
 use Rattle.dir_acl.specs.Inside.Wanting.{after_byte, after_bytes, line_of_last, next_spot, words_begun}
 
@@ -48,14 +48,14 @@ one_more n = omega arith
 
 between : (b : ℕ) (item bs : List ℕ) → Counts bs → taken b item bs (step_of Between b) ≡ 0 + (words_begun Between b + begun_in (next_spot (step_of Between b)) bs)
 between b item bs more =
-    elim (is_white b) as (λ w. taken b item bs (cond w (Skip Between) (step_in_argument b)) ≡ 0 + (cond w 0 1 + begun_in (next_spot (cond w (Skip Between) (step_in_argument b))) bs)) [
+    elim (is_blank b) as (λ w. taken b item bs (cond w (Skip Between) (step_in_argument b)) ≡ 0 + (cond w 0 1 + begun_in (next_spot (cond w (Skip Between) (step_in_argument b))) bs)) [
       | true ↦ more Between item ∙ ap (λ n. 0 + n) (sym (zero-add (begun_in Between bs)))
       | false ↦ in_word b item bs more ∙ sym (zero-add (1 + begun_in (next_spot (step_in_argument b)) bs))
     ]
 
 plain : (b : ℕ) (item bs : List ℕ) → Counts bs → taken b item bs (step_of Plain b) ≡ 1 + (0 + begun_in (next_spot (step_of Plain b)) bs)
 plain b item bs more =
-    elim (is_white b) as (λ w. taken b item bs (cond w Close (step_in_argument b)) ≡ 1 + (0 + begun_in (next_spot (cond w Close (step_in_argument b))) bs)) [
+    elim (is_blank b) as (λ w. taken b item bs (cond w Close (step_in_argument b)) ≡ 1 + (0 + begun_in (next_spot (cond w Close (step_in_argument b))) bs)) [
       | true ↦ one_more (length (arguments_from Between [] bs)) ∙ ap (λ n. 1 + n) (more Between [])
       | false ↦ in_word b item bs more ∙ ap (λ n. 1 + n) (sym (zero-add (begun_in (next_spot (step_in_argument b)) bs)))
     ]

@@ -5,7 +5,7 @@ use Rattle.std.proofs.lemmas.Bool.Decides.{nat_tests}
 use Rattle.std.proofs.lemmas.List.{append_assoc, append-nil}
 use Rattle.dir_names.proofs.Both.{left, right}
 use Rattle.dir_acl.specs.Config.Arguments.{after_step, arguments_from, arguments_of, step_in_argument, step_of}
-use Rattle.dir_acl.specs.Config.Lines.{is_white}
+use Rattle.dir_names.specs.Trimming.{is_blank}
 use Rattle.dir_acl.specs.Config.Quoting.{escaped, is_bare, is_bare_byte, is_escaped, preceded, quoted}
 use Rattle.dir_acl.specs.declared.config.arguments.Spot.TheVariants.{Between, Plain, Quoted, PlainEscape, QuotedEscape}
 use Rattle.dir_acl.specs.declared.config.arguments.Step.TheVariants.{Skip, Take, Close}
@@ -20,8 +20,8 @@ neither_right true b e = absurd (true≢false e)
 neither_right false b e = e
 
 -- a bare byte is taken as it is
-not_white : (b : ℕ) → is_bare_byte b ≡ true → is_white b ≡ false
-not_white b e = grind (arith, nat_tests)
+not_blank : (b : ℕ) → is_bare_byte b ≡ true → is_blank b ≡ false
+not_blank b e = grind (arith, nat_tests)
 
 bare_inside : (b : ℕ) → is_bare_byte b ≡ true → step_in_argument b ≡ Take Plain
 bare_inside b e =
@@ -30,10 +30,10 @@ bare_inside b e =
     ∙ ap (λ t. cond t (Skip Quoted) (Take Plain)) (neither_left (b == 34) (b == 92) free)
 
 bare_first : (b : ℕ) → is_bare_byte b ≡ true → step_of Between b ≡ Take Plain
-bare_first b e = ap (λ t. cond t (Skip Between) (step_in_argument b)) (not_white b e) ∙ bare_inside b e
+bare_first b e = ap (λ t. cond t (Skip Between) (step_in_argument b)) (not_blank b e) ∙ bare_inside b e
 
 bare_next : (b : ℕ) → is_bare_byte b ≡ true → step_of Plain b ≡ Take Plain
-bare_next b e = ap (λ t. cond t Close (step_in_argument b)) (not_white b e) ∙ bare_inside b e
+bare_next b e = ap (λ t. cond t Close (step_in_argument b)) (not_blank b e) ∙ bare_inside b e
 
 bare_reads : (item argument rest : List ℕ) → list_all is_bare_byte argument ≡ true → arguments_from Plain item (argument ++ rest) ≡ arguments_from Plain (item ++ argument) rest
 bare_reads item [] rest e = ap (λ bytes. arguments_from Plain bytes rest) (sym (append-nil item))

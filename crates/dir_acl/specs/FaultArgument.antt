@@ -9,7 +9,7 @@ use Rattle.dir_acl.specs.declared.fault.ConfigFault.{ConfigFault}
 use Rattle.dir_acl.specs.declared.deciding.FaultArgument.{FaultArgument}
 use Rattle.dir_acl.specs.Config.AccessRules.{Place, after_argument, before_to}
 use Rattle.dir_acl.specs.Config.Arguments.{arguments_of, words_of}
-use Rattle.dir_acl.specs.Config.Lines.{begins_with_white, physical_lines}
+use Rattle.dir_acl.specs.Config.Lines.{begins_with_blank, physical_lines}
 use Rattle.dir_acl.specs.Notes.{after_keyword, begins_with}
 
 -- ---- the argument: the last word of the line that is read. Words are counted from 0
@@ -51,7 +51,7 @@ deciding_word rows why words = of_complete rows why words
 -- the physical lines that go on with the line before them
 abbrev pub continued : List (List ℕ) → List (List ℕ)
 continued [] = []
-continued (line ∷ lines) = cond (begins_with_white line) (line ∷ continued lines) []
+continued (line ∷ lines) = cond (begins_with_blank line) (line ∷ continued lines) []
 
 -- those of the line that the first of these begins
 abbrev pub folded : List (List ℕ) → List (List ℕ)

@@ -5,18 +5,18 @@ ghost use Rattle.dir_names.specs.Cut.{parts_at};
 ghost use Rattle.dir_names.specs.Inside.Left.{parts_left};
 ghost use Rattle.dir_acl.specs.Config.AccessRules.{before_to};
 ghost use Rattle.dir_acl.specs.Config.Arguments.{step_of, words_of};
-ghost use Rattle.dir_acl.specs.Config.Lines.{physical_lines, without_return};
+ghost use Rattle.dir_names.specs.Trimming.{without_return};
+ghost use Rattle.dir_acl.specs.Config.Lines.{physical_lines};
 ghost use Rattle.dir_acl.specs.FaultArgument.{deciding_word, fault_argument, folded, joined, line_with, of_bad_directive, of_complete, of_directive, of_second_suffix, rule_read, word_of_lines};
 ghost use Rattle.dir_acl.specs.Inside.Wanting.{after_byte, after_bytes, next_spot, wanting_of, words_begun};
 
 use crate::config::access_rules::{Place, after_argument};
 use crate::config::arguments::{Spot, Step, read_words, step_at};
 use crate::config::directives::are_complete;
-use crate::config::lines::{begins_with_white, is_white, without_return};
-use crate::cut::split_once;
+use crate::config::lines::begins_with_blank;
 use crate::note::lines::{after_keyword, begins_with};
 use crate::{ConfigCause, ConfigFault, MAX_CONFIG};
-use dir_names::{Bytes, Memory, Schema};
+use dir_names::{Bytes, Memory, Schema, is_blank, split_once, without_return};
 use std::alloc::Global;
 
 /// The argument of a configuration's line that a fault is about.
@@ -87,7 +87,7 @@ fn folded<'t>(alloc: Global, text: &'t [u8]) -> Result<Vec<&'t [u8]>, Memory>
     while let Some(more) = rest {
         let (physical, after) = split_once(more, b'\n');
         let physical = without_return(physical);
-        if !begins_with_white(physical) {
+        if !begins_with_blank(physical) {
             return Ok(lines);
         }
         lines.push(physical)?;
@@ -283,7 +283,7 @@ fn words_begun(spot: Spot, b: u8) -> usize
     ensures { result ≡ words_begun spot b }
 {
     match spot {
-        Spot::Between if !is_white(b) => 1,
+        Spot::Between if !is_blank(b) => 1,
         _ => 0,
     }
 }

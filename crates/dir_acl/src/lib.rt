@@ -4,7 +4,6 @@
 
 mod access;
 mod config;
-mod cut;
 mod deciding;
 mod fault;
 mod filter;

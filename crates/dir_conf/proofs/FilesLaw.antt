@@ -15,7 +15,7 @@ use Rattle.dir_conf.specs.declared.site.Tally.{Tally}
 use Rattle.dir_conf.specs.declared.slapd_conf.parts.Part.{Part}
 use Rattle.dir_conf.specs.declared.slapd_conf.parts.Part.TheVariants.{Frontend, OneDatabase, PassedOver}
 use Rattle.dir_conf.specs.declared.slapd_conf.statements.Said.TheVariants.{Defines, Words}
-use Rattle.dir_conf.specs.CnConfig.Macros.{by_first, definition, without_white}
+use Rattle.dir_conf.specs.CnConfig.Macros.{by_first, definition, without_spaces}
 use Rattle.dir_conf.specs.Flat.{Content, flat_of_site, is_no_feed}
 use Rattle.dir_conf.specs.Laws.{FlatFilesAreRead, ReadsSite, has_one_line, is_no_end}
 use Rattle.dir_conf.specs.SlapdConf.{by_lines, located, located_result, macros_by, site_of, site_of_lines, types_of}
@@ -38,7 +38,7 @@ types_flat macros [] = refl
 types_flat macros ((line, Defines text) ∷ more) = by (types_of macros more) (types_flat macros more)
   where
     by : (r : Result (List (List ℕ)) ConfFault) → OfValue (λ types. list_all (list_all is_no_end) types ≡ true) r → OfValue (λ types. list_all (list_all is_no_end) types ≡ true) (and_then r (λ rest. Ok (definition macros text ∷ rest)))
-    by (Ok rest) h = both (list_all is_no_end (definition macros text)) _ (plain_no_ends (by_first macros text (without_white text))) h
+    by (Ok rest) h = both (list_all is_no_end (definition macros text)) _ (plain_no_ends (by_first macros text (without_spaces text))) h
     by (Err why) h = tt
 types_flat macros ((line, Words words) ∷ more) =
     then_value (λ types. list_all (list_all is_no_end) types ≡ true) (macros_by macros line words) (λ now. types_of now more) (λ now. types_flat now more)

@@ -6,7 +6,7 @@ use Rattle.dir_names.specs.Results.{and_then}
 use Rattle.dir_names.specs.declared.schema.TypeRow.{TypeRow}
 use Rattle.dir_acl.specs.declared.fault.ConfigCause.TheVariants.{ConfigTooLong}
 use Rattle.dir_acl.specs.Config.{Settings, after_arguments, after_lines, at_line, config_of, config_types, directive, no_settings, of_suffix, types_after, types_with}
-use Rattle.dir_acl.specs.Config.Lines.{begins_with_white, lines_after, logical_lines, unfolded}
+use Rattle.dir_acl.specs.Config.Lines.{begins_with_blank, lines_after, logical_lines, unfolded}
 use Rattle.dir_conf.specs.declared.site.Directive.{Directive}
 use Rattle.dir_conf.specs.declared.site.Directive.TheVariants.{Suffix, RootDn, Access}
 use Rattle.dir_conf.specs.declared.site.Line.{Line}
@@ -35,11 +35,11 @@ numbered n [] = []
 numbered n (line ∷ lines) = (n, line) ∷ numbered (n + 1) lines
 
 abbrev is_own : List ℕ → Bool
-is_own line = not (begins_with_white line)
+is_own line = not (begins_with_blank line)
 
 own_lines : (last : ℕ × List ℕ) (n : ℕ) (lines : List (List ℕ)) → list_all is_own lines ≡ true → lines_after last n lines ≡ last ∷ numbered n lines
 own_lines last n [] e = refl
-own_lines last n (line ∷ lines) e = by (own_lines (n, line) (n + 1) lines) (begins_with_white line) e
+own_lines last n (line ∷ lines) e = by (own_lines (n, line) (n + 1) lines) (begins_with_blank line) e
   where
     by : (list_all is_own lines ≡ true → lines_after (n, line) (n + 1) lines ≡ (n, line) ∷ numbered (n + 1) lines) → (t : Bool) → (not t && list_all is_own lines) ≡ true → cond t (lines_after (last.0, last.1 ++ line) (n + 1) lines) (last ∷ lines_after (n, line) (n + 1) lines) ≡ last ∷ (n, line) ∷ numbered (n + 1) lines
     by rest true h = absurd (true≢false (sym h))

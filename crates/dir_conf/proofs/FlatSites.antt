@@ -18,9 +18,9 @@ use Rattle.dir_conf.specs.declared.site.Directive.{Directive}
 use Rattle.dir_conf.specs.declared.site.Directive.TheVariants.{Suffix, RootDn}
 use Rattle.dir_conf.specs.declared.site.Line.{Line}
 use Rattle.dir_conf.specs.CnConfig.{definitions, is_own_schema, lines_in, macros_after, rule_by, rule_line, rules_if_frontend, rules_in, site_of, types_in, types_of, whole_line, whole_lines}
-use Rattle.dir_conf.specs.CnConfig.Arguments.{after_step, arguments_from, arguments_of, is_white, last_argument, step_in_argument, step_of}
+use Rattle.dir_conf.specs.CnConfig.Arguments.{after_step, arguments_from, arguments_of, is_space, last_argument, step_in_argument, step_of}
 use Rattle.dir_conf.specs.CnConfig.Databases.{database_of, is_frontend}
-use Rattle.dir_conf.specs.CnConfig.Macros.{by_first, definition, plain_byte, without_white}
+use Rattle.dir_conf.specs.CnConfig.Macros.{by_first, definition, plain_byte, without_spaces}
 use Rattle.dir_conf.specs.CnConfig.Records.{gather, values_of}
 use Rattle.dir_conf.specs.CnConfig.Values.{Numbered}
 use Rattle.dir_conf.specs.Flat.{Content, is_no_feed}
@@ -57,9 +57,9 @@ gathered_all p f h (x ∷ xs) = both_values p (f x) (gather f xs) (h x) (gathere
 -- ---- definitions
 
 plain_no_end : (b : ℕ) → is_no_end (plain_byte b) ≡ true
-plain_no_end b = by (is_white b) refl
+plain_no_end b = by (is_space b) refl
   where
-    by : (t : Bool) → is_white b ≡ t → is_no_end (cond t 32 b) ≡ true
+    by : (t : Bool) → is_space b ≡ t → is_no_end (cond t 32 b) ≡ true
     by true e = refl
     by false e = grind (arith, nat_tests)
 
@@ -69,7 +69,7 @@ plain_no_ends (b ∷ bs) = both (is_no_end (plain_byte b)) _ (plain_no_end b) (p
 
 definitions_no_ends : (macros : List Macro) (values : List Numbered) → list_all (list_all is_no_end) (definitions macros values) ≡ true
 definitions_no_ends macros [] = refl
-definitions_no_ends macros (value ∷ more) = both (list_all is_no_end (definition macros value.1)) _ (plain_no_ends (by_first macros value.1 (without_white value.1))) (definitions_no_ends macros more)
+definitions_no_ends macros (value ∷ more) = both (list_all is_no_end (definition macros value.1)) _ (plain_no_ends (by_first macros value.1 (without_spaces value.1))) (definitions_no_ends macros more)
 
 types_in_flat : (macros : List Macro) (entry : List Attribute) → OfValue (λ types. list_all (list_all is_no_end) types ≡ true) (types_in macros entry)
 types_in_flat macros entry = by (is_own_schema entry)
@@ -101,7 +101,7 @@ last_flat Plain item e = both (list_all is_no_feed item) _ e refl
 last_flat Quoted item e = tt
 last_flat Closed item e = both (list_all is_no_feed item) _ e refl
 
-black_no_feed : (b : ℕ) → is_white b ≡ false → is_no_feed b ≡ true
+black_no_feed : (b : ℕ) → is_space b ≡ false → is_no_feed b ≡ true
 black_no_feed b e = grind (arith, nat_tests)
 
 other_no_feed : (b : ℕ) → (b == 10) ≡ false → is_no_feed b ≡ true
@@ -111,7 +111,7 @@ pub longer : (item : List ℕ) (b : ℕ) → list_all is_no_feed item ≡ true �
 longer item b e f = joined_all is_no_feed item (b ∷ []) e (both (is_no_feed b) _ f refl)
 
 module _ (b : ℕ) (bs item : List ℕ) (flat : list_all is_no_feed item ≡ true) (rest : (next : Spot) (bytes : List ℕ) → list_all is_no_feed bytes ≡ true → AreFlat (arguments_from next bytes bs)) where
-  in_argument : is_white b ≡ false → AreFlat (after_step (step_in_argument b) b item (λ next bytes. arguments_from next bytes bs))
+  in_argument : is_space b ≡ false → AreFlat (after_step (step_in_argument b) b item (λ next bytes. arguments_from next bytes bs))
   in_argument e = by (b == 34)
     where
       by : (t : Bool) → AreFlat (after_step (cond t (Skip Quoted) (Take Plain)) b item (λ next bytes. arguments_from next bytes bs))
@@ -119,14 +119,14 @@ module _ (b : ℕ) (bs item : List ℕ) (flat : list_all is_no_feed item ≡ tru
       by false = rest Plain (item ++ b ∷ []) (longer item b flat (black_no_feed b e))
 
   one_byte : (spot : Spot) → AreFlat (after_step (step_of spot b) b item (λ next bytes. arguments_from next bytes bs))
-  one_byte Between = by (is_white b) refl
+  one_byte Between = by (is_space b) refl
     where
-      by : (t : Bool) → is_white b ≡ t → AreFlat (after_step (cond t (Skip Between) (step_in_argument b)) b item (λ next bytes. arguments_from next bytes bs))
+      by : (t : Bool) → is_space b ≡ t → AreFlat (after_step (cond t (Skip Between) (step_in_argument b)) b item (λ next bytes. arguments_from next bytes bs))
       by true e = rest Between item flat
       by false e = in_argument e
-  one_byte Plain = by (is_white b) refl
+  one_byte Plain = by (is_space b) refl
     where
-      by : (t : Bool) → is_white b ≡ t → AreFlat (after_step (cond t Close (step_in_argument b)) b item (λ next bytes. arguments_from next bytes bs))
+      by : (t : Bool) → is_space b ≡ t → AreFlat (after_step (cond t Close (step_in_argument b)) b item (λ next bytes. arguments_from next bytes bs))
       by true e = one_first item _ flat (rest Between [] refl)
       by false e = in_argument e
   one_byte Quoted = by (b == 34) (b == 10) refl
@@ -135,7 +135,7 @@ module _ (b : ℕ) (bs item : List ℕ) (flat : list_all is_no_feed item ≡ tru
       by true u e = rest Closed item flat
       by false true e = tt
       by false false e = rest Quoted (item ++ b ∷ []) (longer item b flat (other_no_feed b e))
-  one_byte Closed = by (is_white b)
+  one_byte Closed = by (is_space b)
     where
       by : (t : Bool) → AreFlat (after_step (cond t Close Refuse) b item (λ next bytes. arguments_from next bytes bs))
       by true = one_first item _ flat (rest Between [] refl)

@@ -11,7 +11,6 @@ ghost use Rattle.dir_conf.specs.Outcome.{GivesConf};
 ghost use Rattle.std.specs.List.{list_all};
 
 pub(crate) mod arguments;
-pub(crate) mod cut;
 pub(crate) mod databases;
 pub(crate) mod macros;
 pub(crate) mod records;

@@ -1,6 +1,5 @@
 //! `slapkit slapconf`: the files that a command line names, and the flat configuration that is made of them.
 
-ghost use Rattle.std.specs.Io.KnownBytes.{Appends};
 ghost use Rattle.std.specs.Fmt.{decimal};
 ghost use Rattle.std.specs.Option.{option_copied};
 ghost use Rattle.std.specs.Prelude.{◌≡◌, ◌++◌, IfErr, IfOk, OnOk};
@@ -20,7 +19,7 @@ use dir_conf::{
     ConfFault, FileFault, Flat, Tally, flat_of_config, flat_of_files, suffixes_of_config,
     suffixes_of_files,
 };
-use dir_ldif::{DeviceFault, Sink, write_whole};
+use dir_ldif::write_flushed;
 use dir_names::{DnKey, Memory, Schema, Texts};
 use dir_tools::{ToolFault, suffix_key};
 use std::alloc::Global;
@@ -198,7 +197,7 @@ fn write_flat<'a, F: FileSystem>(
         Ok(draft) => draft,
         Err(why) => return Err(not_created(path, why)),
     };
-    let Ok(()) = write_text(&mut draft, flat.text.as_slice()) else {
+    let Ok(()) = write_flushed(&mut draft, flat.text.as_slice()) else {
         files.discard(path, draft);
         return Err(Fault::FlatUnwritten);
     };
@@ -210,14 +209,6 @@ fn write_flat<'a, F: FileSystem>(
         Fault::FlatUnwritten,
         flat.tally,
     )
-}
-
-/// Writes a whole text, and passes it on.
-fn write_text<W: Sink>(sink: &mut W, text: &[u8]) -> Result<(), DeviceFault>
-    ensures { OnOk result (Appends (W.taken sink.old) (W.taken sink.new) text.now) }
-{
-    write_whole(sink, text)?;
-    sink.flush()
 }
 
 /// `types T, rules R, frontend F`

@@ -7,7 +7,7 @@ use crate::devices::{PatientReader, PatientWriter};
 use crate::files::{FileSystem, Opened, Refusal};
 use crate::limit::{LimitedWriter, largest_file, room_of_output};
 use crate::progress::{Progress, ProgressLine, TellingReader, TellingWriter};
-use dir_ldif::{DeviceFault, Sink, write_whole};
+use dir_ldif::{DeviceFault, Sink, write_flushed};
 use std::alloc::{AllocError, Global};
 use std::fs::{self, File, OpenFile, OpenOptions};
 use std::io::{self, ErrorKind, Input, IsTerminal};
@@ -196,7 +196,7 @@ where
         self.line.clear();
         let output = PatientWriter::new(io::writer(self.rt));
         let mut output = LimitedWriter::new(output, room_of_output(self.rt));
-        if write_whole(&mut output, text).is_err() || output.flush().is_err() {
+        if write_flushed(&mut output, text).is_err() {
             return Err(Refusal::Other);
         }
         Ok(())

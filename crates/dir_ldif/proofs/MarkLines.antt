@@ -1,25 +1,26 @@
 -- A mark is a line of its own, and the mark that it is.
 use Rattle.std.proofs.Common.{◌≡◌, ℕ, zero, suc, ◌+◌, ◌<◌, ◌≤◌, ◌^◌, ◌/◌, ◌%◌, Bool, true, false, if◌then◌else◌, eqb, nat_lt, ◌==◌, List, [], ◌∷◌, ◌++◌, length, map, get_or, decimal, refl, ap, subst, ◌∙◌, append_assoc, length-append, arith}
-use Rattle.std.specs.Char.{is_ascii_digit}
 use Rattle.std.specs.Fmt.{digit_glyph, digits, digits_onto}
 use Rattle.std.specs.Int.Digits.{digits_of, AllBelowBase}
 use Rattle.std.specs.List.{list_all, list_any}
 use Rattle.std.proofs.lemmas.Bool.Decides.{nat_tests}
 use Rattle.std.proofs.lemmas.Fmt.{decimal-digits_of}
 use Rattle.std.proofs.lemmas.Int.Digits.{all_below_base_digits_of, first_digits_of}
+use Rattle.dir_names.specs.Descriptions.{is_digit}
+use Rattle.dir_names.specs.ValueKeys.{is_positive}
 use Rattle.dir_ldif.specs.Bytes.{is_line_break}
 use Rattle.dir_ldif.specs.LogicalLines.{cut, is_lf, is_long, logical_lines, physical_lines}
-use Rattle.dir_ldif.specs.MarkText.{is_mark, is_positive, mark_line, mark_of}
+use Rattle.dir_ldif.specs.MarkText.{is_mark, mark_line, mark_of}
 use Rattle.dir_ldif.proofs.FoldedLines.{apart, closed, no_lf, without_last-lacks}
 use Rattle.dir_ldif.proofs.LogicalLineLemmas.{cut-line}
 
 abbrev digits_text : List ℕ → List ℕ
 digits_text ds = map (λ d. 48 + d) ds
 
-digit_is : (d : ℕ) → d < 10 → (is_ascii_digit (48 + d) ≡ true) × (is_line_break (48 + d) ≡ false)
+digit_is : (d : ℕ) → d < 10 → (is_digit (48 + d) ≡ true) × (is_line_break (48 + d) ≡ false)
 digit_is d h = (grind (arith, nat_tests), grind (arith, nat_tests))
 
-digits_are : (ds : List ℕ) → AllBelowBase 10 ds → (list_all is_ascii_digit (digits_text ds) ≡ true) × (list_any is_line_break (digits_text ds) ≡ false)
+digits_are : (ds : List ℕ) → AllBelowBase 10 ds → (list_all is_digit (digits_text ds) ≡ true) × (list_any is_line_break (digits_text ds) ≡ false)
 digits_are [] h = (refl, refl)
 digits_are (d ∷ ds) h =
     let here = digit_is d h.0 in

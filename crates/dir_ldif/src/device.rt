@@ -17,7 +17,7 @@ pub use standard::{Reader, Writer};
 use std::error::Error;
 use std::fmt;
 pub use tape::Tape;
-pub use whole::write_whole;
+pub use whole::{write_flushed, write_whole};
 
 /// A device failed. In that call it took and gave no byte.
 #[derive(Clone, Copy, PartialEq, Eq, Debug)]

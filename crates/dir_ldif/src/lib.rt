@@ -9,7 +9,9 @@ mod records;
 mod scan;
 mod writer;
 
-pub use device::{DeviceFault, Reader, Script, Sink, Source, Tape, Writer, write_whole};
+pub use device::{
+    DeviceFault, Reader, Script, Sink, Source, Tape, Writer, write_flushed, write_whole,
+};
 pub use faults::{RecordFault, StreamFault};
 pub use laws::{
     first_records_are_sound, legal_changes_have_no_fault, long_lines_stay, marked_groups_read_back,

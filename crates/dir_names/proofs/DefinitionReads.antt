@@ -17,7 +17,8 @@ use Rattle.dir_names.specs.Definitions.{definition_by, definition_from, definiti
 use Rattle.dir_names.specs.Definitions.Grammar.{Defines, EndsWord, SpellsPart, SpellsParts, SpellsTokens}
 use Rattle.dir_names.specs.Definitions.Grammar.{byte, close_parenthesis, end, flag, none, nothing, open_parenthesis, part, quoted, white, with_list, with_text, with_word, word}
 use Rattle.dir_names.specs.Definitions.Parts.{after_step, begun_by, is_flag, keyword_of, parts_from, parts_of, takes_list, takes_word, with_part}
-use Rattle.dir_names.specs.Definitions.Tokens.{ends_word, is_white, tokens_at, tokens_from, tokens_of, with_token}
+use Rattle.dir_names.specs.Definitions.Tokens.{ends_word, tokens_at, tokens_from, tokens_of, with_token}
+use Rattle.dir_names.specs.Trimming.{is_blank}
 
 -- ---- tokens
 
@@ -33,7 +34,7 @@ module _ {A : Type 0} (nothing_more opened closed quotes begins : A) where
 word_begins : (b : ℕ) (rest : Spot → List ℕ → Option (List Token)) → ends_word b ≡ false → tokens_at b rest ≡ rest InWord (b ∷ [])
 word_begins b rest e =
     begins_word (rest Between []) (with_token token.Open (rest Between [])) (with_token token.Close (rest Between [])) (rest InQuotes []) (rest InWord (b ∷ []))
-    (is_white b) (b == 40) (b == 41) (b == 39) e
+    (is_blank b) (b == 40) (b == 41) (b == 39) e
 
 in_word : (item bs text : List ℕ) → list_all (λ c. not (ends_word c)) bs ≡ true → tokens_from InWord item (bs ++ text) ≡ tokens_from InWord (item ++ bs) text
 in_word item [] text e = ap (λ i. tokens_from InWord i text) (sym (append-nil item))

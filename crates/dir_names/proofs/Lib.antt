@@ -8,6 +8,7 @@ pub mod Compared
 pub mod CutLemmas
 pub mod DefinitionReads
 pub mod DefinitionSteps
+pub mod FirstPlaces
 pub mod GainedNames
 pub mod GrownTables
 pub mod HasKeys

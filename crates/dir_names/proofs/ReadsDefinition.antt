@@ -20,7 +20,8 @@ use Rattle.dir_names.specs.Definitions.{definition_by, definition_from, definiti
 use Rattle.dir_names.specs.Definitions.Grammar.{Defines, SpellsPart, SpellsParts, SpellsTokens}
 use Rattle.dir_names.specs.Definitions.Grammar.{byte, close_parenthesis, end, flag, none, nothing, open_parenthesis, part, quoted, white, with_list, with_text, with_word, word}
 use Rattle.dir_names.specs.Definitions.Parts.{after_step, begun_by, is_each_once, is_flag, keyword_of, parts_from, parts_of, takes_list, takes_word, with_part}
-use Rattle.dir_names.specs.Definitions.Tokens.{ends_word, is_white, tokens_at, tokens_from, tokens_of, with_token}
+use Rattle.dir_names.specs.Definitions.Tokens.{ends_word, tokens_at, tokens_from, tokens_of, with_token}
+use Rattle.dir_names.specs.Trimming.{is_blank}
 use Rattle.dir_names.specs.Descriptions.{is_numericoid}
 use Rattle.dir_names.specs.Outcome.{Gives}
 use Rattle.dir_names.proofs.DefinitionReads.{definition_read}
@@ -49,7 +50,7 @@ module _ (b : ℕ) (bs : List ℕ) (later : Reads bs) (tokens : List Token) wher
       let split = with_first t (tokens_from Between [] bs) tokens e in
       subst (λ x. SpellsTokens (x ∷ bs) tokens) (sym (eqb-true b code same)) (subst (SpellsTokens (code ∷ bs)) split.1.1 (spell bs split.0 (later Between [] split.0 split.1.0)))
 
-  at_byte_by : (w l r q : Bool) → is_white b ≡ w → (b == 40) ≡ l → (b == 41) ≡ r → (b == 39) ≡ q
+  at_byte_by : (w l r q : Bool) → is_blank b ≡ w → (b == 40) ≡ l → (b == 41) ≡ r → (b == 39) ≡ q
       → cond w (tokens_from Between [] bs) (cond l (with_token token.Open (tokens_from Between [] bs)) (cond r (with_token token.Close (tokens_from Between [] bs)) (cond q (tokens_from InQuotes [] bs) (tokens_from InWord (b ∷ []) bs)))) ≡ Some tokens
       → SpellsTokens (b ∷ bs) tokens
   at_byte_by true l r q w' l' r' q' e = white b bs tokens w' (later Between [] tokens e)
@@ -62,7 +63,7 @@ module _ (b : ℕ) (bs : List ℕ) (later : Reads bs) (tokens : List Token) wher
       plain = rw (w', l', r', q') refl
 
   at_byte : tokens_at b (λ spot begun. tokens_from spot begun bs) ≡ Some tokens → SpellsTokens (b ∷ bs) tokens
-  at_byte e = at_byte_by (is_white b) (b == 40) (b == 41) (b == 39) refl refl refl refl e
+  at_byte e = at_byte_by (is_blank b) (b == 40) (b == 41) (b == 39) refl refl refl refl e
 
 module _ (b : ℕ) (bs : List ℕ) (later : Reads bs) where
   in_word_by : (ends : Bool) → ends_word b ≡ ends → (x : ℕ) (xs : List ℕ) (tokens : List Token)

@@ -17,6 +17,7 @@ pub mod Outcome
 pub mod Results
 pub mod Sorted
 pub mod Table
+pub mod Trimming
 pub mod Types
 pub mod ValueKeys
 pub mod Values

@@ -1,17 +1,16 @@
 //! Attribute descriptions as they are spelled, and what they mean (RFC 4512, section 2.5); in `options` their options.
 
 ghost use Rattle.std.specs.Cmp.{partial_order_from_agreeing_total};
-ghost use Rattle.std.specs.List.{before_first, list_all};
+ghost use Rattle.std.specs.List.{list_all};
 ghost use Rattle.std.specs.Ordering.{as_partial_cmp};
-ghost use Rattle.std.specs.Prelude.{◌≡◌, ◌↔◌, IsTrue, Ok, refl, ◌==◌, [], ◌∷◌, IfSome, map, option_copied, position};
+ghost use Rattle.std.specs.Prelude.{◌≡◌, ◌↔◌, IsTrue, Ok, refl, [], IfSome, map, option_copied};
 ghost use Rattle.std.specs.Str.{str_to_ascii_lowercase};
 ghost use Rattle.dir_names.specs.Ascii.{dot};
 ghost use Rattle.dir_names.specs.Covers.{Covers, covers};
-ghost use Rattle.dir_names.specs.Cut.{after_first_separator, parts_at};
 ghost use Rattle.dir_names.specs.Inside.Left.{parts_left};
 ghost use Rattle.dir_names.specs.Inside.Ranks.{HasRank, IsTextAt};
 ghost use Rattle.dir_names.specs.Described.{described_eq, described_eq_laws, partial_described_eq_laws};
-ghost use Rattle.dir_names.specs.Descriptions.{description_of, is_descr, is_digit, is_keychar, is_number, is_numericoid, is_reserved, is_type};
+ghost use Rattle.dir_names.specs.Descriptions.{description_of, is_descr, is_keychar, is_number, is_numericoid, is_reserved, is_type};
 ghost use Rattle.dir_names.specs.Orders.{bytes_cmp, bytes_eq, attr_cmp, attr_eq, attr_cmp_total, attr_cmp_ties, tied_equiv, tied_per};
 ghost use Rattle.dir_names.specs.Outcome.{Gives};
 
@@ -20,6 +19,7 @@ pub(crate) mod options;
 use crate::attribute::options::OptionSet;
 use crate::limits::MAX_DESCRIPTION;
 use crate::schema::table::RANKED;
+use crate::text::{are_digits, split_once};
 use crate::value::folding::lowercase_copy;
 use crate::{Bytes, NameFault, Schema};
 use std::alloc::Global;
@@ -375,12 +375,6 @@ fn is_number(text: &[u8]) -> bool
     first.is_ascii_digit() && (*first != b'0' || rest.is_empty()) && are_digits(rest)
 }
 
-pub(crate) fn are_digits(text: &[u8]) -> bool
-    ensures { result ≡ list_all is_digit text.now }
-{
-    text.iter().all(|b| b.is_ascii_digit())
-}
-
 /// The words that LDIF uses for its own lines.
 pub(crate) fn is_reserved(attr_type: &[u8]) -> bool
     ensures { result ≡ is_reserved attr_type.now }
@@ -394,22 +388,4 @@ pub(crate) fn lowercase_bytes(alloc: Global, text: &[u8]) -> Result<Bytes, NameF
     ensures { Gives (λ copy. copy) result (Ok (str_to_ascii_lowercase text.now)) }
 {
     Ok(Bytes::new(lowercase_copy(alloc, text)?))
-}
-
-/// The text before the first separator, and the text after it if there is one.
-pub(crate) fn split_once(text: &[u8], separator: u8) -> (&[u8], Option<&[u8]>)
-    ensures before { result.0.now ≡ before_first (λ b. b == separator) text.now }
-    ensures after { option_copied result.1 ≡ after_first_separator separator text.now }
-    ensures parts { parts_at separator text.now ≡ result.0.now ∷ parts_left separator (option_copied result.1) }
-{
-    match position_of(text, separator) {
-        Some(at) => (&text[..at], Some(&text[at + 1..])),
-        None => (text, None),
-    }
-}
-
-fn position_of(text: &[u8], separator: u8) -> Option<usize>
-    ensures { result ≡ position (λ b. b == separator) text.now }
-{
-    text.iter().position(|b| *b == separator)
 }

@@ -9,6 +9,7 @@ mod limits;
 mod list;
 mod name;
 mod schema;
+mod text;
 mod value;
 
 pub use attribute::{AttrKey, Description};
@@ -24,6 +25,7 @@ pub use name::reader::NameReader;
 pub use name::{Dn, Rdn};
 pub use schema::definition::TypeDefinition;
 pub use schema::{Rule, Schema, types_are_added};
-pub use value::ValueKey;
+pub use text::{is_blank, is_positive, split_once, without_return};
 pub use value::pieces::PiecePlace;
 pub use value::pushed::PushedKey;
+pub use value::{ValueKey, is_integer};

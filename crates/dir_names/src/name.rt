@@ -30,7 +30,7 @@ use crate::name::printing::{print_name, print_rdn};
 use crate::name::reading::{read_name, read_one_rdn};
 use crate::schema::scope::Scope;
 use crate::value::{has_text_key, text_key};
-use crate::{Bytes, DnKey, NameFault, RdnKey, Schema};
+use crate::{Bytes, DnKey, Memory, NameFault, RdnKey, Schema};
 use std::alloc::Global;
 use std::fmt;
 use std::marker::Model;
@@ -293,6 +293,21 @@ impl Dn {
         match (self.rdns.as_slice().first(), self.key_above()) {
             (Some(leaf), Some(above)) => above.child(alloc, &leaf.key(alloc, schema)?),
             _ => self.key_of_rdns(alloc, schema),
+        }
+    }
+
+    /// The key of the name, if it has one.
+    ///
+    /// # Errors
+    ///
+    /// Memory ran out.
+    pub fn key_if_any(&self, alloc: Global, schema: &Schema) -> Result<Option<DnKey>, Memory>
+        ensures { IfOk result (λ key. key ≡ name_key schema.now self.now) }
+    {
+        match self.key(alloc, schema) {
+            Ok(key) => Ok(Some(key)),
+            Err(NameFault::Memory) => Err(Memory),
+            Err(_) => Ok(None),
         }
     }
 

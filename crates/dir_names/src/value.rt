@@ -9,7 +9,7 @@ ghost use Rattle.std.specs.Str.{str_to_ascii_lowercase};
 ghost use Rattle.dir_names.specs.Orders.{tied_equiv, tied_per};
 ghost use Rattle.dir_names.specs.Outcome.{Gives};
 ghost use Rattle.dir_names.specs.ValueKeys.Spaces.{without_extra_spaces, without_spaces_and_hyphens};
-ghost use Rattle.dir_names.specs.ValueKeys.{folded_text, is_ascii, is_positive, is_integer, is_object_id, is_text, key_if, text_key_of};
+ghost use Rattle.dir_names.specs.ValueKeys.{folded_text, is_ascii, is_integer, is_object_id, is_text, key_if, text_key_of};
 ghost use Rattle.dir_names.specs.Values.{value_key_cmp, value_key_eq, value_key_cmp_total, value_key_cmp_ties, text_of, name_of_key};
 
 pub(crate) mod folding;
@@ -17,7 +17,8 @@ pub(crate) mod pieces;
 pub(crate) mod pushed;
 pub(crate) mod spaces;
 
-use crate::attribute::{are_digits, lowercase_bytes};
+use crate::attribute::lowercase_bytes;
+use crate::text::is_positive;
 use crate::value::folding::{folded_text, is_ascii, lowercase_copy};
 use crate::value::spaces::{without_extra_spaces, without_spaces_and_hyphens};
 use crate::{AttrKey, Bytes, DnSortKey, NameFault, RecentNames, Rule, Schema};
@@ -271,7 +272,7 @@ fn object_id_key(alloc: Global, value: &[u8]) -> Result<Bytes, NameFault>
 }
 
 /// `0`, or an optional minus and digits that don't begin with 0.
-fn is_integer(value: &[u8]) -> bool
+pub fn is_integer(value: &[u8]) -> bool
     ensures { result ≡ is_integer value.now }
 {
     let Some((first, rest)) = value.split_first() else {
@@ -282,15 +283,6 @@ fn is_integer(value: &[u8]) -> bool
         b'-' => is_positive(rest),
         _ => is_positive(value),
     }
-}
-
-fn is_positive(digits: &[u8]) -> bool
-    ensures { result ≡ is_positive digits.now }
-{
-    let Some((first, _)) = digits.split_first() else {
-        return false;
-    };
-    *first != b'0' && are_digits(digits)
 }
 
 fn is_object_id(value: &[u8]) -> bool

@@ -1,10 +1,10 @@
 //! `run_questions`: a file of questions answered over a configuration and a copy, which are read once.
 
-ghost use Rattle.std.specs.Io.KnownBytes.{Appends, Consumes};
+ghost use Rattle.std.specs.Io.KnownBytes.{Consumes};
 ghost use Rattle.std.specs.Prelude.{◌≡◌, ◌⊎◌, ◌≤◌, ℕ, Err, IfErr, IfOk, List, Ok, OnOk, OnErr, Option, length, map, not, true};
 ghost use Rattle.dir_names.specs.declared.schema.TypeRow.{TypeRow};
 ghost use Rattle.dir_acl.specs.Inside.ReadingConfig.{configuration_of};
-ghost use Rattle.dir_ldif.specs.Device.{AppendsPrefix, HasFailed};
+ghost use Rattle.dir_ldif.specs.Device.{HasFailed};
 ghost use Rattle.dir_tools.specs.AccessAnswers.{IsTextOf};
 ghost use Rattle.dir_tools.specs.Inside.Asking.{configured_under};
 ghost use Rattle.dir_tools.specs.Writing.{TookFile, TookPrefix};
@@ -23,7 +23,7 @@ use crate::fault::QuestionsFault;
 use crate::reading::{Block, read_lines, read_questions};
 use crate::report::{Tally, push_block, push_lines, push_tally, tally_of};
 use dir_acl::Config;
-use dir_ldif::{DeviceFault, Sink, Source, write_whole};
+use dir_ldif::{DeviceFault, Sink, Source, write_flushed};
 use dir_names::{Memory, Schema};
 use dir_tools::{HeldMemory, Output, ToolFault, read_config, read_copy_under};
 use dir_tree::Directory;
@@ -227,18 +227,6 @@ fn write_answers<W: Sink>(wanted: bool, writer: &mut W, text: &[u8]) -> Result<(
     } else {
         Ok(())
     }
-}
-
-/// Writes a whole text and flushes it.
-fn write_flushed<W: Sink>(writer: &mut W, text: &[u8]) -> Result<(), DeviceFault>
-    ensures ok { OnOk result (Appends (W.taken writer.old) (W.taken writer.new) text.now) }
-    ensures front { (n : ℕ) × AppendsPrefix (W.taken writer.old) (W.taken writer.new) text.now n }
-    ensures unfailed { OnOk result (W.failures writer.new ≡ W.failures writer.old) }
-    ensures flushed { OnOk result (W.is_flushed writer.new) }
-    ensures err { OnErr result (HasFailed (W.failures writer.old) (W.failures writer.new) ⊎ W.may_stall writer.new) }
-{
-    write_whole(writer, text)?;
-    writer.flush()
 }
 
 /// What is to be written.

@@ -3,7 +3,6 @@
 //! `read_config_with_argument` is for whoever is also to hear which argument a fault of the configuration is about.
 
 mod configuration;
-mod cut;
 mod parts;
 mod report;
 mod word_notes;

@@ -6,7 +6,7 @@ ghost use Rattle.dir_ldif.specs.Device.{AppendsPrefix, HasFailed};
 ghost use Rattle.dir_tools.specs.declared.fault.ToolFault.TheVariants as ToolFault;
 
 use crate::{Output, ToolFault};
-use dir_ldif::{Sink, write_whole};
+use dir_ldif::{Sink, write_flushed};
 
 /// Writes a whole text and flushes it.
 ///
@@ -25,10 +25,7 @@ pub(crate) fn write_text<W: Sink>(
     ensures fault { IfErr result (λ e. e ≡ ToolFault.Write output) }
     ensures err { OnErr result (HasFailed (W.failures writer.old) (W.failures writer.new) ⊎ W.may_stall writer.new) }
 {
-    if write_whole(writer, text).is_err() {
-        return Err(ToolFault::Write(output));
-    }
-    match writer.flush() {
+    match write_flushed(writer, text) {
         Ok(()) => Ok(()),
         Err(_) => Err(ToolFault::Write(output)),
     }

@@ -5,7 +5,8 @@ use Rattle.dir_acl.specs.declared.config.arguments.Spot.{Spot}
 use Rattle.dir_acl.specs.declared.config.arguments.Spot.TheVariants.{Between, Plain, Quoted, PlainEscape, QuotedEscape}
 use Rattle.dir_acl.specs.declared.config.arguments.Step.{Step}
 use Rattle.dir_acl.specs.declared.config.arguments.Step.TheVariants.{Skip, Take, Close}
-use Rattle.dir_acl.specs.Config.Lines.{is_comment, is_white}
+use Rattle.dir_names.specs.Trimming.{is_blank}
+use Rattle.dir_acl.specs.Config.Lines.{is_comment}
 use Rattle.dir_acl.specs.Config.Types.{definition_in}
 
 -- a byte of an argument outside quotes, or its first one: a quote begins a stretch in which white space is kept, and is dropped; a backslash takes the next byte
@@ -14,8 +15,8 @@ abbrev pub step_in_argument : ℕ → Step
 step_in_argument b = cond (b == backslash) (Skip PlainEscape) (cond (b == double_quote) (Skip Quoted) (Take Plain))
 
 abbrev pub step_of : Spot → ℕ → Step
-step_of Between b = cond (is_white b) (Skip Between) (step_in_argument b)
-step_of Plain b = cond (is_white b) Close (step_in_argument b)
+step_of Between b = cond (is_blank b) (Skip Between) (step_in_argument b)
+step_of Plain b = cond (is_blank b) Close (step_in_argument b)
 step_of Quoted b = cond (b == backslash) (Skip QuotedEscape) (cond (b == double_quote) (Skip Plain) (Take Quoted))
 step_of PlainEscape b = Take Plain
 step_of QuotedEscape b = Take Quoted

@@ -1,35 +1,22 @@
 -- The logical lines of a slapd.conf (slapd.conf(5), "GENERAL FORMAT"). White space is space and tab.
-use Rattle.std.specs.Prelude.{ℕ, ◌+◌, ◌-◌, Bool, false, cond, ◌||◌, ◌==◌, List, [], ◌∷◌, ◌++◌, map, length, take, Option, Some, None}
-use Rattle.std.specs.List.{slice_get}
-use Rattle.dir_names.specs.Ascii.{space, line_feed, carriage_return, sharp}
+use Rattle.std.specs.Prelude.{ℕ, ◌+◌, Bool, false, cond, ◌==◌, List, [], ◌∷◌, ◌++◌, map}
+use Rattle.dir_names.specs.Ascii.{line_feed, sharp}
 use Rattle.dir_names.specs.Cut.{parts_at}
+use Rattle.dir_names.specs.Trimming.{is_blank, without_return}
 
-abbrev pub tab : ℕ
-tab = 9
-
-abbrev pub is_white : ℕ → Bool
-is_white b = b == space || b == tab
-
--- one carriage return at a line's end is dropped
-abbrev pub is_return : Option ℕ → Bool
-is_return None = false
-is_return (Some b) = b == carriage_return
-
-abbrev pub without_return : List ℕ → List ℕ
-without_return line = cond (is_return (slice_get line (length line - 1))) (take (length line - 1) line) line
-
+-- the physical lines, each without one carriage return at its end
 abbrev pub physical_lines : List ℕ → List (List ℕ)
 physical_lines text = map without_return (parts_at line_feed text)
 
-abbrev pub begins_with_white : List ℕ → Bool
-begins_with_white [] = false
-begins_with_white (b ∷ bs) = is_white b
+abbrev pub begins_with_blank : List ℕ → Bool
+begins_with_blank [] = false
+begins_with_blank (b ∷ bs) = is_blank b
 
 -- the logical lines, each with the number of its first physical line: after the last one so far come the physical lines from number `n` on. A line that
 -- begins with white space is appended, with it, to the line before
 abbrev pub lines_after : ℕ × List ℕ → ℕ → List (List ℕ) → List (ℕ × List ℕ)
 lines_after last n [] = last ∷ []
-lines_after last n (line ∷ lines) = cond (begins_with_white line) (lines_after (last.0, last.1 ++ line) (n + 1) lines) (last ∷ lines_after (n, line) (n + 1) lines)
+lines_after last n (line ∷ lines) = cond (begins_with_blank line) (lines_after (last.0, last.1 ++ line) (n + 1) lines) (last ∷ lines_after (n, line) (n + 1) lines)
 
 -- the first line of the text stays for itself
 abbrev pub unfolded : List (List ℕ) → List (ℕ × List ℕ)

@@ -1,7 +1,8 @@
 -- The logical lines of a text that are still to come.
 use Rattle.std.specs.Prelude.{ℕ, List, [], ◌∷◌, map, Option, Some, None}
 use Rattle.dir_names.specs.Inside.Left.{parts_left}
-use Rattle.dir_acl.specs.Config.Lines.{lines_after, without_return}
+use Rattle.dir_names.specs.Trimming.{without_return}
+use Rattle.dir_acl.specs.Config.Lines.{lines_after}
 
 -- `begun` is the next one, so far; the text that is left begins with physical line `n`
 abbrev pub lines_to_come : Option (ℕ × List ℕ) → ℕ → Option (List ℕ) → List (ℕ × List ℕ)

@@ -6,7 +6,7 @@ use Rattle.dir_acl.specs.declared.config.arguments.Step.{Step}
 use Rattle.dir_acl.specs.declared.config.arguments.Step.TheVariants.{Skip, Take, Close}
 use Rattle.dir_acl.specs.declared.deciding.Wanting.{Wanting}
 use Rattle.dir_acl.specs.Config.Arguments.{step_of}
-use Rattle.dir_acl.specs.Config.Lines.{is_white}
+use Rattle.dir_names.specs.Trimming.{is_blank}
 
 abbrev pub wanting_of : Wanting → Spot × ℕ
 wanting_of wanting = (wanting.spot, wanting.words)
@@ -18,7 +18,7 @@ next_spot Close = Between
 
 -- between words any byte but white space begins one
 abbrev pub words_begun : Spot → ℕ → ℕ
-words_begun Between b = cond (is_white b) 0 1
+words_begun Between b = cond (is_blank b) 0 1
 words_begun Plain b = 0
 words_begun Quoted b = 0
 words_begun PlainEscape b = 0

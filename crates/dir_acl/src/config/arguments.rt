@@ -6,9 +6,8 @@ ghost use Rattle.dir_acl.specs.Config.Lines.{is_comment};
 ghost use Rattle.dir_acl.specs.Outcome.{GivesPart};
 
 use crate::ConfigCause;
-use crate::config::lines::is_white;
 use crate::config::types::definition_in;
-use dir_names::{Bytes, Memory, Texts};
+use dir_names::{Bytes, Memory, Texts, is_blank};
 use std::alloc::Global;
 
 /// Where in a line the reader is.
@@ -137,9 +136,9 @@ pub(crate) fn step_at(spot: Spot, b: u8) -> Step
     ensures { result ≡ step_of spot b }
 {
     match spot {
-        Spot::Between if is_white(b) => Step::Skip(Spot::Between),
+        Spot::Between if is_blank(b) => Step::Skip(Spot::Between),
         Spot::Between => step_in_argument(b),
-        Spot::Plain if is_white(b) => Step::Close,
+        Spot::Plain if is_blank(b) => Step::Close,
         Spot::Plain => step_in_argument(b),
         Spot::Quoted => match b {
             b'\\' => Step::Skip(Spot::QuotedEscape),
@@ -169,7 +168,7 @@ fn stays_at(spot: Spot, b: u8) -> bool
     ensures { result ≡ true → step_of spot b ≡ Step.Take spot }
 {
     match spot {
-        Spot::Plain if is_white(b) => false,
+        Spot::Plain if is_blank(b) => false,
         Spot::Plain | Spot::Quoted => !matches!(b, b'\\' | b'"'),
         Spot::Between | Spot::PlainEscape | Spot::QuotedEscape => false,
     }

@@ -2,15 +2,14 @@
 
 ghost use Rattle.std.specs.Prelude.{◌≡◌, ◌≤◌, [], IfNone, IfOk, length, option_map};
 ghost use Rattle.dir_acl.specs.Config.{after_line, after_lines, at_line, no_settings};
-ghost use Rattle.dir_acl.specs.Config.Lines.{begins_with_white, is_white, logical_lines, without_return};
+ghost use Rattle.dir_acl.specs.Config.Lines.{begins_with_blank, logical_lines};
 ghost use Rattle.dir_acl.specs.Inside.LinesToCome.{with_first};
 ghost use Rattle.dir_acl.specs.Inside.ReadingConfig.{settings_of};
 ghost use Rattle.dir_acl.specs.Outcome.{GivesConfig};
 
 use crate::config::directives::{Settings, after_line};
-use crate::cut::split_once;
 use crate::{ConfigCause, ConfigFault};
-use dir_names::Schema;
+use dir_names::{Schema, is_blank, split_once, without_return};
 use std::alloc::{AllocError, Global};
 use std::marker::Model;
 
@@ -60,7 +59,7 @@ impl<'t> LogicalLines<'t> {
         while let Some(more) = self.left {
             let (physical, after) = split_once(more, b'\n');
             let physical = without_return(physical);
-            if !begins_with_white(physical) {
+            if !begins_with_blank(physical) {
                 self.begun = Some((self.number, physical.to_vec(alloc)?));
                 self.number += 1;
                 self.left = after;
@@ -114,28 +113,12 @@ fn after_numbered_line(
     }
 }
 
-/// A line without the carriage return at its end.
-pub(crate) fn without_return(line: &[u8]) -> &[u8]
-    ensures { result.now ≡ without_return line.now }
-{
-    match line.last() {
-        Some(last) if *last == b'\r' => line.split_at(line.len() - 1).0,
-        _ => line,
-    }
-}
-
-pub(crate) fn begins_with_white(line: &[u8]) -> bool
-    ensures { result ≡ begins_with_white line.now }
+/// Whether a line begins with white space, which is space and tab.
+pub(crate) fn begins_with_blank(line: &[u8]) -> bool
+    ensures { result ≡ begins_with_blank line.now }
 {
     match line {
-        [first, ..] => is_white(*first),
+        [first, ..] => is_blank(*first),
         [] => false,
     }
-}
-
-/// White space is space and tab.
-pub(crate) fn is_white(b: u8) -> bool
-    ensures { result ≡ is_white b }
-{
-    matches!(b, b' ' | b'\t')
 }

@@ -3,15 +3,15 @@
 ghost use Rattle.std.specs.Prelude.{◌≡◌, ◌≤◌, Ok, length, option_copied, position};
 ghost use Rattle.std.specs.List.{position_or_len};
 ghost use Rattle.dir_acl.specs.Config.{at_line, config_types, types_with};
-ghost use Rattle.dir_acl.specs.Config.Lines.{is_white};
-ghost use Rattle.dir_acl.specs.Config.Types.{definition_in, without_white};
+ghost use Rattle.dir_names.specs.Trimming.{is_blank};
+ghost use Rattle.dir_acl.specs.Config.Types.{definition_in, without_blanks};
 ghost use Rattle.dir_acl.specs.Outcome.{GivesConfig};
 ghost use Rattle.dir_acl.specs.declared.fault.ConfigCause.TheVariants as ConfigCause;
 
-use crate::config::lines::{LogicalLines, is_white};
+use crate::config::lines::LogicalLines;
 use crate::config::{MAX_CONFIG, too_long};
 use crate::{ConfigCause, ConfigFault};
-use dir_names::{NameFault, Schema};
+use dir_names::{NameFault, Schema, is_blank};
 use std::alloc::Global;
 
 /// A schema with the attribute types that a slapd.conf defines: each line of the directive `attributetype` in turn, wherever it
@@ -75,7 +75,7 @@ fn out_of_memory() -> ConfigFault
 pub(crate) fn definition_in(line: &[u8]) -> Option<&[u8]>
     ensures { option_copied result ≡ definition_in line.now }
 {
-    let text = without_white(line);
+    let text = without_blanks(line);
     let (word, after) = text.split_at(word_length(text));
     if word.eq_ignore_ascii_case(b"attributetype") {
         Some(after)
@@ -85,12 +85,12 @@ pub(crate) fn definition_in(line: &[u8]) -> Option<&[u8]>
 }
 
 /// A text without the white space that it begins with.
-fn without_white(text: &[u8]) -> &[u8]
-    ensures { result.now ≡ without_white text.now }
+fn without_blanks(text: &[u8]) -> &[u8]
+    ensures { result.now ≡ without_blanks text.now }
 {
     let mut rest = text;
     while let [b, more @ ..] = rest {
-        if !is_white(*b) {
+        if !is_blank(*b) {
             return rest;
         }
         rest = more;
@@ -100,14 +100,14 @@ fn without_white(text: &[u8]) -> &[u8]
 
 /// The number of bytes of a text before its first white space.
 fn word_length(text: &[u8]) -> usize
-    ensures place { result ≡ position_or_len is_white text.now }
+    ensures place { result ≡ position_or_len is_blank text.now }
     ensures bound { result ≤ length text.now }
 {
-    first_white(text).unwrap_or(text.len())
+    first_blank(text).unwrap_or(text.len())
 }
 
-fn first_white(text: &[u8]) -> Option<usize>
-    ensures { result ≡ position is_white text.now }
+fn first_blank(text: &[u8]) -> Option<usize>
+    ensures { result ≡ position is_blank text.now }
 {
-    text.iter().position(|b| is_white(*b))
+    text.iter().position(|b| is_blank(*b))
 }

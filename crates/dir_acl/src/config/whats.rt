@@ -8,9 +8,8 @@ ghost use Rattle.dir_acl.specs.Outcome.{GivesPart};
 ghost use Rattle.dir_acl.specs.Rules.{restriction_of};
 
 use crate::config::names::{read_attr, read_name, style_of};
-use crate::cut::split_once;
 use crate::{Asked, ConfigCause, Filter, FilterFault, Style, What};
-use dir_names::Schema;
+use dir_names::{Schema, split_once};
 use std::alloc::Global;
 
 /// The forms of which each may be in a `<what>` once.

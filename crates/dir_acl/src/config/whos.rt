@@ -7,9 +7,8 @@ ghost use Rattle.dir_acl.specs.Config.Whos.{group_at, group_of, group_with, who_
 ghost use Rattle.dir_acl.specs.Outcome.{GivesPart};
 
 use crate::config::names::{read_attr, read_class, read_name, read_names_attr, style_of};
-use crate::cut::split_once;
 use crate::{ConfigCause, Who};
-use dir_names::Schema;
+use dir_names::{Schema, split_once};
 use std::alloc::Global;
 
 /// The part of a `<who>` that a word is, if it is one.

@@ -10,11 +10,10 @@ ghost use Rattle.dir_acl.specs.Inside.Escapes.{has_digit, is_outside, is_refused
 ghost use Rattle.dir_acl.specs.Outcome.{Reads, ok_or_bad_filter};
 ghost use Rattle.dir_acl.specs.Tests.{assertion_key, bound_of, described_by, last_piece, matching_by, matching_of_more, matching_of_parts, matching_with, operator_of, operator_of_sign, pieces_of, test_from, test_of, unescaped};
 
-use crate::cut::split_once;
-use crate::filter::integers::is_integer;
 use crate::{FilterFault, Matching, Pieces, Test};
 use dir_names::{
-    AttrKey, Bytes, Description, NameFault, PiecePlace, Rule, Schema, Texts, ValueKey,
+    AttrKey, Bytes, Description, NameFault, PiecePlace, Rule, Schema, Texts, ValueKey, is_integer,
+    split_once,
 };
 use std::alloc::Global;
 

@@ -1,11 +1,12 @@
 //! Integers of any length, as texts (RFC 4517, section 3.3.16).
 
-ghost use Rattle.std.specs.List.{list_all};
 ghost use Rattle.std.specs.Prelude.{◌≡◌, IsTrue, int_lt, nat_lt};
-ghost use Rattle.dir_names.specs.Descriptions.{is_digit, is_number};
-ghost use Rattle.dir_names.specs.ValueKeys.{is_integer, is_positive};
+ghost use Rattle.dir_names.specs.Descriptions.{is_number};
+ghost use Rattle.dir_names.specs.ValueKeys.{is_integer};
 ghost use Rattle.dir_acl.specs.Inside.Digits.{digits_of, is_negative};
 ghost use Rattle.dir_acl.specs.Integers.{integer_of, is_at_least, is_at_most, number_of};
+
+use dir_names::is_integer;
 
 /// Whether two texts are integers, and the second is at least the first.
 pub(crate) fn is_at_least(bound: &[u8], text: &[u8]) -> bool
@@ -19,35 +20,6 @@ pub(crate) fn is_at_most(bound: &[u8], text: &[u8]) -> bool
     ensures { result ≡ is_at_most bound.now text.now }
 {
     is_integer(bound) && is_integer(text) && !is_below(bound, text)
-}
-
-/// `0`, or an optional minus and digits that don't begin with 0.
-pub(crate) fn is_integer(text: &[u8]) -> bool
-    ensures { result ≡ is_integer text.now }
-{
-    let Some((first, rest)) = text.split_first() else {
-        return false;
-    };
-    match *first {
-        b'0' => rest.is_empty(),
-        b'-' => is_positive(rest),
-        _ => is_positive(text),
-    }
-}
-
-fn is_positive(digits: &[u8]) -> bool
-    ensures { result ≡ is_positive digits.now }
-{
-    let Some((first, _)) = digits.split_first() else {
-        return false;
-    };
-    *first != b'0' && are_digits(digits)
-}
-
-fn are_digits(text: &[u8]) -> bool
-    ensures { result ≡ list_all is_digit text.now }
-{
-    text.iter().all(|b| b.is_ascii_digit())
 }
 
 /// Whether the first integer is below the second.

@@ -11,11 +11,10 @@ ghost use Rattle.dir_acl.specs.Outcome.{Reads};
 ghost use Rattle.dir_acl.specs.declared.fault.FilterFault.TheVariants as FilterFault;
 ghost use Rattle.dir_acl.specs.declared.filter.Step.TheVariants as Step;
 
-use crate::cut::split_once;
 use crate::filter::Step;
 use crate::filter::assertion::read_test;
 use crate::{Filter, FilterFault, Test};
-use dir_names::Schema;
+use dir_names::{Schema, split_once};
 use std::alloc::Global;
 
 /// The greatest depth of parentheses.

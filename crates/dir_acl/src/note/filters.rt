@@ -7,13 +7,12 @@ ghost use Rattle.dir_acl.specs.Notes.{asks_presence, class_notes, compared_notes
 ghost use Rattle.dir_acl.specs.Inside.NotedTypes.{noted_by};
 ghost use Rattle.dir_acl.specs.Outcome.{GivesPart};
 
-use crate::cut::split_once;
 use crate::filter::assertion::{described_by, operator_of};
 use crate::filter::reading::in_parentheses;
 use crate::note::types::RuleTypes;
 use crate::note::{with_note, with_type};
 use crate::{ConfigCause, FilterFault, Note, NoteCause};
-use dir_names::{Description, NameFault};
+use dir_names::{Description, NameFault, split_once};
 use std::alloc::Global;
 
 /// The notes with those on the filter of a rule on this line.

@@ -10,8 +10,7 @@ ghost use Rattle.dir_acl.specs.declared.fault.ConfigCause.TheVariants as ConfigC
 use crate::ConfigCause;
 use crate::config::lines::LogicalLines;
 use crate::config::types::definition_in;
-use crate::cut::split_once;
-use dir_names::{AttrKey, Bytes, Description, NameFault, Schema, TypeDefinition};
+use dir_names::{AttrKey, Bytes, Description, NameFault, Schema, TypeDefinition, split_once};
 use std::alloc::Global;
 use std::collections::BTreeSet;
 

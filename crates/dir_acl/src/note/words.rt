@@ -10,12 +10,11 @@ ghost use Rattle.dir_acl.specs.Inside.NotedTypes.{noted_by};
 ghost use Rattle.dir_acl.specs.Outcome.{GivesPart};
 
 use crate::config::permissions::edit_of;
-use crate::cut::split_once;
 use crate::note::filters::with_filter;
 use crate::note::types::RuleTypes;
 use crate::note::{with_note, with_type};
 use crate::{ConfigCause, Edit, Note, NoteCause};
-use dir_names::{Bytes, Description, NameFault};
+use dir_names::{Bytes, Description, NameFault, split_once};
 use std::alloc::Global;
 
 /// The notes with those on a rule of these words, on this line.

@@ -8,18 +8,18 @@ use Rattle.dir_conf.specs.declared.cn_config.arguments.Step.{Step}
 use Rattle.dir_conf.specs.declared.cn_config.arguments.Step.TheVariants.{Skip, Take, Close, Refuse}
 
 -- tab, line feed, vertical tab, form feed, carriage return and space
-abbrev pub is_white : ℕ → Bool
-is_white b = b == space || (nat_lt 8 b && nat_lt b 14)
+abbrev pub is_space : ℕ → Bool
+is_space b = b == space || (nat_lt 8 b && nat_lt b 14)
 
 -- a quote begins a stretch that ends the argument
 abbrev pub step_in_argument : ℕ → Step
 step_in_argument b = cond (b == double_quote) (Skip Quoted) (Take Plain)
 
 abbrev pub step_of : Spot → ℕ → Step
-step_of Between b = cond (is_white b) (Skip Between) (step_in_argument b)
-step_of Plain b = cond (is_white b) Close (step_in_argument b)
+step_of Between b = cond (is_space b) (Skip Between) (step_in_argument b)
+step_of Plain b = cond (is_space b) Close (step_in_argument b)
 step_of Quoted b = cond (b == double_quote) (Skip Closed) (cond (b == line_feed) Refuse (Take Quoted))
-step_of Closed b = cond (is_white b) Close Refuse
+step_of Closed b = cond (is_space b) Close Refuse
 
 -- the argument that the value's end leaves; an open quote is refused
 abbrev pub last_argument : Spot → List ℕ → Option (List (List ℕ))

@@ -8,7 +8,7 @@ use Rattle.dir_names.specs.Results.{and_then}
 use Rattle.dir_conf.specs.declared.cn_config.macros.Macro.{Macro}
 use Rattle.dir_conf.specs.declared.fault.ConfFault.{ConfFault}
 use Rattle.dir_conf.specs.declared.fault.ConfFault.TheVariants.{BadArguments}
-use Rattle.dir_conf.specs.CnConfig.Arguments.{arguments_of, is_white}
+use Rattle.dir_conf.specs.CnConfig.Arguments.{arguments_of, is_space}
 use Rattle.dir_conf.specs.CnConfig.Values.{Numbered}
 
 -- the object identifier of the first that has this name, to the letter
@@ -45,21 +45,21 @@ with_macros macros (value ∷ more) = and_then (with_macro macros value) (λ now
 -- ---- definitions
 
 -- a text without the white space that it begins with
-abbrev pub without_white : List ℕ → List ℕ
-without_white [] = []
-without_white (b ∷ bs) = cond (is_white b) (without_white bs) (b ∷ bs)
+abbrev pub without_spaces : List ℕ → List ℕ
+without_spaces [] = []
+without_spaces (b ∷ bs) = cond (is_space b) (without_spaces bs) (b ∷ bs)
 
 abbrev pub with_first_word : List Macro → List ℕ → List ℕ
-with_first_word macros text = codes "( " ++ expanded macros (before_first is_white text) ++ drop (position_or_len is_white text) text
+with_first_word macros text = codes "( " ++ expanded macros (before_first is_space text) ++ drop (position_or_len is_space text) text
 
 -- the first word after the parenthesis that a definition begins with is its number, which may be written as a macro
 abbrev pub by_first : List Macro → List ℕ → List ℕ → List ℕ
 by_first macros text [] = text
-by_first macros text (b ∷ bs) = cond (b == left_parenthesis) (with_first_word macros (without_white bs)) text
+by_first macros text (b ∷ bs) = cond (b == left_parenthesis) (with_first_word macros (without_spaces bs)) text
 
 -- white space is written as spaces
 abbrev pub plain_byte : ℕ → ℕ
-plain_byte b = cond (is_white b) space b
+plain_byte b = cond (is_space b) space b
 
 abbrev pub definition : List Macro → List ℕ → List ℕ
-definition macros text = map plain_byte (by_first macros text (without_white text))
+definition macros text = map plain_byte (by_first macros text (without_spaces text))

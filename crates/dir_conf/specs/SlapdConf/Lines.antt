@@ -5,7 +5,7 @@ use Rattle.dir_names.specs.Ascii.{space, line_feed, backslash}
 use Rattle.dir_acl.specs.Config.Lines.{physical_lines}
 use Rattle.dir_acl.specs.Config.Names.{is_word}
 use Rattle.dir_conf.specs.declared.slapd_conf.lines.TextLine.{TextLine}
-use Rattle.dir_conf.specs.CnConfig.Arguments.{is_white}
+use Rattle.dir_conf.specs.CnConfig.Arguments.{is_space}
 
 -- a line, after the number of its first physical line
 abbrev pub line_by : TextLine → ℕ × List ℕ
@@ -26,13 +26,13 @@ ends_in_backslash line = is_backslash (slice_get line (length line - 1))
 abbrev pub is_open : List ℕ → Bool
 is_open line = ends_in_backslash line && not (ends_in_backslash (take (length line - 1) line))
 
-abbrev pub begins_with_white : List ℕ → Bool
-begins_with_white [] = false
-begins_with_white (b ∷ bs) = is_white b
+abbrev pub begins_with_space : List ℕ → Bool
+begins_with_space [] = false
+begins_with_space (b ∷ bs) = is_space b
 
 -- whether the next physical line goes on with a line
 abbrev pub joins : List ℕ → List ℕ → Bool
-joins line next = not (begins_with_include line) && (is_open line || begins_with_white next)
+joins line next = not (begins_with_include line) && (is_open line || begins_with_space next)
 
 -- in the place of the backslash as it is, and else with a space in the place of its first byte
 abbrev pub joined : List ℕ → List ℕ → List ℕ

@@ -9,8 +9,8 @@ use Rattle.dir_conf.specs.declared.fault.ConfFault.TheVariants.{BadArguments, Ba
 use Rattle.dir_conf.specs.declared.slapd_conf.statements.Said.{Said}
 use Rattle.dir_conf.specs.declared.slapd_conf.statements.Said.TheVariants.{Defines, Words}
 use Rattle.dir_conf.specs.declared.slapd_conf.statements.SaidLine.{SaidLine}
-use Rattle.dir_conf.specs.CnConfig.Arguments.{is_white}
-use Rattle.dir_conf.specs.CnConfig.Macros.{without_white}
+use Rattle.dir_conf.specs.CnConfig.Arguments.{is_space}
+use Rattle.dir_conf.specs.CnConfig.Macros.{without_spaces}
 use Rattle.dir_conf.specs.Flat.{is_no_feed}
 use Rattle.dir_conf.specs.SlapdConf.Files.{Placed}
 
@@ -32,11 +32,11 @@ abbrev pub is_definition_word : List ℕ → Bool
 is_definition_word word = is_word (take 9 word) (codes "attribute") && not (is_word word (codes "attributeoptions"))
 
 abbrev pub defined_after : List ℕ → Option (List ℕ)
-defined_after text = cond (is_definition_word (before_first is_white text)) (Some (drop (position_or_len is_white text) text)) None
+defined_after text = cond (is_definition_word (before_first is_space text)) (Some (drop (position_or_len is_space text) text)) None
 
 -- the definition of an attribute type in a line: all that is after its first word
 abbrev pub defined_in : List ℕ → Option (List ℕ)
-defined_in line = defined_after (without_white line)
+defined_in line = defined_after (without_spaces line)
 
 -- ---- words
 

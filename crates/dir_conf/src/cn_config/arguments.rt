@@ -1,7 +1,7 @@
 //! The arguments of an access rule in cn=config (slapd-config(5), `olcAccess`).
 
 ghost use Rattle.std.specs.Prelude.{◌≡◌, ◌++◌, ◌∷◌, [], None, Some, Ok, IfErr, IfOk, option_map};
-ghost use Rattle.dir_conf.specs.CnConfig.Arguments.{arguments_from, arguments_of, is_white, last_argument, step_in_argument, step_of};
+ghost use Rattle.dir_conf.specs.CnConfig.Arguments.{arguments_from, arguments_of, is_space, last_argument, step_in_argument, step_of};
 
 use dir_names::{Bytes, Memory, Texts};
 use std::alloc::Global;
@@ -78,23 +78,23 @@ fn step_at(spot: Spot, b: u8) -> Step
     ensures { result ≡ step_of spot b }
 {
     match spot {
-        Spot::Between if is_white(b) => Step::Skip(Spot::Between),
+        Spot::Between if is_space(b) => Step::Skip(Spot::Between),
         Spot::Between => step_in_argument(b),
-        Spot::Plain if is_white(b) => Step::Close,
+        Spot::Plain if is_space(b) => Step::Close,
         Spot::Plain => step_in_argument(b),
         Spot::Quoted => match b {
             b'"' => Step::Skip(Spot::Closed),
             b'\n' => Step::Refuse,
             _ => Step::Take(Spot::Quoted),
         },
-        Spot::Closed if is_white(b) => Step::Close,
+        Spot::Closed if is_space(b) => Step::Close,
         Spot::Closed => Step::Refuse,
     }
 }
 
 /// White space is space, and the control characters from tab to carriage return.
-pub(crate) fn is_white(b: u8) -> bool
-    ensures { result ≡ is_white b }
+pub(crate) fn is_space(b: u8) -> bool
+    ensures { result ≡ is_space b }
 {
     matches!(b, b' ' | 9..=13)
 }

@@ -3,17 +3,16 @@
 ghost use Rattle.std.specs.Prelude.{◌≡◌, ◌∷◌, ◌&&◌, [], Ok, map, option_copied, unwrap_or};
 ghost use Rattle.std.specs.List.{list_any};
 ghost use Rattle.dir_names.specs.Below.{is_at_or_below};
-ghost use Rattle.dir_names.specs.NameKeys.{name_key, name_value_key};
+ghost use Rattle.dir_names.specs.NameKeys.{name_value_key};
 ghost use Rattle.dir_conf.specs.CnConfig.Databases.{after_record, after_records, by_suffixes, database_of, is_at, is_frontend, is_frontend_name, is_within, line_of_first, suffix_by, suffix_in, suffixes_of, without_number};
 ghost use Rattle.dir_conf.specs.CnConfig.Records.{gather};
 ghost use Rattle.dir_conf.specs.CnConfig.Values.{numbered};
 ghost use Rattle.dir_conf.specs.Outcome.{GivesConf};
 
-use crate::cn_config::cut::split_once;
 use crate::cn_config::records::{Attribute, named, values_of};
 use crate::cn_config::values::{Value, begins_with_brace};
 use crate::fault::ConfFault;
-use dir_names::{Dn, DnKey, NameFault, Schema};
+use dir_names::{Dn, DnKey, NameFault, Schema, split_once};
 use std::alloc::Global;
 
 /// A suffix of a database, with the number of its line.
@@ -144,17 +143,7 @@ fn name_in(alloc: Global, schema: &Schema, text: &[u8]) -> Result<Option<DnKey>,
     ensures { GivesConf (λ key. key) result (Ok (name_value_key schema.now text.now)) }
 {
     match Dn::read(alloc, text) {
-        Ok(name) => key_of(alloc, schema, &name),
-        Err(NameFault::Memory) => Err(ConfFault::Memory),
-        Err(_) => Ok(None),
-    }
-}
-
-fn key_of(alloc: Global, schema: &Schema, name: &Dn) -> Result<Option<DnKey>, ConfFault>
-    ensures { GivesConf (λ key. key) result (Ok (name_key schema.now name.now)) }
-{
-    match name.key(alloc, schema) {
-        Ok(key) => Ok(Some(key)),
+        Ok(name) => Ok(name.key_if_any(alloc, schema)?),
         Err(NameFault::Memory) => Err(ConfFault::Memory),
         Err(_) => Ok(None),
     }

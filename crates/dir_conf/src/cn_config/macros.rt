@@ -2,16 +2,15 @@
 
 ghost use Rattle.std.specs.List.{before_first, position_or_len};
 ghost use Rattle.std.specs.Prelude.{◌≡◌, Ok, Some, drop, map, option_copied, position};
-ghost use Rattle.dir_conf.specs.CnConfig.Arguments.{is_white};
-ghost use Rattle.dir_conf.specs.CnConfig.Macros.{by_first, definition, expanded, macro_by, oid_named, plain_byte, with_first_word, with_macro, with_macros, without_white};
+ghost use Rattle.dir_conf.specs.CnConfig.Arguments.{is_space};
+ghost use Rattle.dir_conf.specs.CnConfig.Macros.{by_first, definition, expanded, macro_by, oid_named, plain_byte, with_first_word, with_macro, with_macros, without_spaces};
 ghost use Rattle.dir_conf.specs.CnConfig.Values.{numbered};
 ghost use Rattle.dir_conf.specs.Outcome.{GivesConf};
 
-use crate::cn_config::arguments::{is_white, read_arguments};
-use crate::cn_config::cut::split_once;
+use crate::cn_config::arguments::{is_space, read_arguments};
 use crate::cn_config::values::Value;
 use crate::fault::ConfFault;
-use dir_names::Bytes;
+use dir_names::{Bytes, split_once};
 use std::alloc::Global;
 
 /// An object identifier that has a name.
@@ -101,10 +100,10 @@ pub(crate) fn definition(alloc: Global, macros: &[Macro], text: &[u8]) -> Result
 }
 
 fn by_first(alloc: Global, macros: &[Macro], text: &[u8]) -> Result<Bytes, ConfFault>
-    ensures { GivesConf (λ found. found) result (Ok (by_first macros.now text.now (without_white text.now))) }
+    ensures { GivesConf (λ found. found) result (Ok (by_first macros.now text.now (without_spaces text.now))) }
 {
-    match without_white(text) {
-        [b'(', rest @ ..] => with_first_word(alloc, macros, without_white(rest)),
+    match without_spaces(text) {
+        [b'(', rest @ ..] => with_first_word(alloc, macros, without_spaces(rest)),
         _ => Ok(Bytes::new(text.to_vec(alloc)?)),
     }
 }
@@ -123,28 +122,28 @@ fn with_first_word(alloc: Global, macros: &[Macro], text: &[u8]) -> Result<Bytes
 
 /// A text up to its first white space, and the rest.
 pub(crate) fn first_word(text: &[u8]) -> (&[u8], &[u8])
-    ensures word { result.0.now ≡ before_first is_white text.now }
-    ensures rest { result.1.now ≡ drop (position_or_len is_white text.now) text.now }
+    ensures word { result.0.now ≡ before_first is_space text.now }
+    ensures rest { result.1.now ≡ drop (position_or_len is_space text.now) text.now }
 {
-    match first_white(text) {
+    match first_space(text) {
         Some(at) => text.split_at(at),
         None => (text, &[]),
     }
 }
 
-fn first_white(text: &[u8]) -> Option<usize>
-    ensures { result ≡ position is_white text.now }
+fn first_space(text: &[u8]) -> Option<usize>
+    ensures { result ≡ position is_space text.now }
 {
-    text.iter().position(|b| is_white(*b))
+    text.iter().position(|b| is_space(*b))
 }
 
 /// A text without the white space that it begins with.
-pub(crate) fn without_white(text: &[u8]) -> &[u8]
-    ensures { result.now ≡ without_white text.now }
+pub(crate) fn without_spaces(text: &[u8]) -> &[u8]
+    ensures { result.now ≡ without_spaces text.now }
 {
     let mut rest = text;
     while let [b, more @ ..] = rest {
-        if !is_white(*b) {
+        if !is_space(*b) {
             return rest;
         }
         rest = more;
@@ -166,5 +165,5 @@ fn plain(alloc: Global, text: &[u8]) -> Result<Bytes, ConfFault>
 fn plain_byte(b: u8) -> u8
     ensures { result ≡ plain_byte b }
 {
-    if is_white(b) { b' ' } else { b }
+    if is_space(b) { b' ' } else { b }
 }

@@ -1,14 +1,13 @@
 //! The lines of a slapd.conf as slapd reads them (slapd.conf(5), "GENERAL FORMAT").
 
 ghost use Rattle.std.specs.Prelude.{◌≡◌, ◌≤◌, IfOk, OnOk, codes, length, map, take};
-ghost use Rattle.dir_acl.specs.Config.Lines.{without_return};
+ghost use Rattle.dir_names.specs.Trimming.{without_return};
 ghost use Rattle.dir_acl.specs.Config.Names.{is_word};
-ghost use Rattle.dir_conf.specs.SlapdConf.Lines.{begins_with_include, begins_with_white, ends_in_backslash, is_open, joined, joins, line_by, lines_in, without_feed};
+ghost use Rattle.dir_conf.specs.SlapdConf.Lines.{begins_with_include, begins_with_space, ends_in_backslash, is_open, joined, joins, line_by, lines_in, without_feed};
 ghost use Rattle.dir_conf.specs.Inside.{cut_by, with_physical};
 
-use crate::cn_config::arguments::is_white;
-use crate::cn_config::cut::split_once;
-use dir_names::{Bytes, Memory};
+use crate::cn_config::arguments::is_space;
+use dir_names::{Bytes, Memory, split_once, without_return};
 use std::alloc::Global;
 
 /// A line, with the number of its first physical line, from 1 on.
@@ -95,21 +94,11 @@ fn without_feed(text: &[u8]) -> &[u8]
     }
 }
 
-/// A physical line without the carriage return at its end.
-fn without_return(line: &[u8]) -> &[u8]
-    ensures { result.now ≡ without_return line.now }
-{
-    match line.last() {
-        Some(last) if *last == b'\r' => line.split_at(line.len() - 1).0,
-        _ => line,
-    }
-}
-
 /// Whether the next physical line goes on with a line.
 fn joins(line: &[u8], next: &[u8]) -> bool
     ensures { result ≡ joins line.now next.now }
 {
-    !begins_with_include(line) && (is_open(line) || begins_with_white(next))
+    !begins_with_include(line) && (is_open(line) || begins_with_space(next))
 }
 
 /// Whether a line begins with `include`, and so ends with its physical line.
@@ -138,11 +127,11 @@ fn ends_in_backslash(line: &[u8]) -> bool
     }
 }
 
-fn begins_with_white(line: &[u8]) -> bool
-    ensures { result ≡ begins_with_white line.now }
+fn begins_with_space(line: &[u8]) -> bool
+    ensures { result ≡ begins_with_space line.now }
 {
     match line {
-        [first, ..] => is_white(*first),
+        [first, ..] => is_space(*first),
         [] => false,
     }
 }

@@ -9,7 +9,7 @@ ghost use Rattle.dir_conf.specs.SlapdConf.Statements.{by_words, defined_in, is_d
 ghost use Rattle.dir_acl.specs.Config.Arguments.{whole_words};
 
 use crate::cn_config::is_one_line;
-use crate::cn_config::macros::{first_word, without_white};
+use crate::cn_config::macros::{first_word, without_spaces};
 use crate::fault::ConfFault;
 use crate::slapd_conf::files::PlacedLine;
 use crate::slapd_conf::lines::begins_with;
@@ -69,7 +69,7 @@ fn statement_in(
 fn defined_in(line: &[u8]) -> Option<&[u8]>
     ensures { option_copied result ≡ defined_in line.now }
 {
-    let (word, rest) = first_word(without_white(line));
+    let (word, rest) = first_word(without_spaces(line));
     if is_definition_word(word) {
         Some(rest)
     } else {

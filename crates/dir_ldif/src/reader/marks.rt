@@ -1,11 +1,10 @@
 //! The marks of groups in an undo text: a comment line `# undo N` before each group, N from 1.
 
 ghost use Rattle.std.specs.Prelude.{◌≡◌, ◌+◌, MatchOption, drop, false, nat_lt, true};
-ghost use Rattle.std.specs.Char.{is_ascii_digit};
-ghost use Rattle.std.specs.List.{list_all};
-ghost use Rattle.dir_ldif.specs.MarkText.{is_mark, is_positive};
+ghost use Rattle.dir_ldif.specs.MarkText.{is_mark};
 
 use crate::faults::StreamFault;
+use dir_names::is_positive;
 use itoa::Buffer;
 
 /// What stands in a mark before its number.
@@ -106,20 +105,4 @@ fn number_of(line: &[u8]) -> Option<&[u8]>
     } else {
         None
     }
-}
-
-/// Whether these are the digits of a number from 1 on, without a leading zero.
-fn is_positive(digits: &[u8]) -> bool
-    ensures { result ≡ is_positive digits.now }
-{
-    match digits.split_first() {
-        Some((first, rest)) => *first != b'0' && first.is_ascii_digit() && are_digits(rest),
-        None => false,
-    }
-}
-
-fn are_digits(text: &[u8]) -> bool
-    ensures { result ≡ list_all is_ascii_digit text.now }
-{
-    text.iter().all(|b| b.is_ascii_digit())
 }

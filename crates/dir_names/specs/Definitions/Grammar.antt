@@ -10,7 +10,8 @@ use Rattle.dir_names.specs.declared.schema.definition.tokens.Token.TheVariants a
 use Rattle.dir_names.specs.Ascii.{quote, left_parenthesis, right_parenthesis}
 use Rattle.dir_names.specs.Definitions.{definition_from}
 use Rattle.dir_names.specs.Definitions.Parts.{is_each_once, is_flag, keyword_of, takes_list, takes_word}
-use Rattle.dir_names.specs.Definitions.Tokens.{ends_word, is_white}
+use Rattle.dir_names.specs.Definitions.Tokens.{ends_word}
+use Rattle.dir_names.specs.Trimming.{is_blank}
 use Rattle.dir_names.specs.Descriptions.{is_numericoid}
 
 -- the end of a text, or a byte that no word has
@@ -21,7 +22,7 @@ pub data EndsWord : List ℕ → Type 0 where
 -- tokens one after the other, with white space before each and after the last
 pub data SpellsTokens : List ℕ → List Token → Type 0 where
   nothing : SpellsTokens [] []
-  white : (b : ℕ) (text : List ℕ) (tokens : List Token) → is_white b ≡ true → SpellsTokens text tokens → SpellsTokens (b ∷ text) tokens
+  white : (b : ℕ) (text : List ℕ) (tokens : List Token) → is_blank b ≡ true → SpellsTokens text tokens → SpellsTokens (b ∷ text) tokens
   open_parenthesis : (text : List ℕ) (tokens : List Token) → SpellsTokens text tokens → SpellsTokens (left_parenthesis ∷ text) (token.Open ∷ tokens)
   close_parenthesis : (text : List ℕ) (tokens : List Token) → SpellsTokens text tokens → SpellsTokens (right_parenthesis ∷ text) (token.Close ∷ tokens)
   quoted : (inside text : List ℕ) (tokens : List Token) → list_all (λ b. not (b == quote)) inside ≡ true → SpellsTokens text tokens

@@ -4,14 +4,12 @@ use Rattle.dir_names.specs.declared.schema.definition.tokens.Spot.{Spot}
 use Rattle.dir_names.specs.declared.schema.definition.tokens.Spot.TheVariants.{Between, InWord, InQuotes}
 use Rattle.dir_names.specs.declared.schema.definition.tokens.Token.{Token}
 use Rattle.dir_names.specs.declared.schema.definition.tokens.Token.TheVariants as token
-use Rattle.dir_names.specs.Ascii.{tab, space, quote, left_parenthesis, right_parenthesis}
-
-abbrev pub is_white : ℕ → Bool
-is_white b = b == tab || b == space
+use Rattle.dir_names.specs.Ascii.{quote, left_parenthesis, right_parenthesis}
+use Rattle.dir_names.specs.Trimming.{is_blank}
 
 -- what a word can't have in it
 abbrev pub ends_word : ℕ → Bool
-ends_word b = ((is_white b || b == left_parenthesis) || b == right_parenthesis) || b == quote
+ends_word b = ((is_blank b || b == left_parenthesis) || b == right_parenthesis) || b == quote
 
 abbrev pub with_token : Token → Option (List Token) → Option (List Token)
 with_token t tokens = option_map (λ more. t ∷ more) tokens
@@ -19,7 +17,7 @@ with_token t tokens = option_map (λ more. t ∷ more) tokens
 -- a byte between tokens: white space, a token of its own, or the begin of one; `rest` has the tokens from a spot and the begin of a word on
 abbrev pub tokens_at : ℕ → (Spot → List ℕ → Option (List Token)) → Option (List Token)
 tokens_at b rest =
-    cond (is_white b) (rest Between [])
+    cond (is_blank b) (rest Between [])
     (cond (b == left_parenthesis) (with_token token.Open (rest Between []))
     (cond (b == right_parenthesis) (with_token token.Close (rest Between []))
     (cond (b == quote) (rest InQuotes []) (rest InWord (b ∷ [])))))

@@ -13,7 +13,8 @@ ghost use Rattle.dir_names.specs.Orders.{bytes_cmp, bytes_eq, texts_cmp, texts_e
 ghost use Rattle.dir_names.specs.Outcome.{Gives};
 ghost use Rattle.dir_names.specs.Sorted.{rises, with_member};
 
-use crate::attribute::{are_keychars, lowercase_bytes, split_once};
+use crate::attribute::{are_keychars, lowercase_bytes};
+use crate::text::split_once;
 use crate::{Bytes, NameFault};
 use std::alloc::Global;
 use std::cmp::Ordering;

@@ -7,7 +7,7 @@ ghost use Rattle.dir_names.specs.Outcome.{Gives};
 ghost use Rattle.dir_names.specs.Inside.SortTexts.{marked_byte, text_sort, list_sort, pair_sort, rdn_sort, name_sort};
 
 use crate::attribute::options::OptionSet;
-use crate::attribute::split_once;
+use crate::text::split_once;
 use crate::{AttrKey, Bytes, NameFault, RdnKey};
 
 /// Appends the text that the key of a name is ordered by.

@@ -15,10 +15,11 @@ ghost use Rattle.dir_names.specs.ValueKeys.Spaces.{without_leading_spaces};
 ghost use Rattle.dir_names.specs.Names.Escapes.{is_hex, hex_of, is_refused, is_escapable};
 ghost use Rattle.dir_names.specs.Names.Sound.{is_sound_rdn};
 
-use crate::attribute::{is_reserved, is_type, split_once};
+use crate::attribute::{is_reserved, is_type};
 use crate::limits::{MAX_RDN_TEXT, MAX_RDNS};
 use crate::list::few::Few;
 use crate::name::printing::{is_plain_value, is_refused_sign, print_pairs};
+use crate::text::split_once;
 use crate::value::spaces::{without_leading_spaces, without_trailing_spaces};
 use crate::{Bytes, Dn, NameFault, Rdn};
 use std::alloc::Global;

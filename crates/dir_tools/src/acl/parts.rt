@@ -1,15 +1,13 @@
 //! The parts of a question: the base, the requester, and the words.
 
 ghost use Rattle.std.specs.Prelude.{◌≡◌, IfOk, map, option_copied, option_map};
-ghost use Rattle.dir_names.specs.NameKeys.{name_key};
 ghost use Rattle.dir_tools.specs.AccessReport.{access_of, access_terms, asked_of, named_key, parts_of, requester_of, word_of, words_of};
 ghost use Rattle.dir_tools.specs.Inside.Asking.{GivesPart, access_in, parts_in, word_in};
 
 use crate::acl::Question;
-use crate::acl::cut::split_once;
 use crate::{Item, ToolFault};
 use dir_acl::{Asked, Level};
-use dir_names::{Bytes, Description, Dn, DnKey, Memory, NameFault, Schema};
+use dir_names::{Bytes, Description, Dn, DnKey, Memory, NameFault, Schema, split_once};
 use std::alloc::Global;
 
 /// The parts of a question, as they were read.
@@ -101,20 +99,9 @@ pub fn read_name(alloc: Global, schema: &Schema, text: &[u8]) -> Result<Option<(
         Err(NameFault::Memory) => return Err(Memory),
         Err(_) => return Ok(None),
     };
-    match key_of(alloc, schema, &name)? {
+    match name.key_if_any(alloc, schema)? {
         Some(key) => Ok(Some((name, key))),
         None => Ok(None),
-    }
-}
-
-/// The key of a name, if it has one.
-fn key_of(alloc: Global, schema: &Schema, name: &Dn) -> Result<Option<DnKey>, Memory>
-    ensures { IfOk result (λ key. key ≡ name_key schema.now name.now) }
-{
-    match name.key(alloc, schema) {
-        Ok(key) => Ok(Some(key)),
-        Err(NameFault::Memory) => Err(Memory),
-        Err(_) => Ok(None),
     }
 }
 

@@ -1,5 +1,5 @@
 //! Questions of access, their reports and their faults in their order: over devices that give and take pieces, and that fail. Many more are tried through
-//! the program (`tests/rows.py`).
+//! the program (`tests/trial/rows.py`).
 
 use crate::tools::asking::{Ask, ENTRY, PHONE, assert_ask};
 use crate::tools::running::{Devices, IN_EIGHTS, WHOLE};

@@ -1,5 +1,5 @@
 //! Runs with the texts that they are to write, each of which is taken back, and faults in their order: over devices that give and take pieces, and that fail.
-//! Many more are tried through the program (`tests/rows.py`).
+//! Many more are tried through the program (`tests/trial/rows.py`).
 
 use crate::tools::running::{
     ACCEPTED, DRY, Devices, EMPTY_GROUP, FAULTY, GO_ON, IN_EIGHTS, NO_UNDO, Run, VERBOSE, WHOLE,

@@ -2,7 +2,7 @@ use Rattle.std.proofs.Common.{◌≡◌, ◌+◌, ◌≤◌, ◌++◌, length, m
 use Rattle.std.specs.Option.{option_copied, option_map_or}
 use Rattle.dir_names.specs.Cut.{parts_at}
 use Rattle.dir_names.specs.Inside.Left.{parts_left}
-use Rattle.dir_acl.specs.Config.Lines.{without_return}
+use Rattle.dir_names.specs.Trimming.{without_return}
 use Rattle.dir_acl.specs.FaultArgument.{continued, folded}
 use Rattle.dir_acl.proofs.deciding.folded.Given as goal
 

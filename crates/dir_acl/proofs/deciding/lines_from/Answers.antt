@@ -2,7 +2,7 @@ use Rattle.std.proofs.Common.{◌≡◌, ◌-◌, List, ℕ, arith, ap, drop, ma
 use Rattle.std.proofs.lemmas.List.{drop-map}
 use Rattle.dir_names.specs.Cut.{parts_at}
 use Rattle.dir_names.specs.Inside.Left.{parts_left}
-use Rattle.dir_acl.specs.Config.Lines.{without_return}
+use Rattle.dir_names.specs.Trimming.{without_return}
 use Rattle.dir_acl.proofs.deciding.lines_from.Goals as goal
 
 -- no line is left to be left out

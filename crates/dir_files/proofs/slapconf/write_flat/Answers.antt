@@ -6,7 +6,7 @@ use Rattle.dir_files.proofs.slapconf.write_flat.Goals as goal
 
 pub returns-clause-calls : goal.returns-clause-calls
 returns-clause-calls g c =
-    writes (g.F.FileSystem.disk c.args.files.now) (g.F.FileSystem.disk c.create.new.self) (g.F.FileSystem.disk c.finish.new.files) c.args.path.now c.args.mode (g.F.Draft.Sink.taken c.in-Ok-create.draft) (g.F.Draft.Sink.taken c.write_text.new.sink)
+    writes (g.F.FileSystem.disk c.args.files.now) (g.F.FileSystem.disk c.create.new.self) (g.F.FileSystem.disk c.finish.new.files) c.args.path.now c.args.mode (g.F.Draft.Sink.taken c.in-Ok-create.draft) (g.F.Draft.Sink.taken c.write_flushed.new.sink)
     c.as_slice-2.result.now (flat_parts c.args.flat.now) c.finish.result
     c.in-Ok-create.ensures.told c.in-Ok-create.ensures.empty
-    (subst (λ (text : List ℕ). Appends (g.F.Draft.Sink.taken c.in-Ok-create.draft) (g.F.Draft.Sink.taken c.write_text.new.sink) text) c.as_slice.ensures.value c.in-Ok-write_text.ensures) (c.as_slice-2.ensures.value ∙ c.in-Ok.ensures) c.finish.ensures.calls
+    (subst (λ (text : List ℕ). Appends (g.F.Draft.Sink.taken c.in-Ok-create.draft) (g.F.Draft.Sink.taken c.write_flushed.new.sink) text) c.as_slice.ensures.value c.in-Ok-write_flushed.ensures.ok) (c.as_slice-2.ensures.value ∙ c.in-Ok.ensures) c.finish.ensures.calls

@@ -1,11 +1,12 @@
 //! The tokens of a definition (RFC 4512, section 4.1): parentheses, texts between quotes, and words.
 
 ghost use Rattle.std.specs.Prelude.{◌≡◌, [], ◌++◌, ◌∷◌, ℕ, IfErr, IfOk, List, Ok, OnOk, option_map};
-ghost use Rattle.dir_names.specs.Definitions.Tokens.{ends_word, is_white, tokens_of};
+ghost use Rattle.dir_names.specs.Definitions.Tokens.{ends_word, tokens_of};
 ghost use Rattle.dir_names.specs.Inside.TokensSoFar.{all_tokens};
 ghost use Rattle.dir_names.specs.Outcome.{Gives};
 ghost use Rattle.dir_names.specs.declared.fault.NameFault.TheVariants.{Memory};
 
+use crate::text::is_blank;
 use crate::{Bytes, NameFault};
 use std::alloc::Global;
 use std::mem;
@@ -102,7 +103,7 @@ impl TokenReader {
                 self.spot = Spot::Between;
             }
             b'\'' => self.spot = Spot::InQuotes,
-            _ if is_white(b) => self.spot = Spot::Between,
+            _ if is_blank(b) => self.spot = Spot::Between,
             _ => {
                 self.item.push(b)?;
                 self.spot = Spot::InWord;
@@ -142,12 +143,5 @@ impl TokenReader {
 fn ends_word(b: u8) -> bool
     ensures { result ≡ ends_word b }
 {
-    is_white(b) || matches!(b, b'(' | b')' | b'\'')
-}
-
-/// White space is space and tab.
-fn is_white(b: u8) -> bool
-    ensures { result ≡ is_white b }
-{
-    matches!(b, b'\t' | b' ')
+    is_blank(b) || matches!(b, b'(' | b')' | b'\'')
 }

@@ -3,7 +3,7 @@ use Rattle.std.proofs.lemmas.Grind.{common_steps}
 use denote.Ref.{Bor}
 use Rattle.std.specs.Option.{option_copied, option_map_or}
 use Rattle.dir_names.specs.Inside.Left.{parts_left}
-use Rattle.dir_acl.specs.Config.Lines.{without_return}
+use Rattle.dir_names.specs.Trimming.{without_return}
 use Rattle.dir_conf.specs.Inside.{CutSoFar, cut_by, lines_to_come, with_physical}
 use Rattle.dir_conf.proofs.Lines.{one_physical, still_few}
 use Rattle.dir_conf.proofs.slapd_conf.lines.lines_in.Goals as goal

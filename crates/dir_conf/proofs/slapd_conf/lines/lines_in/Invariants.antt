@@ -1,7 +1,7 @@
 use Rattle.std.proofs.Common.{◌≡◌, ◌+◌, ◌≤◌, length, map}
 use Rattle.std.specs.Option.{option_copied, option_map_or}
 use Rattle.dir_names.specs.Inside.Left.{parts_left}
-use Rattle.dir_acl.specs.Config.Lines.{without_return}
+use Rattle.dir_names.specs.Trimming.{without_return}
 use Rattle.dir_conf.specs.Inside.{cut_by, lines_to_come}
 use Rattle.dir_conf.specs.SlapdConf.Lines.{lines_in}
 use Rattle.dir_conf.proofs.slapd_conf.lines.lines_in.Given as goal

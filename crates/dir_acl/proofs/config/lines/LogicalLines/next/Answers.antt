@@ -2,9 +2,9 @@ use Rattle.std.proofs.Common.{arith}
 use Rattle.std.proofs.lemmas.Grind.{common_steps}
 use Rattle.dir_acl.proofs.config.lines.LogicalLines.next.Goals as goal
 
-pub invariant_of-self-then-not-begins_with_white :
-    goal.invariant_of-self-then-not-begins_with_white
-invariant_of-self-then-not-begins_with_white c = grind (arith, common_steps)
+pub invariant_of-self-then-not-begins_with_blank :
+    goal.invariant_of-self-then-not-begins_with_blank
+invariant_of-self-then-not-begins_with_blank c = grind (arith, common_steps)
 
 pub loop-self-smaller : goal.loop-self-smaller
 loop-self-smaller c = grind (arith, common_steps)

@@ -1,7 +1,8 @@
 use Rattle.std.proofs.Common.{◌≡◌, ◌+◌, ◌≤◌, None, length, map}
 use Rattle.std.specs.Option.{option_copied, option_map_or}
 use Rattle.dir_names.specs.Inside.Left.{parts_left}
-use Rattle.dir_acl.specs.Config.Lines.{lines_after, without_return}
+use Rattle.dir_names.specs.Trimming.{without_return}
+use Rattle.dir_acl.specs.Config.Lines.{lines_after}
 use Rattle.dir_acl.proofs.config.lines.LogicalLines.next.Given as goal
 
 -- the lines that were to come are those that begin with this one, so far; and the lines are fewer than the text's bytes

@@ -1,7 +1,7 @@
 use Rattle.std.proofs.Common.{arith, rules}
 use Rattle.std.proofs.lemmas.Grind.{common_steps}
 use Rattle.dir_names.proofs.CutLemmas.{parts_found, parts_none}
-use Rattle.dir_acl.proofs.cut.split_once.Goals as goal
+use Rattle.dir_names.proofs.text.split_once.Goals as goal
 
 pub returns-in-Some-clause-parts : goal.returns-in-Some-clause-parts
 returns-in-Some-clause-parts c =
