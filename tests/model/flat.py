@@ -295,7 +295,9 @@ def flat_of_files(suffix, path, read):
 def text_of_file(path):
     """The text of a file, or None where it can't be opened. A folder can be opened, and has none."""
     try:
-        return pathlib.Path(os.fsdecode(path) or "/none/").read_bytes()
+        # not by pathlib, which takes a slash from the end of a path
+        with open(os.fsdecode(path) or "/none/", "rb") as file:
+            return file.read()
     except IsADirectoryError:
         raise Fault("cannot read config") from None
     except (OSError, ValueError):
