@@ -7,6 +7,7 @@ What is tried of slapmodify is also tried under the types of a configuration (-f
 """
 import os
 import pathlib
+import re
 import subprocess
 import sys
 import tempfile
@@ -16,6 +17,7 @@ sys.path.insert(0, str(pathlib.Path(__file__).resolve().parents[1]))
 
 from harness import checks
 from harness.checks import expect
+from harness.repository import ROOT
 from inputs.cases import OTHER_TYPES
 from model.texts import NOTHING, block, deleted, renamed, undone
 
@@ -28,6 +30,7 @@ MISSING = "dn: ou=none,dc=com\nchangetype: delete\n"
 REFUSED = "line 1: refused, 32 noSuchObject\n"
 NOT_FOUND = "slapkit: note: No such file or directory (os error 2)\n"
 ONTO = ["--out", "new", "--undo", "undo"]
+VERSION = re.search(r'^const VERSION: &str = "(.*)";$', (ROOT / "crates/slapkit/src/command.rt").read_text(), re.M)[1]
 
 
 class Trial:
@@ -918,7 +921,7 @@ def help_ends_with_status_0(trial):
 
 def the_version_is_told(trial):
     for words in (["--version"], ["-V"]):
-        expect(trial.run(words), (0, "slapkit 0.1.0\n", ""), words)
+        expect(trial.run(words), (0, f"slapkit {VERSION}\n", ""), words)
 
 
 # ---- runs that are looked at while they go on
