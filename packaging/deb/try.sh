@@ -66,6 +66,7 @@ run_session() {
 package=$(realpath "$1")
 work=$(mktemp -d)
 trap 'rm -rf --one-file-system "$work"' EXIT
+trap 'exit 1' HUP INT TERM
 root=$(realpath --canonicalize-missing "${2:-$work/root}")
 
 step "lintian"
