@@ -27,7 +27,7 @@ sys.path.insert(0, str(pathlib.Path(__file__).resolve().parents[1]))
 from harness import checks
 from harness.checks import Wrong
 from harness.repository import ROOT
-from harness.runs import IN_MEMORY
+from harness.runs import IN_MEMORY, without_hints
 from model.access import Question, access_answer, notes_of
 
 EXAMPLES = ROOT / "examples"
@@ -224,7 +224,7 @@ def run(program, shim, words_in, refusal):
         ended = subprocess.run(words, cwd=os.path.dirname(shim), env=environment, capture_output=True, timeout=60)
         files = {path.name: path.read_bytes() for path in folder.iterdir()}
         # The paths of the run's own folder are not the same twice.
-        message = ended.stderr.decode().replace(f"{folder}/", "").replace(str(folder), ".")
+        message = without_hints(ended.stderr, words[1]).decode().replace(f"{folder}/", "").replace(str(folder), ".")
         was_refused = files.pop("told", None) is not None
         return Left(ended.returncode, message, files, ended.stdout), was_refused
 
