@@ -1,5 +1,5 @@
 -- The calls of slapconf.
-use Rattle.std.proofs.Common.{◌≡◌, ℕ, ◌<◌, List, [], ◌++◌, length, map, Option, None, Some, IfSome, Result, Ok, Err, inl, inr, refl, sym, ap, subst, ◌∙◌, append-nil, append_assoc}
+use Rattle.std.proofs.Common.{◌≡◌, ℕ, ◌<◌, List, [], ◌∷◌, ◌++◌, length, map, Option, None, Some, IfSome, Result, Ok, Err, inl, inr, refl, sym, ap, subst, ◌∙◌, append-nil, append_assoc}
 use Rattle.std.specs.Io.KnownBytes.{Appends}
 use Rattle.dir_names.specs.Keys.{DnKeys}
 use Rattle.dir_names.specs.Table.Builtin.{builtin_rows}
@@ -22,11 +22,11 @@ use Rattle.dir_files.specs.declared.words.ConfSource.{ConfSource}
 use Rattle.dir_files.specs.declared.words.ConfWords.{ConfWords}
 use Rattle.dir_tools.specs.Suffix.{suffix_of}
 use Rattle.dir_files.specs.Faults.{IsRunFault, IsTool}
-use Rattle.dir_files.specs.Files.{Call, Disk, Told, creates, opens}
+use Rattle.dir_files.specs.Files.{Call, Disk, Told, creates, discards, opens}
 use Rattle.dir_files.specs.Including.{Does, IsNotRead, ReadsFiles}
 use Rattle.dir_files.specs.OneOutput.{Finishes}
 use Rattle.dir_files.specs.Runs.{Made}
-use Rattle.dir_files.proofs.CallLemmas.{at_some, made_as, made_none, made_then}
+use Rattle.dir_files.proofs.CallLemmas.{Just, at_some, just_two, made_as, made_none, made_then}
 use Rattle.dir_files.proofs.IncludingCalls.{Here}
 
 -- ---- the flat configuration is written
@@ -42,6 +42,12 @@ writes a b e out mode fresh written report flat result told empty appends same m
     (made_as b e (λ d. Finishes out written report FlatUnwritten flat.1 result) (λ d calls. (fresh ≡ Some []) × Finishes out written (conf_report flat.1) FlatUnwritten flat.1 result calls) made
     (λ d calls is h. (at_some (fresh ≡ Some []) b d is empty, subst (λ (r : List ℕ). Finishes out written r FlatUnwritten flat.1 result calls) same h)))
     (λ d after is h. inr (inl (after, refl, inr (written, taken written flat.0 (subst (λ (o : Option (List ℕ)). Appends o written flat.0) h.0 appends), h.1))))
+
+-- the draft can't be written, and is removed
+pub unwritten : (a b e : Option Disk) (out : List ℕ) (mode : ℕ) (flat : FlatConf) → Told a b (creates out mode None) → Told b e (discards out) → Made a e (λ d. WritesIfRoom out mode flat (Err FlatUnwritten))
+unwritten a b e out mode flat told gone =
+    made_as a e (Just (creates out mode None ∷ discards out ∷ [])) (λ d. WritesIfRoom out mode flat (Err FlatUnwritten)) (just_two a b e (creates out mode None) (discards out) told gone)
+    (λ d calls is same. inr (inl (discards out ∷ [], same, inl (refl, refl))))
 
 -- ---- faults of the configuration
 
