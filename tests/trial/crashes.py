@@ -174,7 +174,7 @@ def with_a_report_past_a_limit_of_size(trial):
 def into_folders_that_take_no_file(trial):
     for out, undo, named in (("new", "/proc/undo", "/proc/undo"), ("/proc/new", "undo", "/proc/new"), ("none/new", "undo", "none/new")):
         words = [*COMMAND[:-3], out, "--undo", undo]
-        expect(trial.run(words), (1, "", f"slapkit: cannot open {named}\n"))
+        expect(trial.run(words), (1, "", f"slapkit: cannot open {named}\nslapkit: note: No such file or directory (os error 2)\n"))
         expect(trial.left(), {})
 
 

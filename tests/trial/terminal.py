@@ -35,6 +35,7 @@ CONF = "database mdb\nsuffix dc=com\naccess to * by * read\n"
 CONF_WITH_NOTES = f"include core.schema\n{CONF}access to attrs=gn by * read\n"
 NOTES = 'slapkit: note: config, line 1: include "core.schema" is not read\nslapkit: note: config, line 5: unknown attribute "gn"\n'
 QUESTION = ["slapacl", "-b", "dc=com", "-f", "conf", "--data", "copy", "dc"]
+NOT_FOUND = "slapkit: note: No such file or directory (os error 2)\n"
 REQUEST = "slapkit: reading changes from the terminal; end with Ctrl-D"
 ONTO = ["--out", "new", "--undo", "undo"]
 
@@ -244,7 +245,7 @@ def notes_stay_on_the_screen_without_the_line_of_progress(trial):
         (copy, [], 0, f"{NOTES}dc: =rscxd\n", [*told[0], *told[1]]),
         (copy, ["--strict"], 1, f"{NOTES}slapkit: not answered, because there are notes\n", told[0]),
         (ROOT, [], 0, f"{NOTES}dc: =rscxd\n", told[0]),
-        (copy.replace("dc=com", "dc=org"), [], 1, f"{NOTES}slapkit: copy, line 1: 32 noSuchObject\n", None),
+        (copy.replace("dc=com", "dc=org"), [], 1, f"{NOTES}slapkit: copy, line 1: 32 noSuchObject\nslapkit: note: no record of copy is the suffix's; the first is dc=org\n", None),
     ):
         trial.write("copy", text)
         terminal = Terminal()
@@ -360,10 +361,10 @@ def changes_are_asked_for_only_where_they_are_typed(trial):
     trial.write("copy", ROOT + "dn: cn=a,ou=none,dc=com\ncn: a\n\n")
     for words, left in (
         (trial.modify("-u"), "slapkit: copy, line 4: 32 noSuchObject\n"),
-        (trial.modify("-u", copy="none"), "slapkit: cannot open none\n"),
+        (trial.modify("-u", copy="none"), "slapkit: cannot open none\n" + NOT_FOUND),
         (trial.modify("-u", "-l", "/dev/null", copy="changes"), "slapkit: copy, line 1: L5 BadChangetype\n"),
-        (trial.modify("-u", "-l", "none"), "slapkit: cannot open none\n"),
-        (["slapacl", "-b", "dc=com", "-f", "none", "--data", "copy"], "slapkit: cannot open none\n"),
+        (trial.modify("-u", "-l", "none"), "slapkit: cannot open none\n" + NOT_FOUND),
+        (["slapacl", "-b", "dc=com", "-f", "none", "--data", "copy"], "slapkit: cannot open none\n" + NOT_FOUND),
     ):
         terminal = Terminal()
         expect(trial.on(terminal, words, stdin="terminal"), (1, ""), words)
