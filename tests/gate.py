@@ -4,8 +4,10 @@
 usage: gate.py
 
 The last line is that of `rt ci`, with the wrong bodies that were refused counted among what passed. It is held back until all has passed; where
-something fails, the last line tells so. The line before it has the time that all took, and what was left of memory and disk; the one before that how fast
-the machine was meanwhile; and the one before that what the proof of each crate took, and that of its tests, by looks at the processes every two seconds.
+something fails, the last line tells so. The line before it has the time that all took, and what was left of memory and disk; the one before that what this
+costs, in a unit that doesn't hang on the machine: how often the toolchain's own example could have been proved, built and run in that time (`rt selftest`, at
+the start, once all is proved, and at the end). Then, going back, come how fast the machine was meanwhile, and what the proof of each crate took, and that of
+its tests, by looks at the processes every two seconds.
 Where something failed, the ends of what was said of it come once more before these, since of a long log often only the end is kept.
 
 Each proof has one processor. Where some are idle, `rt ci` would give one proof several, which ends sooner and takes half as much
@@ -102,6 +104,33 @@ class Speed(threading.Thread):
         return f"a fixed loop took {min(self.taken):.2f} to {max(self.taken):.2f} seconds of a processor, {mean:.2f} on the mean"
 
 
+def processor_time():
+    """The seconds of all processors that the children took which have ended."""
+    used = resource.getrusage(resource.RUSAGE_CHILDREN)
+    return used.ru_utime + used.ru_stime
+
+
+class Unit:
+    """What the toolchain's own example takes of the processors: the same proof, build and run each time."""
+
+    def __init__(self):
+        self.taken = []
+
+    def measure(self):
+        """Has it proved once more, while nothing else of the gate runs. A try that fails is not counted."""
+        before = processor_time()
+        ran = subprocess.run(["rt", "selftest"], stdin=subprocess.DEVNULL, stdout=subprocess.DEVNULL, stderr=subprocess.DEVNULL)
+        if ran.returncode == 0:
+            self.taken.append(processor_time() - before)
+
+    def cost(self, seconds):
+        """How often it goes into these seconds."""
+        if not self.taken:
+            return "is not known, as rt selftest failed"
+        tries = ", ".join(f"{taken:.1f}" for taken in self.taken)
+        return f"{seconds * len(self.taken) / sum(self.taken):.1f} times rt selftest, which took {tries} seconds"
+
+
 def prove():
     """Runs `rt ci`, and returns its exit status, its last line, which is not printed yet, and the ends of what failed."""
     last, ends, failures = "", collections.deque(maxlen=LINES), []
@@ -158,16 +187,17 @@ def minutes(seconds):
     return f"{seconds / 60:.1f} minutes"
 
 
-def tell_time(begin):
+def tell_time(begin, seconds):
     """Prints how long the gate took, on the wall and of all processors together, and what is left of memory and disk."""
-    used = resource.getrusage(resource.RUSAGE_CHILDREN)
     memory = os.sysconf("SC_AVPHYS_PAGES") * os.sysconf("SC_PAGE_SIZE")
-    took = f"{minutes(time.monotonic() - begin)}, {minutes(used.ru_utime + used.ru_stime)} of processor time"
+    took = f"{minutes(time.monotonic() - begin)}, {minutes(seconds)} of processor time"
     print(f"gate: {took}; free: {memory >> 20} MiB of memory, {shutil.disk_usage(ROOT).free >> 20} MiB of disk", flush=True)
 
 
 def main():
     begin, times, speed = time.monotonic(), ProofTimes(), Speed()
+    unit = Unit()
+    unit.measure()
     times.start()
     speed.start()
     status, last, failures = prove()
@@ -175,6 +205,7 @@ def main():
     times.join()
     failed = []
     if status == 0:
+        unit.measure()
         refused, failed = try_all()
         of_what = f" ({' '.join(failed)})" if failed else ""
         last = f"{passed_in(last) + refused} passed, {len(failed)} failed{of_what}\n"
@@ -184,7 +215,10 @@ def main():
     speed.is_over.set()
     speed.join()
     print(f"gate: the machine's speed: {speed}", flush=True)
-    tell_time(begin)
+    unit.measure()
+    seconds = processor_time() - sum(unit.taken)
+    print(f"gate: cost: {unit.cost(seconds)}", flush=True)
+    tell_time(begin, seconds)
     print(last, end="", flush=True)
     sys.exit(1 if status or failed else 0)
 
