@@ -167,14 +167,15 @@ def start_trial(said):
 
 
 def try_all():
-    """Tries the wrong bodies and the program at the same time. Returns how many wrong bodies were refused, and what failed."""
+    """Tries the wrong bodies and the program at the same time. Returns how many wrong bodies were refused, what failed, and how the trial ended."""
     with tempfile.TemporaryFile("w+", errors="replace") as said:
         with start_trial(said) as trial:
             ended, refused = try_wrong_bodies()
         said.seek(0)
-        shutil.copyfileobj(said, sys.stdout)
+        lines = said.read().splitlines()
+    print("\n".join(lines), flush=True)
     failed = ["must-fail/"] * (ended != 0) + ["tests/trial/trial.py"] * (trial.returncode != 0)
-    return refused, failed
+    return refused, failed, lines[-1] if lines else "trial: no word"
 
 
 def passed_in(line):
@@ -203,14 +204,15 @@ def main():
     status, last, failures = prove()
     times.is_over.set()
     times.join()
-    failed = []
+    failed, trial_ended = [], "trial: not begun"
     if status == 0:
         unit.measure()
-        refused, failed = try_all()
+        refused, failed, trial_ended = try_all()
         of_what = f" ({' '.join(failed)})" if failed else ""
         last = f"{passed_in(last) + refused} passed, {len(failed)} failed{of_what}\n"
     for failure in failures:
         print(f"gate: what failed:\n{failure}", end="", flush=True)
+    print(f"gate: {trial_ended}", flush=True)
     print(f"gate: minutes of processor time of the proofs: {times}", flush=True)
     speed.is_over.set()
     speed.join()

@@ -97,4 +97,6 @@ def completes(shell):
 
 SHELLS_HERE = [shell for shell in SHELLS if shell == "bash" or shutil.which(shell)]
 
+for missing in [shell for shell in SHELLS if shell not in SHELLS_HERE]:
+    print(f"completions: not run: {missing}, which isn't installed here", flush=True)
 sys.exit(checks.run("completions", [(f"{shell} completes", lambda shell=shell: completes(shell)) for shell in SHELLS_HERE]))
