@@ -1,6 +1,7 @@
 //! Texts of other forms, given for LDIF or for a slapd.conf.
 
-ghost use Rattle.std.specs.Prelude.{◌≡◌, Some};
+ghost use Rattle.std.specs.Io.KnownBytes.{Consumes};
+ghost use Rattle.std.specs.Prelude.{◌≡◌, ◌≤◌, ℕ, List, Some, length};
 ghost use Rattle.dir_hints.specs.Forms.{form_of, form_text};
 
 use dir_ldif::Source;
@@ -39,8 +40,10 @@ pub fn form_of(start: &[u8]) -> Option<Form>
 /// How many bytes are looked at.
 const START: usize = 16;
 
-/// What the first bytes that a source gives show that its text is: none where they can't be read.
-pub fn form_in<S: Source>(source: &mut S) -> Option<Form> {
+/// What the first bytes that a source gives in one read call, 16 at most, show that its text is: none where they can't be read.
+pub fn form_in<S: Source>(source: &mut S) -> Option<Form>
+    ensures { (bytes : List ℕ) × Consumes (S.left source.old) (S.left source.new) bytes × (length bytes ≤ 16) × (result ≡ form_of bytes) }
+{
     let mut start = [0; START];
     match source.read(&mut start) {
         Ok(n) => form_of(&start[..n]),
