@@ -1,5 +1,5 @@
 -- A file system, as contracts see it: its calls, and the texts that it has.
-use Rattle.std.specs.Prelude.{◌≡◌, ℕ, List, [], ◌∷◌, ◌++◌, Option, None, Some, Result, Ok, Err, ⊤}
+use Rattle.std.specs.Prelude.{◌≡◌, ℕ, Bool, true, false, List, [], ◌∷◌, ◌++◌, Option, None, Some, Result, Ok, Err, ⊤}
 use Rattle.std.specs.declared.io.ErrorKind.{ErrorKind}
 use Rattle.std.specs.declared.io.ErrorKind.TheVariants as kind
 use Rattle.dir_files.specs.declared.files.Refusal.{Refusal}
@@ -45,3 +45,10 @@ abbrev pub meant_by : ErrorKind → Refusal
 meant_by kind.AlreadyExists = refusal.Exists
 meant_by kind.OutOfMemory = refusal.Memory
 meant_by _ = refusal.Other
+
+-- the answers which mean that a folder can't be synced at all: it may not be opened, or its file system syncs none
+abbrev pub is_never_synced : ErrorKind → Bool
+is_never_synced kind.PermissionDenied = true
+is_never_synced kind.InvalidInput = true
+is_never_synced kind.Unsupported = true
+is_never_synced _ = false

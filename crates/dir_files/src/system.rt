@@ -1,7 +1,8 @@
 //! The system's own files and standard streams. What they hold no contract can tell.
 
-ghost use Rattle.std.specs.Prelude.{◌≡◌, None};
-ghost use Rattle.dir_files.specs.Files.{meant_by};
+ghost use Rattle.std.specs.Prelude.{◌≡◌, ◌++◌, IfOk, None, codes, decimal};
+ghost use Rattle.std.specs.String.{string_bytes};
+ghost use Rattle.dir_files.specs.Files.{is_never_synced, meant_by};
 
 use crate::devices::{PatientReader, PatientWriter};
 use crate::files::{FileSystem, Opened, Refusal};
@@ -204,7 +205,9 @@ where
 }
 
 /// The name of the draft with this number, beside the path.
-fn draft_name(alloc: Global, path: &str, n: u32) -> Result<String, AllocError> {
+fn draft_name(alloc: Global, path: &str, n: u32) -> Result<String, AllocError>
+    ensures { IfOk result (λ name. string_bytes name ≡ path.now ++ (codes ".slapkit-" ++ decimal n)) }
+{
     format!(in alloc; "{path}.slapkit-{n}")
 }
 
@@ -299,7 +302,9 @@ fn sync_folder<R: Files>(rt: &R, path: &str) -> io::Result<()> {
 }
 
 /// Whether the answer means that this folder can't be opened and synced at all.
-fn is_never_synced(kind: ErrorKind) -> bool {
+fn is_never_synced(kind: ErrorKind) -> bool
+    ensures { result ≡ is_never_synced kind }
+{
     matches!(
         kind,
         ErrorKind::PermissionDenied | ErrorKind::InvalidInput | ErrorKind::Unsupported
