@@ -25,10 +25,11 @@ pub(crate) mod types;
 mod whats;
 mod whos;
 
+use crate::access::decision::privileges_under;
 use crate::config::directives::Settings;
 use crate::config::lines::read_lines;
 use crate::note::lines::read_notes;
-use crate::{ConfigCause, ConfigFault, Note, Privileges, Request, Rule, privileges_under};
+use crate::{ConfigCause, ConfigFault, Note, Privileges, Request, Rule};
 use dir_names::{DnKey, Schema};
 use dir_tree::Directory;
 use std::alloc::Global;

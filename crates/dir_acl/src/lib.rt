@@ -11,7 +11,6 @@ mod laws;
 mod note;
 mod privileges;
 
-pub use access::decision::privileges_under;
 pub use access::target_rules::TargetRules;
 pub use access::{Asked, Clause, Control, Edit, Request, Rule, Style, What, Who};
 pub use config::arguments::line_words;

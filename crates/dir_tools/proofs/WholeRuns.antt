@@ -1,5 +1,5 @@
 -- A whole run over texts, and the run that takes it back.
-use Rattle.std.proofs.Common.{◌≡◌, ℕ, List, length, Option, None, Some, Result, Ok, Err, refl, sym, ap, subst, ◌∙◌}
+use Rattle.std.proofs.Common.{◌≡◌, ℕ, List, [], length, Option, None, Some, Result, Ok, Err, refl, sym, ap, subst, ◌∙◌}
 use Rattle.dir_names.specs.Keys.{DnKeys}
 use Rattle.dir_names.specs.Results.{and_then}
 use Rattle.dir_ldif.specs.declared.faults.StreamFault.{StreamFault}
@@ -17,10 +17,10 @@ use Rattle.dir_tools.specs.declared.round_trip.RunInMemory.{RunInMemory}
 use Rattle.dir_tools.specs.declared.run.Summary.{Summary}
 use Rattle.dir_tools.specs.Canonical.{canonical_of}
 use Rattle.dir_tools.specs.CopyOf.{CopyFault, copy_of}
-use Rattle.dir_tools.specs.Headline.{GoesBackToAnyPoint, Headline, IsTakenBack, RunTerms, RunOutput, UndosAreUndone, canonical_copy_of, directory_of, ok_or_bad_changes, ok_or_bad_copy, ok_or_bad_suffix, ok_or_too_few, output_at, output_of, records_in, terms, too_few_in}
+use Rattle.dir_tools.specs.Headline.{CanonicalCopies, GoesBackToAnyPoint, Headline, IsCanonicalCopy, IsTakenBack, RunTerms, RunOutput, UndosAreUndone, WritesCanonicalCopy, canonical_copy_of, directory_of, ok_or_bad_changes, ok_or_bad_copy, ok_or_bad_suffix, ok_or_too_few, output_at, output_of, records_in, terms, too_few_in}
 use Rattle.dir_tools.specs.Inside.RunInMemory.{IsRunInMemory}
 use Rattle.dir_tools.specs.Laws.{CanonicalTextsReadBack, CopiesAreSound, LeadsBackTo, RunsAcceptChanges, WrittenRunsAreTakenBack, WrittenRunsGoBack}
-use Rattle.dir_tools.specs.RunOf.{RunEnd, groups_in, records_at, run_of}
+use Rattle.dir_tools.specs.RunOf.{HasAccepted, RunEnd, groups_in, records_at, run_of}
 use Rattle.dir_tools.specs.Suffix.{suffix_of}
 use Rattle.dir_tools.proofs.CutRuns.{leads_back, point, to_come}
 use Rattle.dir_tools.proofs.SoundCopies.{copy_suffix}
@@ -94,6 +94,10 @@ parts_of q copy changes output is = at_suffix (suffix_of q.rows q.suffix) refl i
     at_suffix None named h = absurd (cc)
     at_suffix (Some key) named h = at_copy key named (copy_of q.rows key copy) refl h
 
+-- the suffix is that of the directory at which the run began
+named_of : (q : RunTerms) (copy changes : List ℕ) (output : RunOutput) (parts : Parts q copy changes output) → suffix_of q.rows q.suffix ≡ Some parts.first.suffix
+named_of q copy changes output parts = parts.named ∙ ap Some (sym (copy_suffix q.rows parts.key copy parts.first parts.reads))
+
 -- the records that a run takes are sound
 pub sound_at : RecordsAreSound → FirstRecordsAreSound → (rows : List TypeRow) (last : Option ℕ) (text : List ℕ) → IsBytes text → AreSoundAnswers rows (records_at rows last text)
 sound_at records firsts rows None text bytes = records rows text bytes
@@ -128,7 +132,7 @@ gives_back_by q first there ran k named options last leads =
 module _ (records : RecordsAreSound) (firsts : FirstRecordsAreSound) (copies : CopiesAreSound) (q : RunTerms) (copy changes : List ℕ) (output : RunOutput) (copy_bytes : IsBytes copy) (changes_bytes : IsBytes changes)
     (parts : Parts q copy changes output) where
   named_first : suffix_of q.rows q.suffix ≡ Some parts.first.suffix
-  named_first = parts.named ∙ ap Some (sym (copy_suffix q.rows parts.key copy parts.first parts.reads))
+  named_first = named_of q copy changes output parts
 
   in_order : IsWellFormed q.rows parts.first × IsWithinLimits parts.first
   in_order = copies q.rows parts.key copy parts.first copy_bytes (named_suffix q.rows q.suffix parts.key parts.named) parts.reads
@@ -172,32 +176,85 @@ to_any_point records firsts copies law q copy changes output copy_bytes changes_
           );
     }
 
--- the same keys are named by the same suffix
-same_key : (rows : List TypeRow) (suffix : List ℕ) (k l : DnKeys) → suffix_of rows suffix ≡ Some k → suffix_of rows suffix ≡ Some l → k ≡ l
-same_key rows suffix k l is other = cc
+-- ---- the undo of an undo
 
-same_read : (rows : List TypeRow) (k : DnKeys) (text : List ℕ) (d e : Dir) → copy_of rows k text ≡ Ok d → copy_of rows k text ≡ Ok e → d ≡ e
-same_read rows k text d e is other = cc
+same_directory : (q : RunTerms) (copy : List ℕ) (d e : Dir) → directory_of q copy ≡ Ok d → directory_of q copy ≡ Ok e → d ≡ e
+same_directory q copy d e is other = cc
 
-pub undone : RecordsAreSound → FirstRecordsAreSound → CopiesAreSound → CanonicalTextsReadBack → RunsAcceptChanges → RunsStayInOrder → WrittenRunsAreTakenBack → UndosAreUndone
-undone records firsts copies canonical accept stay taken q copy changes more written output options copy_bytes changes_bytes more_bytes is is_too others whole =
-    let p = parts_of q copy changes written is in
-    let order = in_order records firsts copies q copy changes written copy_bytes changes_bytes p in
-    let was = accept q.rows q.options.go_on p.first (records_in q changes) p.ran (sound_in records firsts copies q copy changes written copy_bytes changes_bytes p) p.runs in
-    let stays : StaysInOrder q.rows p.first (record { end = p.ran.end; groups = groups_in p.ran.outcomes }) = subst (StaysInOrder q.rows p.first) was.2 (stay q.rows p.first was.0 order.0 order.1 was.1).0 in
-    let out_is : written.texts.out ≡ canonical_of p.ran.end = ap (λ (o : RunOutput). o.texts.out) (sym p.output_is) in
-    let r : RunTerms = terms q.rows q.suffix options in
-    let n = parts_of r written.texts.out more output is_too in
-    let named : suffix_of q.rows q.suffix ≡ Some p.ran.end.suffix = named_first records firsts copies q copy changes written copy_bytes changes_bytes p ∙ ap Some (sym stays.2) in
-    let key_is : n.key ≡ p.ran.end.suffix = same_key q.rows q.suffix n.key p.ran.end.suffix n.named named in
-    let reads : copy_of q.rows p.ran.end.suffix (canonical_of p.ran.end) ≡ Ok n.first = subst (λ k. copy_of q.rows k (canonical_of p.ran.end) ≡ Ok n.first) key_is (ap (copy_of q.rows n.key) (sym out_is) ∙ n.reads) in
-    let first_is : p.ran.end ≡ n.first = same_read q.rows p.ran.end.suffix (canonical_of p.ran.end) p.ran.end n.first (canonical q.rows p.ran.end stays.0 stays.1) reads in
-    let sound : AreSoundAnswers q.rows (records_in r more) = sound_at records firsts q.rows options.last more more_bytes in
-    let accepted = accept q.rows options.go_on n.first (records_in r more) n.ran sound n.runs in
-    let back = (taken q.rows n.first n.ran (subst (IsWellFormed q.rows) first_is stays.0) (subst IsWithinLimits first_is stays.1) accepted).1 in
-    subst (λ t. IsTakenBack r output others t) (ap canonical_of (sym first_is) ∙ sym out_is)
-    (subst (λ (o : RunOutput). IsTakenBack r o others (canonical_of n.first)) n.output_is
-    (gives_whole_back r n.first n.ran (named ∙ ap (λ (d : Dir). Some d.suffix) first_is) others whole (back others.go_on)))
+-- a run from a sound directory
+module _ (records : RecordsAreSound) (firsts : FirstRecordsAreSound) (accept : RunsAcceptChanges) (q : RunTerms) (copy changes : List ℕ) (output : RunOutput) (changes_bytes : IsBytes changes)
+    (parts : Parts q copy changes output) (well : IsWellFormed q.rows parts.first) (within : IsWithinLimits parts.first) where
+  has_accepted : HasAccepted q.rows parts.first parts.ran.outcomes parts.ran.end
+  has_accepted = accept q.rows q.options.go_on parts.first (records_in q changes) parts.ran (sound_at records firsts q.rows q.options.last changes changes_bytes) parts.runs
+
+  -- it is taken back to the text of this directory
+  taken_back : WrittenRunsAreTakenBack → (options : ModifyOptions) → options.last ≡ None → IsTakenBack q output options (canonical_of parts.first)
+  taken_back taken options whole = subst (λ (o : RunOutput). IsTakenBack q o options (canonical_of parts.first)) parts.output_is
+      (gives_whole_back q parts.first parts.ran (named_of q copy changes output parts) options whole ((taken q.rows parts.first parts.ran well within has_accepted).1 options.go_on))
+
+  -- it ends at a sound one of the same suffix, whose text is the new copy
+  canonical_copy : CanonicalTextsReadBack → RunsStayInOrder → WritesCanonicalCopy q output
+  canonical_copy canonical stay suffix options same =
+      let was = has_accepted in
+      let end = parts.ran.end in
+      let stays : StaysInOrder q.rows parts.first (record { end = end; groups = groups_in parts.ran.outcomes }) = subst (StaysInOrder q.rows parts.first) was.2 (stay q.rows parts.first was.0 well within was.1).0 in
+      let out_is : output.texts.out ≡ canonical_of end = ap (λ (o : RunOutput). o.texts.out) (sym parts.output_is) in
+      let named : suffix_of q.rows suffix ≡ Some end.suffix = same ∙ named_of q copy changes output parts ∙ ap Some (sym stays.2) in
+      let reads : copy_of q.rows end.suffix output.texts.out ≡ Ok end = ap (copy_of q.rows end.suffix) out_is ∙ canonical q.rows end stays.0 stays.1 in record {
+        first = end;
+        begins = read_whole (terms q.rows suffix options) output.texts.out changes end.suffix named end reads;
+        text = sym out_is;
+        well_formed = stays.0;
+        within_limits = stays.1;
+      }
+
+-- the directory of a canonical copy is the one that a run over it begins at
+module _ (q : RunTerms) (copy changes : List ℕ) (output : RunOutput) (parts : Parts q copy changes output) (c : IsCanonicalCopy q copy) where
+  begins_there : c.first ≡ parts.first
+  begins_there = same_directory q copy c.first parts.first c.begins (read_whole q copy changes parts.key parts.named parts.first parts.reads)
+
+  is_well_formed : IsWellFormed q.rows parts.first
+  is_well_formed = subst (IsWellFormed q.rows) begins_there c.well_formed
+
+  is_within_limits : IsWithinLimits parts.first
+  is_within_limits = subst IsWithinLimits begins_there c.within_limits
+
+pub undone : RecordsAreSound → FirstRecordsAreSound → RunsAcceptChanges → WrittenRunsAreTakenBack → UndosAreUndone
+undone records firsts accept taken q copy changes output c changes_bytes is options whole =
+    let p = parts_of q copy changes output is in
+    subst (IsTakenBack q output options) (ap canonical_of (sym (begins_there q copy changes output p c)) ∙ c.text)
+    (taken_back records firsts accept q copy changes output changes_bytes p (is_well_formed q copy changes output p c) (is_within_limits q copy changes output p c) taken options whole)
+
+-- a copy of which the canonical text is known, and what its directory is
+canonical_by : CopiesAreSound → (q : RunTerms) (copy : List ℕ) → IsBytes copy → canonical_copy_of q copy ≡ Ok copy → IsCanonicalCopy q copy
+canonical_by copies q copy bytes is = at_suffix (suffix_of q.rows q.suffix) refl is
+  where
+    at_copy : (key : DnKeys) → suffix_of q.rows q.suffix ≡ Some key → (r : Result Dir CopyFault) → copy_of q.rows key copy ≡ r → and_then (ok_or_bad_copy r) (λ first. Ok (canonical_of first)) ≡ Ok copy → IsCanonicalCopy q copy
+    at_copy key named (Ok first) reads h =
+        let order = copies q.rows key copy first bytes (named_suffix q.rows q.suffix key named) reads in record {
+          first = first;
+          begins = read_whole q copy [] key named first reads;
+          text = cc;
+          well_formed = order.0;
+          within_limits = order.1;
+        }
+    at_copy key named (Err fault) reads h = absurd (cc)
+
+    at_suffix : (o : Option DnKeys) → suffix_of q.rows q.suffix ≡ o → and_then (from_suffix q copy [] o) (λ first. Ok (canonical_of first)) ≡ Ok copy → IsCanonicalCopy q copy
+    at_suffix None named h = absurd (cc)
+    at_suffix (Some key) named h = at_copy key named (copy_of q.rows key copy) refl h
+
+pub canonical_copies : RecordsAreSound → FirstRecordsAreSound → CopiesAreSound → CanonicalTextsReadBack → RunsAcceptChanges → RunsStayInOrder → (q : RunTerms) (copy : List ℕ) → CanonicalCopies q copy
+canonical_copies records firsts copies canonical accept stay q copy = record {
+  of_bytes = canonical_by copies q copy;
+  written = λ changes output copy_bytes changes_bytes is.
+      let p = parts_of q copy changes output is in
+      let order = in_order records firsts copies q copy changes output copy_bytes changes_bytes p in
+      canonical_copy records firsts accept q copy changes output changes_bytes p order.0 order.1 canonical stay;
+  written_again = λ changes output c changes_bytes is.
+      let p = parts_of q copy changes output is in
+      canonical_copy records firsts accept q copy changes output changes_bytes p (is_well_formed q copy changes output p c) (is_within_limits q copy changes output p c) canonical stay;
+}
 
 -- ---- there and back in memory
 

@@ -9,6 +9,7 @@ use Rattle.dir_ldif.specs.declared.faults.StreamFault.{StreamFault}
 use Rattle.dir_ldif.specs.Records.{Answer}
 use Rattle.dir_ldif.specs.SoundRecords.{IsBytes}
 use Rattle.dir_tree.specs.Dir.{Dir}
+use Rattle.dir_tree.specs.WellFormed.{IsWellFormed, IsWithinLimits}
 use Rattle.dir_change.specs.UndoText.{undo_text_of}
 use Rattle.dir_tools.specs.declared.fault.Item.TheVariants.{Suffix}
 use Rattle.dir_tools.specs.declared.fault.ToolFault.{ToolFault}
@@ -122,9 +123,28 @@ pub record GoesBack (q : RunTerms) (copy changes : List ℕ) (output : RunOutput
 abbrev pub GoesBackToAnyPoint : Type 0
 GoesBackToAnyPoint = (q : RunTerms) (copy changes : List ℕ) (output : RunOutput) → IsBytes copy → IsBytes changes → output_of q copy changes ≡ Ok output → GoesBack q copy changes output
 
--- a run over the new copy of another, as over one of those that this kit writes, is taken back to that copy, byte for byte. So the undo of an
--- undo, whole or in part, leads forward again
+-- ---- the undo of an undo
+
+-- a copy is the canonical text of the directory that it is the text of, and this is a sound one
+pub record IsCanonicalCopy (q : RunTerms) (copy : List ℕ) : Type 0 where
+  pub first : Dir
+  pub begins : directory_of q copy ≡ Ok first
+  pub text : canonical_of first ≡ copy
+  pub well_formed : IsWellFormed q.rows first
+  pub within_limits : IsWithinLimits first
+
+-- a run over a canonical copy is taken back to that copy, byte for byte. So the undo of an undo, whole or in part, leads forward again
 abbrev pub UndosAreUndone : Type 0
-UndosAreUndone = (q : RunTerms) (copy changes more : List ℕ) (written output : RunOutput) (options : ModifyOptions) → IsBytes copy → IsBytes changes → IsBytes more
-    → output_of q copy changes ≡ Ok written → output_of (terms q.rows q.suffix options) written.texts.out more ≡ Ok output
-    → (others : ModifyOptions) → others.last ≡ None → IsTakenBack (terms q.rows q.suffix options) output others written.texts.out
+UndosAreUndone = (q : RunTerms) (copy changes : List ℕ) (output : RunOutput) → IsCanonicalCopy q copy → IsBytes changes → output_of q copy changes ≡ Ok output
+    → (options : ModifyOptions) → options.last ≡ None → IsTakenBack q output options copy
+
+-- the new copy of a run is canonical, under whatever text of the same suffix it is read
+abbrev pub WritesCanonicalCopy : RunTerms → RunOutput → Type 0
+WritesCanonicalCopy q output = (suffix : List ℕ) (options : ModifyOptions) → suffix_of q.rows suffix ≡ suffix_of q.rows q.suffix → IsCanonicalCopy (terms q.rows suffix options) output.texts.out
+
+-- which copies are canonical: each text of bytes that is the canonical text of what it is the copy of; the new copy of each run over a text of bytes; and that of
+-- each run over a canonical copy
+pub record CanonicalCopies (q : RunTerms) (copy : List ℕ) : Type 0 where
+  pub of_bytes : IsBytes copy → canonical_copy_of q copy ≡ Ok copy → IsCanonicalCopy q copy
+  pub written : (changes : List ℕ) (output : RunOutput) → IsBytes copy → IsBytes changes → output_of q copy changes ≡ Ok output → WritesCanonicalCopy q output
+  pub written_again : (changes : List ℕ) (output : RunOutput) → IsCanonicalCopy q copy → IsBytes changes → output_of q copy changes ≡ Ok output → WritesCanonicalCopy q output

@@ -1,5 +1,5 @@
 //! `run_acl`: what a requester may do, by a configuration and a copy, and the report written (slapacl(8)). Whoever is to hear the
-//! notes on the configuration and on the question first calls `read_config_with_notes`, `with_notes_on_words`, and then `run_acl_under`;
+//! notes on the configuration and on the question first calls `read_config_with_argument`, `with_notes_on_words`, and then `run_acl_under`;
 //! `read_config_with_argument` is for whoever is also to hear which argument a fault of the configuration is about.
 
 mod configuration;
@@ -26,7 +26,7 @@ ghost use Rattle.dir_tools.specs.declared.fault.ToolFault.TheVariants as ToolFau
 
 pub use crate::acl::configuration::{
     FaultWithArgument, NotedConfig, read_bounded, read_config, read_config_with_argument,
-    read_config_with_notes, run_schema,
+    run_schema,
 };
 use crate::acl::parts::{Parts, read_parts};
 pub use crate::acl::parts::{Word, read_name, read_word};

@@ -1,7 +1,8 @@
 //! Laws about copies and runs: functions with no code, whose contracts are the laws.
 
+ghost use Rattle.std.specs.Prelude.{ℕ, List};
 ghost use Rattle.dir_tools.specs.AccessAsBefore.{AccessIsAsBefore};
-ghost use Rattle.dir_tools.specs.Headline.{GoesBackToAnyPoint, Headline, UndosAreUndone};
+ghost use Rattle.dir_tools.specs.Headline.{CanonicalCopies, GoesBackToAnyPoint, Headline, RunTerms, UndosAreUndone};
 ghost use Rattle.dir_tools.specs.Laws.{CanonicalTextsReadBack, CopiesAreSound, GroupsAreUndos, RunsAcceptChanges, WrittenRunsAreTakenBack, WrittenRunsGoBack};
 
 use dir_change::{
@@ -84,10 +85,11 @@ pub fn goes_back_to_any_point()
     written_runs_go_back();
 }
 
-/// A law: a run over the new copy of another run is taken back to that copy, byte for byte: so the undo of an undo
-/// leads forward again.
+/// A law: a run over a canonical copy is taken back to that copy, byte for byte: so the undo of an undo leads forward again, since the
+/// new copy of every run is canonical.
 pub fn undos_are_undone()
-    ensures { UndosAreUndone }
+    ensures undone { UndosAreUndone }
+    ensures canonical { (q : RunTerms) (copy : List ℕ) → CanonicalCopies q copy }
 {
     records_are_sound();
     first_records_are_sound();

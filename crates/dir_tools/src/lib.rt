@@ -18,8 +18,8 @@ mod write;
 
 pub use acl::{
     FaultWithArgument, NotedConfig, Question, Word, find_target, push_answer, read_bounded,
-    read_config, read_config_with_argument, read_config_with_notes, read_copy_under, read_name,
-    read_word, run_acl, run_acl_under, run_schema, with_note_on_word, with_notes_on_words,
+    read_config, read_config_with_argument, read_copy_under, read_name, read_word, run_acl,
+    run_acl_under, run_schema, with_note_on_word, with_notes_on_words,
 };
 pub use copy::{read_copy, write_copy};
 pub use fault::{Cause, Input, Item, Number, Output, ToolFault};

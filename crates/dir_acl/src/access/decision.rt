@@ -15,7 +15,7 @@ use dir_tree::Directory;
 
 /// The privileges of a request under a list of rules, in their order. `root` is the rootdn. The call doesn't
 /// allocate.
-pub fn privileges_under<D: Directory>(
+pub(crate) fn privileges_under<D: Directory>(
     root: Option<&DnKey>,
     rules: &[Rule],
     directory: &D,

@@ -120,33 +120,13 @@ pub struct FaultWithArgument {
 }
 
 /// Reads a slapd.conf as `run_acl` does: first the attribute types that it defines, which are added to the schema's, and then the rest
-/// under them, with the notes on it.
+/// under them, with the notes on it. A fault of the configuration comes with the argument that it is about.
 ///
 /// At most 16,785,408 bytes are read, whatever the reader gives.
 ///
 /// # Errors
 ///
 /// A read fault; the configuration's first fault; out of memory.
-pub fn read_config_with_notes<R: Source>(
-    alloc: Global,
-    schema: &Schema,
-    source: &mut R,
-) -> Result<NotedConfig, ToolFault>
-    ensures config { IfOk result (λ found. IsTextOf schema.now (R.left source.old) (configured_of found)) }
-    ensures notes { IfOk result (λ found. IfSome (R.left source.old) (λ text. found.notes.items ≡ notes_of found.types text)) }
-    ensures fault { IfErr result (IsConfigFault schema.now (R.left source.old)) }
-    ensures bounded { (bytes : List ℕ) × Consumes (R.left source.old) (R.left source.new) bytes × (length bytes ≤ 16785408) }
-    ensures read { result ≡ Err (ToolFault.Read Input.Config) → HasFailed (R.failures source.old) (R.failures source.new) }
-    ensures unfailed { OnOk result (R.failures source.new ≡ R.failures source.old) }
-{
-    read_config_with_argument(alloc, schema, source).map_err(|why| why.fault)
-}
-
-/// Reads a slapd.conf as `read_config_with_notes` does. A fault of the configuration comes with the argument that it is about.
-///
-/// # Errors
-///
-/// Those of `read_config_with_notes`.
 pub fn read_config_with_argument<R: Source>(
     alloc: Global,
     schema: &Schema,

@@ -2,7 +2,7 @@
 
 use crate::acl::make::{key, schema};
 use dir_acl::{
-    Asked, Config, Privileges, Request, cuts_are_found, privileges_read_back, privileges_under,
+    Asked, Config, Privileges, Request, cuts_are_found, privileges_read_back,
     reading_is_the_grammar,
 };
 use dir_tree::{Directory, FlatDirectory};
@@ -50,7 +50,7 @@ fn assert_granted(rt: &impl Abort, alloc: Global, text: &str, want: &str) {
     assert_text(rt, alloc, granted(rt, alloc, &config), want);
 }
 
-/// What a configuration grants, and the rules for the target too. No rule at all grants what a configuration without rules does.
+/// What a configuration grants, and the rules for the target too.
 fn granted(rt: &impl Abort, alloc: Global, config: &Config) -> Privileges {
     let directory = FlatDirectory::new(alloc, key(rt, alloc, "dc=com"));
     let target = key(rt, alloc, "dc=com");
@@ -63,12 +63,6 @@ fn granted(rt: &impl Abort, alloc: Global, config: &Config) -> Privileges {
     let held = config.privileges(&directory, &request);
     let mut rules = config.rules_for(alloc, &target, request.entry);
     assert!(rt; rules.privileges(&directory, &request) == held);
-    assert_text(
-        rt,
-        alloc,
-        privileges_under(None, &[], &directory, &request),
-        "=rscxd",
-    );
     held
 }
 

@@ -3,7 +3,9 @@
 use crate::tools::running::{COM, Devices, assert_text, fault_text, script, taken, tape, zeros};
 use dir_ldif::{Script, Tape};
 use dir_names::{Bytes, Schema, Texts};
-use dir_tools::{HeldMemory, Question, ToolFault, read_config_with_notes, run_acl, run_acl_under};
+use dir_tools::{
+    HeldMemory, Question, ToolFault, read_config_with_argument, run_acl, run_acl_under,
+};
 use std::alloc::Global;
 use std::process::Abort;
 
@@ -120,9 +122,9 @@ fn answer_in_two(
     copy: &mut Script<'_>,
     report: &mut Tape<'_>,
 ) -> Result<(), ToolFault> {
-    let read = match read_config_with_notes(alloc, schema, config) {
+    let read = match read_config_with_argument(alloc, schema, config) {
         Ok(noted) => noted,
-        Err(fault) => return Err(fault),
+        Err(why) => return Err(why.fault),
     };
     run_acl_under(
         alloc,
