@@ -45,6 +45,13 @@ made_as a None P Q made h = tt
 made_as None (Some last) P Q made h = absurd (made)
 made_as (Some d) (Some last) P Q made h = (made.0, made.1, h d made.0 refl made.2)
 
+-- a call that leaves what is told of the file system
+pub made_before : (a b c : Option Disk) (P : Disk → List Call → Type 0) → b ≡ a → Made b c P → Made a c P
+made_before a b c P same made = subst (λ (s : Option Disk). Made s c P) same made
+
+pub made_after : (a b c : Option Disk) (P : Disk → List Call → Type 0) → c ≡ b → Made a b P → Made a c P
+made_after a b c P same made = subst (λ (s : Option Disk). Made a s P) (sym same) made
+
 -- these calls alone
 abbrev pub Just : List Call → Disk → List Call → Type 0
 Just wanted d calls = calls ≡ wanted

@@ -49,6 +49,13 @@ does_as a None P Q does h = tt
 does_as None (Some last) P Q does h = absurd (does)
 does_as (Some d) (Some last) P Q does h = (does.0, does.1, h d does.0 refl does.2)
 
+-- a call that leaves what is told of the file system
+pub does_before : (a b c : Option Disk) (P : Disk → List Call → Type 0) → b ≡ a → Does b c P → Does a c P
+does_before a b c P same does = subst (λ (s : Option Disk). Does s c P) same does
+
+pub does_after : (a b c : Option Disk) (P : Disk → List Call → Type 0) → c ≡ b → Does a b P → Does a c P
+does_after a b c P same does = subst (λ (s : Option Disk). Does a s P) (sym same) does
+
 -- ---- numbers
 
 plus_zero : (n : ℕ) → n ≡ 0 + n
@@ -164,9 +171,9 @@ known_here d call path left P b is here h = subst (λ (t : Option (List ℕ)). I
 pub not_asked : (a : Option Disk) (path : List ℕ) → is_utf8 path ≡ false → Does a a (λ d. AreReadBy d (record { path = path; text = None } ∷ []))
 not_asked a path none = does_none a (λ d. AreReadBy d (record { path = path; text = None } ∷ [])) (λ d is. ([], [], refl, inl (none, refl, refl), refl))
 
-pub refused : (a b : Option Disk) (path : List ℕ) (why : Refusal) → Told a b (opens path (Some why)) → Does a b (λ d. AreReadBy d (record { path = path; text = None } ∷ []))
-refused a b path why told =
-    does_one a b (opens path (Some why)) (λ d. AreReadBy d (record { path = path; text = None } ∷ [])) told (λ d is after. (opens path (Some why) ∷ [], [], refl, inr (inr (why, refl, refl)), refl))
+pub refused : (a b : Option Disk) (path : List ℕ) (why : Refusal) → why ≢ refusal.Memory → Told a b (opens path (Some why)) → Does a b (λ d. AreReadBy d (record { path = path; text = None } ∷ []))
+refused a b path why other told =
+    does_one a b (opens path (Some why)) (λ d. AreReadBy d (record { path = path; text = None } ∷ [])) told (λ d is after. (opens path (Some why) ∷ [], [], refl, inr (inr (why, refl, refl, other)), refl))
 
 pub read : (a b : Option Disk) (path text : List ℕ) (left : Option (List ℕ)) → Told a b (opens path None) → Here b path left → IfSome left (λ known. text ≡ known) → Does a b (λ d. AreReadBy d (record { path = path; text = Some text } ∷ []))
 read a b path text left told here same =
@@ -186,8 +193,8 @@ not_read a b room path left unread.Failed told here long = does_one a b (opens p
 not_read a b room path left unread.Memory told here long = does_one a b (opens path None) (λ d. StopsBy room unread.Memory d) told (λ d is after. tt)
 
 -- the same, where the path that is asked for is this one
-pub refused_at : (a b : Option Disk) (asked path : List ℕ) (why : Refusal) → asked ≡ path → Told a b (opens asked (Some why)) → Does a b (λ d. AreReadBy d (record { path = path; text = None } ∷ []))
-refused_at a b asked path why e told = refused a b path why (subst (λ (p : List ℕ). Told a b (opens p (Some why))) e told)
+pub refused_at : (a b : Option Disk) (asked path : List ℕ) (why : Refusal) → why ≢ refusal.Memory → asked ≡ path → Told a b (opens asked (Some why)) → Does a b (λ d. AreReadBy d (record { path = path; text = None } ∷ []))
+refused_at a b asked path why other e told = refused a b path why other (subst (λ (p : List ℕ). Told a b (opens p (Some why))) e told)
 
 pub read_at : (a b : Option Disk) (asked path text : List ℕ) (left : Option (List ℕ)) → asked ≡ path → Told a b (opens asked None) → Here b asked left → IfSome left (λ known. text ≡ known)
     → Does a b (λ d. AreReadBy d (record { path = path; text = Some text } ∷ []))

@@ -4,6 +4,7 @@ pub mod ConfCalls
 pub mod EndLemmas
 pub mod EscapeLemmas
 pub mod Examples
+pub mod FailureLemmas
 pub mod FaultArgumentLemmas
 pub mod IncludingCalls
 pub mod NoteLemmas

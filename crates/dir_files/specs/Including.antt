@@ -1,11 +1,13 @@
 -- The files of a slapd.conf that include one another, and the calls by which they are read.
-use Rattle.std.specs.Prelude.{◌≡◌, ◌⊎◌, ℕ, zero, suc, ◌+◌, ◌<◌, nat_le, Bool, false, cond, ◌||◌, List, [], ◌∷◌, ◌++◌, length, map, Option, None, Some, IfSome, Result, Ok, Err, ⊤}
+use Rattle.std.specs.Prelude.{◌≡◌, ◌≢◌, ◌⊎◌, ◌≤◌, ℕ, zero, suc, ◌+◌, ◌<◌, nat_le, Bool, false, cond, ◌||◌, List, [], ◌∷◌, ◌++◌, length, map, Option, None, Some, IfSome, Result, Ok, Err, ⊤}
 use Rattle.std.specs.List.{flat_map, list_any}
 use Rattle.std.specs.Str.{is_utf8}
 use Rattle.dir_names.specs.Orders.{bytes_eq}
+use Rattle.dir_ldif.specs.Device.{HasFailed}
 use Rattle.dir_conf.specs.SlapdConf.Files.{File, file_of, includes_in}
 use Rattle.dir_files.specs.declared.fault.Fault.{Fault}
 use Rattle.dir_files.specs.declared.files.Refusal.{Refusal}
+use Rattle.dir_files.specs.declared.files.Refusal.TheVariants as refusal
 use Rattle.dir_files.specs.declared.including.Level.{Level}
 use Rattle.dir_files.specs.declared.including.ReadFiles.{ReadFiles}
 use Rattle.dir_files.specs.declared.including.Unread.{Unread}
@@ -66,9 +68,9 @@ IsNoPath file calls = (is_utf8 file.path ≡ false) × (calls ≡ []) × (file.t
 abbrev pub IsOpened : Disk → File → Calls
 IsOpened d file calls = (calls ≡ opens file.path None ∷ []) × (text : List ℕ) × (file.text ≡ Some text) × IfSome (d.text_at file.path) (λ known. text ≡ known)
 
--- it can't be opened, and has no text
+-- it can't be opened, for another reason than memory, and has no text
 abbrev pub IsRefused : File → Calls
-IsRefused file calls = (why : Refusal) × (calls ≡ opens file.path (Some why) ∷ []) × (file.text ≡ None)
+IsRefused file calls = (why : Refusal) × (calls ≡ opens file.path (Some why) ∷ []) × (file.text ≡ None) × (why ≢ refusal.Memory)
 
 abbrev pub IsReadBy : Disk → File → Calls
 IsReadBy d file calls = IsNoPath file calls ⊎ (IsOpened d file calls ⊎ IsRefused file calls)
@@ -114,6 +116,11 @@ Does (Some before) (Some after) made = (calls : List Call) × (after ≡ with_ca
 abbrev pub ReadsOrStops : {A : Type 0} → ℕ → (A → List File) → Result A Unread → Disk → Calls
 ReadsOrStops room files (Ok answer) d calls = AreReadBy d (files answer) calls
 ReadsOrStops room files (Err why) d calls = StopsBy room why d calls
+
+-- where a file can't be read that was opened, the file system has failed
+pub record FailsUnread {A : Type 0} (result : Result A Unread) (old new : ℕ) : Type 0 where
+  pub grows : old ≤ new
+  pub failed : result ≡ Err unread.Failed → HasFailed old new
 
 -- ---- how much is read
 

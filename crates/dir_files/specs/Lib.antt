@@ -1,6 +1,7 @@
 pub mod AccessRuns
 pub mod ConfRuns
 pub mod Escape
+pub mod Failures
 pub mod FaultArguments
 pub mod FaultText
 pub mod Faults

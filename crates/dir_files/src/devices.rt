@@ -5,7 +5,7 @@ ghost use Rattle.std.specs.Io.{ReadsAtMost, WritesAtMost};
 ghost use Rattle.std.specs.Io.KnownBytes.{WriteAppends};
 ghost use Rattle.dir_ldif.specs.Device.{Counts};
 
-use dir_ldif::{DeviceFault, Sink, Source, Writer};
+use dir_ldif::{DeviceFault, Sink, Source};
 use std::io::{self, ErrorKind, Read, Write};
 
 /// A source over a reader. A read that a signal interrupts is made again.
@@ -20,6 +20,13 @@ impl<R: Read> PatientReader<R> {
         ensures { ⟦<PatientReader<R> as Source>⟧.failures result ≡ 0 }
     {
         PatientReader { inner, failures: 0 }
+    }
+
+    /// How often a read has failed.
+    pub fn failures(&self) -> u64
+        ensures { result ≡ ⟦<PatientReader<R> as Source>⟧.failures self.now }
+    {
+        self.failures
     }
 }
 
@@ -142,9 +149,24 @@ pub fn write_at_most<W: Sink>(sink: &mut W, bytes: &[u8], most: usize) -> Result
     sink.write(&bytes[..n])
 }
 
-/// A sink that drops what it takes.
-pub(crate) fn dropped() -> Writer<io::Sink>
-    ensures { ⟦<Writer<io::Sink> as Sink>⟧.taken result ≡ None }
-{
-    Writer::new(io::sink())
+/// A sink that drops what it takes. It takes all, and never fails.
+#[derive(Drop)]
+pub(crate) struct Dropped;
+
+impl Sink for Dropped {
+    ghost taken = { λ _. None };
+
+    ghost failures = { λ _. 0 };
+
+    ghost may_stall = { λ _. ⊥ };
+
+    ghost is_flushed = { λ _. ⊤ };
+
+    fn write(&mut self, bytes: &[u8]) -> Result<usize, DeviceFault> {
+        Ok(bytes.len())
+    }
+
+    fn flush(&mut self) -> Result<(), DeviceFault> {
+        Ok(())
+    }
 }

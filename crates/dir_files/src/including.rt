@@ -3,12 +3,14 @@
 ghost use Rattle.std.specs.Option.{option_copied};
 ghost use Rattle.std.specs.Prelude.{◌≡◌, ◌-◌, ◌<◌, ◌≤◌, ◌∷◌, ◌++◌, [], Err, IfErr, IfOk, IfSome, Some, length, map, option_map};
 ghost use Rattle.dir_conf.specs.SlapdConf.Files.{file_of, includes_in};
-ghost use Rattle.dir_files.specs.Including.{Does, IncludedBelow, IsLevel, IsNotRead, IsUnreadAt, ReadsFiles, ReadsMore, ReadsOrStops, files_of_level, included_by_text, is_known, is_passed_over, new_paths, room_before, text_size};
+ghost use Rattle.dir_ldif.specs.Device.{HasFailed};
+ghost use Rattle.dir_files.specs.Failures.{FailsByDevice};
+ghost use Rattle.dir_files.specs.Including.{Does, FailsUnread, IncludedBelow, IsLevel, IsNotRead, IsUnreadAt, ReadsFiles, ReadsMore, ReadsOrStops, files_of_level, included_by_text, is_known, is_passed_over, new_paths, room_before, text_size};
 ghost use Rattle.dir_files.specs.declared.including.Unread.TheVariants as unread;
 
 use crate::call_faults::not_opened;
 use crate::fault::Fault;
-use crate::files::{FileSystem, Refusal};
+use crate::files::{FileSystem, Opened, Refusal};
 use dir_acl::MAX_CONFIG;
 use dir_conf::{ConfFault, ConfFile, FileFault, MAX_INCLUDE_DEPTH, includes_in};
 use dir_ldif::Source;
@@ -64,12 +66,13 @@ pub(crate) fn read_files<'a, F: FileSystem>(
 ) -> Result<ReadFiles, Fault<'a>>
     ensures fault { IfErr result (IsUnreadAt path.entry.now) }
     ensures calls { Does (F.disk files.old) (F.disk files.new) (ReadsFiles path.entry.now result) }
+    ensures failed { FailsByDevice result (F.failures files.old) (F.failures files.new) }
 {
-    let mut opened = match files.open(path) {
+    let Opened { file, mode } = match files.open(path) {
         Ok(opened) => opened,
         Err(why) => return Err(not_opened(path, why)),
     };
-    let text = match whole_text(alloc, &mut opened.file, MAX_CONFIG) {
+    let text = match read_file(alloc, files, file, MAX_CONFIG) {
         Ok(text) => text,
         Err(why) => return Err(not_read(why)),
     };
@@ -78,10 +81,7 @@ pub(crate) fn read_files<'a, F: FileSystem>(
         Err(why) => return Err(not_read(why)),
     };
     match with_first(alloc, path, text, more) {
-        Ok(found) => Ok(ReadFiles {
-            mode: opened.mode,
-            files: found,
-        }),
+        Ok(found) => Ok(ReadFiles { mode, files: found }),
         Err(_) => Err(not_read(Unread::Memory)),
     }
 }
@@ -119,16 +119,34 @@ pub(crate) fn not_read<'a>(why: Unread) -> Fault<'a>
     }
 }
 
-/// All that a file has, which may be so many bytes.
-pub(crate) fn whole_text<R: Source>(
+/// All that a file has that was opened, which may be so many bytes. It is closed.
+pub(crate) fn read_file<F: FileSystem>(
     alloc: Global,
-    file: &mut R,
+    files: &mut F,
+    file: F::Input,
     room: usize,
 ) -> Result<Vec<u8>, Unread>
+    requires room { room ≤ 16777216 }
+    requires fresh { F.Input.failures file ≡ 0 }
+    ensures text { IfOk result (λ text. IfSome (F.Input.left file) (λ known. text.items ≡ known)) }
+    ensures short { IfOk result (λ text. length text.items ≤ room) }
+    ensures long { result ≡ Err Unread.TooLong → IfSome (F.Input.left file) (λ known. room < length known) }
+    ensures told { F.disk files.new ≡ F.disk files.old }
+    ensures failed { FailsUnread result (F.failures files.old) (F.failures files.new) }
+{
+    let mut file = file;
+    let text = whole_text(alloc, &mut file, room);
+    files.close(file);
+    text
+}
+
+/// All that a file has, which may be so many bytes.
+fn whole_text<R: Source>(alloc: Global, file: &mut R, room: usize) -> Result<Vec<u8>, Unread>
     requires { room ≤ 16777216 }
     ensures text { IfOk result (λ text. IfSome (R.left file.old) (λ known. text.items ≡ known)) }
     ensures short { IfOk result (λ text. length text.items ≤ room) }
     ensures long { result ≡ Err Unread.TooLong → IfSome (R.left file.old) (λ known. room < length known) }
+    ensures failed { result ≡ Err Unread.Failed → HasFailed (R.failures file.old) (R.failures file.new) }
 {
     match read_bounded(alloc, file)? {
         Some(text) if text.len() <= room => Ok(text),
@@ -147,6 +165,7 @@ fn read_included<F: FileSystem>(
     requires { length text.now ≤ 16777216 }
     ensures included { IfOk result (λ more. IncludedBelow 15 (path.now ∷ []) (includes_in text.now) (map file_of more.items)) }
     ensures calls { Does (F.disk files.old) (F.disk files.new) (ReadsOrStops (16777216 - length text.now) (λ more. map file_of more.items) result) }
+    ensures failed { FailsUnread result (F.failures files.old) (F.failures files.new) }
 {
     let wanted = includes_in(alloc, text)?;
     let mut known = Vec::new(alloc);
@@ -174,6 +193,7 @@ fn read_below<F: FileSystem>(
     requires { room ≤ 16777216 }
     ensures included { IfOk result (λ found. IncludedBelow below known.items wanted.now (map file_of found.items)) }
     ensures calls { Does (F.disk files.old) (F.disk files.new) (ReadsOrStops room (λ found. map file_of found.items) result) }
+    ensures failed { FailsUnread result (F.failures files.old) (F.failures files.new) }
 {
     if below == 0 {
         return Ok(Vec::new(alloc));
@@ -205,6 +225,7 @@ fn read_level<F: FileSystem>(
     ensures level { IfOk result IsLevel }
     ensures room { IfOk result (λ level. room_before level ≡ room) }
     ensures calls { Does (F.disk files.old) (F.disk files.new) (ReadsOrStops room files_of_level result) }
+    ensures failed { FailsUnread result (F.failures files.old) (F.failures files.new) }
 {
     let mut level = Level {
         files: Vec::new(alloc),
@@ -232,6 +253,7 @@ fn with_new<F: FileSystem>(
     ensures level { IfOk result IsLevel }
     ensures room { IfOk result (λ now. room_before now ≡ room_before level) }
     ensures calls { Does (F.disk files.old) (F.disk files.new) (ReadsMore level.room (files_of_level level) files_of_level result) }
+    ensures failed { FailsUnread result (F.failures files.old) (F.failures files.new) }
 {
     if is_passed_over(known, level.paths.as_slice(), path) {
         return Ok(level);
@@ -268,6 +290,7 @@ fn with_file<F: FileSystem>(
     ensures level { IfOk result IsLevel }
     ensures room { IfOk result (λ now. room_before now ≡ room_before level) }
     ensures calls { Does (F.disk files.old) (F.disk files.new) (ReadsMore level.room (files_of_level level) files_of_level result) }
+    ensures failed { FailsUnread result (F.failures files.old) (F.failures files.new) }
 {
     let Level {
         files: mut found,
@@ -335,14 +358,16 @@ fn text_at<F: FileSystem>(
     requires { room ≤ 16777216 }
     ensures short { IfOk result (λ text. IfSome text (λ text. length text.items ≤ room)) }
     ensures calls { Does (F.disk files.old) (F.disk files.new) (ReadsOrStops room (λ text. record { path = path.now; text = option_map (λ text. text.items) text } ∷ []) result) }
+    ensures failed { FailsUnread result (F.failures files.old) (F.failures files.new) }
 {
     let Ok(path) = std::str::from_utf8(path) else {
         return Ok(None);
     };
     match files.open(path) {
-        Ok(mut opened) => Ok(Some(whole_text(alloc, &mut opened.file, room)?)),
+        Ok(opened) => Ok(Some(read_file(alloc, files, opened.file, room)?)),
         Err(Refusal::Memory) => Err(Unread::Memory),
-        Err(Refusal::Exists | Refusal::Other) => Ok(None),
+        Err(Refusal::Exists) => Ok(None),
+        Err(Refusal::Other) => Ok(None),
     }
 }
 

@@ -1,6 +1,7 @@
 //! The end of a run that makes one file.
 
 ghost use Rattle.std.specs.Prelude.{IfErr};
+ghost use Rattle.dir_files.specs.Failures.{FailsByDevice};
 ghost use Rattle.dir_files.specs.OneOutput.{Finishes, IsNotPublished, IsUnfinished};
 ghost use Rattle.dir_files.specs.Runs.{Made};
 
@@ -23,6 +24,7 @@ pub(crate) fn finish<'a, F: FileSystem, A: Copy>(
 ) -> Result<A, Fault<'a>>
     ensures faults { IfErr result (IsUnfinished path.entry.now unwritten.entry) }
     ensures calls { Made (F.disk files.old) (F.disk files.new) (λ _. Finishes path.entry.now (F.Draft.taken draft) report.now unwritten.entry answer result) }
+    ensures failed { FailsByDevice result (F.failures files.old) (F.failures files.new) }
 {
     if let Err(why) = files.sync(path, &draft) {
         files.discard(path, draft);

@@ -321,6 +321,12 @@ impl<'a, S: Source> TellingReader<'a, S> {
             told: Told::Request(line),
         }
     }
+
+    pub fn inner(&self) -> &S
+        ensures failures { S.failures result.now ≡ ⟦<TellingReader<'a, S> as Source>⟧.failures self.now }
+    {
+        &self.inner
+    }
 }
 
 impl<S: Source> Source for TellingReader<'_, S> {

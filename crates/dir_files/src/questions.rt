@@ -1,20 +1,22 @@
 //! `slapkit slapacl --questions`: the files that a command line names, and the questions over them.
 
-ghost use Rattle.std.specs.Prelude.{◌≡◌, ℕ, IfErr, IfSome, List, Option, Some, map};
+ghost use Rattle.std.specs.Prelude.{◌≡◌, ◌⊎◌, ℕ, IfErr, IfSome, List, None, Option, Some, is_some, map, true};
 ghost use Rattle.std.specs.Option.{option_copied};
 ghost use Rattle.dir_acl.specs.Notes.{notes_of};
+ghost use Rattle.dir_ldif.specs.Device.{HasFailed};
 ghost use Rattle.dir_names.specs.Table.Builtin.{builtin_rows};
 ghost use Rattle.dir_questions.specs.Runs.{HasLines, question_sources};
 ghost use Rattle.dir_tools.specs.AccessAnswers.{IsTextOf};
 ghost use Rattle.dir_tools.specs.Inside.Asking.{configured_of, configured_under};
+ghost use Rattle.dir_files.specs.Failures.{FailsByDevice, FailsByDeviceOr, OnlyWhere};
 ghost use Rattle.dir_files.specs.FaultArguments.{TellsArgument};
 ghost use Rattle.dir_files.specs.Faults.{IsQuestionsFault};
 ghost use Rattle.dir_files.specs.Notes.{AreOnQuestions, EndsIfUntold, TellsFor, told_text};
-ghost use Rattle.dir_files.specs.QuestionRuns.{AllQuestionCalls, AnswersOrStops, EndsAnswering, NamesItsAnswers, RefusesRepeated, ReportsAnswers, WritesAnswers, first_repeated_of, options_of};
+ghost use Rattle.dir_files.specs.QuestionRuns.{AllQuestionCalls, AnswersAll, AnswersOrStops, EndsAnswering, NamesItsAnswers, RefusesRepeated, ReportsAnswers, WritesAnswers, first_repeated_of, options_of};
 ghost use Rattle.dir_files.specs.Runs.{Made};
 
 use crate::call_faults::{not_created, not_opened, not_reported, run_fault};
-use crate::devices::dropped;
+use crate::devices::Dropped;
 use crate::fault::Fault;
 use crate::files::FileSystem;
 use crate::note::NoteTeller;
@@ -57,6 +59,7 @@ pub fn run<'a, F: FileSystem, T: NoteTeller>(
     ensures notes { TellsFor (AreOnQuestions (told_text (F.disk files.old) (F.disk files.new) words.now.questions.now)) words.now.strict (told_text (F.disk files.old) (F.disk files.new) words.now.config.now) result (T.given teller.old) (T.given teller.new) }
     ensures untold { EndsIfUntold result (T.failures teller.old) (T.failures teller.new) }
     ensures argument { TellsArgument words.now.verbose (told_text (F.disk files.old) (F.disk files.new) words.now.config.now) result (T.arguments teller.old) (T.arguments teller.new) }
+    ensures failed { FailsByDevice result (F.failures files.old) (F.failures files.new) }
 {
     if let Some(path) = first_repeated(words) {
         return Err(Fault::SamePath(path));
@@ -75,27 +78,45 @@ pub fn run<'a, F: FileSystem, T: NoteTeller>(
         Ok(opened) => opened.file,
         Err(why) => return Err(not_opened(words.data, why)),
     };
+    let answer = answer_all(
+        alloc,
+        files,
+        teller,
+        words,
+        mode,
+        &mut config,
+        &mut questions,
+        &mut copy,
+    );
+    files.close(copy);
+    files.close(questions);
+    files.close(config);
+    answer
+}
+
+/// Answers the questions, into the file of answers if the words name one.
+fn answer_all<'a, F: FileSystem, T: NoteTeller, R: Source, R2: Source, R3: Source>(
+    alloc: Global,
+    files: &mut F,
+    teller: &mut T,
+    words: &QuestionWords<'a>,
+    mode: u32,
+    config: &mut R,
+    questions: &mut R2,
+    copy: &mut R3,
+) -> Result<Tally, Fault<'a>>
+    ensures faults { IfErr result (NamesItsAnswers words.now) }
+    ensures calls { Made (F.disk files.old) (F.disk files.new) (λ _. AnswersAll (option_copied words.now.answers) mode words.now (question_sources (R.left config.old) (R2.left questions.old) (R3.left copy.old)) result) }
+    ensures notes { TellsFor (AreOnQuestions (R2.left questions.old)) words.now.strict (R.left config.old) result (T.given teller.old) (T.given teller.new) }
+    ensures untold { EndsIfUntold result (T.failures teller.old) (T.failures teller.new) }
+    ensures argument { TellsArgument words.now.verbose (R.left config.old) result (T.arguments teller.old) (T.arguments teller.new) }
+    ensures failed { FailsByDeviceOr (HasFailed (R.failures config.old) (R.failures config.new) ⊎ (HasFailed (R2.failures questions.old) (R2.failures questions.new) ⊎ HasFailed (R3.failures copy.old) (R3.failures copy.new))) result (F.failures files.old) (F.failures files.new) }
+{
     match words.answers {
         Some(path) => with_answers(
-            alloc,
-            files,
-            teller,
-            words,
-            path,
-            mode,
-            &mut config,
-            &mut questions,
-            &mut copy,
+            alloc, files, teller, words, path, mode, config, questions, copy,
         ),
-        None => without_answers(
-            alloc,
-            files,
-            teller,
-            words,
-            &mut config,
-            &mut questions,
-            &mut copy,
-        ),
+        None => without_answers(alloc, files, teller, words, config, questions, copy),
     }
 }
 
@@ -137,6 +158,7 @@ fn with_answers<'a, F: FileSystem, T: NoteTeller, R: Source, R2: Source, R3: Sou
     ensures notes { TellsFor (AreOnQuestions (R2.left questions.old)) words.now.strict (R.left config.old) result (T.given teller.old) (T.given teller.new) }
     ensures untold { EndsIfUntold result (T.failures teller.old) (T.failures teller.new) }
     ensures argument { TellsArgument words.now.verbose (R.left config.old) result (T.arguments teller.old) (T.arguments teller.new) }
+    ensures failed { FailsByDeviceOr (HasFailed (R.failures config.old) (R.failures config.new) ⊎ (HasFailed (R2.failures questions.old) (R2.failures questions.new) ⊎ HasFailed (R3.failures copy.old) (R3.failures copy.new))) result (F.failures files.old) (F.failures files.new) }
 {
     let mut draft = match files.create(path, mode) {
         Ok(draft) => draft,
@@ -178,13 +200,15 @@ fn without_answers<'a, F: FileSystem, T: NoteTeller, R: Source, R2: Source, R3: 
     questions: &mut R2,
     copy: &mut R3,
 ) -> Result<Tally, Fault<'a>>
+    requires { option_copied words.now.answers ≡ None }
     ensures faults { IfErr result (NamesItsAnswers words.now) }
     ensures calls { Made (F.disk files.old) (F.disk files.new) (λ _. ReportsAnswers words.now (question_sources (R.left config.old) (R2.left questions.old) (R3.left copy.old)) result) }
     ensures notes { TellsFor (AreOnQuestions (R2.left questions.old)) words.now.strict (R.left config.old) result (T.given teller.old) (T.given teller.new) }
     ensures untold { EndsIfUntold result (T.failures teller.old) (T.failures teller.new) }
     ensures argument { TellsArgument words.now.verbose (R.left config.old) result (T.arguments teller.old) (T.arguments teller.new) }
+    ensures failed { FailsByDeviceOr (HasFailed (R.failures config.old) (R.failures config.new) ⊎ (HasFailed (R2.failures questions.old) (R2.failures questions.new) ⊎ HasFailed (R3.failures copy.old) (R3.failures copy.new))) result (F.failures files.old) (F.failures files.new) }
 {
-    let mut answers = dropped();
+    let mut answers = Dropped;
     let mut report = Buffer::new(alloc);
     let tally = answered(
         alloc,
@@ -218,6 +242,7 @@ fn answered<'a, T: NoteTeller, R: Source, R2: Source, R3: Source, W: Sink, W2: S
     ensures notes { TellsFor (AreOnQuestions (R2.left questions.old)) words.now.strict (R.left config.old) result (T.given teller.old) (T.given teller.new) }
     ensures untold { EndsIfUntold result (T.failures teller.old) (T.failures teller.new) }
     ensures argument { TellsArgument words.now.verbose (R.left config.old) result (T.arguments teller.old) (T.arguments teller.new) }
+    ensures failed { OnlyWhere ((HasFailed (R.failures config.old) (R.failures config.new) ⊎ (HasFailed (R2.failures questions.old) (R2.failures questions.new) ⊎ HasFailed (R3.failures copy.old) (R3.failures copy.new))) ⊎ ((is_some words.now.answers ≡ true) × (HasFailed (W.failures answers.old) (W.failures answers.new) ⊎ W.may_stall answers.new))) result }
 {
     let Ok(schema) = Schema::builtin(alloc) else {
         return Err(run_fault(ToolFault::Memory));
@@ -252,6 +277,7 @@ fn answered_under<'a, T: NoteTeller, R: Source, R2: Source, W: Sink, W2: Sink>(
         → TellsFor (AreOnQuestions (R.left questions.old)) words.now.strict known result (T.given teller.old) (T.given teller.new) }
     ensures untold { EndsIfUntold result (T.failures teller.old) (T.failures teller.new) }
     ensures argument { T.arguments teller.new ≡ T.arguments teller.old }
+    ensures failed { OnlyWhere ((HasFailed (R.failures questions.old) (R.failures questions.new) ⊎ HasFailed (R2.failures copy.old) (R2.failures copy.new)) ⊎ ((is_some words.now.answers ≡ true) × (HasFailed (W.failures answers.old) (W.failures answers.new) ⊎ W.may_stall answers.new))) result }
 {
     let NotedConfig {
         types,
@@ -296,6 +322,7 @@ fn answered_lines<'a, T: NoteTeller, R: Source, W: Sink, W2: Sink>(
         → HasLines questions (map (λ block. block.items) lines.now) → TellsFor (AreOnQuestions questions) words.now.strict known result (T.given teller.old) (T.given teller.new) }
     ensures untold { EndsIfUntold result (T.failures teller.old) (T.failures teller.new) }
     ensures argument { T.arguments teller.new ≡ T.arguments teller.old }
+    ensures failed { OnlyWhere ((HasFailed (R.failures copy.old) (R.failures copy.new)) ⊎ ((is_some words.now.answers ≡ true) × (HasFailed (W.failures answers.old) (W.failures answers.new) ⊎ W.may_stall answers.new))) result }
 {
     let blocks = match read_questions(alloc, types, lines) {
         Ok(blocks) => blocks,

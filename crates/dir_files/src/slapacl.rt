@@ -1,7 +1,8 @@
 //! `slapkit slapacl`: the files that a command line names, and the question over them.
 
-ghost use Rattle.std.specs.Prelude.{◌≡◌, ◌++◌, ℕ, IfErr, IfOk, IfSome, List, Option, map};
+ghost use Rattle.std.specs.Prelude.{◌≡◌, ◌⊎◌, ◌++◌, ℕ, IfErr, IfOk, IfSome, List, Option, map};
 ghost use Rattle.dir_acl.specs.Notes.{notes_of};
+ghost use Rattle.dir_ldif.specs.Device.{HasFailed};
 ghost use Rattle.dir_names.specs.Table.Builtin.{builtin_rows};
 ghost use Rattle.dir_names.specs.declared.schema.TypeRow.{TypeRow};
 ghost use Rattle.dir_tools.specs.Inside.Asking.{configured_of, configured_under};
@@ -9,6 +10,7 @@ ghost use Rattle.dir_tools.specs.AccessAnswers.{IsTextOf, access_sources};
 ghost use Rattle.dir_tools.specs.AccessReport.{access_terms};
 ghost use Rattle.dir_tools.specs.WordNotes.{notes_on_words};
 ghost use Rattle.dir_files.specs.AccessRuns.{AllAccessCalls, Asks, AsksOrStops, NamesItsFile, RefusesSameFile, asked_for, first_repeated_file};
+ghost use Rattle.dir_files.specs.Failures.{FailsByDevice, FailsByDeviceOr};
 ghost use Rattle.dir_files.specs.FaultArguments.{TellsArgument};
 ghost use Rattle.dir_files.specs.Notes.{AreOnWords, EndsIfUntold, IsAfterConfig, TellsFor, told_text};
 ghost use Rattle.dir_files.specs.Runs.{Made};
@@ -50,6 +52,7 @@ pub fn run<'a, F: FileSystem, T: NoteTeller>(
     ensures notes { TellsFor (AreOnWords (asked_for words.now).words) words.now.strict (told_text (F.disk files.old) (F.disk files.new) words.now.config.now) result (T.given teller.old) (T.given teller.new) }
     ensures untold { EndsIfUntold result (T.failures teller.old) (T.failures teller.new) }
     ensures argument { TellsArgument words.now.verbose (told_text (F.disk files.old) (F.disk files.new) words.now.config.now) result (T.arguments teller.old) (T.arguments teller.new) }
+    ensures failed { FailsByDevice result (F.failures files.old) (F.failures files.new) }
 {
     if words.data == words.config {
         return Err(Fault::SamePath(words.data));
@@ -62,7 +65,10 @@ pub fn run<'a, F: FileSystem, T: NoteTeller>(
         Ok(opened) => opened.file,
         Err(why) => return Err(not_opened(words.data, why)),
     };
-    answer(alloc, files, teller, words, &mut config, &mut copy)
+    let answer = answer(alloc, files, teller, words, &mut config, &mut copy);
+    files.close(copy);
+    files.close(config);
+    answer
 }
 
 /// Reads the configuration, and answers the question under it.
@@ -79,6 +85,7 @@ fn answer<'a, F: FileSystem, T: NoteTeller, R: Source, R2: Source>(
     ensures notes { TellsFor (AreOnWords (asked_for words.now).words) words.now.strict (R.left config.old) result (T.given teller.old) (T.given teller.new) }
     ensures untold { EndsIfUntold result (T.failures teller.old) (T.failures teller.new) }
     ensures argument { TellsArgument words.now.verbose (R.left config.old) result (T.arguments teller.old) (T.arguments teller.new) }
+    ensures failed { FailsByDeviceOr (HasFailed (R.failures config.old) (R.failures config.new) ⊎ HasFailed (R2.failures copy.old) (R2.failures copy.new)) result (F.failures files.old) (F.failures files.new) }
 {
     let Ok(schema) = Schema::builtin(alloc) else {
         return Err(run_fault(ToolFault::Memory));
@@ -108,6 +115,7 @@ fn answer_under<'a, F: FileSystem, T: NoteTeller, R: Source>(
         → TellsFor (AreOnWords (asked_for words.now).words) words.now.strict known result (T.given teller.old) (T.given teller.new) }
     ensures untold { EndsIfUntold result (T.failures teller.old) (T.failures teller.new) }
     ensures argument { T.arguments teller.new ≡ T.arguments teller.old }
+    ensures failed { FailsByDeviceOr (HasFailed (R.failures copy.old) (R.failures copy.new)) result (F.failures files.old) (F.failures files.new) }
 {
     let NotedConfig {
         types,
@@ -134,6 +142,7 @@ fn report<'a, F: FileSystem, R: Source>(
     ensures faults { IfErr result IsAfterConfig }
     ensures calls { (start : List TypeRow) (known : Option (List ℕ)) → IsTextOf start known (configured_under schema.now config.now)
         → Made (F.disk files.old) (F.disk files.new) (λ _. Asks (access_terms start question.now) (access_sources known (R.left copy.old)) result) }
+    ensures failed { FailsByDeviceOr (HasFailed (R.failures copy.old) (R.failures copy.new)) result (F.failures files.old) (F.failures files.new) }
 {
     let mut report = Buffer::new(alloc);
     match run_acl_under(

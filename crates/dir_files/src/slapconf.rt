@@ -5,13 +5,14 @@ ghost use Rattle.std.specs.Option.{option_copied};
 ghost use Rattle.std.specs.Prelude.{◌≡◌, ◌++◌, IfErr, IfOk, OnOk};
 ghost use Rattle.dir_conf.specs.Flat.{flat_parts};
 ghost use Rattle.dir_files.specs.ConfRuns.{AllConfCalls, IsConfFault, MakesForSuffix, MakesOfConfig, MakesOfSlapdConf, NamesItsOutput, NamesTheseConf, RefusesSameConf, WritesIfRoom, conf_report, repeated_path, source_path};
+ghost use Rattle.dir_files.specs.Failures.{FailsByDevice};
 ghost use Rattle.dir_files.specs.Runs.{Made};
 ghost use Rattle.dir_names.specs.Table.Builtin.{builtin_rows};
 
 use crate::call_faults::{not_created, not_opened, run_fault};
 use crate::fault::Fault;
-use crate::files::FileSystem;
-use crate::including::{not_read, read_files, whole_text};
+use crate::files::{FileSystem, Opened};
+use crate::including::{not_read, read_file, read_files};
 use crate::one_output::finish;
 use crate::words::{ConfSource, ConfWords};
 use dir_acl::MAX_CONFIG;
@@ -49,6 +50,7 @@ pub fn run<'a, F: FileSystem, T: SuffixTeller>(
 ) -> Result<Tally, Fault<'a>>
     ensures faults { RefusesSameConf words.now (repeated_path words.now) result }
     ensures calls { Made (F.disk files.old) (F.disk files.new) (AllConfCalls (repeated_path words.now) words.now result) }
+    ensures failed { FailsByDevice result (F.failures files.old) (F.failures files.new) }
 {
     match repeated_path(words) {
         Some(path) => Err(Fault::SamePath(path)),
@@ -76,6 +78,7 @@ fn make<'a, F: FileSystem, T: SuffixTeller>(
 ) -> Result<Tally, Fault<'a>>
     ensures faults { IfErr result (NamesTheseConf (source_path words.now.source) words.now.out.now) }
     ensures calls { Made (F.disk files.old) (F.disk files.new) (MakesForSuffix words.now result) }
+    ensures failed { FailsByDevice result (F.failures files.old) (F.failures files.new) }
 {
     let Ok(schema) = Schema::builtin(alloc) else {
         return Err(run_fault(ToolFault::Memory));
@@ -116,6 +119,7 @@ fn of_slapd_conf<'a, F: FileSystem, T: SuffixTeller>(
     requires { schema.now ≡ builtin_rows }
     ensures faults { IfErr result (NamesTheseConf path.entry.now out.entry.now) }
     ensures calls { Made (F.disk files.old) (F.disk files.new) (MakesOfSlapdConf suffix.now path.entry.now out.entry.now result) }
+    ensures failed { FailsByDevice result (F.failures files.old) (F.failures files.new) }
 {
     let read = read_files(alloc, files, path)?;
     match flat_of_files(alloc, schema, suffix, read.files.as_slice()) {
@@ -142,17 +146,18 @@ fn of_cn_config<'a, F: FileSystem, T: SuffixTeller>(
     requires { schema.now ≡ builtin_rows }
     ensures faults { IfErr result (NamesTheseConf path.entry.now out.entry.now) }
     ensures calls { Made (F.disk files.old) (F.disk files.new) (MakesOfConfig suffix.now path.entry.now out.entry.now result) }
+    ensures failed { FailsByDevice result (F.failures files.old) (F.failures files.new) }
 {
-    let mut opened = match files.open(path) {
+    let Opened { file, mode } = match files.open(path) {
         Ok(opened) => opened,
         Err(why) => return Err(not_opened(path, why)),
     };
-    let text = match whole_text(alloc, &mut opened.file, MAX_CONFIG) {
+    let text = match read_file(alloc, files, file, MAX_CONFIG) {
         Ok(text) => text,
         Err(why) => return Err(not_read(why)),
     };
     match flat_of_config(alloc, schema, suffix, text.as_slice()) {
-        Ok(flat) => write_flat(alloc, files, out, opened.mode, &flat),
+        Ok(flat) => write_flat(alloc, files, out, mode, &flat),
         Err(fault) => {
             if fault == ConfFault::NoDatabase {
                 tell(teller, suffixes_of_config(alloc, text.as_slice()));
@@ -189,6 +194,7 @@ fn write_flat<'a, F: FileSystem>(
 ) -> Result<Tally, Fault<'a>>
     ensures faults { IfErr result (NamesItsOutput path.entry.now) }
     ensures calls { Made (F.disk files.old) (F.disk files.new) (λ _. WritesIfRoom path.entry.now mode (flat_parts flat.now) result) }
+    ensures failed { FailsByDevice result (F.failures files.old) (F.failures files.new) }
 {
     let Ok(report) = report_of(alloc, flat.tally) else {
         return Err(run_fault(ToolFault::Memory));

@@ -1,19 +1,24 @@
 //! `slapkit slapmodify`: the files that a command line names, and the run over them.
 
-ghost use Rattle.std.specs.Prelude.{◌≡◌, IfErr, IfOk, IfSome, Some};
+ghost use Rattle.std.specs.Prelude.{◌≡◌, ◌⊎◌, Err, IfErr, IfOk, IfSome, Some};
 ghost use Rattle.std.specs.Option.{option_copied};
+ghost use Rattle.dir_ldif.specs.Device.{HasFailed};
 ghost use Rattle.dir_names.specs.Table.Builtin.{builtin_rows};
 ghost use Rattle.dir_tools.specs.AccessAnswers.{IsTypesFault};
 ghost use Rattle.dir_tools.specs.Headline.{RunOutput};
 ghost use Rattle.dir_tools.specs.RunAnswers.{AnswersRun, IsWholeRun, sources};
 ghost use Rattle.dir_tools.specs.StoppedReading.{HeldBefore};
 ghost use Rattle.dir_tools.specs.Writing.{FlushedInOrder, WroteInOrder};
+ghost use Rattle.dir_tools.specs.declared.fault.Input.TheVariants as Input;
+ghost use Rattle.dir_tools.specs.declared.fault.Output.TheVariants as Output;
+ghost use Rattle.dir_tools.specs.declared.fault.ToolFault.TheVariants as ToolFault;
+ghost use Rattle.dir_files.specs.Failures.{FailsByDevice, FailsByDeviceOr};
 ghost use Rattle.dir_files.specs.Faults.{IsModifyFault, NamesNoPath};
 ghost use Rattle.dir_files.specs.Paths.{IsWriteFaultOf, NamesItsPath, RefusesSamePath, first_repeated, outputs_of};
 ghost use Rattle.dir_files.specs.Runs.{AllCalls, AreTypesOf, CallsUnder, Made, Publishes, RunsOver, Syncs, WritesAll, WritesOutputs, WritesReport, changes_text, terms_of, sources_of};
 
 use crate::call_faults::{not_created, not_opened, not_reported, not_written, run_fault};
-use crate::devices::dropped;
+use crate::devices::Dropped;
 use crate::fault::Fault;
 use crate::files::FileSystem;
 use crate::words::{ModifyWords, OutputPaths};
@@ -41,17 +46,20 @@ pub fn run<'a, F: FileSystem>(
 ) -> Result<Summary, Fault<'a>>
     ensures faults { RefusesSamePath words.now (first_repeated words.now) result }
     ensures calls { Made (F.disk files.old) (F.disk files.new) (λ d. AllCalls (first_repeated words.now) words.now d result) }
+    ensures failed { FailsByDevice result (F.failures files.old) (F.failures files.new) }
 {
     if let Some(path) = first_repeated(words) {
         return Err(Fault::SamePath(path));
     }
     match words.config {
         Some(path) => {
-            let config = match files.open(path) {
+            let mut config = match files.open(path) {
                 Ok(config) => config.file,
                 Err(why) => return Err(not_opened(path, why)),
             };
-            match types_in(alloc, config) {
+            let types = types_in(alloc, &mut config);
+            files.close(config);
+            match types {
                 Ok(schema) => run_under(alloc, files, &schema, words),
                 Err(fault) => Err(run_fault(fault)),
             }
@@ -64,15 +72,15 @@ pub fn run<'a, F: FileSystem>(
 }
 
 /// The built-in types, with those that a configuration defines.
-fn types_in<R: Source + Drop>(alloc: Global, config: R) -> Result<Schema, ToolFault>
-    ensures ok { IfOk result (AreTypesOf (R.left config)) }
-    ensures fault { IfErr result (IsTypesFault builtin_rows (R.left config)) }
+fn types_in<R: Source>(alloc: Global, config: &mut R) -> Result<Schema, ToolFault>
+    ensures ok { IfOk result (AreTypesOf (R.left config.old)) }
+    ensures fault { IfErr result (IsTypesFault builtin_rows (R.left config.old)) }
+    ensures read { result ≡ Err (ToolFault.Read Input.Config) → HasFailed (R.failures config.old) (R.failures config.new) }
 {
     let Ok(schema) = Schema::builtin(alloc) else {
         return Err(ToolFault::Memory);
     };
-    let mut config = config;
-    run_schema(alloc, &schema, &mut config)
+    run_schema(alloc, &schema, config)
 }
 
 /// Opens the copy and the changes, and runs over them.
@@ -84,6 +92,7 @@ fn run_under<'a, F: FileSystem>(
 ) -> Result<Summary, Fault<'a>>
     ensures faults { IfErr result (NamesItsPath words.now) }
     ensures calls { Made (F.disk files.old) (F.disk files.new) (λ d. CallsUnder schema.now words.now d result) }
+    ensures failed { FailsByDevice result (F.failures files.old) (F.failures files.new) }
 {
     let copy = match files.open(words.data) {
         Ok(copy) => copy,
@@ -96,7 +105,7 @@ fn run_under<'a, F: FileSystem>(
                 Ok(changes) => changes.file,
                 Err(why) => return Err(not_opened(path, why)),
             };
-            with_changes(
+            let answer = with_changes(
                 alloc,
                 files,
                 schema,
@@ -104,11 +113,14 @@ fn run_under<'a, F: FileSystem>(
                 copy.mode,
                 &mut text,
                 &mut changes,
-            )
+            );
+            files.close(changes);
+            files.close(text);
+            answer
         }
         None => {
             let mut changes = files.standard_input();
-            with_changes(
+            let answer = with_changes(
                 alloc,
                 files,
                 schema,
@@ -116,7 +128,10 @@ fn run_under<'a, F: FileSystem>(
                 copy.mode,
                 &mut text,
                 &mut changes,
-            )
+            );
+            files.close_standard_input(changes);
+            files.close(text);
+            answer
         }
     }
 }
@@ -172,6 +187,7 @@ fn with_changes<'a, F: FileSystem, R: Source, R2: Source>(
     requires mode { IfSome (F.disk files.old) (λ d. mode ≡ d.mode_at words.now.data.now) }
     ensures faults { IfErr result (NamesItsPath words.now) }
     ensures calls { Made (F.disk files.old) (F.disk files.new) (λ d. WritesAll (outputs_of words.now) (d.mode_at words.now.data.now) (terms_of schema.now words.now) (sources_of words.now d) result) }
+    ensures failed { FailsByDeviceOr (HasFailed (R.failures copy.old) (R.failures copy.new) ⊎ HasFailed (R2.failures changes.old) (R2.failures changes.new)) result (F.failures files.old) (F.failures files.new) }
 {
     match outputs_of(words) {
         Some(paths) => with_outputs(alloc, files, schema, words, &paths, mode, copy, changes),
@@ -190,9 +206,10 @@ fn without_outputs<'a, F: FileSystem, R: Source, R2: Source>(
 ) -> Result<Summary, Fault<'a>>
     ensures faults { IfErr result (NamesItsPath words.now) }
     ensures calls { Made (F.disk files.old) (F.disk files.new) (λ _. WritesReport (terms_of schema.now words.now) (sources (R.left copy.old) (R2.left changes.old)) result) }
+    ensures failed { FailsByDeviceOr (HasFailed (R.failures copy.old) (R.failures copy.new) ⊎ HasFailed (R2.failures changes.old) (R2.failures changes.new)) result (F.failures files.old) (F.failures files.new) }
 {
-    let mut undo = dropped();
-    let mut out = dropped();
+    let mut undo = Dropped;
+    let mut out = Dropped;
     let mut report = Buffer::new(alloc);
     match with_files(
         alloc,
@@ -226,6 +243,7 @@ fn with_outputs<'a, F: FileSystem, R: Source, R2: Source>(
     requires { outputs_of words.now ≡ Some paths.now }
     ensures faults { IfErr result (NamesItsPath words.now) }
     ensures calls { Made (F.disk files.old) (F.disk files.new) (λ _. WritesOutputs paths.now mode (terms_of schema.now words.now) (sources (R.left copy.old) (R2.left changes.old)) result) }
+    ensures failed { FailsByDeviceOr (HasFailed (R.failures copy.old) (R.failures copy.new) ⊎ HasFailed (R2.failures changes.old) (R2.failures changes.new)) result (F.failures files.old) (F.failures files.new) }
 {
     let mut undo = match files.create(paths.undo, mode) {
         Ok(undo) => undo,
@@ -270,6 +288,7 @@ fn sync_outputs<'a, F: FileSystem>(
 ) -> Result<Summary, Fault<'a>>
     ensures faults { IfErr result (IsWriteFaultOf paths.now) }
     ensures calls { Made (F.disk files.old) (F.disk files.new) (λ _. Syncs paths.now (F.Draft.taken undo) (F.Draft.taken out) report.now summary result) }
+    ensures failed { FailsByDevice result (F.failures files.old) (F.failures files.new) }
 {
     if let Err(why) = files.sync(paths.undo, &undo) {
         files.discard(paths.out, out);
@@ -295,6 +314,7 @@ fn publish_outputs<'a, F: FileSystem>(
 ) -> Result<Summary, Fault<'a>>
     ensures faults { IfErr result (IsWriteFaultOf paths.now) }
     ensures calls { Made (F.disk files.old) (F.disk files.new) (λ _. Publishes paths.now (F.Draft.taken undo) (F.Draft.taken out) report.now summary result) }
+    ensures failed { FailsByDevice result (F.failures files.old) (F.failures files.new) }
 {
     if let Err(why) = files.publish(paths.undo, undo) {
         files.discard(paths.out, out);
@@ -329,6 +349,10 @@ fn with_files<R: Source, R2: Source, W: Sink, W2: Sink, W3: Sink>(
         × IsWholeRun (terms_of schema.now words.now) (sources (R.left copy.old) (R2.left changes.old)) result output }
     ensures first { IfErr result (HeldBefore (terms_of schema.now words.now) (R.left copy.old, R.left copy.new) (R2.left changes.old, R2.left changes.new)) }
     ensures flushed { FlushedInOrder words.now.options.dry result (W.is_flushed undo.new) (W2.is_flushed out.new) (W3.is_flushed report.new) }
+    ensures read_copy { result ≡ Err (ToolFault.Read Input.Copy) → HasFailed (R.failures copy.old) (R.failures copy.new) }
+    ensures read_changes { result ≡ Err (ToolFault.Read Input.Changes) → HasFailed (R2.failures changes.old) (R2.failures changes.new) }
+    ensures write_undo { result ≡ Err (ToolFault.Write Output.Undo) → HasFailed (W.failures undo.old) (W.failures undo.new) ⊎ W.may_stall undo.new }
+    ensures write_out { result ≡ Err (ToolFault.Write Output.Out) → HasFailed (W2.failures out.old) (W2.failures out.new) ⊎ W2.may_stall out.new }
 {
     run_modify_holding(
         alloc,

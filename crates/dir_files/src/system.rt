@@ -1,6 +1,7 @@
 //! The system's own files and standard streams. What they hold no contract can tell.
 
 ghost use Rattle.std.specs.Prelude.{◌≡◌, ◌++◌, IfOk, None, codes, decimal};
+ghost use Rattle.dir_files.specs.Failures.{CountsCall, CountsDevice};
 ghost use Rattle.std.specs.String.{string_bytes};
 ghost use Rattle.dir_files.specs.Files.{is_never_synced, meant_by};
 
@@ -8,7 +9,7 @@ use crate::devices::{PatientReader, PatientWriter};
 use crate::files::{FileSystem, Opened, Refusal};
 use crate::limit::{LimitedWriter, largest_file, room_of_output};
 use crate::progress::{Progress, ProgressLine, TellingReader, TellingWriter};
-use dir_ldif::{DeviceFault, Sink, write_flushed};
+use dir_ldif::{DeviceFault, Sink, Source, write_flushed};
 use std::alloc::{AllocError, Global};
 use std::fs::{self, File, OpenFile, OpenOptions};
 use std::io::{self, ErrorKind, Input, IsTerminal};
@@ -32,6 +33,8 @@ pub struct SystemFiles<'a, R> {
     alloc: Global,
     /// What the system last said where a file could not be opened or created.
     reason: Option<io::Error>,
+    /// How often the system has refused something.
+    failures: u64,
 }
 
 impl<'a, R: Files + Input + Print> SystemFiles<'a, R> {
@@ -41,6 +44,7 @@ impl<'a, R: Files + Input + Print> SystemFiles<'a, R> {
             line,
             alloc,
             reason: None,
+            failures: 0,
         }
     }
 
@@ -58,14 +62,67 @@ impl<'a, R: Files + Input + Print> SystemFiles<'a, R> {
     }
 
     /// What it means that a file can't be opened or created, which the system says of it.
-    fn refused(&mut self, error: io::Error) -> Refusal {
+    fn refused(&mut self, error: io::Error) -> Refusal
+        ensures { self.new.failures ≡ self.old.failures }
+    {
         let why = meaning_of(error.kind());
         self.reason = Some(error);
         why
     }
 
+    /// Counts these failures, too.
+    fn count(&mut self, failures: u64)
+        ensures { CountsDevice failures self.old.failures self.new.failures }
+    {
+        self.failures = self.failures.saturating_add(failures);
+    }
+
+    /// Counts a call that is refused.
+    fn counted<T>(&mut self, answer: Result<T, Refusal>) -> Result<T, Refusal>
+        ensures answer { result ≡ answer }
+        ensures count { CountsCall result self.old.failures self.new.failures }
+    {
+        if answer.is_err() {
+            self.count(1);
+        }
+        answer
+    }
+
+    /// The file at a path, to be read.
+    fn input_at(
+        &mut self,
+        path: &str,
+    ) -> Result<Opened<TellingReader<'a, PatientReader<R::File>>>, Refusal>
+        ensures fresh { IfOk result (λ opened. ⟦<TellingReader<'a, PatientReader<R::File>> as Source>⟧.failures opened.file ≡ 0) }
+        ensures count { self.new.failures ≡ self.old.failures }
+    {
+        match File::open(self.rt, path) {
+            Ok(file) => {
+                let Facts { mode, size } = facts_of(&file);
+                let file = PatientReader::new(file);
+                let file = TellingReader::new(file, self.line, self.alloc, path, size);
+                Ok(Opened { file, mode })
+            }
+            Err(error) => Err(self.refused(error)),
+        }
+    }
+
+    /// A new file beside the path, under a name that no file has, where no file is at the path.
+    fn draft_at(&mut self, path: &str, mode: u32) -> Result<Draft<'a, R::File>, Refusal>
+        ensures fresh { IfOk result (λ draft. draft.failures ≡ 0) }
+        ensures count { self.new.failures ≡ self.old.failures }
+    {
+        if fs::symlink_metadata(self.rt, path).is_ok() {
+            return Err(Refusal::Exists);
+        }
+        self.new_draft(path, mode)
+    }
+
     /// A new file beside the path, under a name that no file has.
-    fn new_draft(&mut self, path: &str, mode: u32) -> Result<Draft<'a, R::File>, Refusal> {
+    fn new_draft(&mut self, path: &str, mode: u32) -> Result<Draft<'a, R::File>, Refusal>
+        ensures fresh { IfOk result (λ draft. draft.failures ≡ 0) }
+        ensures count { self.new.failures ≡ self.old.failures }
+    {
         for n in 0..MOST_DRAFTS {
             let Ok(name) = draft_name(self.alloc, path, n) else {
                 return Err(Refusal::Memory);
@@ -75,7 +132,11 @@ impl<'a, R: Files + Input + Print> SystemFiles<'a, R> {
                     let file = PatientWriter::new(file);
                     let file = LimitedWriter::new(file, largest_file(self.rt));
                     let file = TellingWriter::new(file, self.line, self.alloc, path);
-                    return Ok(Draft { name, file });
+                    return Ok(Draft {
+                        name,
+                        file,
+                        failures: 0,
+                    });
                 }
                 Err(error) => {
                     let why = self.refused(error);
@@ -87,6 +148,40 @@ impl<'a, R: Files + Input + Print> SystemFiles<'a, R> {
         }
         Err(Refusal::Other)
     }
+
+    /// Gives a draft its name, and syncs the name. Of one that is refused nothing is left.
+    fn give_draft_its_name(&mut self, path: &str, draft: Draft<'a, R::File>) -> Result<(), Refusal>
+        ensures { self.new.failures ≡ self.old.failures }
+    {
+        let name = draft.name.as_str();
+        if let Err(error) = give_name(self.rt, name, path) {
+            remove(self.rt, name);
+            return Err(self.refused(error));
+        }
+        if sync_folder(self.rt, path).is_err() {
+            self.remove_published(path);
+            return Err(Refusal::Other);
+        }
+        Ok(())
+    }
+
+    /// Removes a file that was published, and syncs that.
+    fn remove_published(&self, path: &str) {
+        remove(self.rt, path);
+        // A run that has failed tells its first fault alone.
+        let _ = sync_folder(self.rt, path);
+    }
+
+    /// Writes a text to the standard output, up to the limit on the size of its file.
+    fn write_report(&self, text: &[u8]) -> Result<(), Refusal> {
+        self.line.clear();
+        let output = PatientWriter::new(io::writer(self.rt));
+        let mut output = LimitedWriter::new(output, room_of_output(self.rt));
+        match write_flushed(&mut output, text) {
+            Ok(()) => Ok(()),
+            Err(_) => Err(Refusal::Other),
+        }
+    }
 }
 
 /// A file that is being made.
@@ -95,6 +190,18 @@ pub struct Draft<'a, F> {
     /// Its own name, beside the one that it is to have.
     name: String,
     file: TellingWriter<'a, LimitedWriter<PatientWriter<F>>>,
+    /// How often it couldn't be written.
+    failures: u64,
+}
+
+impl<F: OpenFile + io::Write> Draft<'_, F> {
+    /// Syncs what was written.
+    fn sync(&self) -> Result<(), Refusal> {
+        match self.file.inner().inner().inner().sync_all() {
+            Ok(()) => Ok(()),
+            Err(_) => Err(Refusal::Other),
+        }
+    }
 }
 
 impl<'a, F: io::Write> Sink for Draft<'a, F> {
@@ -102,18 +209,31 @@ impl<'a, F: io::Write> Sink for Draft<'a, F> {
 
     ghost taken = { λ _. None };
 
-    ghost failures = { λ d. ⟦<TellingWriter<'a, LimitedWriter<PatientWriter<F>>> as Sink>⟧.failures d.file };
+    ghost failures = { λ d. d.failures };
 
-    ghost may_stall = { λ _. ⊤ };
+    ghost may_stall = { λ _. ⊥ };
 
     ghost is_flushed = { λ _. ⊤ };
 
     fn write(&mut self, bytes: &[u8]) -> Result<usize, DeviceFault> {
-        self.file.write(bytes)
+        match self.file.write(bytes) {
+            Ok(n) if 0 < n || bytes.is_empty() => Ok(n),
+            // Past a limit on its size a file takes nothing more.
+            _ => {
+                self.failures = self.failures.saturating_add(1);
+                Err(DeviceFault)
+            }
+        }
     }
 
     fn flush(&mut self) -> Result<(), DeviceFault> {
-        self.file.flush()
+        match self.file.flush() {
+            Ok(()) => Ok(()),
+            Err(fault) => {
+                self.failures = self.failures.saturating_add(1);
+                Err(fault)
+            }
+        }
     }
 }
 
@@ -129,19 +249,14 @@ where
 
     ghost disk = { λ _. None };
 
+    ghost failures = { λ s. s.failures };
+
     fn open(
         &mut self,
         path: &str,
     ) -> Result<Opened<TellingReader<'a, PatientReader<R::File>>>, Refusal> {
-        match File::open(self.rt, path) {
-            Ok(file) => {
-                let Facts { mode, size } = facts_of(&file);
-                let file = PatientReader::new(file);
-                let file = TellingReader::new(file, self.line, self.alloc, path, size);
-                Ok(Opened { file, mode })
-            }
-            Err(error) => Err(self.refused(error)),
-        }
+        let answer = self.input_at(path);
+        self.counted(answer)
     }
 
     fn standard_input(&mut self) -> TellingReader<'a, PatientReader<R::Reader>> {
@@ -155,53 +270,44 @@ where
         }
     }
 
+    fn close(&mut self, file: TellingReader<'a, PatientReader<R::File>>) {
+        self.count(file.inner().failures());
+    }
+
+    fn close_standard_input(&mut self, input: TellingReader<'a, PatientReader<R::Reader>>) {
+        self.count(input.inner().failures());
+    }
+
     fn create(&mut self, path: &str, mode: u32) -> Result<Draft<'a, R::File>, Refusal> {
-        if fs::symlink_metadata(self.rt, path).is_ok() {
-            return Err(Refusal::Exists);
-        }
-        self.new_draft(path, mode)
+        let answer = self.draft_at(path, mode);
+        self.counted(answer)
     }
 
     fn sync(&mut self, path: &str, draft: &Draft<'a, R::File>) -> Result<(), Refusal> {
         self.line.update(&Progress::syncing(path));
-        match draft.file.inner().inner().inner().sync_all() {
-            Ok(()) => Ok(()),
-            Err(_) => Err(Refusal::Other),
-        }
+        self.counted(draft.sync())
     }
 
     fn publish(&mut self, path: &str, draft: Draft<'a, R::File>) -> Result<(), Refusal> {
-        let name = draft.name.as_str();
-        if let Err(error) = give_name(self.rt, name, path) {
-            remove(self.rt, name);
-            return Err(self.refused(error));
-        }
-        if sync_folder(self.rt, path).is_err() {
-            self.withdraw(path);
-            return Err(Refusal::Other);
-        }
-        Ok(())
+        let answer = self.give_draft_its_name(path, draft);
+        self.counted(answer)
     }
 
     fn discard(&mut self, _path: &str, draft: Draft<'a, R::File>) {
         remove(self.rt, draft.name.as_str());
+        self.count(draft.failures);
     }
 
     fn withdraw(&mut self, path: &str) {
-        remove(self.rt, path);
-        // A run that has failed tells its first fault alone.
-        let _ = sync_folder(self.rt, path);
+        self.remove_published(path);
     }
 
     fn report(&mut self, text: &[u8]) -> Result<(), Refusal> {
-        self.line.clear();
-        let output = PatientWriter::new(io::writer(self.rt));
-        let mut output = LimitedWriter::new(output, room_of_output(self.rt));
-        if write_flushed(&mut output, text).is_err() {
-            return Err(Refusal::Other);
-        }
-        Ok(())
+        let answer = self.write_report(text);
+        self.counted(answer)
     }
+
+    ghost never_stalls = { λ _ stalls. stalls };
 }
 
 /// The name of the draft with this number, beside the path.

@@ -1,9 +1,9 @@
 //! A folder in memory, which tells all that it is asked.
 
 ghost use Rattle.std.specs.Prelude.{◌≡◌, IfOk, string_bytes};
-ghost use Rattle.dir_files.specs.Files.{refusal_of};
 ghost use Rattle.dir_files_tests.specs.Folder.{folder_mode};
 
+use crate::counting::Counting;
 use dir_files::{FileSystem, Opened, Refusal};
 use dir_ldif::Script;
 use dir_tools::Buffer;
@@ -60,12 +60,15 @@ pub(super) struct Folder<'a> {
     calls: Vec<Asked>,
     // A call is missing, since memory ran out.
     lost: bool,
+    // How often a call was refused, or a file that came back had failed.
+    failures: u64,
 }
 
 impl<'a> Folder<'a> {
     ghost use Rattle.std.specs.Prelude.{◌≡◌, IfOk, Some};
     ghost use Rattle.std.specs.Option.{option_copied};
-    ghost use Rattle.dir_files.specs.Files.{Told, opens};
+    ghost use Rattle.dir_files.specs.Failures.{CountsCall, CountsDevice};
+    ghost use Rattle.dir_files.specs.Files.{Told, opens, refusal_of};
     ghost use Rattle.dir_files_tests.specs.Folder.{folder_text};
 
     pub(super) fn new(
@@ -84,6 +87,7 @@ impl<'a> Folder<'a> {
             good,
             calls: Vec::new(alloc),
             lost: false,
+            failures: 0,
         }
     }
 
@@ -103,9 +107,33 @@ impl<'a> Folder<'a> {
     fn note(&mut self, call: Asked)
         ensures told { Told (⟦<Folder<'a> as FileSystem>⟧.disk self.old) (⟦<Folder<'a> as FileSystem>⟧.disk self.new) (⟦<Asked as IsCall>⟧.call call) }
         ensures texts { (self.new.copy ≡ self.old.copy) × (self.new.changes ≡ self.old.changes) × (self.new.config ≡ self.old.config) × (self.new.typed ≡ self.old.typed) }
+        ensures failures { self.new.failures ≡ self.old.failures }
     {
         if self.calls.push(call).is_err() {
             self.lost = true;
+        }
+    }
+
+    /// Counts these failures, too.
+    fn count(&mut self, failures: u64)
+        ensures count { CountsDevice failures self.old.failures self.new.failures }
+        ensures same { self.new ≡ record self.old { failures = self.new.failures } }
+    {
+        self.failures = self.failures.saturating_add(failures);
+    }
+
+    /// The answer of a call that is refused for this reason, if there is one, which counts.
+    fn answer(&mut self, why: Option<Refusal>) -> Result<(), Refusal>
+        ensures answer { refusal_of result ≡ why }
+        ensures count { CountsCall result self.old.failures self.new.failures }
+        ensures same { self.new ≡ record self.old { failures = self.new.failures } }
+    {
+        match why {
+            None => Ok(()),
+            Some(why) => {
+                self.count(1);
+                Err(why)
+            }
         }
     }
 
@@ -125,6 +153,7 @@ impl<'a> Folder<'a> {
     fn note_opened(&mut self, path: &str, why: Option<Refusal>)
         ensures told { Told (⟦<Folder<'a> as FileSystem>⟧.disk self.old) (⟦<Folder<'a> as FileSystem>⟧.disk self.new) (opens path.now why) }
         ensures texts { (self.new.copy ≡ self.old.copy) × (self.new.changes ≡ self.old.changes) × (self.new.config ≡ self.old.config) × (self.new.typed ≡ self.old.typed) }
+        ensures failures { self.new.failures ≡ self.old.failures }
     {
         match String::from_str(self.alloc, path) {
             Ok(name) => self.note(Asked::Opens(name, why)),
@@ -147,50 +176,51 @@ impl<'a> Folder<'a> {
     }
 }
 
-/// The answer of a call that is refused for this reason, if there is one.
-fn answer(why: Option<Refusal>) -> Result<(), Refusal>
-    ensures { refusal_of result ≡ why }
-{
-    match why {
-        None => Ok(()),
-        Some(why) => Err(why),
-    }
-}
-
 impl<'a> FileSystem for Folder<'a> {
     ghost use Rattle.std.specs.Prelude.{None, Some, if◌then◌else◌, map};
     ghost use Rattle.dir_files_tests.specs.Folder.{folder_mode, folder_text};
 
-    type Input = Script<'a>;
+    type Input = Counting<Script<'a>>;
 
-    type Typed = Script<'a>;
+    type Typed = Counting<Script<'a>>;
 
-    type Draft = Buffer;
+    type Draft = Counting<Buffer>;
 
     ghost disk = { λ f. if f.lost then None else Some (record { calls = map ⟦<Asked as IsCall>⟧.call f.calls.items; text_at = folder_text f.copy.now f.changes.now f.config.now; mode_at = folder_mode; typed = f.typed.now }) };
 
-    fn open(&mut self, path: &str) -> Result<Opened<Script<'a>>, Refusal> {
+    ghost failures = { λ f. f.failures };
+
+    fn open(&mut self, path: &str) -> Result<Opened<Counting<Script<'a>>>, Refusal> {
         match self.text_at(path) {
             Some(text) => {
                 self.note_opened(path, None);
                 Ok(Opened {
-                    file: Script::new(text),
+                    file: Counting::new(Script::new(text)),
                     mode: mode_at(path),
                 })
             }
             None => {
                 self.note_opened(path, Some(Refusal::Other));
+                self.count(1);
                 Err(Refusal::Other)
             }
         }
     }
 
-    fn standard_input(&mut self) -> Script<'a> {
+    fn standard_input(&mut self) -> Counting<Script<'a>> {
         self.note(Asked::StandardInput);
-        Script::new(self.typed)
+        Counting::new(Script::new(self.typed))
     }
 
-    fn create(&mut self, path: &str, mode: u32) -> Result<Buffer, Refusal> {
+    fn close(&mut self, file: Counting<Script<'a>>) {
+        self.count(file.failures);
+    }
+
+    fn close_standard_input(&mut self, input: Counting<Script<'a>>) {
+        self.count(input.failures);
+    }
+
+    fn create(&mut self, path: &str, mode: u32) -> Result<Counting<Buffer>, Refusal> {
         let why = if path == "copy" || path == "changes" || path == "config" {
             Some(Refusal::Exists)
         } else {
@@ -201,34 +231,38 @@ impl<'a> FileSystem for Folder<'a> {
             Err(_) => self.lost = true,
         }
         match why {
-            None => Ok(Buffer::new(self.alloc)),
-            Some(why) => Err(why),
+            None => Ok(Counting::new(Buffer::new(self.alloc))),
+            Some(why) => {
+                self.count(1);
+                Err(why)
+            }
         }
     }
 
-    fn sync(&mut self, path: &str, draft: &Buffer) -> Result<(), Refusal> {
+    fn sync(&mut self, path: &str, draft: &Counting<Buffer>) -> Result<(), Refusal> {
         let why = self.refusal();
-        match copied(self.alloc, path, draft.as_slice()) {
+        match copied(self.alloc, path, draft.device.as_slice()) {
             Ok((name, text)) => self.note(Asked::Syncs(name, text, why)),
             Err(_) => self.lost = true,
         }
-        answer(why)
+        self.answer(why)
     }
 
-    fn publish(&mut self, path: &str, draft: Buffer) -> Result<(), Refusal> {
+    fn publish(&mut self, path: &str, draft: Counting<Buffer>) -> Result<(), Refusal> {
         let why = self.refusal();
-        match copied(self.alloc, path, draft.as_slice()) {
+        match copied(self.alloc, path, draft.device.as_slice()) {
             Ok((name, text)) => self.note(Asked::Publishes(name, text, why)),
             Err(_) => self.lost = true,
         }
-        answer(why)
+        self.answer(why)
     }
 
-    fn discard(&mut self, path: &str, _draft: Buffer) {
+    fn discard(&mut self, path: &str, draft: Counting<Buffer>) {
         match String::from_str(self.alloc, path) {
             Ok(name) => self.note(Asked::Discards(name)),
             Err(_) => self.lost = true,
         }
+        self.count(draft.failures);
     }
 
     fn withdraw(&mut self, path: &str) {
@@ -244,8 +278,10 @@ impl<'a> FileSystem for Folder<'a> {
             Ok(copy) => self.note(Asked::Reports(copy, why)),
             Err(_) => self.lost = true,
         }
-        answer(why)
+        self.answer(why)
     }
+
+    ghost never_stalls = { λ _ stalls. stalls };
 }
 
 /// Copies of a path and of a text.

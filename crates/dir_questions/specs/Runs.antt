@@ -139,6 +139,7 @@ abbrev pub WroteAnswers : {A : Type 0} → Bool → Result A QuestionsFault → 
 WroteAnswers wanted (Ok x) texts answers report = TookFile (not wanted) answers texts.answers × TookWhole report texts.report
 WroteAnswers wanted (Err fault.Write) texts answers report = (wanted ≡ true) × TookPrefix answers texts.answers × TookNothing report
 WroteAnswers wanted (Err (fault.Tool (tool.Write output.Report))) texts answers report = TookFile (not wanted) answers texts.answers × TookPrefix report texts.report
+WroteAnswers wanted (Err (fault.Tool (tool.Write other))) texts answers report = ⊥
 WroteAnswers wanted (Err why) texts answers report = TookNothing answers × TookNothing report
 
 -- a fault of what is read after the configuration, or of a writer, or out of memory

@@ -1,8 +1,9 @@
-use Rattle.std.proofs.Common.{◌≡◌, ℕ, ◌+◌, List, ◌∷◌, ◌++◌, Result, Err, drop, ap, sym, subst, ◌∙◌, rules}
+use Rattle.std.proofs.Common.{◌≡◌, ℕ, ◌+◌, List, ◌∷◌, ◌++◌, Result, Err, drop, ap, sym, subst, ◌∙◌, rules, arith}
 use Rattle.std.proofs.lemmas.List.{drop_more}
 use Rattle.dir_files.specs.declared.including.Level.{Level}
 use Rattle.dir_files.specs.declared.including.Unread.{Unread}
 use Rattle.dir_files.specs.Including.{Does, ReadsOrStops, files_of_level, new_paths, room_before}
+use Rattle.dir_files.proofs.FailureLemmas.{earlier}
 use Rattle.dir_files.proofs.IncludingCalls.{more_after, step_new, stopped_after}
 use Rattle.dir_files.proofs.including.read_level.Goals as goal
 
@@ -11,6 +12,13 @@ returns-in_err-level-clause-calls g c =
     let result : c.from_residual.result ≡ Err c.in_err-level.field-0.0 = search rules in
     subst (λ (r : Result Level Unread). Does (g.F.FileSystem.disk c.args.files.now) (g.F.FileSystem.disk c.with_new.new.files) (ReadsOrStops c.args.room files_of_level r)) (sym result)
     (stopped_after (g.F.FileSystem.disk c.args.files.now) (g.F.FileSystem.disk c.loop-path.files) (g.F.FileSystem.disk c.with_new.new.files) c.loop-path.level.room c.args.room (files_of_level c.loop-path.level) _ c.loop-path.invariant.room c.loop-path.invariant.calls c.in_err-level.ensures.calls)
+
+pub returns-in_err-level-clause-failed : goal.returns-in_err-level-clause-failed
+returns-in_err-level-clause-failed g c =
+    let result : c.from_residual.result ≡ Err c.in_err-level.field-0.0 = search rules in record {
+      grows = omega (arith, c.loop-path.invariant.grows, c.in_err-level.ensures.failed.grows);
+      failed = λ is. earlier _ _ _ c.loop-path.invariant.grows (c.in_err-level.ensures.failed.failed (sym result ∙ is));
+    }
 
 pub loop-path-preserved : goal.loop-path-preserved
 loop-path-preserved g c =
@@ -28,4 +36,5 @@ loop-path-preserved g c =
       level = c.in_ok-level.ensures.level;
       room = ◌∙◌ {b = room_before c.loop-path.level} c.in_ok-level.ensures.room c.loop-path.invariant.room;
       calls = more_after (g.F.FileSystem.disk c.args.files.now) (g.F.FileSystem.disk c.loop-path.files) (g.F.FileSystem.disk c.with_new.new.files) (files_of_level c.loop-path.level) _ c.loop-path.invariant.calls c.in_ok-level.ensures.calls;
+      grows = omega (arith, c.loop-path.invariant.grows, c.in_ok-level.ensures.failed.grows);
     }

@@ -1,9 +1,10 @@
-use Rattle.std.proofs.Common.{◌≡◌, List, subst}
+use Rattle.std.proofs.Common.{◌≡◌, List, inl, subst}
 use Rattle.dir_names.specs.Table.Builtin.{builtin_rows}
 use Rattle.dir_names.specs.declared.schema.TypeRow.{TypeRow}
 use Rattle.dir_tools.specs.declared.fault.ToolFault.TheVariants as tool
 use Rattle.dir_tools.specs.AccessAnswers.{IsConfigFault, IsTextOf}
 use Rattle.dir_tools.specs.Inside.Asking.{configured_of}
+use Rattle.dir_files.proofs.FailureLemmas.{by_config}
 use Rattle.dir_files.proofs.FaultArgumentLemmas.{none_told}
 use Rattle.dir_files.proofs.QuestionCalls.{unread}
 use Rattle.dir_files.proofs.questions.answered.Goals as goal
@@ -18,6 +19,11 @@ returns-in-Err-clause-answer g c =
     let rows : c.in-Ok.schema ≡ builtin_rows = cc c.in-Ok.ensures in
     let fault : IsConfigFault builtin_rows text c.in-Err.why.fault = subst (λ (rows : List TypeRow). IsConfigFault rows text c.in-Err.why.fault) rows c.in-Err.ensures.fault in
     unread c.args.words.now text (g.R2.Source.left c.args.questions.now) (g.R3.Source.left c.args.copy.now) c.in-Err.why.fault c.run_fault-in-Err.result _ _ fault c.run_fault-in-Err.ensures
+
+pub returns-in-Err-clause-failed : goal.returns-in-Err-clause-failed
+returns-in-Err-clause-failed g c tells =
+    by_config _ c.in-Ok.schema (g.R.Source.left c.args.config.now) c.in-Err.why.fault c.run_fault-in-Err.result c.run_fault-in-Err.ensures c.in-Err.ensures.fault tells
+    (λ is. inl (inl (c.in-Err.ensures.read is)))
 
 pub returns-clause-answer : goal.returns-clause-answer
 returns-clause-answer g c =

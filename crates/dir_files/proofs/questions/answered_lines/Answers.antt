@@ -1,7 +1,8 @@
-use Rattle.std.proofs.Common.{◌≡◌, Err, Ok, Result, inl, map, refl, rules, subst, sym, ◌∙◌}
+use Rattle.std.proofs.Common.{◌≡◌, Err, None, Ok, Result, [], ap, inl, inr, map, refl, rules, subst, sym, true, ◌∙◌}
 use Rattle.dir_names.specs.Table.Builtin.{builtin_rows}
 use Rattle.dir_questions.specs.declared.fault.QuestionsFault.TheVariants as suite
 use Rattle.dir_questions.specs.declared.report.Tally.{Tally}
+use Rattle.dir_questions.specs.declared.run.QuestionOptions.{QuestionOptions}
 use Rattle.dir_questions.specs.Notes.{notes_on_questions}
 use Rattle.dir_questions.specs.Reading.{block_in}
 use Rattle.dir_questions.specs.Runs.{question_sources}
@@ -13,6 +14,7 @@ use Rattle.dir_tools.specs.Inside.Asking.{configured_under}
 use Rattle.dir_files.specs.declared.fault.Fault.{Fault}
 use Rattle.dir_files.specs.Notes.{AreNotesOf, AreOnQuestions, TellsFor}
 use Rattle.dir_files.specs.QuestionRuns.{AnswersOrStops}
+use Rattle.dir_files.proofs.FailureLemmas.{by_blocks, by_questions}
 use Rattle.dir_files.proofs.NoteLemmas.{all_told, are_notes, ended, none_told, on_questions}
 use Rattle.dir_files.proofs.QuestionCalls.{answers_over, at_fault, blocks_before, questions_after, untold}
 use Rattle.dir_files.proofs.questions.answered_lines.Goals as goal
@@ -30,6 +32,9 @@ pub returns-in-Err-clause-notes : goal.returns-in-Err-clause-notes
 returns-in-Err-clause-notes g c known questions is read has =
     let why = c.in-Err.fault in
     untold (AreOnQuestions questions) c.args.words.now.strict known c.questions_fault.result (g.T.NoteTeller.given c.args.teller.now) why (blocks_before _ why c.in-Err.ensures) c.questions_fault.ensures
+
+pub returns-in-Err-clause-failed : goal.returns-in-Err-clause-failed
+returns-in-Err-clause-failed g c tells = absurd (by_blocks _ c.in-Err.fault c.questions_fault.result c.questions_fault.ensures c.in-Err.ensures tells)
 
 -- memory runs out
 
@@ -114,3 +119,13 @@ returns-clause-notes g c known questions is read has =
       c.in_ok-tell.ensures.given,
       all_told (AreOnQuestions questions) strict known notes failed (questions_after why shown c.in-Err-answer_questions.ensures.after c.questions_fault-in-Err-answer_questions.ensures) are c.in_ok-tell.ensures.ok,
     )
+
+pub returns-clause-failed : goal.returns-clause-failed
+returns-clause-failed g c tells =
+    let why = c.in-Err-answer_questions.fault in
+    let h = c.in-Err-answer_questions.ensures.answer in
+    let told = h.2 [] None None tt tt in
+    by_questions _ [] c.options_of.result (question_sources None None (g.R.Source.left c.args.copy.now)) h.0 _ _ why c.questions_fault-in-Err-answer_questions.result
+    c.questions_fault-in-Err-answer_questions.ensures h.1 told.0 c.in-Err-answer_questions.ensures.after tells
+    (λ is. inl (c.in-Err-answer_questions.ensures.read_copy (ap Err is)))
+    (λ wanted is. inr (subst (λ (o : QuestionOptions). o.answers ≡ true) c.options_of.ensures wanted, c.in-Err-answer_questions.ensures.write_answers (ap Err is)))

@@ -13,4 +13,4 @@ returns-clause-calls g c =
 
 pub returns-in_default-write_flushed-clause-calls : goal.returns-in_default-write_flushed-clause-calls
 returns-in_default-write_flushed-clause-calls g c =
-    unwritten (g.F.FileSystem.disk c.args.files.now) (g.F.FileSystem.disk c.create.new.self) (g.F.FileSystem.disk c.discard.new.self) c.args.path.now c.args.mode (flat_parts c.args.flat.now) c.in-Ok-create.ensures.told c.discard.ensures
+    unwritten (g.F.FileSystem.disk c.args.files.now) (g.F.FileSystem.disk c.create.new.self) (g.F.FileSystem.disk c.discard.new.self) c.args.path.now c.args.mode (flat_parts c.args.flat.now) c.in-Ok-create.ensures.told c.discard.ensures.told
