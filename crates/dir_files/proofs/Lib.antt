@@ -10,3 +10,4 @@ pub mod IncludingCalls
 pub mod NoteLemmas
 pub mod OneOutputCalls
 pub mod QuestionCalls
+pub mod SystemLemmas

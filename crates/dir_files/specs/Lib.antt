@@ -13,3 +13,4 @@ pub mod OneOutput
 pub mod Paths
 pub mod QuestionRuns
 pub mod Runs
+pub mod System

@@ -66,7 +66,9 @@ impl<W: Write> PatientWriter<W> {
         PatientWriter { inner, failures: 0 }
     }
 
-    pub fn inner(&self) -> &W {
+    pub fn inner(&self) -> &W
+        ensures { result.now ≡ self.now.inner }
+    {
         &self.inner
     }
 }

@@ -4,6 +4,7 @@ ghost use Rattle.std.specs.Prelude.{◌≡◌, ◌++◌, IfOk, None, codes, deci
 ghost use Rattle.dir_files.specs.Failures.{CountsCall, CountsDevice};
 ghost use Rattle.std.specs.String.{string_bytes};
 ghost use Rattle.dir_files.specs.Files.{is_never_synced, meant_by};
+ghost use Rattle.dir_files.specs.System.{HasToldSize, IsFolderOf, told_mode};
 
 use crate::devices::{PatientReader, PatientWriter};
 use crate::files::{FileSystem, Opened, Refusal};
@@ -11,7 +12,7 @@ use crate::limit::{LimitedWriter, largest_file, room_of_output};
 use crate::progress::{Progress, ProgressLine, TellingReader, TellingWriter};
 use dir_ldif::{DeviceFault, Sink, Source, write_flushed};
 use std::alloc::{AllocError, Global};
-use std::fs::{self, File, OpenFile, OpenOptions};
+use std::fs::{self, File, Metadata, OpenFile, OpenOptions};
 use std::io::{self, ErrorKind, Input, IsTerminal};
 use std::os::unix::fs::{MetadataExt, OpenOptionsExt};
 use std::rt::Files;
@@ -338,7 +339,15 @@ struct Facts {
 }
 
 fn facts_of<F: OpenFile>(file: &F) -> Facts {
-    match file.metadata() {
+    facts_in(&file.metadata())
+}
+
+/// What the system's answer says of a file.
+fn facts_in(told: &io::Result<Metadata>) -> Facts
+    ensures mode { result.mode ≡ told_mode told.now }
+    ensures size { HasToldSize told.now result.size }
+{
+    match told {
         Ok(metadata) => Facts {
             mode: metadata.mode() & READ_AND_WRITE,
             size: metadata.is_file().then_some(metadata.len()),
@@ -418,7 +427,9 @@ fn is_never_synced(kind: ErrorKind) -> bool
 }
 
 /// The folder of a file.
-fn folder_of(path: &str) -> &str {
+fn folder_of(path: &str) -> &str
+    ensures { IsFolderOf path.now result.now }
+{
     match path.rsplit_once('/') {
         None => ".",
         Some(("", _)) => "/",

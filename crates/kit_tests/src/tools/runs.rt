@@ -84,7 +84,7 @@ macro_rules! modify {
     };
 }
 
-const ROOM: &str =
+pub(crate) const ROOM: &str =
     "attributetype ( 1.3.6.1.4.1.32473.1 NAME ( 'room' 'roomName' )\n  EQUALITY caseIgnoreMatch SINGLE-VALUE )\n";
 
 const LEVEL: &str = "attributetype ( 1.3.6.1.4.1.32473.2 NAME 'level' SUP uidNumber )\n";
@@ -94,7 +94,7 @@ const IN_A_ROOM: &str = "dn: dc=com\ndc: com\n\ndn: cn=e,dc=com\ncn: e\nroom: A 
 const LEVELS: &str =
     "dn: dc=com\ndc: com\n\ndn: cn=e,dc=com\ncn: e\nLevel: -5\nLevel: 0\nLevel: 5\n\n";
 
-const ROOMS: &str = "dn: dc=com\ndc: com\n\ndn: room=A 1,dc=com\nroom: A 1\n\n";
+pub(crate) const ROOMS: &str = "dn: dc=com\ndc: com\n\ndn: room=A 1,dc=com\nroom: A 1\n\n";
 
 /// A run over an entry with a room, which refuses all.
 const UNDER_TYPES: Run<'static> = Run {

@@ -1,9 +1,9 @@
 //! Runs of the first groups of an undo text (`--last`), over devices that give and take pieces.
 
 use crate::tools::running::{
-    ACCEPTED, Devices, EMPTY_GROUP, FAULTY, GO_ON, IN_EIGHTS, Run, STOP, WHOLE, assert_run,
+    ACCEPTED, COM, Devices, EMPTY_GROUP, FAULTY, GO_ON, IN_EIGHTS, Run, STOP, WHOLE, assert_run,
 };
-use crate::tools::runs::{OUT, UNDO};
+use crate::tools::runs::{OUT, ROOM, ROOMS, UNDO};
 use dir_tools::ModifyOptions;
 
 /// A copy with two entries that are changed: one is added, then the other is renamed.
@@ -47,7 +47,7 @@ macro_rules! last {
 }
 
 /// Runs of the first groups of an undo text.
-static RUNS_BACK: [(Devices, Run<'static>); 15] = [
+static RUNS_BACK: [(Devices, Run<'static>); 16] = [
     (
         IN_EIGHTS,
         Run {
@@ -207,6 +207,20 @@ static RUNS_BACK: [(Devices, Run<'static>); 15] = [
                 changetype: add\n# undo 2\nsn: b\n\n",
             undo: UNDO,
             out: OUT,
+            ..ACCEPTED
+        },
+    ),
+    (
+        IN_EIGHTS,
+        Run {
+            shows: "a group is run under types of its own, and taken back under them",
+            types: ROOM,
+            options: last!(1),
+            copy: ROOMS,
+            changes: "# undo 1\ndn: roomName=a  1,dc=com\nchangetype: delete\n\n# undo 2\nx\n",
+            undo: "version: 1\n\n# undo 1\ndn: room=A 1,dc=com\nchangetype: add\nroom: A 1\n\n",
+            out: COM,
+            back: Some(ROOMS),
             ..ACCEPTED
         },
     ),
