@@ -1,7 +1,8 @@
-"""Wrong bodies, as they stand in bugs/ and must-fail/: which lines each changes, and of which function.
+"""Wrong bodies, as they stand in bugs/, must-fail/ and let-through/: which lines each changes, and of which function.
 
 Each is a file with a line `file:`, pairs of lines `old:` (once in that file) and `new:`, and where the function that the prover must refuse
-isn't the one whose line changes first, a line `fn:` with its path. No line comes or goes.
+isn't the one whose line changes first, a line `fn:` with its path. No line comes or goes. The prover accepts those of let-through/: a line `found by:`
+names the script that finds each.
 """
 import collections
 import dataclasses
@@ -33,6 +34,14 @@ def edits_of(wanted, is_listed):
     if not edits:
         sys.exit(f"no such edit: {wanted}")
     return crate, edits
+
+
+def let_through(script=None):
+    """The edits that the prover accepts, each with its crate and the command that finds it: all of them, or those that this script finds."""
+    for edit in sorted((ROOT / "let-through").glob("*/*.edit")):
+        command = re.search(r"^found by: (.*)$", edit.read_text(), re.M)[1]
+        if script is None or command.split()[0] == script:
+            yield edit.parent.name, edit, command
 
 
 @functools.cache

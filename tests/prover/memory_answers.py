@@ -11,7 +11,8 @@ answer must come from a refused allocation. These forms hand one on, and pass:
     Err(_) => ..::Memory             where out of memory is the only fault of the call that is matched, by the type or the
                                      contract of every function of its name, in the crate itself if it has one; so `map_err(|_| ..::Memory)` and `let .. else`
 
-There must be no other place but those in BUFFERED and COUNTS. Tests are left out.
+There must be no other place but those in BUFFERED and COUNTS. Tests are left out. Then each wrong body of let-through/ that names
+this script is planted in its text, and must be found.
 """
 import pathlib
 import re
@@ -22,7 +23,8 @@ sys.path.insert(0, str(pathlib.Path(__file__).resolve().parents[1]))
 from harness import checks
 from harness.checks import Wrong
 from harness.repository import ROOT
-from prover.rattle_source import closed, source_of
+from prover.edits import changes_of, let_through, lines_of
+from prover.rattle_source import Source, closed, source_of
 
 # Calls that hand back what could not be put where it was to go, or opened: their only fault is out of memory.
 HANDS_BACK = {"from_vec", "grow_at", "insert", "into_vec", "move_subtree", "open", "push"}
@@ -36,6 +38,9 @@ COUNTS = {"index", "one_more"}
 
 # A function that makes the fault of out of memory: each call of it is such an answer.
 MAKES = "out_of_memory"
+
+# What a wrong body names that this script must find.
+SCRIPT = "tests/prover/memory_answers.py"
 
 ANSWER = re.compile(rf"\b(?:\w+::)*(?:(?:Memory|AllocError|OutOfMemory)\b|{MAKES}\(\))")
 
@@ -54,7 +59,7 @@ def may_only_lack_memory(signature):
 
 def calls_of(expression):
     """The last calls of an expression, or of each part of a tuple."""
-    expression = expression.strip().removesuffix("?").strip()
+    expression = expression.strip()
     if expression.startswith("(") and closed(expression, 0) == len(expression):
         parts, depth = [""], 0
         for letter in expression[1:-1]:
@@ -157,7 +162,19 @@ def main():
         if places:
             raise Wrong(f"out of memory is answered where no allocation was refused: {'; '.join(places)}")
 
+    def check_found(crate, edit):
+        """Whether a wrong body is found in the file that it changes."""
+        changes, fault = changes_of(edit, crate)
+        if fault:
+            raise Wrong(fault)
+        lines = list(lines_of(changes[0].file))
+        for change in changes:
+            lines[change.line] = change.new
+        if not list(places_of(Source("\n".join(lines)), only_memory_in(crate))):
+            raise Wrong("it is not found")
+
     trials = [(name, lambda name=name, source=source: check(name, source)) for name, source in sources.items()]
+    trials += [(f"{crate}/{edit.stem}", lambda crate=crate, edit=edit: check_found(crate, edit)) for crate, edit, _ in let_through(SCRIPT)]
     sys.exit(checks.run("memory answers", trials))
 
 
