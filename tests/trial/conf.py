@@ -109,7 +109,8 @@ def by_model(files, suffix=SUFFIX):
     if "config" in files:
         found = flat.flat_of_config(suffix.encode(), texts[b"config"])
     else:
-        found = flat.flat_of_files(suffix.encode(), b"conf", lambda path: texts.get(os.path.normpath(path)))
+        # a path that ends in a slash is that of a folder
+        found = flat.flat_of_files(suffix.encode(), b"conf", lambda path: None if path.endswith(b"/") else texts.get(os.path.normpath(path)))
     return Left(*dataclasses.astuple(found))
 
 
@@ -416,6 +417,7 @@ FAULTS = [
     ({"conf": "# x\n\ninclude\n"}, "conf, line 3: K1 BadInclude"),
     ({"conf": "include a b\n", "a": "", "b": ""}, "conf, line 1: K1 BadInclude"),
     ({"conf": 'include ""\n'}, "conf, line 1: K1 BadInclude"),
+    ({"conf": "include a/\n", "a": ""}, "conf, line 1: K1 BadInclude"),
     ({"conf": "include file:///a\n", "a": ""}, "conf, line 1: K1 BadInclude"),
     ({"conf": "include *.inc\n", "a.inc": ""}, "conf, line 1: K1 BadInclude"),
     ({"conf": b"include \xff\n", b"\xff": ""}, "conf, line 1: K1 BadInclude"),
