@@ -29,6 +29,7 @@ SCRIPTS = (
     "trial/conf.py",
     "trial/terminal.py",
     "prover/memory_answers.py",
+    "prover/contracts.py",
     "prover/frequent_types.py",
     "trial/workloads.py",
     "trial/manual.py",
