@@ -1,7 +1,10 @@
 #!/usr/bin/env python3
 """The gate: `rt ci`, and then the wrong bodies of must-fail/, beside the trial of the program that it has built.
 
-usage: gate.py
+usage: gate.py [--anew]
+
+With --anew `rt ci` proves all, also what this machine keeps of earlier runs: only such a run proves from nothing. The line `gate: record` has the commit, the
+toolchain, and how many of the proofs were made in this run.
 
 The last line is that of `rt ci`, with the wrong bodies that were refused counted among what passed. It is held back until all has passed; where
 something fails, the last line tells so. The line before it has the time that all took, and what was left of memory and disk; the one before that what this
@@ -131,15 +134,41 @@ class Unit:
         return f"{seconds * len(self.taken) / sum(self.taken):.1f} times rt selftest, which took {tries} seconds"
 
 
-def prove():
+class Record:
+    """What the record of a release has of a run: the commit, the toolchain, and which proofs were made in it."""
+
+    OK = "rt: ok; "
+
+    def __init__(self):
+        self.proofs = "rt ci did not end well"
+
+    def look_at(self, line):
+        """Keeps the line in which `rt ci` tells this."""
+        if line.startswith(self.OK):
+            self.proofs = line.removeprefix(self.OK).strip()
+
+    def __str__(self):
+        changed = ", and what is not committed" if said_by("git", "status", "--porcelain") else ""
+        return f"{said_by('git', 'rev-parse', 'HEAD')}{changed}; {said_by('rt', 'version')}; {self.proofs}"
+
+
+def said_by(*words):
+    """What a command prints here: nothing where it isn't installed, or fails."""
+    with contextlib.suppress(OSError):
+        return subprocess.run(words, cwd=ROOT, capture_output=True, text=True).stdout.strip()
+    return ""
+
+
+def prove(words, record):
     """Runs `rt ci`, and returns its exit status, its last line, which is not printed yet, and the ends of what failed."""
     last, ends, failures = "", collections.deque(maxlen=LINES), []
     forget_libraries()
     jobs = {**os.environ, "RT_JOBS": str(proofs_at_once())}
-    with subprocess.Popen(["rt", "ci"], cwd=ROOT, env=jobs, stdout=subprocess.PIPE, text=True, errors="replace") as running:
+    with subprocess.Popen(["rt", "ci", *words], cwd=ROOT, env=jobs, stdout=subprocess.PIPE, text=True, errors="replace") as running:
         for line in running.stdout:
             print(last, end="", flush=True)
             last = line
+            record.look_at(line)
             if line.startswith("== "):
                 ends.clear()
             ends.append(line if len(line) <= 400 else line[:400] + " ..\n")
@@ -201,7 +230,8 @@ def main():
     unit.measure()
     times.start()
     speed.start()
-    status, last, failures = prove()
+    record = Record()
+    status, last, failures = prove(sys.argv[1:], record)
     times.is_over.set()
     times.join()
     failed, trial_ended = [], "trial: not begun"
@@ -213,6 +243,7 @@ def main():
     for failure in failures:
         print(f"gate: what failed:\n{failure}", end="", flush=True)
     print(f"gate: {trial_ended}", flush=True)
+    print(f"gate: record: {record}", flush=True)
     print(f"gate: minutes of processor time of the proofs: {times}", flush=True)
     speed.is_over.set()
     speed.join()
@@ -225,6 +256,6 @@ def main():
     sys.exit(1 if status or failed else 0)
 
 
-if len(sys.argv) > 1:
+if sys.argv[1:] not in ([], ["--anew"]):
     sys.exit(__doc__)
 main()
