@@ -6,7 +6,7 @@ mod checking;
 mod devices;
 mod ends;
 mod faults;
-mod laws;
+mod limits;
 mod make;
 mod reading;
 mod tapes;

@@ -1,10 +1,7 @@
 //! What rules grant: by a configuration, by the rules for a target, and without a configuration.
 
 use crate::acl::make::{key, schema};
-use dir_acl::{
-    Asked, Config, Privileges, Request, cuts_are_found, privileges_read_back,
-    reading_is_the_grammar,
-};
+use dir_acl::{Asked, Config, Privileges, Request};
 use dir_tree::{Directory, FlatDirectory};
 use std::alloc::Global;
 use std::process::Abort;
@@ -69,11 +66,4 @@ fn granted(rt: &impl Abort, alloc: Global, config: &Config) -> Privileges {
 pub(crate) fn assert_text(rt: &impl Abort, alloc: Global, privileges: Privileges, want: &str) {
     let text = privileges.text(alloc).expect(rt, "memory");
     assert!(rt; text.as_slice() == want.as_bytes(), "{want}");
-}
-
-#[test]
-fn laws_are_called() {
-    reading_is_the_grammar();
-    cuts_are_found();
-    privileges_read_back();
 }

@@ -1,9 +1,6 @@
 //! Tests of the operations on a flat directory.
 
-use dir_change::{
-    History, Refusal, ResultCode, Undo, apply, groups_undo_changes, runs_are_taken_back,
-    runs_stay_in_order, undo_texts_read_back,
-};
+use dir_change::{History, Refusal, ResultCode, Undo, apply};
 use dir_ldif::{Change, Record, RecordFault, read_all};
 use dir_names::{Dn, Schema};
 use dir_tree::{Directory, FlatDirectory};
@@ -190,14 +187,6 @@ fn adds_are_taken_back_by_deletes_the_last_first(rt: HostRuntime) {
         "version: 1\n\n# undo 1\ndn: ou=People,DC=Com\nchangetype: delete\n\n# undo 2\ndn: DC=Com\nchangetype: delete\n\n";
     assert_taken_back(&rt, alloc, &schema, &mut directory, text, want);
     assert_entry_count(&rt, &directory, 0);
-}
-
-#[test]
-fn laws_are_called() {
-    groups_undo_changes();
-    runs_are_taken_back();
-    runs_stay_in_order();
-    undo_texts_read_back();
 }
 
 #[test]

@@ -145,18 +145,3 @@ fn assert_fault(rt: &impl Abort, alloc: Global, config: &str, want: &str) {
     let text = text.expect(rt, "memory");
     assert!(rt; text.as_str() == want, "{config}: {text}");
 }
-
-#[test]
-fn a_text_cut_after_each_byte_has_an_answer(rt: HostRuntime) {
-    for row in &FLAT {
-        assert_cut(&rt, rt.alloc(), row.config.as_bytes());
-    }
-}
-
-/// Asserts that each beginning of a text has a flat configuration or a fault, and the whole a flat one.
-fn assert_cut(rt: &impl Abort, alloc: Global, config: &[u8]) {
-    for length in 0..config.len() {
-        let _ = flat(rt, alloc, &config[..length]);
-    }
-    assert!(rt; flat(rt, alloc, config).is_ok());
-}

@@ -223,19 +223,3 @@ fn a_text_has_the_paths_that_it_includes(rt: HostRuntime) {
         assert!(&rt; path.as_slice() == want.as_bytes(), "{want}");
     }
 }
-
-#[test]
-fn files_cut_after_each_byte_have_an_answer(rt: HostRuntime) {
-    for row in &FLAT {
-        assert_cut(&rt, rt.alloc(), row.files);
-    }
-}
-
-/// Asserts that files have a flat configuration or a fault also where the last one is cut after a byte.
-fn assert_cut(rt: &impl Abort, alloc: Global, files: &str) {
-    for length in 0..files.len() {
-        if let Some(cut) = files.get(..length) {
-            let _ = flat(rt, alloc, cut);
-        }
-    }
-}

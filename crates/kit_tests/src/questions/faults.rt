@@ -163,16 +163,53 @@ fn faults_come_in_their_order(rt: HostRuntime) {
 const WHOLE: &str =
     "version: 1\n\n# asked\nauthcDN: uid=mei,ou=trainees,dc=com\nfake: true\ndn: uid=zoe,ou=people,dc=com\nmail: =cxd\nmail/read: DENIED\n\nauthcDN:: dWlkPXpvZSxvdT1wZW9wbGUsZGM9Y29t\ndn: dc=com\nsn: =rscxd\n";
 
-/// Texts that are cut after each byte are answered, or have a fault of the questions.
+/// Where the whole text is cut, by the first bytes that are left out, and what the rest is answered.
+static CUTS: [(&str, &str); 22] = [
+    // No block yet: the version alone, or a comment.
+    ("version", "as expected 0, otherwise 0, asked 0\n--\n"),
+    ("ion: 1", "questions, line 1: L1 BadLine"),
+    (" 1\n", "questions: L15 BadVersion"),
+    ("\n\n# asked", "as expected 0, otherwise 0, asked 0\n--\n"),
+    ("ked\n", "as expected 0, otherwise 0, asked 0\n--\n"),
+    // A block without an entry or without a word.
+    (": uid=mei", "questions, line 4: L1 BadLine"),
+    (" uid=mei", "questions, line 4: A1 BadBlock"),
+    ("e\ndn: uid=zoe", "questions, line 5: A1 BadBlock"),
+    ("\ndn: uid=zoe", "questions, line 4: A1 BadBlock"),
+    ("=zoe", "questions, line 6: A2 BadName"),
+    ("\nmail: =cxd", "questions, line 4: A1 BadBlock"),
+    // A word that is asked for, one with an answer that no report has, and one with another answer.
+    (
+        " =cxd",
+        "line 7: mail: =cxd\nas expected 0, otherwise 0, asked 1\n--\nauthcDN: uid=mei,ou=trainees,dc=com\nfake: true\ndn: uid=zoe,ou=people,dc=com\nmail: =cxd\n\n",
+    ),
+    ("cxd\n", "questions, line 7: A4 BadAnswer"),
+    (
+        "xd\nmail/read",
+        "line 7: mail: =cxd, expected =c\nas expected 0, otherwise 1, asked 0\n--\nauthcDN: uid=mei,ou=trainees,dc=com\nfake: true\ndn: uid=zoe,ou=people,dc=com\nmail: =cxd\n\n",
+    ),
+    ("ad: DENIED", "questions, line 8: L1 BadLine"),
+    ("IED", "questions, line 8: A4 BadAnswer"),
+    (
+        "\n\nauthcDN::",
+        "line 7: mail: =cxd, as expected\nline 8: mail/read: DENIED, as expected\nas expected 2, otherwise 0, asked 0\n--\nauthcDN: uid=mei,ou=trainees,dc=com\nfake: true\ndn: uid=zoe,ou=people,dc=com\nmail: =cxd\nmail/read: DENIED\n\n",
+    ),
+    // The second block.
+    (" dWlk", "questions, line 10: A1 BadBlock"),
+    ("kPXpv", "questions, line 10: L2 BadBase64"),
+    ("sn:", "questions, line 10: A1 BadBlock"),
+    (
+        " =rscxd",
+        "line 7: mail: =cxd, as expected\nline 8: mail/read: DENIED, as expected\nline 12: sn: =rscxd\nas expected 2, otherwise 0, asked 1\n--\nauthcDN: uid=mei,ou=trainees,dc=com\nfake: true\ndn: uid=zoe,ou=people,dc=com\nmail: =cxd\nmail/read: DENIED\n\nauthcDN: uid=zoe,ou=people,dc=com\ndn: dc=com\nsn: =rscxd\n\n",
+    ),
+    ("rscxd", "questions, line 12: A4 BadAnswer"),
+];
+
 #[test]
-fn texts_may_be_cut(rt: HostRuntime) {
-    for n in 0..WHOLE.len() {
-        let text = WHOLE.get(..n).unwrap_or("");
+fn a_text_that_is_cut_is_answered_or_at_fault(rt: HostRuntime) {
+    for (left_out, want) in &CUTS {
+        let (text, _) = WHOLE.split_once(*left_out).expect(&rt, "a cut");
         let out = told(&rt, rt.alloc(), [CONFIG, text, COPY]);
-        let is_answered = out.as_str().contains("as expected ");
-        assert!(rt;
-            is_answered || out.as_str().starts_with("questions"),
-            "{out}"
-        );
+        assert!(rt; out.as_str() == *want, "{out}");
     }
 }

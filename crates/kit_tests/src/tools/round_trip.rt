@@ -2,11 +2,7 @@
 
 use crate::tools::running::STOP;
 use dir_names::Schema;
-use dir_tools::{
-    RoundTrip, access_is_as_before, canonical_texts_read_back, copies_are_sound,
-    goes_back_to_any_point, groups_are_undos, headline, run_there_and_back, runs_accept_changes,
-    undos_are_undone, written_runs_are_taken_back, written_runs_go_back,
-};
+use dir_tools::{RoundTrip, run_there_and_back};
 use std::alloc::Global;
 use std::process::Abort;
 
@@ -28,18 +24,4 @@ fn a_run_there_and_back_gives_the_canonical_text_of_the_first_copy(rt: HostRunti
     assert!(rt; trip.there.accepted == 2 && trip.back.accepted == 2 && trip.back.refused == 0);
     let want = b"dn: dc=com\ndc: com\n\ndn: ou=b,dc=com\nou: b\n\n";
     assert!(rt; trip.copy.as_slice() == want.as_slice());
-}
-
-#[test]
-fn laws_are_called() {
-    access_is_as_before();
-    canonical_texts_read_back();
-    copies_are_sound();
-    goes_back_to_any_point();
-    groups_are_undos();
-    headline();
-    runs_accept_changes();
-    undos_are_undone();
-    written_runs_are_taken_back();
-    written_runs_go_back();
 }
