@@ -6,12 +6,14 @@ usage: gate.py [--anew]
 With --anew `rt ci` proves all, also what this machine keeps of earlier runs: only such a run proves from nothing. The line `gate: record` has the commit, the
 toolchain, and how many of the proofs were made in this run.
 
-The last line is that of `rt ci`, with the wrong bodies that were refused counted among what passed. It is held back until all has passed; where
-something fails, the last line tells so. The line before it has the time that all took, and what was left of memory and disk; the one before that what this
-costs, in a unit that doesn't hang on the machine: how often the toolchain's own example could have been proved, built and run in that time (`rt selftest`, at
-the start, once all is proved, and at the end). Then, going back, come how fast the machine was meanwhile, and what the proof of each crate took, and that of
-its tests, by looks at the processes every two seconds.
-Where something failed, the ends of what was said of it come once more before these, since of a long log often only the end is kept.
+The last line is that of `rt ci`, with the wrong bodies that were refused by a clause counted among what passed. It is held back until all has passed; where
+something fails, the last line tells so. All wrong bodies of must-fail/ must have been tried, and all controls: WRONG_BODIES and CONTROLS say how many.
+
+The line before the last has the time that all took, and what was left of memory and disk; the one before that what this costs, in a unit that doesn't hang on
+the machine: how often the toolchain's own example could have been proved, built and run in that time (`rt selftest`, at the start, once all is proved, and at
+the end). Then, going back, come how fast the machine was meanwhile, what the proof of each crate took, and that of its tests, by looks at the processes every
+two seconds, and the last lines of the trial and of the wrong bodies. Where something failed, the ends of what was said of it come once more before these, since
+of a long log often only the end is kept.
 
 Each proof has one processor. Where some are idle, `rt ci` would give one proof several, which ends sooner and takes half as much
 processor time again. RT_JOBS says otherwise. `rt ci` tries wrong bodies too, those of crates/*/must-fail/, each by a check of the whole crate, after it
@@ -37,6 +39,9 @@ from prover.machine import proofs_at_once
 
 # How many lines of what failed are printed again.
 LINES = 12
+
+# How many wrong bodies must-fail/ has, and how many controls stand beside them: a folder or a file that is missing is a failure.
+WRONG_BODIES, CONTROLS = 44, 18
 
 
 def is_failure(line):
@@ -179,14 +184,18 @@ def prove(words, record):
 
 
 def try_wrong_bodies():
-    """Has the prover try the wrong bodies of must-fail/, and returns the exit status and how many were refused."""
-    refused = 0
-    print("== wrong bodies (must-fail/)", flush=True)
+    """Has the prover try the wrong bodies of must-fail/ and their controls. Returns whether all is as wanted, how many were refused, and the last line."""
+    last = ""
+    print("== wrong bodies (must-fail/, controls/)", flush=True)
     with subprocess.Popen([sys.executable, ROOT / "tests/prover/bugs.py", "--listed", "--after-ci"], stdout=subprocess.PIPE, text=True, errors="replace") as running:
         for line in running.stdout:
             print(line, end="", flush=True)
-            refused += ": refused, as it must be: " in line
-    return running.returncode, refused
+            last = line.rstrip("\n")
+    counted = re.match(r"bugs: (\d+) wrong bodies: (\d+) refused by a clause .*; (\d+) controls: ", last)
+    tried, refused, controls = map(int, counted.groups()) if counted else (0, 0, 0)
+    are_all = (tried, refused, controls) == (WRONG_BODIES, WRONG_BODIES, CONTROLS)
+    wanted = "" if are_all else f" (wanted: {WRONG_BODIES} wrong bodies, each refused by a clause, and {CONTROLS} controls)"
+    return running.returncode == 0 and are_all, refused, last + wanted
 
 
 def start_trial(said):
@@ -196,15 +205,15 @@ def start_trial(said):
 
 
 def try_all():
-    """Tries the wrong bodies and the program at the same time. Returns how many wrong bodies were refused, what failed, and how the trial ended."""
+    """Tries the wrong bodies and the program at the same time. Returns how many wrong bodies were refused, what failed, and how both ended."""
     with tempfile.TemporaryFile("w+", errors="replace") as said:
         with start_trial(said) as trial:
-            ended, refused = try_wrong_bodies()
+            is_as_wanted, refused, told = try_wrong_bodies()
         said.seek(0)
         lines = said.read().splitlines()
     print("\n".join(lines), flush=True)
-    failed = ["must-fail/"] * (ended != 0) + ["tests/trial/trial.py"] * (trial.returncode != 0)
-    return refused, failed, lines[-1] if lines else "trial: no word"
+    failed = ["must-fail/"] * (not is_as_wanted) + ["tests/trial/trial.py"] * (trial.returncode != 0)
+    return refused, failed, [told, lines[-1] if lines else "trial: no word"]
 
 
 def passed_in(line):
@@ -234,15 +243,16 @@ def main():
     status, last, failures = prove(sys.argv[1:], record)
     times.is_over.set()
     times.join()
-    failed, trial_ended = [], "trial: not begun"
+    failed, ends = [], ["bugs: not begun", "trial: not begun"]
     if status == 0:
         unit.measure()
-        refused, failed, trial_ended = try_all()
+        refused, failed, ends = try_all()
         of_what = f" ({' '.join(failed)})" if failed else ""
         last = f"{passed_in(last) + refused} passed, {len(failed)} failed{of_what}\n"
     for failure in failures:
         print(f"gate: what failed:\n{failure}", end="", flush=True)
-    print(f"gate: {trial_ended}", flush=True)
+    for end in ends:
+        print(f"gate: {end}", flush=True)
     print(f"gate: record: {record}", flush=True)
     print(f"gate: minutes of processor time of the proofs: {times}", flush=True)
     speed.is_over.set()

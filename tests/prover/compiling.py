@@ -5,7 +5,7 @@ import tempfile
 
 from harness.repository import ROOT
 from prover.copies import check_command, copy_of_crates
-from prover.edits import are_apart, folder_of, in_groups, plant, read, unplant, words
+from prover.edits import FOLDERS, are_apart, folder_of, in_groups, plant, read, unplant, words
 from prover.rattle_source import source_of
 
 
@@ -75,8 +75,7 @@ def all_compile(crates):
         copy = copy_of_crates(folder)
         for crate in crates:
             bodies, faults = [], {}
-            folders = [folder_of(crate, False), folder_of(crate, True), ROOT / "let-through" / crate]
-            edits = [edit for folder in folders for edit in sorted(folder.glob("*.edit"))]
+            edits = [edit for kind in FOLDERS for edit in sorted(folder_of(kind, crate).glob("*.edit"))]
             for edit in edits:
                 body, fault = read(edit, crate)
                 fault = fault or why_no_code(body.changes)

@@ -1,4 +1,4 @@
-"""Wrong bodies, as they stand in bugs/, must-fail/ and let-through/: which lines each changes, and of which function.
+"""Wrong bodies, as they stand in bugs/, must-fail/ and let-through/, and controls, in controls/: which lines each changes, and of which function.
 
 Each is a file with a line `file:`, pairs of lines `old:` (once in that file) and `new:`, and where the function that the prover must refuse
 isn't the one whose line changes first, a line `fn:` with its path. No line comes or goes. The prover accepts those of let-through/: a line `found by:`
@@ -20,17 +20,20 @@ APART = 4
 # As many at most are tried in one check, which then fits into the memory that a proof of the crate takes.
 TOGETHER = 16
 
+# The folders of edits: the wrong bodies that the gate tries, those that it leaves out, edits that turn no meaning, and wrong bodies that the prover accepts.
+LISTED, OTHERS, CONTROLS, LET_THROUGH = FOLDERS = ("must-fail", "bugs", "controls", "let-through")
+
 Change = collections.namedtuple("Change", "file line old new")
 
 
-def folder_of(crate, is_listed):
-    return ROOT / ("must-fail" if is_listed else "bugs") / crate
+def folder_of(kind, crate):
+    return ROOT / kind / crate
 
 
-def edits_of(wanted, is_listed):
+def edits_of(wanted, kind):
     """The edits of a crate, or those of them whose names fit a pattern."""
     crate, _, pattern = wanted.partition("/")
-    edits = sorted(folder_of(crate, is_listed).glob(f"{pattern or '*'}.edit"))
+    edits = sorted(folder_of(kind, crate).glob(f"{pattern or '*'}.edit"))
     if not edits:
         sys.exit(f"no such edit: {wanted}")
     return crate, edits
@@ -38,7 +41,7 @@ def edits_of(wanted, is_listed):
 
 def let_through(script=None):
     """The edits that the prover accepts, each with its crate and the command that finds it: all of them, or those that this script finds."""
-    for edit in sorted((ROOT / "let-through").glob("*/*.edit")):
+    for edit in sorted((ROOT / LET_THROUGH).glob("*/*.edit")):
         command = re.search(r"^found by: (.*)$", edit.read_text(), re.M)[1]
         if script is None or command.split()[0] == script:
             yield edit.parent.name, edit, command
@@ -132,7 +135,7 @@ class WrongBody:
         )
 
     def __str__(self):
-        return f"{self.crate}/{self.edit.stem}"
+        return str(self.edit.relative_to(ROOT).with_suffix(""))
 
 
 def read(edit, crate):

@@ -4,11 +4,12 @@ A proof of a function rests on the contracts of what it calls, and on nothing el
 with all that this calls in its crate. So each of these gets a body that control never reaches, and a hole in the place of the proof of that.
 The prover says of a function that is proved but for such holes that it depends on a hole, and of one that is not that it has no proof.
 """
+import functools
 import re
 import shutil
 
 from harness.repository import ROOT
-from prover.rattle_source import Source, path_of
+from prover.rattle_source import Source, path_of, source_of
 
 # The line of a function whose body can be taken away.
 DECLARED = re.compile(r"(?:    )?(?:pub(?:\(\w+\))? )?fn \w+")
@@ -34,6 +35,19 @@ def cycles_in(source):
         if cycle:
             found[function.name] = before, cycle[1]
     return found
+
+
+@functools.cache
+def cycles_of(crate):
+    """The functions of a crate in cycles that have a name: pairs of a function's name and the cycle's."""
+    return {(name, cycle) for file in (ROOT / "crates" / crate / "src").rglob("*.rt") for name, (_, cycle) in cycles_in(source_of(file)).items()}
+
+
+def proof_folders(crate, function):
+    """The folders below a crate's proofs/ that have the proof files of a function, by its path: its own, and the one of the cycle of calls that it is in."""
+    *above, name = function.split("::")
+    names = [name, f"+{name}", *(f"+{cycle}" for one, cycle in cycles_of(crate) if one == name)]
+    return [folder for folder in ("/".join([*above, it]) for it in names) if (ROOT / "crates" / crate / "proofs" / folder).is_dir()]
 
 
 def has_lines(function):

@@ -31,6 +31,7 @@ SCRIPTS = (
     "prover/memory_answers.py",
     "prover/contracts.py",
     "prover/frequent_types.py",
+    "prover/refusals.py",
     "trial/workloads.py",
     "trial/manual.py",
     "trial/completions.py",
