@@ -107,9 +107,9 @@ class WrongBody:
         return {path.split("::")[-1] for path in self.paths}
 
     def has(self, function):
-        """Whether a function that the prover names is one of these, or stands in one of them, as a closure does."""
+        """Whether a function that the prover names is the one that must be refused or one of these, or stands in one of them, as a closure does."""
         name = "::".join(function.split("::")[1:]).replace("::fn::", "::").removeprefix("fn::")
-        return any(name == path or name.startswith(f"{path}::") for path in self.paths)
+        return any(name == path or name.startswith(f"{path}::") for path in {*self.paths, self.function} - {None})
 
     @functools.cached_property
     def words(self):
