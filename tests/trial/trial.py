@@ -17,6 +17,7 @@ SCRIPTS = (
     "trial/records.py",
     "trial/rows.py",
     "trial/refusals.py",
+    "trial/syncs.py",
     "trial/crashes.py",
     "trial/power.py",
     "trial/size.py",
