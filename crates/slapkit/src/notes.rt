@@ -1,5 +1,9 @@
 //! Notes on a configuration, and the argument that its fault is about, printed on standard error.
 
+ghost use Rattle.std.specs.Prelude.{[], ◌∷◌, List, OnOk, Option};
+ghost use Rattle.dir_acl.specs.declared.note.Note.{Note};
+ghost use Rattle.dir_files.specs.Notes.{WereGiven};
+
 use dir_acl::{FaultArgument, Note};
 use dir_files::{NoteTeller, ProgressLine, Refusal, ShownArgument, ShownNote};
 use std::io;
@@ -45,7 +49,7 @@ impl NoteTeller for PrintedNotes<'_> {
 
     fn tell(&mut self, notes: &[Note]) -> Result<(), Refusal> {
         self.line.clear();
-        match print_notes(self.rt, notes) {
+        match print_notes(&mut NoteLines { rt: self.rt }, notes) {
             Ok(()) => Ok(()),
             Err(_) => {
                 self.failures = self.failures.saturating_add(1);
@@ -59,9 +63,38 @@ impl NoteTeller for PrintedNotes<'_> {
     }
 }
 
-fn print_notes(rt: &HostRuntime, notes: &[Note]) -> io::Result<()> {
+/// Whatever prints notes.
+trait NotePrinter {
+    // The notes that it has printed so far, if it can say.
+    ghost printed: { Self → Option (List Note) };
+
+    /// Prints a note.
+    fn print(&mut self, note: &Note) -> io::Result<()>
+        ensures { OnOk result (WereGiven (printed self.old) (printed self.new) (note.now ∷ [])) };
+}
+
+/// Prints a note on standard error, as a line.
+#[derive(Drop)]
+struct NoteLines<'a> {
+    rt: &'a HostRuntime,
+}
+
+impl NotePrinter for NoteLines<'_> {
+    ghost use Rattle.std.specs.Prelude.{None};
+
+    ghost printed = { λ _. None };
+
+    fn print(&mut self, note: &Note) -> io::Result<()> {
+        eprintln!(self.rt; "slapkit: {}", ShownNote(note))
+    }
+}
+
+/// Prints each of these notes, in their order.
+fn print_notes<P: NotePrinter>(printer: &mut P, notes: &[Note]) -> io::Result<()>
+    ensures { OnOk result (WereGiven (P.printed printer.old) (P.printed printer.new) notes.now) }
+{
     for note in notes {
-        eprintln!(rt; "slapkit: {}", ShownNote(note))?;
+        printer.print(note)?;
     }
     Ok(())
 }

@@ -1,6 +1,8 @@
 //! The standard streams. The number of one that is closed when the program starts must not become that of another
 //! file: its text would be read as changes, or have the report or a fault's text in it.
 
+ghost use Rattle.std.specs.Prelude.{◌↔◌, ◌≤ℤ◌, IsTrue, pos};
+
 use std::fs::File;
 use std::io;
 use std::os::fd::AsRawFd;
@@ -38,9 +40,16 @@ impl HeldStreams {
 /// Holds a standard stream that is closed, if there is one.
 fn held_stream(rt: &HostRuntime) -> io::Result<Option<File>> {
     let file = File::open(rt, HeldStreams::PATH)?;
-    if file.as_raw_fd() <= LAST_STREAM {
+    if is_standard(file.as_raw_fd()) {
         Ok(Some(file))
     } else {
         Ok(None)
     }
+}
+
+/// Whether a file of this number is a standard stream.
+fn is_standard(number: i32) -> bool
+    ensures { IsTrue result ↔ (number ≤ℤ pos 2) }
+{
+    number <= LAST_STREAM
 }
