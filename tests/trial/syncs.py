@@ -1,12 +1,12 @@
 #!/usr/bin/env python3
-"""Looks at the calls by which slapkit makes its files: which drafts are created, with which modes, what is synced before it gets its name, and which folder after.
+"""Looks at the calls by which slapkit makes its files: which drafts are created, with which modes, and what is synced before and after it gets its name.
 
 usage: syncs.py PROGRAM
 
 A shared object, made by cc and preloaded, writes each such call down. Each of the three tools makes its files in folders of their own, so the calls
-tell which folder is synced. The calls must be those of docs/SECURITY.md ("Names", "Modes", "Crashes"), in that order: each draft is synced before the first file gets its
-name, each name is synced with its folder before the next file gets its own, and the report comes last. And where /proc tells no limit on the size
-of a file, a run is as any other.
+tell which folder is synced. The calls must be those of docs/SECURITY.md ("Names", "Modes", "Crashes"), in that order: each draft is synced before
+the first file gets its name, each name is synced with its folder before the next file gets its own, and the report comes last. And where /proc
+tells no limit on the size of a file, a run is as any other.
 """
 import os
 import pathlib

@@ -5,7 +5,8 @@ each text that is written, with workloads.txt.
 usage: workloads.py PROGRAM
 
 What stands there was printed by a proved program, which made the same inputs in memory and called the tools on them: `undo` has the numbers of both
-runs, and the copy after the second; an undo text is without its marks (`# undo N`). A digest is SipHash-1-3 with keys of zeros.
+runs, and the copy after the second; an undo text is without its marks (`# undo N`). A digest is SipHash-1-3 with keys of zeros. So this finds that what is
+written has changed, and never that it was wrong from the first.
 """
 import pathlib
 import struct
