@@ -1,6 +1,6 @@
 -- What is made of what the system says of a file (stat(2)), and the folder of a path (dirname(3)).
 use Rattle.std.specs.Prelude.{◌≡◌, ℕ, [], ◌∷◌, List, None, Option, Some, Result, Ok, Err, bit_and, codes, take}
-use Rattle.core.specs.Str.Pattern.{RFindsChar}
+use Rattle.std.specs.Str.Pattern.{RFindsChar}
 use Rattle.std.specs.Fs.{IsFile, file_type, metadata_len, metadata_mode}
 use Rattle.std.specs.declared.fs.attrs.Metadata.{Metadata}
 
