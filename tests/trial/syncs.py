@@ -6,7 +6,7 @@ usage: syncs.py PROGRAM
 A shared object, made by cc and preloaded, writes each such call down. Each of the three tools makes its files in folders of their own, so the calls
 tell which folder is synced. The calls must be those of docs/SECURITY.md ("Names", "Modes", "Crashes"), in that order: each draft is synced before
 the first file gets its name, each name is synced with its folder before the next file gets its own, and the report comes last. And where /proc
-tells no limit on the size of a file, a run is as any other.
+tells no limit on the size of a file, a run is as any other. A name that a link has which leads nowhere is taken, and then no draft is created.
 """
 import os
 import pathlib
@@ -144,6 +144,9 @@ RUNS = {
     ),
 }
 
+# A path whose name is taken, of each file that is created first.
+TAKEN = [(RUN, UNDO), (SUITE, ANSWERS), (SITE, FLAT)]
+
 
 class Trial:
     """Runs in a folder of their own, whose calls are written down."""
@@ -154,8 +157,8 @@ class Trial:
         (self.folder / "shim.c").write_text(SHIM)
         subprocess.run([os.environ.get("CC", "cc"), "-shared", "-fPIC", "-o", self.shim, self.folder / "shim.c"], check=True)
 
-    def run(self, words, **environment):
-        """The exit status, the report, what went to standard error, and the calls."""
+    def run(self, words, taken=None, **environment):
+        """The exit status, the report, what went to standard error, and the calls. At the path that is taken there is a link that leads nowhere."""
         with tempfile.TemporaryDirectory(dir=IN_MEMORY) as name:
             folder = pathlib.Path(name)
             for file, text in FILES.items():
@@ -163,10 +166,16 @@ class Trial:
                 (folder / file).chmod(MODE)
             for path in (UNDO, NEW, ANSWERS, FLAT):
                 (folder / path).parent.mkdir()
+            if taken:
+                (folder / taken).symlink_to("nothing")
             environment |= {"LD_PRELOAD": str(self.shim), "CALLS": f"{folder}/calls"}
             ended = subprocess.run([self.program, *words], cwd=folder, env=environment, capture_output=True, text=True, timeout=60)
             calls = (folder / "calls").read_text().splitlines() if (folder / "calls").exists() else []
         return ended.returncode, ended.stdout, ended.stderr, calls
+
+
+def check_taken(trial, words, path):
+    expect(trial.run(words, path), (1, "", f"slapkit: exists already: {path}\n", ["write to standard error"]), f"a run where {path} is taken")
 
 
 def check_calls(trial, words, calls, report):
@@ -182,6 +191,7 @@ def main():
         trial = Trial(os.path.abspath(sys.argv[1]), folder)
         named_checks = [(what, lambda row=row: check_calls(trial, *row)) for what, row in RUNS.items()]
         named_checks += [(f"{what}, without a limit that is told", lambda row=row: check_without_proc(trial, *row)) for what, row in RUNS.items()]
+        named_checks += [(f"{path} is taken by a link", lambda row=(words, path): check_taken(trial, *row)) for words, path in TAKEN]
         return checks.run("syncs", named_checks)
 
 
