@@ -1,3 +1,4 @@
+pub mod CommandLine
 pub mod Ends
 pub mod Status
 pub mod Words

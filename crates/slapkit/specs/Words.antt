@@ -2,8 +2,7 @@
 use Rattle.std.specs.Prelude.{◌≡◌, ◌<◌, ◌^◌, ℕ, Bool, true, false, List, [], codes, map, Option, None, Some, option_map}
 use Rattle.std.specs.Option.{option_copied}
 use Rattle.std.specs.Str.Parse.{IsNumeral, digits_value, without_leading_plus}
-use Rattle.clap.specs.Matches.{first_value, found_of, matched_of, one_text, raw_values}
-use Rattle.clap.specs.declared.parser.matches.ArgMatches.{ArgMatches}
+use Rattle.clap.specs.Matches.{first_value, matched_of, one_text, raw_values}
 use Rattle.clap.specs.declared.parser.matches.Found.{Found}
 use Rattle.dir_files.specs.declared.words.AccessWords.{AccessWords}
 use Rattle.dir_files.specs.declared.words.ConfSource.{ConfSource}
@@ -50,16 +49,16 @@ pub record IsNumber (found : Found) (id : List ℕ) (number : Option ℕ) : Type
   pub written : (text : List ℕ) → one_text found id ≡ Some text → IsWritten text number
 
 -- each word is the value of its own argument
-pub record AreWordsOf (m : ArgMatches) (words : ModifyWords) : Type 0 where
-  pub suffix : words.suffix.now ≡ text_or_empty (first_value (found_of m) (codes "suffix"))
-  pub copy : words.data.now ≡ text_or_empty (first_value (found_of m) (codes "data"))
-  pub out : option_copied words.out ≡ first_value (found_of m) (codes "out")
-  pub undo : option_copied words.undo ≡ first_value (found_of m) (codes "undo")
-  pub changes : option_copied words.changes ≡ first_value (found_of m) (codes "changes")
-  pub config : option_copied words.config ≡ first_value (found_of m) (codes "config")
-  pub go_on : IsFlag (found_of m) (codes "go_on") words.options.go_on
-  pub dry : IsFlag (found_of m) (codes "dry") words.options.dry
-  pub verbose : IsFlag (found_of m) (codes "verbose") words.options.verbose
+pub record AreWordsOf (found : Found) (words : ModifyWords) : Type 0 where
+  pub suffix : words.suffix.now ≡ text_or_empty (first_value found (codes "suffix"))
+  pub copy : words.data.now ≡ text_or_empty (first_value found (codes "data"))
+  pub out : option_copied words.out ≡ first_value found (codes "out")
+  pub undo : option_copied words.undo ≡ first_value found (codes "undo")
+  pub changes : option_copied words.changes ≡ first_value found (codes "changes")
+  pub config : option_copied words.config ≡ first_value found (codes "config")
+  pub go_on : IsFlag found (codes "go_on") words.options.go_on
+  pub dry : IsFlag found (codes "dry") words.options.dry
+  pub verbose : IsFlag found (codes "verbose") words.options.verbose
 
 -- ---- the words of `slapacl`
 
@@ -68,15 +67,15 @@ words_or_none None = []
 words_or_none (Some words) = words
 
 -- each word is the value of its own argument
-pub record AreAccessWordsOf (m : ArgMatches) (words : AccessWords) : Type 0 where
-  pub base : words.base.now ≡ text_or_empty (first_value (found_of m) (codes "base"))
-  pub config : words.config.now ≡ text_or_empty (first_value (found_of m) (codes "config"))
-  pub copy : words.data.now ≡ text_or_empty (first_value (found_of m) (codes "data"))
-  pub authc : option_copied words.authc ≡ first_value (found_of m) (codes "authc")
-  pub asked : map (λ word. word.now) words.words.items ≡ words_or_none (option_map raw_values (matched_of (found_of m) (codes "words")))
-  pub fake : IsFlag (found_of m) (codes "fake") words.fake
-  pub verbose : IsFlag (found_of m) (codes "verbose") words.verbose
-  pub strict : IsFlag (found_of m) (codes "strict") words.strict
+pub record AreAccessWordsOf (found : Found) (words : AccessWords) : Type 0 where
+  pub base : words.base.now ≡ text_or_empty (first_value found (codes "base"))
+  pub config : words.config.now ≡ text_or_empty (first_value found (codes "config"))
+  pub copy : words.data.now ≡ text_or_empty (first_value found (codes "data"))
+  pub authc : option_copied words.authc ≡ first_value found (codes "authc")
+  pub asked : map (λ word. word.now) words.words.items ≡ words_or_none (option_map raw_values (matched_of found (codes "words")))
+  pub fake : IsFlag found (codes "fake") words.fake
+  pub verbose : IsFlag found (codes "verbose") words.verbose
+  pub strict : IsFlag found (codes "strict") words.strict
 
 -- ---- the words of `slapconf`
 
@@ -86,18 +85,18 @@ source_of (Some path) ldif = slapd_conf path
 source_of None ldif = cn_config (text_or_empty ldif)
 
 -- each word is the value of its own argument
-pub record AreConfWordsOf (m : ArgMatches) (words : ConfWords) : Type 0 where
-  pub suffix : words.suffix.now ≡ text_or_empty (first_value (found_of m) (codes "suffix"))
-  pub source : source_in words.source ≡ source_of (first_value (found_of m) (codes "slapd_conf")) (first_value (found_of m) (codes "config"))
-  pub out : words.out.now ≡ text_or_empty (first_value (found_of m) (codes "out"))
+pub record AreConfWordsOf (found : Found) (words : ConfWords) : Type 0 where
+  pub suffix : words.suffix.now ≡ text_or_empty (first_value found (codes "suffix"))
+  pub source : source_in words.source ≡ source_of (first_value found (codes "slapd_conf")) (first_value found (codes "config"))
+  pub out : words.out.now ≡ text_or_empty (first_value found (codes "out"))
 
 -- ---- the words of `slapacl` with a file of questions
 
 -- each word is the value of its own argument
-pub record AreQuestionWordsOf (m : ArgMatches) (words : QuestionWords) : Type 0 where
-  pub questions : words.questions.now ≡ text_or_empty (first_value (found_of m) (codes "questions"))
-  pub config : words.config.now ≡ text_or_empty (first_value (found_of m) (codes "config"))
-  pub copy : words.data.now ≡ text_or_empty (first_value (found_of m) (codes "data"))
-  pub answers : option_copied words.answers ≡ first_value (found_of m) (codes "answers")
-  pub verbose : IsFlag (found_of m) (codes "verbose") words.verbose
-  pub strict : IsFlag (found_of m) (codes "strict") words.strict
+pub record AreQuestionWordsOf (found : Found) (words : QuestionWords) : Type 0 where
+  pub questions : words.questions.now ≡ text_or_empty (first_value found (codes "questions"))
+  pub config : words.config.now ≡ text_or_empty (first_value found (codes "config"))
+  pub copy : words.data.now ≡ text_or_empty (first_value found (codes "data"))
+  pub answers : option_copied words.answers ≡ first_value found (codes "answers")
+  pub verbose : IsFlag found (codes "verbose") words.verbose
+  pub strict : IsFlag found (codes "strict") words.strict

@@ -1,7 +1,8 @@
 //! The command line, by `clap`.
 
-ghost use Rattle.std.specs.Prelude.{◌≡◌, IfOk, codes};
-ghost use Rattle.clap.specs.Matches.{first_value, found_of};
+ghost use Rattle.std.specs.Prelude.{◌≡◌, ◌++◌, IfOk, Some, codes, false, map};
+ghost use Rattle.clap.specs.Words.{app_of, first_value, found_of, new_rule, rule_of};
+ghost use Rattle.slapkit.specs.CommandLine.{AreRead, IsTool, of_a_question, slapacl, slapconf, slapkit, slapmodify, value, bound};
 ghost use Rattle.slapkit.specs.Words.{AreAccessWordsOf, AreConfWordsOf, AreQuestionWordsOf, AreWordsOf, IsNumber, source_in, source_of};
 
 use clap::error::ErrorKind;
@@ -26,7 +27,9 @@ pub enum Words<'a> {
 /// # Errors
 ///
 /// What `clap` says of words that it refuses, and its help.
-pub fn read_words<'a, S: AsStr>(alloc: Global, words: &'a [S]) -> Result<Words<'a>, Error> {
+pub fn read_words<'a, S: AsStr>(alloc: Global, words: &'a [S]) -> Result<Words<'a>, Error>
+    ensures { IfOk result (AreRead (map S.text words.entry.now)) }
+{
     let mut program = program(alloc)?;
     let matches = program.try_get_matches_from_mut(words)?;
     if let Some(matches) = matches.subcommand_matches("slapmodify") {
@@ -45,7 +48,7 @@ pub fn read_words<'a, S: AsStr>(alloc: Global, words: &'a [S]) -> Result<Words<'
 }
 
 fn modify_words<'a>(matches: &ArgMatches<'a>) -> ModifyWords<'a>
-    ensures words { AreWordsOf matches.now result }
+    ensures words { AreWordsOf (found_of matches.now) result }
     ensures last { IsNumber (found_of matches.now) (codes "last") result.options.last }
 {
     ModifyWords {
@@ -65,7 +68,7 @@ fn modify_words<'a>(matches: &ArgMatches<'a>) -> ModifyWords<'a>
 }
 
 fn access_words<'a>(alloc: Global, matches: &ArgMatches<'a>) -> Result<AccessWords<'a>, AllocError>
-    ensures { IfOk result (AreAccessWordsOf matches.now) }
+    ensures { IfOk result (AreAccessWordsOf (found_of matches.now)) }
 {
     let words = match matches.get_strs("words") {
         Some(words) => words.to_vec(alloc)?,
@@ -84,7 +87,7 @@ fn access_words<'a>(alloc: Global, matches: &ArgMatches<'a>) -> Result<AccessWor
 }
 
 fn question_words<'a>(matches: &ArgMatches<'a>) -> QuestionWords<'a>
-    ensures { AreQuestionWordsOf matches.now result }
+    ensures { AreQuestionWordsOf (found_of matches.now) result }
 {
     QuestionWords {
         config: matches.get_str("config").unwrap_or(""),
@@ -97,7 +100,7 @@ fn question_words<'a>(matches: &ArgMatches<'a>) -> QuestionWords<'a>
 }
 
 fn conf_words<'a>(matches: &ArgMatches<'a>) -> ConfWords<'a>
-    ensures { AreConfWordsOf matches.now result }
+    ensures { AreConfWordsOf (found_of matches.now) result }
 {
     ConfWords {
         suffix: matches.get_str("suffix").unwrap_or(""),
@@ -116,7 +119,9 @@ fn source_in<'a>(matches: &ArgMatches<'a>) -> ConfSource<'a>
     }
 }
 
-fn program<'a>(alloc: Global) -> Result<Command<'a>, AllocError> {
+fn program<'a>(alloc: Global) -> Result<Command<'a>, AllocError>
+    ensures { IfOk result (λ r. app_of r ≡ slapkit) }
+{
     Command::new(alloc, "slapkit")
         .version(VERSION)
         .about("Offline tools for the administrator of an LDAP directory")
@@ -128,7 +133,9 @@ fn program<'a>(alloc: Global) -> Result<Command<'a>, AllocError> {
         .subcommand(slapconf(alloc)?)
 }
 
-fn slapmodify<'a>(alloc: Global) -> Result<Command<'a>, AllocError> {
+fn slapmodify<'a>(alloc: Global) -> Result<Command<'a>, AllocError>
+    ensures { IfOk result (λ r. IsTool r slapmodify) }
+{
     Command::new(alloc, "slapmodify")
         .about("Applies LDIF change records to an LDIF copy of a directory")
         .long_about(ABOUT)
@@ -207,7 +214,9 @@ fn slapmodify<'a>(alloc: Global) -> Result<Command<'a>, AllocError> {
         )
 }
 
-fn slapacl<'a>(alloc: Global) -> Result<Command<'a>, AllocError> {
+fn slapacl<'a>(alloc: Global) -> Result<Command<'a>, AllocError>
+    ensures { IfOk result (λ r. IsTool r slapacl) }
+{
     Command::new(alloc, "slapacl")
         .about("Reports what a requester may do, by a slapd.conf and an LDIF copy of a directory")
         .long_about(ACCESS_ABOUT)
@@ -288,7 +297,9 @@ fn slapacl<'a>(alloc: Global) -> Result<Command<'a>, AllocError> {
         )
 }
 
-fn slapconf<'a>(alloc: Global) -> Result<Command<'a>, AllocError> {
+fn slapconf<'a>(alloc: Global) -> Result<Command<'a>, AllocError>
+    ensures { IfOk result (λ r. IsTool r slapconf) }
+{
     Command::new(alloc, "slapconf")
         .about("Makes one flat slapd.conf of the configuration of a site")
         .long_about(CONF_ABOUT)
@@ -334,21 +345,31 @@ fn slapconf<'a>(alloc: Global) -> Result<Command<'a>, AllocError> {
 }
 
 /// An argument that goes with none that says what a single question asks.
-fn instead_of_a_question(arg: Arg<'_>) -> Result<Arg<'_>, AllocError> {
+fn instead_of_a_question<'a>(arg: Arg<'a>) -> Result<Arg<'a>, AllocError>
+    ensures excludes { IfOk result (λ r. map (λ id. id.now) r.conflicts.items ≡ map (λ id. id.now) arg.entry.conflicts.items ++ of_a_question) }
+    ensures rule { IfOk result (λ r. rule_of r ≡ bound (rule_of arg.entry)) }
+    ensures local { IfOk result (λ r. r.global ≡ arg.entry.global) }
+{
     arg.conflicts_with("base")?
         .conflicts_with("authc")?
         .conflicts_with("fake")?
         .conflicts_with("words")
 }
 
-fn path<'a>(alloc: Global, id: &'a str, value: &'a str, help: &'a str) -> Arg<'a> {
+fn path<'a>(alloc: Global, id: &'a str, name: &'a str, help: &'a str) -> Arg<'a>
+    ensures rule { rule_of result ≡ value id.entry.now }
+    ensures local { result.global ≡ false }
+{
     Arg::new(alloc, id)
-        .value_name(value)
+        .value_name(name)
         .help(help)
         .action(ArgAction::Set)
 }
 
-fn flag<'a>(alloc: Global, id: &'a str, letter: char, help: &'a str) -> Arg<'a> {
+fn flag<'a>(alloc: Global, id: &'a str, letter: char, help: &'a str) -> Arg<'a>
+    ensures rule { rule_of result ≡ record (new_rule id.entry.now) { short = Some letter; action = Some ArgAction.SetTrue } }
+    ensures local { result.global ≡ false }
+{
     Arg::new(alloc, id)
         .short(letter)
         .help(help)
