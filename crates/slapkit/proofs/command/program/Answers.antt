@@ -16,7 +16,7 @@ returns c =
     let begun : IsSo c.arg_required_else_help.result alone = record {
       is = ap app_of_fields c.arg_required_else_help.ensures ∙ ap (on_top (λ (s : Shape). record s { arg_required_else_help = true })) wants;
       local = ap globals c.arg_required_else_help.ensures ∙ (ap globals c.subcommand_required.ensures ∙ (ap globals c.after_help.ensures
-      ∙ (ap globals c.about.ensures ∙ (ap globals c.version.ensures ∙ c.new.ensures.local))));
+          ∙ (ap globals c.about.ensures ∙ (ap globals c.version.ensures ∙ c.new.ensures.local))));
     } in
     let one = with_tool _ _ _ _ slapmodify c.in_ok-subcommand.ensures begun c.in_ok-slapmodify.ensures.0 c.in_ok-slapmodify.ensures.1 in
     let two = with_tool _ _ _ _ slapacl c.in_ok-subcommand-2.ensures one c.in_ok-slapacl.ensures.0 c.in_ok-slapacl.ensures.1 in
