@@ -1,2 +1,3 @@
 pub mod CommandLineLemmas
+pub mod CommandLines
 pub mod Examples
