@@ -9,7 +9,8 @@ answer must come from a refused allocation. These forms hand one on, and pass:
     call(..)?                        the fault of a call, turned by `From`
     Err(..::Memory) => ..::Memory    an arm of a match whose pattern names the fault, in a `From` too
     Err(_) => ..::Memory             where out of memory is the only fault of the call that is matched, by the type or the
-                                     contract of every function of its name, in the crate itself if it has one; so `map_err(|_| ..::Memory)` and `let .. else`
+                                     contract of every function of its name, in the crate itself if it has one, else in those
+                                     below it; so `map_err(|_| ..::Memory)` and `let .. else`
 
 There must be no other place but those in BUFFERED and COUNTS. Tests are left out. Then each wrong body of let-through/ that names
 this script is planted in its text, and must be found.
@@ -141,6 +142,16 @@ def all_sources():
             yield name.as_posix(), source_of(path)
 
 
+def crates_below():
+    """The crates that each crate stands on, by crates.txt, and those that these stand on."""
+    named = {name: libraries.split() for name, libraries in re.findall(r"^(\w+):(.*)", (ROOT / "crates.txt").read_text(), re.M)}
+
+    def below(name):
+        return {it for library in named[name] if library in named for it in {library} | below(library)}
+
+    return {name: below(name) for name in named}
+
+
 def crate_of(name):
     return name.split("/")[0]
 
@@ -152,10 +163,12 @@ def main():
         for function in functions_of(source):
             signatures.setdefault(function.name, {}).setdefault(crate_of(name), []).append(function.signature)
 
+    below = crates_below()
+
     def only_memory_in(crate):
-        """The functions of which out of memory is the only fault, as a crate calls them: its own, where it has one of that name."""
-        seen = {name: given.get(crate) or sum(given.values(), []) for name, given in signatures.items()}
-        return {name for name, given in seen.items() if all(map(may_only_lack_memory, given))}
+        """The functions of which out of memory is the only fault, as a crate calls them: its own of that name, else those of the crates below it."""
+        seen = {name: given.get(crate) or sum((given.get(it, []) for it in below[crate]), []) for name, given in signatures.items()}
+        return {name for name, given in seen.items() if given and all(map(may_only_lack_memory, given))}
 
     def check(name, source):
         places = list(places_of(source, only_memory_in(crate_of(name))))
