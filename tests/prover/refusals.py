@@ -32,6 +32,14 @@ REFUSED = {
         ["invariant_of-self (false at some values)", "returns-clause-pieces (false at some values)"],
     ),
     "at_a_limit": ("dir_ldif::writer::push_change", CLAUSE, ["returns-clause-text (at a limit)"]),
+    "name_alone": (
+        "dir_tools::copy::loading::Loading::take_records",
+        NAME,
+        [
+            "`returns-in-TakeFault-clause-blamed`: record `Rattle.dir_tools.proofs.copy.loading.Loading.take_records.Lts.Arm-After-known_told` "
+            "has no field `fault` the fields that can be named here are `it`, `in-TakeFault-own`, `is`, `it-1-ensures`, `ensures`, `known_told-1-own`"
+        ],
+    ),
 }
 
 # Names of goals as the prover makes them, and their kinds. Others are names of lemmas, and of no goal.
