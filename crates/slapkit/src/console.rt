@@ -14,7 +14,8 @@ use dir_files::{
 };
 use dir_questions::Tally;
 use dir_tools::Summary;
-use std::io;
+use std::io::{self, Input, IsTerminal};
+use std::rt::Files;
 
 /// Whoever tells an administrator what stands in no report. For what is known beside an answer the files may be looked at once more.
 pub trait Console {
@@ -82,22 +83,25 @@ pub trait Console {
 
 /// Standard error.
 #[derive(Drop)]
-pub struct StandardError<'a> {
-    rt: &'a HostRuntime,
+pub struct StandardError<'a, R> {
+    rt: &'a R,
     /// The line that tells how far the run is, which makes room for what is told.
     line: &'a ProgressLine,
 }
 
-impl<'a> StandardError<'a> {
-    pub fn new(rt: &'a HostRuntime, line: &'a ProgressLine) -> StandardError<'a> {
+impl<'a, R> StandardError<'a, R> {
+    pub fn new(rt: &'a R, line: &'a ProgressLine) -> StandardError<'a, R> {
         StandardError { rt, line }
     }
 }
 
-impl<'a> Console for StandardError<'a> {
-    type Files = SystemFiles<'a, HostRuntime>;
+impl<'a, R: Files + Input + Print + Eprint + AllocGlobal> Console for StandardError<'a, R>
+where
+    R::Reader: IsTerminal,
+{
+    type Files = SystemFiles<'a, R>;
 
-    type Notes = PrintedNotes<'a>;
+    type Notes = PrintedNotes<'a, R>;
 
     type Suffixes = KeptSuffixes;
 
@@ -108,13 +112,13 @@ impl<'a> Console for StandardError<'a> {
         eprintln!(self.rt; "slapkit: {fault}")
     }
 
-    fn tell_argument(&mut self, notes: &PrintedNotes<'a>) -> io::Result<()> {
+    fn tell_argument(&mut self, notes: &PrintedNotes<'a, R>) -> io::Result<()> {
         notes.print_argument()
     }
 
     fn after_run(
         &mut self,
-        files: &mut SystemFiles<'a, HostRuntime>,
+        files: &mut SystemFiles<'a, R>,
         words: &ModifyWords<'_>,
         answer: &Result<Summary, Fault<'_>>,
     ) -> io::Result<()> {
@@ -126,7 +130,7 @@ impl<'a> Console for StandardError<'a> {
 
     fn after_question(
         &mut self,
-        files: &mut SystemFiles<'a, HostRuntime>,
+        files: &mut SystemFiles<'a, R>,
         words: &AccessWords<'_>,
         answer: &Result<(), Fault<'_>>,
     ) -> io::Result<()> {
@@ -138,7 +142,7 @@ impl<'a> Console for StandardError<'a> {
 
     fn after_questions(
         &mut self,
-        files: &mut SystemFiles<'a, HostRuntime>,
+        files: &mut SystemFiles<'a, R>,
         words: &QuestionWords<'_>,
         answer: &Result<Tally, Fault<'_>>,
     ) -> io::Result<()> {
@@ -150,7 +154,7 @@ impl<'a> Console for StandardError<'a> {
 
     fn after_configuration(
         &mut self,
-        files: &mut SystemFiles<'a, HostRuntime>,
+        files: &mut SystemFiles<'a, R>,
         words: &ConfWords<'_>,
         suffixes: &KeptSuffixes,
         answer: &Result<dir_conf::Tally, Fault<'_>>,

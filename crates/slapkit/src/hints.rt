@@ -11,23 +11,28 @@ use dir_hints::{CopyNames, Form, RecordCount, count_records, form_in, names_in};
 use dir_names::{Dn, DnKey, Schema, Texts};
 use dir_questions::QuestionsFault;
 use dir_tools::{Cause, Summary, ToolFault, read_config, run_schema};
-use std::io;
+use std::alloc::Global;
+use std::io::{self, Input, IsTerminal};
+use std::rt::Files;
 
 /// Tells what is known beside the answer of a tool.
 #[derive(Drop)]
-pub struct Hints<'h, 'l> {
-    rt: &'h HostRuntime,
+pub struct Hints<'h, 'l, R> {
+    rt: &'h R,
     /// The line that tells how far the reading is, which makes room for notes.
     line: &'l ProgressLine,
-    files: &'h mut SystemFiles<'l, HostRuntime>,
+    files: &'h mut SystemFiles<'l, R>,
 }
 
-impl<'h, 'l> Hints<'h, 'l> {
+impl<'h, 'l, R: Files + Input + Print + Eprint + AllocGlobal> Hints<'h, 'l, R>
+where
+    R::Reader: IsTerminal,
+{
     pub fn new(
-        rt: &'h HostRuntime,
+        rt: &'h R,
         line: &'l ProgressLine,
-        files: &'h mut SystemFiles<'l, HostRuntime>,
-    ) -> Hints<'h, 'l> {
+        files: &'h mut SystemFiles<'l, R>,
+    ) -> Hints<'h, 'l, R> {
         Hints { rt, line, files }
     }
 
@@ -156,10 +161,7 @@ impl<'h, 'l> Hints<'h, 'l> {
     }
 
     /// A file, to be looked at once more.
-    fn reopened(
-        &mut self,
-        path: &str,
-    ) -> Option<<SystemFiles<'l, HostRuntime> as FileSystem>::Input> {
+    fn reopened(&mut self, path: &str) -> Option<<SystemFiles<'l, R> as FileSystem>::Input> {
         if !self.files.is_regular(path) {
             return None;
         }
@@ -169,7 +171,7 @@ impl<'h, 'l> Hints<'h, 'l> {
     /// Tells of the copy of a run that it has no record, or none of the suffix's name.
     fn tell_names_of_run(&mut self, words: &ModifyWords<'_>) -> io::Result<()> {
         match self.schema(words.config) {
-            Some(schema) => match suffix_key(self.rt, &schema, words.suffix) {
+            Some(schema) => match suffix_key(self.rt.alloc(), &schema, words.suffix) {
                 Some(suffix) => self.tell_names(&schema, &suffix, words.data),
                 None => Ok(()),
             },
@@ -278,9 +280,9 @@ fn is_missing(cause: &Cause) -> bool {
 }
 
 /// The key of the suffix, which the run has read.
-fn suffix_key(rt: &HostRuntime, schema: &Schema, suffix: &str) -> Option<DnKey> {
-    let suffix = Dn::read(rt.alloc(), suffix.as_bytes()).ok()?;
-    suffix.key(rt.alloc(), schema).ok()
+fn suffix_key(alloc: Global, schema: &Schema, suffix: &str) -> Option<DnKey> {
+    let suffix = Dn::read(alloc, suffix.as_bytes()).ok()?;
+    suffix.key(alloc, schema).ok()
 }
 
 /// The suffixes of a configuration in which the wanted one was not found.

@@ -10,8 +10,8 @@ use std::io;
 
 /// Prints notes on standard error, a line each.
 #[derive(Drop)]
-pub struct PrintedNotes<'a> {
-    rt: &'a HostRuntime,
+pub struct PrintedNotes<'a, R> {
+    rt: &'a R,
     /// The line that tells how far the run is, which makes room for them.
     line: &'a ProgressLine,
     failures: u64,
@@ -19,8 +19,8 @@ pub struct PrintedNotes<'a> {
     argument: Option<FaultArgument>,
 }
 
-impl<'a> PrintedNotes<'a> {
-    pub fn new(rt: &'a HostRuntime, line: &'a ProgressLine) -> PrintedNotes<'a> {
+impl<'a, R: Eprint> PrintedNotes<'a, R> {
+    pub fn new(rt: &'a R, line: &'a ProgressLine) -> PrintedNotes<'a, R> {
         PrintedNotes {
             rt,
             line,
@@ -38,7 +38,7 @@ impl<'a> PrintedNotes<'a> {
     }
 }
 
-impl NoteTeller for PrintedNotes<'_> {
+impl<R: Eprint> NoteTeller for PrintedNotes<'_, R> {
     ghost use Rattle.std.specs.Prelude.{None};
 
     ghost given = { λ _. None };
@@ -75,11 +75,11 @@ trait NotePrinter {
 
 /// Prints a note on standard error, as a line.
 #[derive(Drop)]
-struct NoteLines<'a> {
-    rt: &'a HostRuntime,
+struct NoteLines<'a, R> {
+    rt: &'a R,
 }
 
-impl NotePrinter for NoteLines<'_> {
+impl<R: Eprint> NotePrinter for NoteLines<'_, R> {
     ghost use Rattle.std.specs.Prelude.{None};
 
     ghost printed = { λ _. None };
