@@ -152,10 +152,13 @@ def module_of(file):
 
 
 def owner_of(header):
-    """How the prover names the methods of an impl: by their type, or by the type, the trait and its types."""
+    """How the prover names the methods of an impl: by their type, or by the type, the trait and its types. Of a reference to whatever has the trait it has
+    the kind of reference alone."""
     header = re.sub(r"'\w+,? ?|\w+::", "", header).strip()
     name = re.match(r"impl(?:<.*?>)? (.*?)(?: where .*)?$", header)[1]
     trait, _, of = name.rpartition(" for ")
+    if reference := re.match(r"&(mut )?\w+$", of):
+        of = "RefMut" if reference[1] else "Ref"
     return "".join(re.findall(r"\w+", re.sub(r"<.*", "", of) + trait if trait else re.sub(r"<.*", "", of)))
 
 
