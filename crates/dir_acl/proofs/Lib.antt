@@ -1,3 +1,4 @@
+pub mod Bounds
 pub mod Cuts
 pub mod Digits
 pub mod EscapeSteps

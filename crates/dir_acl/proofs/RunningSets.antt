@@ -50,7 +50,7 @@ edited_says set (edit.Remove less) Compare = and_of set.compare less.compare
 edited_says set (edit.Remove less) Auth = and_of set.auth less.auth
 edited_says set (edit.Remove less) Disclose = and_of set.disclose less.disclose
 
-said_before : (last first : Option Bool) (b : Bool) → unwrap_or last (unwrap_or first b) ≡ unwrap_or (or_before last first) b
+pub said_before : (last first : Option Bool) (b : Bool) → unwrap_or last (unwrap_or first b) ≡ unwrap_or (or_before last first) b
 said_before (Some x) first b = refl
 said_before None first b = refl
 
@@ -58,7 +58,7 @@ after_says : (set : Privileges) (es : List Edit) (p : Privilege) → has (after_
 after_says set [] p = refl
 after_says set (e ∷ es) p = after_says (edited set e) es p ∙ ap (unwrap_or (last_word p es)) (edited_says set e p) ∙ said_before (last_word p es) (says e p) (has set p)
 
-has_none : (p : Privilege) → has no_privileges p ≡ false
+pub has_none : (p : Privilege) → has no_privileges p ≡ false
 has_none Manage = refl
 has_none Add = refl
 has_none Delete = refl

@@ -1,3 +1,4 @@
+pub mod Bounding
 pub mod Digits
 pub mod Escapes
 pub mod Fakes

@@ -1,3 +1,4 @@
+pub mod Bounds
 pub mod Config
 pub mod Decision
 pub mod FaultArgument

@@ -1,8 +1,13 @@
 //! Laws of the definitions, as contracts of calls that do nothing.
 
-ghost use Rattle.std.specs.Prelude.{◌≡◌, [], ℕ, List, Err, Ok, Some, true};
+ghost use Rattle.std.specs.Prelude.{◌≡◌, ◌||◌, [], ℕ, List, Option, Err, Ok, Some, map, true};
 ghost use Rattle.dir_names.specs.declared.schema.TypeRow.{TypeRow};
+ghost use Rattle.dir_names.specs.Keys.{DnKeys};
+ghost use Rattle.dir_tree.specs.Dir.{Dir};
+ghost use Rattle.dir_acl.specs.Bounds.{granted_by, judged};
 ghost use Rattle.dir_acl.specs.Config.{config_of};
+ghost use Rattle.dir_acl.specs.Decision.{Question, is_granted, is_root_for, named};
+ghost use Rattle.dir_acl.specs.Inside.Bounding.{BoundsAreExact};
 ghost use Rattle.dir_acl.specs.Config.Permissions.{set_with_text};
 ghost use Rattle.dir_acl.specs.Config.Quoting.{WrittenArgumentsAreRead};
 ghost use Rattle.dir_acl.specs.Filters.{IsTooDeep, Spells, Tree, in_parentheses};
@@ -11,10 +16,11 @@ ghost use Rattle.dir_acl.specs.Notes.{notes_of};
 ghost use Rattle.dir_acl.specs.Notes.Known.{AreUnderstood};
 ghost use Rattle.dir_acl.specs.Notes.Supertypes.{noted_types};
 ghost use Rattle.dir_acl.specs.Privileges.{privileges_text};
-ghost use Rattle.dir_acl.specs.Rules.{Configuration};
+ghost use Rattle.dir_acl.specs.Rules.{AccessRule, Configuration};
 ghost use Rattle.dir_acl.specs.Substrings.{HasPieces, has_pieces};
 ghost use Rattle.dir_acl.specs.declared.fault.FilterFault.TheVariants as FilterFault;
 ghost use Rattle.dir_acl.specs.declared.filter.Pieces.{Pieces};
+ghost use Rattle.dir_acl.specs.declared.privileges.Privilege.{Privilege};
 ghost use Rattle.dir_acl.specs.declared.privileges.Privileges.{Privileges};
 
 /// What is read is what the grammar spells (RFC 4515, section 3), in both directions, with at most 64 levels; `TooDeep` is told
@@ -31,6 +37,17 @@ pub fn reading_is_the_grammar()
 /// another is derived. No clause takes one of `a` and `z` away alone.
 pub fn rules_without_notes_are_understood()
     ensures { (rows : List TypeRow) (text : List ℕ) (config : Configuration) → config_of rows text ≡ Ok config → notes_of rows text ≡ [] → AreUnderstood (noted_types rows text) config }
+{}
+
+/// One pass over rules with open parts finds exactly what is held however these are closed, and what may be held (slapd.access(5)), where
+/// no number of a part comes twice.
+pub fn bounds_are_exact()
+    ensures { BoundsAreExact }
+{}
+
+/// Rules without open parts grant what a decision grants: what a rule's clauses give once it is known which apply is one definition.
+pub fn known_rules_are_granted()
+    ensures { (d : Dir) (root : Option DnKeys) (rules : List AccessRule) (q : Question) (p : Privilege) → is_granted d root rules q p ≡ (is_root_for root (named q.requester) || granted_by (map (judged d q) rules) p) }
 {}
 
 /// The test of a substring assertion tells whether some cut of the text has the pieces.

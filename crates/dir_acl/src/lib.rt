@@ -22,8 +22,8 @@ pub use fault::{ConfigCause, ConfigFault, FilterFault};
 pub use filter::truth::Truth;
 pub use filter::{Filter, Matching, Pieces, Test};
 pub use laws::{
-    cuts_are_found, privileges_read_back, reading_is_the_grammar,
-    rules_without_notes_are_understood, written_arguments_are_read,
+    bounds_are_exact, cuts_are_found, known_rules_are_granted, privileges_read_back,
+    reading_is_the_grammar, rules_without_notes_are_understood, written_arguments_are_read,
 };
 pub use note::{Note, NoteCause};
 pub use privileges::{Level, Privilege, Privileges};

@@ -1,0 +1,5 @@
+-- What is granted where some parts of the rules are open: one pass finds it exactly (specs/Bounds.antt, specs/Inside/Bounding.antt).
+pub mod Choices
+pub mod Exact
+pub mod Judged
+pub mod Passes
