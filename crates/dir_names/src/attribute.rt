@@ -6,6 +6,7 @@ ghost use Rattle.std.specs.Ordering.{as_partial_cmp};
 ghost use Rattle.std.specs.Prelude.{◌≡◌, ◌↔◌, IsTrue, Ok, refl, [], IfSome, map, option_copied};
 ghost use Rattle.std.specs.Str.{str_to_ascii_lowercase};
 ghost use Rattle.dir_names.specs.Ascii.{dot};
+ghost use Rattle.dir_names.specs.Attr.{has_options};
 ghost use Rattle.dir_names.specs.Covers.{Covers, covers};
 ghost use Rattle.dir_names.specs.Inside.Left.{parts_left};
 ghost use Rattle.dir_names.specs.Inside.Ranks.{HasRank, IsTextAt};
@@ -91,6 +92,13 @@ impl AttrKey {
         ensures meaning { IsTrue result ↔ Covers self.now other.now }
     {
         self.has_type_of(other) && self.options().is_subset(other.options())
+    }
+
+    /// Whether it has options.
+    pub fn has_options(&self) -> bool
+        ensures { result ≡ has_options self.now }
+    {
+        self.options().joined().is_some()
     }
 
     /// The same key, in the same memory. The one fault is `Memory`, if no more copies can be counted.

@@ -179,9 +179,18 @@ impl Schema {
         self.types.add(alloc, definition)?;
         self.frequent.clear();
         self.ranked.clear();
-        // Without memory for them they are looked up in the table each time.
-        let _ = self.keep_frequent(alloc);
         Ok(())
+    }
+
+    /// Looks up the types that copies of directories use most, which `add_type` forgets, so that they are not looked up in the
+    /// table each time. It belongs after the last `add_type`: no answer hangs on it, and without memory it does nothing.
+    pub fn find_frequent(&mut self)
+        ensures { self.new ≡ self.old }
+    {
+        let alloc = self.types.allocator();
+        if self.frequent.is_empty() {
+            let _ = self.keep_frequent(alloc);
+        }
     }
 
     /// The schema of these types, with the frequent and the ranked ones.
@@ -322,6 +331,15 @@ impl Schema {
     /// Whether the type is known: one of those that `builtin` has, or that `add_type` added. What it is called, by which rule
     /// its values are compared, and how many an attribute of it takes, is known of no other. Options make no difference.
     pub fn knows(&self, attr: &AttrKey) -> bool
+        ensures { result ≡ is_known self.now attr.now }
+    {
+        match self.ranked_type(attr) {
+            Some(ranked) if ranked.rule != Rule::Octet => true,
+            _ => self.is_in_table(attr),
+        }
+    }
+
+    fn is_in_table(&self, attr: &AttrKey) -> bool
         ensures { result ≡ is_known self.now attr.now }
     {
         self.types.with_key(attr.attr_type()).is_some()

@@ -108,6 +108,28 @@ impl Case for Adds {
     }
 }
 
+/// The frequent types, which `add_type` forgets, are found again: the answers are those before.
+#[test]
+fn frequent_types_are_found_again(rt: HostRuntime) {
+    let mut schema = schema(&rt, rt.alloc());
+    add(&rt, &mut schema, MOBILE);
+    let mobile = attr_key(&rt, rt.alloc(), &schema, "mobileTelephoneNumber");
+    let given_name = attr_key(&rt, rt.alloc(), &schema, "givenName");
+    let told = (
+        schema.rule(&mobile),
+        schema.knows(&mobile),
+        schema.knows(&given_name),
+    );
+    schema.find_frequent();
+    let again = (
+        schema.rule(&mobile),
+        schema.knows(&mobile),
+        schema.knows(&given_name),
+    );
+    assert!(&rt; told == again && told.1 && told.2);
+    assert!(&rt; attr_key(&rt, rt.alloc(), &schema, "mobileTelephoneNumber") == mobile);
+}
+
 /// The built-in types and those of the definitions of a row, each of which is accepted.
 fn with_types(rt: &impl Abort, alloc: Global, row: &str) -> Schema {
     let [definitions, ..] = fields(row);

@@ -1,7 +1,7 @@
 //! Attribute descriptions, and the types of the built-in table.
 
 use crate::make::{
-    Case, attr_key, check, copy_of, description, description_fault, each, fields, is_fault,
+    Case, attr_key, check, copy_of, description, description_fault, each, fields, is_fault, schema,
 };
 use crate::types::is_told;
 use dir_names::{AttrKey, Description, Schema};
@@ -37,6 +37,13 @@ impl Case for IsEqual {
 /// Whether a description has this spelling and this key.
 fn is_spelled(description: &Description, spelling: &str, key: &AttrKey) -> bool {
     description.spelling() == spelling.as_bytes() && *description.key() == *key
+}
+
+#[test]
+fn a_key_tells_whether_it_has_options(rt: HostRuntime) {
+    let schema = schema(&rt, rt.alloc());
+    assert!(&rt; !attr_key(&rt, rt.alloc(), &schema, "commonName").has_options());
+    assert!(&rt; attr_key(&rt, rt.alloc(), &schema, "x-unknown;lang-en").has_options());
 }
 
 /// Descriptions, whether the first covers the second, and whether the second covers the first.
