@@ -1,13 +1,15 @@
 pub mod Bounds
+pub mod ClearLists
 pub mod Cuts
+pub mod DefinedTypes
 pub mod Digits
 pub mod EscapeSteps
-pub mod FirstPlaces
 pub mod Grammar
 pub mod Groups
 pub mod KnownRules
 pub mod NoAttributes
 pub mod NoNotes
+pub mod NotedLines
 pub mod Packing
 pub mod PrivilegeTexts
 pub mod RunningSets
@@ -17,6 +19,3 @@ pub mod SlapdConf
 pub mod Stacks
 pub mod Tested
 pub mod Truths
-pub mod Wanted
-pub mod WholeWords
-pub mod WrittenArguments

@@ -5,19 +5,10 @@ use Rattle.std.specs.List.{position_or_len}
 use Rattle.std.proofs.lemmas.List.{append-nil, append_assoc}
 use Rattle.dir_names.specs.Results.{and_then}
 use Rattle.dir_names.specs.declared.schema.TypeRow.{TypeRow}
-use Rattle.dir_acl.specs.Config.Arguments.{after_step, arguments_from, step_of}
 use Rattle.dir_acl.specs.Filters.{Tree}
 use Rattle.dir_acl.specs.Filters.Reading.{Open, after_test, filter_from, in_test}
 use Rattle.dir_acl.specs.Tests.{test_of}
-use Rattle.dir_acl.specs.declared.config.arguments.Spot.{Spot}
-use Rattle.dir_acl.specs.declared.config.arguments.Step.TheVariants.{Take}
 use Rattle.dir_acl.specs.declared.fault.FilterFault.{FilterFault}
-
--- a byte of an argument that is taken, after those of a run
-pub takes_more : (spot : Spot) (b : ℕ) (item run rest : List ℕ) → step_of spot b ≡ Take spot → arguments_from spot (item ++ run) (b ∷ rest) ≡ arguments_from spot (item ++ (run ++ b ∷ [])) rest
-takes_more spot b item run rest is =
-    ap (λ step. after_step step b (item ++ run) (λ next bytes. arguments_from next bytes rest)) is
-    ∙ ap (λ bytes. arguments_from spot bytes rest) (append_assoc item run (b ∷ []))
 
 module _ (test : ℕ → Bool) where
   pub before_first_len : (xs : List ℕ) → length (take (position_or_len test xs) xs) ≡ position_or_len test xs

@@ -1,7 +1,7 @@
--- Examples of slapd.conf(5), "GENERAL FORMAT", and of slapd.access(5), as the definition of configurations has them.
-use Rattle.std.proofs.Common.{◌≡◌, ℕ, true, List, [], ◌∷◌, ◌++◌, map, Option, Some, None, Ok, Err, refl}
+-- Examples of slapd.conf(5) and of slapd.access(5), as the definition of configurations has them.
+use Rattle.std.proofs.Common.{◌≡◌, ℕ, true, List, [], ◌∷◌, ◌++◌, map, Option, Some, Ok, Err, refl}
 use Rattle.std.specs.Prelude.{codes}
-use Rattle.dir_names.specs.Ascii.{line_feed, carriage_return, double_quote, backslash}
+use Rattle.dir_names.specs.Ascii.{line_feed}
 use Rattle.dir_names.specs.declared.schema.TypeRow.{TypeRow}
 use Rattle.dir_acl.specs.declared.access.Control.TheVariants.{Stop, Continue, Break}
 use Rattle.dir_acl.specs.declared.access.Edit.TheVariants as edit
@@ -10,29 +10,8 @@ use Rattle.dir_acl.specs.declared.fault.ConfigCause.TheVariants as cause
 use Rattle.dir_acl.specs.declared.privileges.Level.TheVariants as level
 use Rattle.dir_acl.specs.Config.{config_of}
 use Rattle.dir_acl.specs.Config.AccessRules.{access_rule_of}
-use Rattle.dir_acl.specs.Config.Arguments.{arguments_of}
-use Rattle.dir_acl.specs.Config.Lines.{logical_lines}
 use Rattle.dir_acl.specs.Config.Permissions.{no_edit}
 use Rattle.dir_acl.specs.Privileges.{level_set, no_privileges}
-
--- a line that begins with white space continues the line before; carriage returns are dropped. The numbers are those of the first physical lines
-pub continued : logical_lines (codes "a" ++ carriage_return ∷ line_feed ∷ codes " b" ++ line_feed ∷ codes "c") ≡ (1, codes "a b") ∷ (3, codes "c") ∷ []
-continued = refl
-
--- the first line stands for itself
-pub first_line : logical_lines (codes " a" ++ line_feed ∷ codes " b") ≡ (1, codes " a b") ∷ []
-first_line = refl
-
--- an argument with white space stands in quotes, and a backslash takes a quote as it is
-pub quoted : arguments_of (codes "a " ++ double_quote ∷ codes "b c" ++ double_quote ∷ codes "d " ++ backslash ∷ double_quote ∷ []) ≡ Some (codes "a") ∷ Some (codes "b cd") ∷ Some (double_quote ∷ []) ∷ []
-quoted = refl
-
--- an open quote, and a backslash at the line's end
-pub open_quote : arguments_of (codes "a " ++ double_quote ∷ codes "b c") ≡ Some (codes "a") ∷ None ∷ []
-open_quote = refl
-
-pub final_backslash : arguments_of (codes "a b" ++ backslash ∷ []) ≡ Some (codes "a") ∷ None ∷ []
-final_backslash = refl
 
 abbrev words : List (List ℕ) → List (Option (List ℕ))
 words texts = map Some texts

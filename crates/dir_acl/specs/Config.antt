@@ -2,12 +2,8 @@
 -- directive. `config_of` at the end of this page is the whole. The first faulty line decides, and in a line the first faulty argument. The attribute types that it
 -- defines are `config_types`.
 pub mod AccessRules
-pub mod Arguments
-pub mod Lines
 pub mod Names
 pub mod Permissions
-pub mod Quoting
-pub mod Types
 pub mod Whats
 pub mod Whos
 use Rattle.std.specs.Prelude.{ℕ, ◌+◌, Bool, true, false, cond, not, ◌||◌, ◌==◌, nat_lt, List, [], ◌∷◌, ◌++◌, length, codes, Option, Some, None, is_some, ok_or, Result, Ok, Err}
@@ -20,10 +16,11 @@ use Rattle.dir_acl.specs.declared.fault.ConfigCause.{ConfigCause}
 use Rattle.dir_acl.specs.declared.fault.ConfigCause.TheVariants.{BadDirective, Name, SecondDatabase, SecondSuffix, GlobalAccess, NoSuffix, ConfigTooLong, BadType}
 use Rattle.dir_acl.specs.declared.fault.ConfigFault.{ConfigFault}
 use Rattle.dir_acl.specs.Config.AccessRules.{access_rule_of}
-use Rattle.dir_acl.specs.Config.Arguments.{words_of}
-use Rattle.dir_acl.specs.Config.Lines.{logical_lines}
-use Rattle.dir_acl.specs.Config.Names.{is_word, name_at}
-use Rattle.dir_acl.specs.Config.Types.{definition_in}
+use Rattle.dir_conf_text.specs.Keywords.{is_word}
+use Rattle.dir_conf_text.specs.Text.{config_lines, definition_by, words_by}
+use Rattle.dir_conf_text.specs.declared.text.ConfigLine.{ConfigLine}
+use Rattle.dir_conf_text.specs.declared.text.Said.{Said}
+use Rattle.dir_acl.specs.Config.Names.{name_at}
 use Rattle.dir_acl.specs.Rules.{AccessRule, Configuration}
 
 -- what the lines so far say
@@ -118,17 +115,17 @@ after_arguments rows settings [] = Ok settings
 after_arguments rows settings (None ∷ more) = Err BadDirective
 after_arguments rows settings (Some keyword ∷ more) = directive rows settings keyword more
 
-abbrev pub after_line : List TypeRow → Settings → List ℕ → Result Settings ConfigCause
-after_line rows settings line = after_arguments rows settings (words_of line)
+abbrev pub after_line : List TypeRow → Settings → Said → Result Settings ConfigCause
+after_line rows settings said = after_arguments rows settings (words_by said)
 
 -- the fault of a line has its number
 abbrev pub at_line : {A : Type 0} → ℕ → Result A ConfigCause → Result A ConfigFault
 at_line n (Ok settings) = Ok settings
 at_line n (Err cause) = Err (record { line = n; cause = cause })
 
-abbrev pub after_lines : List TypeRow → Settings → List (ℕ × List ℕ) → Result Settings ConfigFault
+abbrev pub after_lines : List TypeRow → Settings → List ConfigLine → Result Settings ConfigFault
 after_lines rows settings [] = Ok settings
-after_lines rows settings (line ∷ lines) = and_then (at_line line.0 (after_line rows settings line.1)) (λ next. after_lines rows next lines)
+after_lines rows settings (line ∷ lines) = and_then (at_line line.number (after_line rows settings line.said)) (λ next. after_lines rows next lines)
 
 -- ---- the whole
 
@@ -136,11 +133,16 @@ abbrev pub of_suffix : Settings → Option DnKeys → Result Configuration Confi
 of_suffix settings None = Err (record { line = 0; cause = NoSuffix })
 of_suffix settings (Some name) = Ok (record { suffix = name; root = settings.root; rules = settings.rules })
 
--- a text of more than 16,777,216 bytes is refused before all, and one without a suffix after all
+-- the lines of a text, which may have 16,777,216 bytes
+abbrev pub bounded_lines : List ℕ → Result (List ConfigLine) ConfigFault
+bounded_lines text = cond (nat_lt 16777216 (length text)) (Err (record { line = 0; cause = ConfigTooLong })) (Ok (config_lines text))
+
+-- lines without a suffix are refused after all
+abbrev pub config_of_lines : List TypeRow → List ConfigLine → Result Configuration ConfigFault
+config_of_lines rows lines = and_then (after_lines rows no_settings lines) (λ settings. of_suffix settings settings.suffix)
+
 abbrev pub config_of : List TypeRow → List ℕ → Result Configuration ConfigFault
-config_of rows text =
-    cond (nat_lt 16777216 (length text)) (Err (record { line = 0; cause = ConfigTooLong }))
-    (and_then (after_lines rows no_settings (logical_lines text)) (λ settings. of_suffix settings settings.suffix))
+config_of rows text = and_then (bounded_lines text) (config_of_lines rows)
 
 -- ---- the attribute types
 
@@ -149,10 +151,10 @@ abbrev pub types_with : List TypeRow → Option (List ℕ) → Result (List Type
 types_with rows None = Ok rows
 types_with rows (Some definition) = ok_or (table_with_text rows definition) BadType
 
-abbrev pub types_after : List TypeRow → List (ℕ × List ℕ) → Result (List TypeRow) ConfigFault
+abbrev pub types_after : List TypeRow → List ConfigLine → Result (List TypeRow) ConfigFault
 types_after rows [] = Ok rows
-types_after rows (line ∷ lines) = and_then (at_line line.0 (types_with rows (definition_in line.1))) (λ now. types_after now lines)
+types_after rows (line ∷ lines) = and_then (at_line line.number (types_with rows (definition_by line.said))) (λ now. types_after now lines)
 
 -- the table with all that a text defines, or the first definition that adds nothing to it
 abbrev pub config_types : List TypeRow → List ℕ → Result (List TypeRow) ConfigFault
-config_types rows text = cond (nat_lt 16777216 (length text)) (Err (record { line = 0; cause = ConfigTooLong })) (types_after rows (logical_lines text))
+config_types rows text = and_then (bounded_lines text) (types_after rows)

@@ -1,15 +1,17 @@
 -- Which argument a fault of a slapd.conf is about, and on which physical line that begins (slapd.conf(5), "GENERAL FORMAT"). `fault_argument`, at the end of
 -- this page, is the whole. Arguments are read from left to right, so it is the last one that is read.
-use Rattle.std.specs.Prelude.{ℕ, ◌+◌, ◌-◌, cond, ◌||◌, ◌==◌, nat_lt, List, [], ◌∷◌, ◌++◌, drop, length, codes, Option, None, is_some, option_map, Result, Ok, Err}
-use Rattle.std.specs.List.{list_all, slice_get}
+use Rattle.std.specs.Prelude.{ℕ, ◌+◌, ◌-◌, cond, ◌==◌, nat_lt, List, [], ◌∷◌, length, codes, Option, Some, None, is_some, option_map, Result, Ok, Err}
+use Rattle.std.specs.List.{find, list_all, slice_get}
 use Rattle.dir_names.specs.declared.schema.TypeRow.{TypeRow}
 use Rattle.dir_acl.specs.declared.fault.ConfigCause.{ConfigCause}
 use Rattle.dir_acl.specs.declared.fault.ConfigCause.TheVariants as cause
 use Rattle.dir_acl.specs.declared.fault.ConfigFault.{ConfigFault}
 use Rattle.dir_acl.specs.declared.deciding.FaultArgument.{FaultArgument}
+use Rattle.dir_acl.specs.Config.{bounded_lines}
 use Rattle.dir_acl.specs.Config.AccessRules.{Place, after_argument, before_to}
-use Rattle.dir_acl.specs.Config.Arguments.{arguments_of, words_of}
-use Rattle.dir_acl.specs.Config.Lines.{begins_with_blank, physical_lines}
+use Rattle.dir_conf_text.specs.PhysicalLines.{line_with_words}
+use Rattle.dir_conf_text.specs.Text.{words_by}
+use Rattle.dir_conf_text.specs.declared.text.ConfigLine.{ConfigLine}
 use Rattle.dir_acl.specs.Notes.{after_keyword, begins_with}
 
 -- ---- the argument: the last word of the line that is read. Words are counted from 0
@@ -46,41 +48,24 @@ deciding_word rows cause.GlobalAccess words = 0
 deciding_word rows cause.BadDirective words = of_bad_directive rows words
 deciding_word rows why words = of_complete rows why words
 
--- ---- its physical line
-
--- the physical lines that go on with the line before them
-abbrev pub continued : List (List ℕ) → List (List ℕ)
-continued [] = []
-continued (line ∷ lines) = cond (begins_with_blank line) (line ∷ continued lines) []
-
--- those of the line that the first of these begins
-abbrev pub folded : List (List ℕ) → List (List ℕ)
-folded [] = []
-folded (line ∷ lines) = line ∷ continued lines
-
--- the physical lines of the line that begins with physical line `n`
-abbrev pub folded_at : ℕ → List ℕ → List (List ℕ)
-folded_at n text = folded (drop (n - 1) (physical_lines text))
-
-abbrev pub joined : List (List ℕ) → List ℕ
-joined [] = []
-joined (line ∷ lines) = line ++ joined lines
-
--- of these physical lines, the first of which is line `n` and comes after `text`, the first one up to which there are `k` words
-abbrev pub line_with : ℕ → ℕ → List ℕ → List (List ℕ) → ℕ
-line_with k n text [] = n
-line_with k n text (line ∷ lines) = cond (nat_lt (length (arguments_of (text ++ line))) k) (line_with k (n + 1) (text ++ line) lines) n
-
 -- ---- the whole
 
-abbrev pub word_of_lines : ℕ → ℕ → List (List ℕ) → List (Option (List ℕ)) → Option FaultArgument
-word_of_lines at n lines words = option_map (λ word. record { line = line_with (at + 1) n [] lines; argument = word }) (slice_get words at)
+-- the word at this place of line `n`
+abbrev pub word_in : List ℕ → ℕ → ℕ → List (Option (List ℕ)) → Option FaultArgument
+word_in text n at words = option_map (λ word. record { line = line_with_words (at + 1) n text; argument = word }) (slice_get words at)
 
-abbrev pub in_line : List TypeRow → ConfigCause → ℕ → List (List ℕ) → List (Option (List ℕ)) → Option FaultArgument
-in_line rows why n lines words = word_of_lines (deciding_word rows why words) n lines words
+-- the line of this number, if one that says something begins there
+abbrev pub line_at : ℕ → List ConfigLine → Option ConfigLine
+line_at n lines = find (λ line. line.number == n) lines
+
+abbrev pub in_line : List TypeRow → List ℕ → ConfigFault → Option ConfigLine → Option FaultArgument
+in_line rows text fault None = None
+in_line rows text fault (Some line) = word_in text line.number (deciding_word rows fault.cause (words_by line.said)) (words_by line.said)
+
+abbrev pub in_lines : List TypeRow → List ℕ → ConfigFault → Result (List ConfigLine) ConfigFault → Option FaultArgument
+in_lines rows text fault (Ok lines) = in_line rows text fault (line_at fault.line lines)
+in_lines rows text fault (Err why) = None
 
 -- a fault without a line is about no argument, nor is one of a text that is too long, or of the definition of a type, which is not cut
 abbrev pub fault_argument : List TypeRow → List ℕ → ConfigFault → Option FaultArgument
-fault_argument rows text fault =
-    cond (fault.line == 0 || nat_lt 16777216 (length text)) None
-    (in_line rows fault.cause fault.line (folded_at fault.line text) (words_of (joined (folded_at fault.line text))))
+fault_argument rows text fault = in_lines rows text fault (bounded_lines text)

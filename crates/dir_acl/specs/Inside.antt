@@ -1,13 +1,12 @@
 pub mod Bounding
+pub mod ClearLists
 pub mod Digits
 pub mod Escapes
 pub mod Fakes
 pub mod FirstPiece
-pub mod LinesToCome
 pub mod NotedTypes
 pub mod Noting
 pub mod ReadingConfig
 pub mod Requests
 pub mod RunningSet
 pub mod Stack
-pub mod Wanting

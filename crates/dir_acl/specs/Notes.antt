@@ -18,9 +18,10 @@ use Rattle.dir_acl.specs.declared.access.Edit.{Edit}
 use Rattle.dir_acl.specs.declared.note.Note.{Note}
 use Rattle.dir_acl.specs.declared.note.NoteCause.{NoteCause}
 use Rattle.dir_acl.specs.declared.note.NoteCause.TheVariants.{Include, UnknownType, Supertype, ObjectClass, HalfOfWrite, OtherDatabase, NoRule}
-use Rattle.dir_acl.specs.Config.Arguments.{words_of}
-use Rattle.dir_acl.specs.Config.Lines.{logical_lines}
-use Rattle.dir_acl.specs.Config.Names.{form_of, is_word}
+use Rattle.dir_conf_text.specs.Text.{config_lines, words_by}
+use Rattle.dir_conf_text.specs.declared.text.ConfigLine.{ConfigLine}
+use Rattle.dir_conf_text.specs.Keywords.{is_word}
+use Rattle.dir_acl.specs.Config.Names.{form_of}
 use Rattle.dir_acl.specs.Config.Permissions.{edit_of}
 use Rattle.dir_acl.specs.Filters.{begins_test, in_parentheses}
 use Rattle.dir_acl.specs.Notes.Halves.{takes_half}
@@ -163,11 +164,14 @@ abbrev pub end_notes : Bool → List Note
 end_notes has = cond has [] (note_at 0 NoRule ∷ [])
 
 -- the notes of these lines: `passed` tells whether the first is passed over, `has` whether there was a rule before
-abbrev pub lines_notes : NotedTypes → Bool → Bool → List (ℕ × List ℕ) → List Note
+abbrev pub lines_notes : NotedTypes → Bool → Bool → List ConfigLine → List Note
 lines_notes types passed has [] = end_notes has
 lines_notes types passed has (line ∷ lines) =
-    line_notes types passed line.0 (words_of line.1) ++ lines_notes types (passed_after passed (words_of line.1)) (has || is_rule passed (words_of line.1)) lines
+    line_notes types passed line.number (words_by line.said) ++ lines_notes types (passed_after passed (words_by line.said)) (has || is_rule passed (words_by line.said)) lines
 
--- the notes on a text that reads as a configuration
+-- the notes on lines that read as a configuration
+abbrev pub notes_of_lines : List TypeRow → List ConfigLine → List Note
+notes_of_lines rows lines = lines_notes (noted_types rows lines) false false lines
+
 abbrev pub notes_of : List TypeRow → List ℕ → List Note
-notes_of rows text = lines_notes (noted_types rows text) false false (logical_lines text)
+notes_of rows text = notes_of_lines rows (config_lines text)

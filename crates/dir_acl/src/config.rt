@@ -1,13 +1,13 @@
 //! The configuration of a slapd.conf (slapd.conf(5)): the suffix and the rootdn of its database, and its access rules.
-//! `lines` cuts the text, `arguments` its lines, `directives` reads these, and `access_rules` the rules among them; `types` reads
-//! the attribute types that it defines, and `quoting` writes arguments.
+//! `dir_conf_text` cuts the text; `directives` reads its lines, `access_rules` the rules among them, and `types` the attribute types that
+//! they define.
 
 ghost use Rattle.std.specs.Prelude.{◌≡◌, IfOk, option_copied};
-ghost use Rattle.dir_acl.specs.Config.{config_of, of_suffix};
+ghost use Rattle.dir_acl.specs.Config.{bounded_lines, config_of, config_of_lines, of_suffix};
 ghost use Rattle.dir_acl.specs.Decision.{is_granted};
 ghost use Rattle.dir_acl.specs.Inside.ReadingConfig.{configuration_of, settings_of};
 ghost use Rattle.dir_acl.specs.Inside.Requests.{question_of};
-ghost use Rattle.dir_acl.specs.Notes.{notes_of};
+ghost use Rattle.dir_acl.specs.Notes.{notes_of_lines};
 ghost use Rattle.dir_acl.specs.Outcome.{GivesConfig};
 ghost use Rattle.dir_acl.specs.Privileges.{has};
 ghost use Rattle.dir_acl.specs.Rules.{rules_of};
@@ -15,27 +15,21 @@ ghost use Rattle.dir_acl.specs.declared.fault.ConfigCause.TheVariants as ConfigC
 ghost use Rattle.dir_acl.specs.declared.privileges.Privilege.{Privilege};
 
 pub(crate) mod access_rules;
-pub(crate) mod arguments;
 pub(crate) mod directives;
-pub(crate) mod lines;
 mod names;
 pub(crate) mod permissions;
-pub(crate) mod quoting;
 pub(crate) mod types;
 mod whats;
 mod whos;
 
 use crate::access::decision::privileges_under;
-use crate::config::directives::Settings;
-use crate::config::lines::read_lines;
-use crate::note::lines::read_notes;
+use crate::config::directives::{Settings, read_lines};
+use crate::note::lines::{Noted, read_noted};
 use crate::{ConfigCause, ConfigFault, Note, Privileges, Request, Rule};
+use dir_conf_text::{ConfigText, MAX_CONFIG};
 use dir_names::{DnKey, Schema};
 use dir_tree::Directory;
 use std::alloc::Global;
-
-/// The greatest number of bytes of a configuration.
-pub const MAX_CONFIG: usize = 16_777_216;
 
 /// The configuration of one database.
 #[derive(Debug)]
@@ -64,38 +58,41 @@ impl Config {
     ///
     /// # Errors
     ///
-    /// `ConfigTooLong` if the text has more than `MAX_CONFIG` bytes. Else the fault of the first faulty line, and in it
-    /// that of the first faulty argument. Else `NoSuffix`, if no line has a suffix. `Memory` if memory runs out.
+    /// `ConfigTooLong` if the text has more than `MAX_CONFIG` bytes. Else those of `of_text`.
     pub fn read(alloc: Global, schema: &Schema, text: &[u8]) -> Result<Config, ConfigFault>
         ensures { GivesConfig configuration_of result (config_of schema.now text.now) }
     {
-        if text.len() > MAX_CONFIG {
-            return Err(too_long());
-        }
-        with_suffix(read_lines(alloc, schema, text)?)
+        Config::of_text(alloc, schema, &cut_config(alloc, text)?)
     }
 
-    /// Reads a slapd.conf as `read` does, with the notes on it, in the order of its lines; `NoRule` comes last.
+    /// Reads the lines of a slapd.conf.
     ///
     /// # Errors
     ///
-    /// Those of `read`.
-    pub fn read_with_notes(
+    /// The fault of the first faulty line, and in it that of the first faulty argument. Else `NoSuffix`, if no line has a suffix.
+    /// `Memory` if memory runs out.
+    pub fn of_text(alloc: Global, schema: &Schema, text: &ConfigText) -> Result<Config, ConfigFault>
+        ensures { GivesConfig configuration_of result (config_of_lines schema.now text.now) }
+    {
+        with_suffix(read_lines(alloc, schema, text.lines())?)
+    }
+
+    /// Reads the lines of a slapd.conf as `of_text` does, with the notes on them, in their order; `NoRule` comes last. The words of a
+    /// line go when it is read.
+    ///
+    /// # Errors
+    ///
+    /// Those of `of_text`.
+    pub fn with_notes(
         alloc: Global,
         schema: &Schema,
-        text: &[u8],
+        text: ConfigText,
     ) -> Result<(Config, Vec<Note>), ConfigFault>
-        ensures read { GivesConfig (λ noted. configuration_of noted.0) result (config_of schema.now text.now) }
-        ensures notes { IfOk result (λ noted. noted.1.items ≡ notes_of schema.now text.now) }
+        ensures read { GivesConfig (λ noted. configuration_of noted.0) result (config_of_lines schema.now text) }
+        ensures notes { IfOk result (λ noted. noted.1.items ≡ notes_of_lines schema.now text) }
     {
-        let config = Config::read(alloc, schema, text)?;
-        if text.len() > MAX_CONFIG {
-            return Err(too_long());
-        }
-        match read_notes(alloc, schema, text) {
-            Ok(notes) => Ok((config, notes)),
-            Err(cause) => Err(ConfigFault { line: 0, cause }),
-        }
+        let Noted { settings, notes } = read_noted(alloc, schema, text)?;
+        Ok((with_suffix(settings)?, notes))
     }
 
     /// The suffix of the database. The call doesn't allocate.
@@ -127,6 +124,32 @@ impl Config {
         ensures { rules_of result.now ≡ (configuration_of self.now).rules }
     {
         self.rules.as_slice()
+    }
+}
+
+/// Cuts the text of a slapd.conf into its lines: all that reads it goes through these.
+///
+/// # Errors
+///
+/// `ConfigTooLong` if the text has more than `MAX_CONFIG` bytes. `Memory` if memory runs out.
+pub fn cut_config(alloc: Global, text: &[u8]) -> Result<ConfigText, ConfigFault>
+    ensures { GivesConfig (λ lines. lines) result (bounded_lines text.now) }
+{
+    if text.len() > MAX_CONFIG {
+        return Err(too_long());
+    }
+    match ConfigText::cut(alloc, text) {
+        Ok(lines) => Ok(lines),
+        Err(_) => Err(out_of_memory()),
+    }
+}
+
+pub(crate) fn out_of_memory() -> ConfigFault
+    ensures { result ≡ record { line = 0; cause = ConfigCause.Memory } }
+{
+    ConfigFault {
+        line: 0,
+        cause: ConfigCause::Memory,
     }
 }
 

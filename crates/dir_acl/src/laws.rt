@@ -2,6 +2,7 @@
 
 ghost use Rattle.std.specs.Prelude.{◌≡◌, ◌||◌, [], ℕ, List, Option, Err, Ok, Some, map, true};
 ghost use Rattle.dir_names.specs.declared.schema.TypeRow.{TypeRow};
+ghost use Rattle.dir_conf_text.specs.Text.{config_lines};
 ghost use Rattle.dir_names.specs.Keys.{DnKeys};
 ghost use Rattle.dir_tree.specs.Dir.{Dir};
 ghost use Rattle.dir_acl.specs.Bounds.{granted_by, judged};
@@ -9,7 +10,6 @@ ghost use Rattle.dir_acl.specs.Config.{config_of};
 ghost use Rattle.dir_acl.specs.Decision.{Question, is_granted, is_root_for, named};
 ghost use Rattle.dir_acl.specs.Inside.Bounding.{BoundsAreExact};
 ghost use Rattle.dir_acl.specs.Config.Permissions.{set_with_text};
-ghost use Rattle.dir_acl.specs.Config.Quoting.{WrittenArgumentsAreRead};
 ghost use Rattle.dir_acl.specs.Filters.{IsTooDeep, Spells, Tree, in_parentheses};
 ghost use Rattle.dir_acl.specs.Filters.Reading.{filter_of};
 ghost use Rattle.dir_acl.specs.Notes.{notes_of};
@@ -36,7 +36,7 @@ pub fn reading_is_the_grammar()
 /// Where there is no note, there is a rule, and the rules name known types alone; but for the attributes of groups, none from which
 /// another is derived. No clause takes one of `a` and `z` away alone.
 pub fn rules_without_notes_are_understood()
-    ensures { (rows : List TypeRow) (text : List ℕ) (config : Configuration) → config_of rows text ≡ Ok config → notes_of rows text ≡ [] → AreUnderstood (noted_types rows text) config }
+    ensures { (rows : List TypeRow) (text : List ℕ) (config : Configuration) → config_of rows text ≡ Ok config → notes_of rows text ≡ [] → AreUnderstood (noted_types rows (config_lines text)) config }
 {}
 
 /// One pass over rules with open parts finds exactly what is held however these are closed, and what may be held (slapd.access(5)), where
@@ -59,9 +59,4 @@ pub fn cuts_are_found()
 /// The text of a set of privileges is read back as this set.
 pub fn privileges_read_back()
     ensures { (set : Privileges) → set_with_text (privileges_text set) ≡ Some set }
-{}
-
-/// Arguments that were written are read as they were.
-pub fn written_arguments_are_read()
-    ensures { WrittenArgumentsAreRead }
 {}

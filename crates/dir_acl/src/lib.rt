@@ -13,17 +13,15 @@ mod privileges;
 
 pub use access::target_rules::TargetRules;
 pub use access::{Asked, Clause, Control, Edit, Request, Rule, Style, What, Who};
-pub use config::arguments::line_words;
-pub use config::quoting::push_argument;
-pub use config::types::read_schema;
-pub use config::{Config, MAX_CONFIG};
+pub use config::types::{read_schema, types_of_text};
+pub use config::{Config, cut_config};
 pub use deciding::{FaultArgument, fault_argument};
 pub use fault::{ConfigCause, ConfigFault, FilterFault};
 pub use filter::truth::Truth;
 pub use filter::{Filter, Matching, Pieces, Test};
 pub use laws::{
     bounds_are_exact, cuts_are_found, known_rules_are_granted, privileges_read_back,
-    reading_is_the_grammar, rules_without_notes_are_understood, written_arguments_are_read,
+    reading_is_the_grammar, rules_without_notes_are_understood,
 };
 pub use note::{Note, NoteCause};
 pub use privileges::{Level, Privilege, Privileges};

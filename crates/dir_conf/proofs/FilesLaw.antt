@@ -5,7 +5,7 @@ use Rattle.dir_names.specs.Keys.{DnKeys}
 use Rattle.dir_names.specs.NameKeys.{name_value_key}
 use Rattle.dir_names.specs.Results.{and_then}
 use Rattle.dir_names.specs.declared.schema.TypeRow.{TypeRow}
-use Rattle.dir_acl.specs.Config.Arguments.{whole_words}
+use Rattle.dir_conf_text.specs.Arguments.{whole_words}
 use Rattle.dir_conf.specs.declared.cn_config.macros.Macro.{Macro}
 use Rattle.dir_conf.specs.declared.fault.ConfFault.{ConfFault}
 use Rattle.dir_conf.specs.declared.fault.ConfFault.TheVariants.{BadArguments, BadInclude, NoDatabase, SecondDatabase}
@@ -23,7 +23,7 @@ use Rattle.dir_conf.specs.SlapdConf.Files.{Placed, after_each, lines_of_files}
 use Rattle.dir_conf.specs.SlapdConf.Parts.{Database, Parts, after_database, after_one, after_statement, after_suffix, after_words, database_of, in_database, in_frontend, in_part, lines_of, no_parts, opened, part_named, parts_of, with_own, with_suffixes}
 use Rattle.dir_conf.specs.SlapdConf.Statements.{Statement, by_definition, by_words, defined_in, is_definition_word, statement_in, statements_from}
 use Rattle.dir_acl.proofs.Grammar.Sound.{first_true, second_true}
-use Rattle.dir_acl.specs.Config.Names.{is_word}
+use Rattle.dir_conf_text.specs.Keywords.{is_word}
 use Rattle.dir_conf.specs.declared.cn_config.databases.Suffix.{Suffix}
 use Rattle.dir_conf.specs.declared.site.Directive.TheVariants.{Suffix as a_suffix, RootDn, Access}
 use Rattle.dir_conf.specs.CnConfig.Databases.{by_suffixes, is_at, is_within, line_of_first, suffix_by}

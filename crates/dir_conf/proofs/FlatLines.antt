@@ -6,13 +6,13 @@ use Rattle.std.proofs.lemmas.Bool.Decides.{nat_tests}
 use Rattle.std.proofs.lemmas.List.{append_assoc, append-nil}
 use Rattle.dir_names.proofs.Both.{left, right}
 use Rattle.dir_names.specs.Cut.{parts_at}
-use Rattle.dir_acl.specs.Config.Arguments.{words_of}
+use Rattle.dir_conf_text.specs.Arguments.{words_of}
 use Rattle.dir_names.specs.Trimming.{is_return, without_return}
-use Rattle.dir_acl.specs.Config.Lines.{physical_lines}
-use Rattle.dir_acl.specs.Config.Quoting.{escaped, is_bare, is_bare_byte, is_escaped, preceded, quoted}
-use Rattle.dir_acl.specs.Config.Types.{definition_in}
+use Rattle.dir_conf_text.specs.Lines.{physical_lines}
+use Rattle.dir_conf_text.specs.Quoting.{escaped, is_bare, is_bare_byte, is_escaped, preceded, quoted}
+use Rattle.dir_conf_text.specs.Definitions.{definition_in}
 use Rattle.dir_acl.proofs.Grammar.Sound.{not_true}
-use Rattle.dir_acl.proofs.WrittenArguments.{written_arguments}
+use Rattle.dir_conf_text.proofs.WrittenArguments.{written_arguments}
 use Rattle.dir_conf.specs.declared.site.Directive.{Directive}
 use Rattle.dir_conf.specs.declared.site.Directive.TheVariants.{Suffix, RootDn, Access}
 use Rattle.dir_conf.specs.declared.site.Line.{Line}

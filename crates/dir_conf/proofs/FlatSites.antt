@@ -18,7 +18,8 @@ use Rattle.dir_conf.specs.declared.site.Directive.{Directive}
 use Rattle.dir_conf.specs.declared.site.Directive.TheVariants.{Suffix, RootDn}
 use Rattle.dir_conf.specs.declared.site.Line.{Line}
 use Rattle.dir_conf.specs.CnConfig.{definitions, is_own_schema, lines_in, macros_after, rule_by, rule_line, rules_if_frontend, rules_in, site_of, types_in, types_of, whole_line, whole_lines}
-use Rattle.dir_conf.specs.CnConfig.Arguments.{after_step, arguments_from, arguments_of, is_space, last_argument, step_in_argument, step_of}
+use Rattle.dir_conf_text.specs.Lines.{is_space}
+use Rattle.dir_conf.specs.CnConfig.Arguments.{after_step, arguments_from, arguments_of, last_argument, step_in_argument, step_of}
 use Rattle.dir_conf.specs.CnConfig.Databases.{database_of, is_frontend}
 use Rattle.dir_conf.specs.CnConfig.Macros.{by_first, definition, plain_byte, without_spaces}
 use Rattle.dir_conf.specs.CnConfig.Records.{gather, values_of}

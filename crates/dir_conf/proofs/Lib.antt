@@ -5,6 +5,5 @@ pub mod FlatLaw
 pub mod FlatLines
 pub mod FlatSites
 pub mod Included
-pub mod Lines
 pub mod Turns
 pub mod WholeTexts

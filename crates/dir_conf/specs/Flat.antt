@@ -2,7 +2,7 @@
 use Rattle.std.specs.Prelude.{ℕ, Bool, true, false, cond, not, ◌==◌, nat_lt, List, [], ◌∷◌, ◌++◌, length, codes, Result, Ok, Err}
 use Rattle.std.specs.List.{count_by, flat_map}
 use Rattle.dir_names.specs.Ascii.{line_feed}
-use Rattle.dir_acl.specs.Config.Quoting.{preceded}
+use Rattle.dir_conf_text.specs.Quoting.{preceded}
 use Rattle.dir_conf.specs.declared.fault.ConfFault.{ConfFault}
 use Rattle.dir_conf.specs.declared.fault.ConfFault.TheVariants.{TooLong}
 use Rattle.dir_conf.specs.declared.flat.Flat.{Flat}

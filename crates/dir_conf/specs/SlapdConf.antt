@@ -1,6 +1,5 @@
 -- What the files of a slapd.conf say of one database (slapd.conf(5)). `flat_of_files`, at the end of this page, is the whole.
 pub mod Files
-pub mod Lines
 pub mod Parts
 pub mod Statements
 use Rattle.std.specs.Prelude.{ℕ, ◌-◌, cond, List, [], ◌∷◌, ◌++◌, codes, Option, None, Some, option_map, Result, Ok, Err}
@@ -8,7 +7,7 @@ use Rattle.std.specs.List.{slice_get}
 use Rattle.dir_names.specs.Keys.{DnKeys}
 use Rattle.dir_names.specs.Results.{and_then}
 use Rattle.dir_names.specs.declared.schema.TypeRow.{TypeRow}
-use Rattle.dir_acl.specs.Config.Names.{is_word}
+use Rattle.dir_conf_text.specs.Keywords.{is_word}
 use Rattle.dir_conf.specs.declared.cn_config.macros.Macro.{Macro}
 use Rattle.dir_conf.specs.declared.fault.ConfFault.{ConfFault}
 use Rattle.dir_conf.specs.declared.fault.ConfFault.TheVariants as fault

@@ -2,7 +2,7 @@
 use Rattle.std.specs.Prelude.{ℕ, cond, List, [], ◌∷◌, map, codes, Result, Ok, Err}
 use Rattle.std.specs.List.{flat_map}
 use Rattle.dir_names.specs.Results.{and_then}
-use Rattle.dir_acl.specs.Config.Names.{is_word}
+use Rattle.dir_conf_text.specs.Keywords.{is_word}
 use Rattle.dir_conf.specs.declared.cn_config.records.Attribute.{Attribute}
 use Rattle.dir_conf.specs.declared.fault.ConfFault.{ConfFault}
 use Rattle.dir_conf.specs.declared.fault.ConfFault.TheVariants.{TooLong}

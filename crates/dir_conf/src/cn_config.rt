@@ -24,7 +24,7 @@ use crate::cn_config::values::Value;
 use crate::fault::ConfFault;
 use crate::flat::{Flat, flat_of_site};
 use crate::site::{Directive, Line, Site};
-use dir_acl::MAX_CONFIG;
+use dir_conf_text::MAX_CONFIG;
 use dir_ldif::{Line as LdifLine, StreamFault, read_blocks};
 use dir_names::{Bytes, DnKey, Schema, Texts};
 use std::alloc::Global;

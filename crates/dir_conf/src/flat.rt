@@ -2,7 +2,7 @@
 
 ghost use Rattle.std.specs.Prelude.{◌≡◌, ◌++◌, IfOk, OnOk};
 ghost use Rattle.std.specs.List.{count_by, flat_map};
-ghost use Rattle.dir_acl.specs.Config.Quoting.{preceded};
+ghost use Rattle.dir_conf_text.specs.Quoting.{preceded};
 ghost use Rattle.dir_conf.specs.Flat.{content_of, directive_line, flat_of_site, flat_parts, is_rule, site_text, tally_of, type_line};
 ghost use Rattle.dir_conf.specs.Outcome.{GivesConf};
 ghost use Rattle.dir_conf.specs.OwnTypes.{own_types};
@@ -10,7 +10,7 @@ ghost use Rattle.dir_conf.specs.OwnTypes.{own_types};
 use crate::fault::ConfFault;
 use crate::own_types::own_text;
 use crate::site::{Directive, Line, Site, Tally};
-use dir_acl::{MAX_CONFIG, push_argument};
+use dir_conf_text::{MAX_CONFIG, push_argument};
 use dir_names::{Bytes, Memory};
 use std::alloc::Global;
 

@@ -1,5 +1,5 @@
-//! The configuration of a slapd that has a slapd.conf (slapd.conf(5)), in one file or in several that include one another. `lines` cuts their texts, `files` puts
-//! them together, `statements` reads each of them, `parts` tells which database they are about, and this module finds the one that is wanted.
+//! The configuration of a slapd that has a slapd.conf (slapd.conf(5)), in one file or in several that include one another. `files` puts their lines
+//! together, `statements` reads each of them, `parts` tells which database they are about, and this module finds the one that is wanted.
 
 ghost use Rattle.std.specs.Prelude.{◌≡◌, [], map, option_copied, option_map};
 ghost use Rattle.dir_conf.specs.Flat.{content_of, flat_parts};
@@ -9,7 +9,6 @@ ghost use Rattle.dir_conf.specs.SlapdConf.Files.{file_of, placed};
 ghost use Rattle.dir_conf.specs.SlapdConf.Statements.{statement_of};
 
 pub(crate) mod files;
-mod lines;
 mod parts;
 pub(crate) mod statements;
 

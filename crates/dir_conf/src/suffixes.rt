@@ -14,7 +14,7 @@ use crate::cn_config::values::Value;
 use crate::fault::ConfFault;
 use crate::slapd_conf::files::{ConfFile, lines_of_files};
 use crate::slapd_conf::statements::{Said, SaidLine, read_statements};
-use dir_acl::MAX_CONFIG;
+use dir_conf_text::MAX_CONFIG;
 use dir_names::{Bytes, Memory, Texts};
 use std::alloc::Global;
 

@@ -11,7 +11,8 @@ use Rattle.dir_names.specs.Results.{and_then}
 use Rattle.dir_names.specs.declared.schema.TypeRow.{TypeRow}
 use Rattle.dir_names.specs.Table.Builtin.{builtin_rows}
 use Rattle.dir_acl.specs.declared.fault.ConfigFault.{ConfigFault}
-use Rattle.dir_acl.specs.Config.{config_of, config_types}
+use Rattle.dir_conf_text.specs.declared.text.ConfigLine.{ConfigLine}
+use Rattle.dir_acl.specs.Config.{bounded_lines, config_of_lines, config_types, types_after}
 use Rattle.dir_acl.specs.Notes.{notes_of}
 use Rattle.dir_acl.specs.Rules.{Configuration}
 use Rattle.dir_acl.specs.declared.note.Note.{Note}
@@ -20,7 +21,7 @@ use Rattle.dir_tools.specs.declared.fault.ToolFault.{ToolFault}
 use Rattle.dir_tools.specs.declared.fault.ToolFault.TheVariants as tool
 use Rattle.dir_tools.specs.AccessAnswers.{ComesAfterConfig, IsConfigFault, IsTextOf}
 use Rattle.dir_tools.specs.declared.acl.configuration.NotedConfig.{NotedConfig}
-use Rattle.dir_tools.specs.AccessReport.{Configured, configured}
+use Rattle.dir_tools.specs.AccessReport.{Configured, configured, configured_by_lines}
 use Rattle.dir_tools.specs.Inside.Asking.{configured_of}
 use Rattle.dir_questions.specs.declared.fault.QuestionsFault.{QuestionsFault}
 use Rattle.dir_questions.specs.declared.fault.QuestionsFault.TheVariants as suite
@@ -62,15 +63,19 @@ none_given (Some before) = sym (append-nil before)
 -- ---- the types that a configuration defines
 
 types_in : (rows : List TypeRow) (text : List ℕ) (found : Configured) → configured rows text ≡ Ok found → config_types rows text ≡ Ok found.rows
-types_in rows text found e = by (config_types rows text) refl e
+types_in rows text found e = by (bounded_lines text) e
   where
     under : (now : List TypeRow) (r : Result Configuration ConfigFault) → and_then r (λ c. Ok (record { rows = now; configuration = c })) ≡ Ok found → now ≡ found.rows
     under now (Ok c) e = cc
     under now (Err fault) e = absurd (cc)
 
-    by : (r : Result (List TypeRow) ConfigFault) → config_types rows text ≡ r → and_then r (λ now. and_then (config_of now text) (λ c. Ok (record { rows = now; configuration = c }))) ≡ Ok found → config_types rows text ≡ Ok found.rows
-    by (Ok now) is e = is ∙ ap Ok (under now (config_of now text) e)
-    by (Err fault) is e = absurd (cc)
+    of_lines : (lines : List ConfigLine) (r : Result (List TypeRow) ConfigFault) → and_then r (λ now. and_then (config_of_lines now lines) (λ c. Ok (record { rows = now; configuration = c }))) ≡ Ok found → r ≡ Ok found.rows
+    of_lines lines (Ok now) e = ap Ok (under now (config_of_lines now lines) e)
+    of_lines lines (Err fault) e = absurd (cc)
+
+    by : (r : Result (List ConfigLine) ConfigFault) → and_then r (configured_by_lines rows) ≡ Ok found → and_then r (types_after rows) ≡ Ok found.rows
+    by (Ok lines) e = of_lines lines (types_after rows lines) e
+    by (Err fault) e = absurd (cc)
 
 typed : (rows : List TypeRow) (text : Option (List ℕ)) (found : Configured) → IsTextOf rows text found → IfSome text (λ text. config_types rows text ≡ Ok found.rows)
 typed rows None found h = tt

@@ -11,8 +11,8 @@ ghost use Rattle.dir_files.specs.declared.including.Unread.TheVariants as unread
 use crate::call_faults::not_opened;
 use crate::fault::Fault;
 use crate::files::{FileSystem, Opened, Refusal};
-use dir_acl::MAX_CONFIG;
 use dir_conf::{ConfFault, ConfFile, FileFault, MAX_INCLUDE_DEPTH, includes_in};
+use dir_conf_text::MAX_CONFIG;
 use dir_ldif::Source;
 use dir_names::{Bytes, Memory};
 use dir_tools::{Input, ToolFault, read_bounded};

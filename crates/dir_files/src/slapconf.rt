@@ -15,11 +15,11 @@ use crate::files::{FileSystem, Opened};
 use crate::including::{not_read, read_file, read_files};
 use crate::one_output::finish;
 use crate::words::{ConfSource, ConfWords};
-use dir_acl::MAX_CONFIG;
 use dir_conf::{
     ConfFault, FileFault, Flat, Tally, flat_of_config, flat_of_files, suffixes_of_config,
     suffixes_of_files,
 };
+use dir_conf_text::MAX_CONFIG;
 use dir_ldif::write_flushed;
 use dir_names::{DnKey, Memory, Schema, Texts};
 use dir_tools::{ToolFault, suffix_key};

@@ -11,7 +11,8 @@ ghost use Rattle.dir_questions.specs.Questions.{asked_word, base_in, collect, fa
 ghost use Rattle.dir_questions.specs.Runs.{HasLines, HasNoLines};
 
 use crate::fault::{QuestionCause, QuestionsFault};
-use dir_acl::{Level, MAX_CONFIG, Privileges};
+use dir_acl::{Level, Privileges};
+use dir_conf_text::MAX_CONFIG;
 use dir_ldif::{Line, Source, StreamFault, line_parts, read_blocks};
 use dir_names::{Dn, DnKey, Memory, Schema};
 use dir_tools::{ToolFault, Word, read_bounded, read_name, read_word};

@@ -11,10 +11,12 @@ use Rattle.dir_acl.specs.declared.fault.ConfigCause.{ConfigCause}
 use Rattle.dir_acl.specs.declared.fault.ConfigCause.TheVariants as cause
 use Rattle.dir_acl.specs.declared.fault.ConfigFault.{ConfigFault}
 use Rattle.dir_names.specs.Results.{and_then}
-use Rattle.dir_acl.specs.Config.{config_of, config_types}
+use Rattle.dir_conf_text.specs.Text.{config_lines}
+use Rattle.dir_conf_text.specs.declared.text.ConfigLine.{ConfigLine}
+use Rattle.dir_acl.specs.Config.{bounded_lines, config_types, types_after}
 use Rattle.dir_acl.specs.Outcome.{IsCauseAt}
 use Rattle.dir_tools.specs.AccessAnswers.{IsArgumentOf, IsFaultOf, argument_under}
-use Rattle.dir_tools.specs.AccessReport.{configured}
+use Rattle.dir_tools.specs.AccessReport.{configured, configured_by_lines}
 use Rattle.dir_tools.specs.Inside.Asking.{config_fault, fault_at}
 
 longer : (xs text ys : List ℕ) → xs ≡ text ++ ys → 16777216 < length text → nat_lt 16777216 (length xs) ≡ true
@@ -32,11 +34,14 @@ first_of b x y e = ap (λ c. cond c x y) e
 abbrev pub IsLimited : {A : Type 0} → (List ℕ → Result A ConfigFault) → Type 0
 IsLimited reads = (text : List ℕ) → nat_lt 16777216 (length text) ≡ true → reads text ≡ Err (record { line = 0; cause = cause.ConfigTooLong })
 
+lines_limited : IsLimited bounded_lines
+lines_limited text e = first_of (nat_lt 16777216 (length text)) (Err (record { line = 0; cause = cause.ConfigTooLong })) (Ok (config_lines text)) e
+
 pub types_limited : (rows : List TypeRow) → IsLimited (config_types rows)
-types_limited rows text e = first_of (nat_lt 16777216 (length text)) (Err (record { line = 0; cause = cause.ConfigTooLong })) _ e
+types_limited rows text e = ap (λ (r : Result (List ConfigLine) ConfigFault). and_then r (types_after rows)) (lines_limited text e)
 
 pub config_limited : (rows : List TypeRow) → IsLimited (configured rows)
-config_limited rows text e = ap (λ (r : Result (List TypeRow) ConfigFault). and_then r (λ now. and_then (config_of now text) (λ c. Ok (record { rows = now; configuration = c })))) (types_limited rows text e)
+config_limited rows text e = ap (λ (r : Result (List ConfigLine) ConfigFault). and_then r (configured_by_lines rows)) (lines_limited text e)
 
 -- ---- what was read of a source is what is told of all that it had left
 

@@ -24,7 +24,8 @@ use Rattle.dir_acl.specs.declared.privileges.Level.{Level}
 use Rattle.dir_acl.specs.declared.privileges.Privilege.{Privilege}
 use Rattle.dir_acl.specs.declared.privileges.Privilege.TheVariants.{Manage, Add, Delete, Read, Search, Compare, Auth, Disclose}
 use Rattle.dir_acl.specs.declared.privileges.Privileges.{Privileges}
-use Rattle.dir_acl.specs.Config.{config_of, config_types}
+use Rattle.dir_conf_text.specs.declared.text.ConfigLine.{ConfigLine}
+use Rattle.dir_acl.specs.Config.{bounded_lines, config_of_lines, types_after}
 use Rattle.dir_acl.specs.Decision as decision
 use Rattle.dir_acl.specs.Decision.{is_granted}
 use Rattle.dir_acl.specs.Inside.Fakes.{attributes_of}
@@ -203,8 +204,11 @@ pub record Configured : Type 0 where
   pub rows : List TypeRow
   pub configuration : Configuration
 
+abbrev pub configured_by_lines : List TypeRow → List ConfigLine → Result Configured ConfigFault
+configured_by_lines rows lines = and_then (types_after rows lines) (λ now. and_then (config_of_lines now lines) (λ c. Ok (record { rows = now; configuration = c })))
+
 abbrev pub configured : List TypeRow → List ℕ → Result Configured ConfigFault
-configured rows text = and_then (config_types rows text) (λ now. and_then (config_of now text) (λ c. Ok (record { rows = now; configuration = c })))
+configured rows text = and_then (bounded_lines text) (configured_by_lines rows)
 
 abbrev pub ok_or_bad_config : {A : Type 0} → Result A ConfigFault → Result A ToolFault
 ok_or_bad_config (Ok found) = Ok found

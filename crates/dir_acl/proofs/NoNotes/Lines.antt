@@ -9,12 +9,14 @@ use Rattle.dir_acl.specs.declared.fault.ConfigCause.{ConfigCause}
 use Rattle.dir_acl.specs.declared.fault.ConfigCause.TheVariants.{BadDirective, SecondDatabase, SecondSuffix, GlobalAccess, ConfigTooLong}
 use Rattle.dir_acl.specs.declared.fault.ConfigFault.{ConfigFault}
 use Rattle.dir_acl.specs.declared.note.NoteCause.TheVariants.{Include, NoRule}
-use Rattle.dir_acl.specs.Config.{Settings, no_settings, access, after_arguments, after_line, after_lines, at_line, config_of, database, first_argument, if_complete, if_last, of_database, of_suffix, other_than_database, rootdn, suffix, suffix_at, with_rule}
+use Rattle.dir_acl.specs.Config.{Settings, no_settings, access, after_arguments, after_line, after_lines, at_line, config_of, config_of_lines, database, first_argument, if_complete, if_last, of_database, of_suffix, other_than_database, rootdn, suffix, suffix_at, with_rule}
 use Rattle.dir_acl.specs.Config.AccessRules.{access_rule_of}
-use Rattle.dir_acl.specs.Config.Arguments.{words_of}
-use Rattle.dir_acl.specs.Config.Lines.{logical_lines}
-use Rattle.dir_acl.specs.Config.Names.{is_word, name_at}
-use Rattle.dir_acl.specs.Notes.{begins_with, file_of, is_rule, line_notes, lines_notes, note_at, notes_of, passed_after, read_notes, rule_notes}
+use Rattle.dir_conf_text.specs.Text.{config_lines, words_by}
+use Rattle.dir_conf_text.specs.declared.text.ConfigLine.{ConfigLine}
+use Rattle.dir_conf_text.specs.declared.text.Said.{Said}
+use Rattle.dir_conf_text.specs.Keywords.{is_word}
+use Rattle.dir_acl.specs.Config.Names.{name_at}
+use Rattle.dir_acl.specs.Notes.{begins_with, file_of, is_rule, line_notes, lines_notes, note_at, notes_of, notes_of_lines, passed_after, read_notes, rule_notes}
 use Rattle.dir_acl.specs.Notes.Known.{AreUnderstood, rule_known}
 use Rattle.dir_acl.specs.Notes.Supertypes.{NotedTypes, noted_types}
 use Rattle.dir_acl.specs.Rules.{AccessRule, Configuration}
@@ -28,11 +30,11 @@ pushed_is_some (r ∷ rules) rule e = cc
 -- ---- a directive that is no rule leaves the rules, and in a part as before
 
 -- the settings that a directive gives have the rules of these, and are passed over or not
-abbrev Keeps : List AccessRule → Bool → Result Settings ConfigCause → Type 0
+abbrev pub Keeps : List AccessRule → Bool → Result Settings ConfigCause → Type 0
 Keeps rules passed (Err c) = Unit {0}
 Keeps rules passed (Ok next) = (next.rules ≡ rules) × (next.is_passed_over ≡ passed)
 
-keeps_complete : (arguments : List (Option (List ℕ))) (s : Settings) → Keeps s.rules s.is_passed_over (if_complete arguments s)
+pub keeps_complete : (arguments : List (Option (List ℕ))) (s : Settings) → Keeps s.rules s.is_passed_over (if_complete arguments s)
 keeps_complete arguments s = by (list_all is_some arguments)
   where
     by : (b : Bool) → Keeps s.rules s.is_passed_over (cond b (Ok s) (Err BadDirective))
@@ -45,7 +47,7 @@ keeps_last (None ∷ more) c s = tt
 keeps_last (Some argument ∷ more) c s = tt
 
 module _ (types : NotedTypes) where
-  keeps_suffix : (s : Settings) (arguments : List (Option (List ℕ))) → Keeps s.rules s.is_passed_over (suffix types.rows s arguments)
+  pub keeps_suffix : (s : Settings) (arguments : List (Option (List ℕ))) → Keeps s.rules s.is_passed_over (suffix types.rows s arguments)
   keeps_suffix s arguments = by s.has_database (is_some s.suffix) (first_argument arguments)
     where
       named : (more : List (Option (List ℕ))) (r : Result DnKeys ConfigCause) → Keeps s.rules s.is_passed_over (and_then r (λ name. if_last more SecondSuffix (record s { suffix = Some name })))
@@ -59,7 +61,7 @@ module _ (types : NotedTypes) where
       by true false (Err c) = tt
       by true false (Ok p) = named p.1 (suffix_at types.rows p.0)
 
-  keeps_rootdn : (s : Settings) (arguments : List (Option (List ℕ))) → Keeps s.rules s.is_passed_over (rootdn types.rows s arguments)
+  pub keeps_rootdn : (s : Settings) (arguments : List (Option (List ℕ))) → Keeps s.rules s.is_passed_over (rootdn types.rows s arguments)
   keeps_rootdn s arguments = by (not s.has_database || is_some s.root) (first_argument arguments)
     where
       named : (more : List (Option (List ℕ))) (r : Result DnKeys ConfigCause) → Keeps s.rules s.is_passed_over (and_then r (λ name. if_last more BadDirective (record s { root = Some name })))
@@ -72,7 +74,7 @@ module _ (types : NotedTypes) where
       by false (Err c) = tt
       by false (Ok p) = named p.1 (name_at types.rows p.0)
 
-  keeps_database : (s : Settings) (name : List ℕ) (more : List (Option (List ℕ))) → Keeps s.rules (is_word name (codes "config") || is_word name (codes "monitor")) (of_database s name more)
+  pub keeps_database : (s : Settings) (name : List ℕ) (more : List (Option (List ℕ))) → Keeps s.rules (is_word name (codes "config") || is_word name (codes "monitor")) (of_database s name more)
   keeps_database s name more = by (is_word name (codes "config") || is_word name (codes "monitor")) s.has_database
     where
       by : (a b : Bool) → Keeps s.rules a (cond a (if_complete more (record s { is_passed_over = true })) (cond b (Err SecondDatabase) (if_complete more (record s { has_database = true; is_passed_over = false }))))
@@ -185,9 +187,9 @@ module _ (types : NotedTypes) where
               subst (λ t. GoesOn (cond t (begins_with words (codes "config") || begins_with words (codes "monitor")) s.is_passed_over) (has || is_rule s.is_passed_over (Some keyword ∷ words)) (other_than_database types.rows s keyword words)) (sym w)
               (other_goes_on keyword words s.is_passed_over refl notes)
 
-      line_goes_on : (line : List ℕ) → line_notes types s.is_passed_over n (words_of line) ≡ []
-          → GoesOn (passed_after s.is_passed_over (words_of line)) (has || is_rule s.is_passed_over (words_of line)) (after_line types.rows s line)
-      line_goes_on line notes = words_go_on (words_of line) notes
+      line_goes_on : (said : Said) → line_notes types s.is_passed_over n (words_by said) ≡ []
+          → GoesOn (passed_after s.is_passed_over (words_by said)) (has || is_rule s.is_passed_over (words_by said)) (after_line types.rows s said)
+      line_goes_on said notes = words_go_on (words_by said) notes
 
   -- ---- all lines
 
@@ -195,7 +197,7 @@ module _ (types : NotedTypes) where
   AllSo (Err fault) = Unit {0}
   AllSo (Ok s) = (s.rules ≡ [] → ⊥) × (list_all (rule_known types) s.rules ≡ true)
 
-  all_lines : (lines : List (ℕ × List ℕ)) (s : Settings) (passed has : Bool) → s.is_passed_over ≡ passed → (has ≡ true → s.rules ≡ [] → ⊥) → list_all (rule_known types) s.rules ≡ true → lines_notes types passed has lines ≡ []
+  all_lines : (lines : List ConfigLine) (s : Settings) (passed has : Bool) → s.is_passed_over ≡ passed → (has ≡ true → s.rules ≡ [] → ⊥) → list_all (rule_known types) s.rules ≡ true → lines_notes types passed has lines ≡ []
       → AllSo (after_lines types.rows s lines)
   all_lines [] s passed has same some known notes = (some (by has notes), known)
     where
@@ -203,31 +205,37 @@ module _ (types : NotedTypes) where
       by true e = refl
       by false e = absurd (cc)
   all_lines (line ∷ lines) s passed has same some known notes =
-      by (λ next. all_lines lines next (passed_after s.is_passed_over (words_of line.1)) (has || is_rule s.is_passed_over (words_of line.1)))
-      (after_line types.rows s line.1)
-      (line_goes_on line.0 s has (some, known) line.1 (ap (λ p. line_notes types p line.0 (words_of line.1)) same ∙ left_empty (line_notes types passed line.0 (words_of line.1)) _ notes))
+      by (λ next. all_lines lines next (passed_after s.is_passed_over (words_by line.said)) (has || is_rule s.is_passed_over (words_by line.said)))
+      (after_line types.rows s line.said)
+      (line_goes_on line.number s has (some, known) line.said (ap (λ p. line_notes types p line.number (words_by line.said)) same ∙ left_empty (line_notes types passed line.number (words_by line.said)) _ notes))
     where
-      rest : lines_notes types (passed_after passed (words_of line.1)) (has || is_rule passed (words_of line.1)) lines ≡ []
-      rest = right_empty (line_notes types passed line.0 (words_of line.1)) _ notes
+      rest : lines_notes types (passed_after passed (words_by line.said)) (has || is_rule passed (words_by line.said)) lines ≡ []
+      rest = right_empty (line_notes types passed line.number (words_by line.said)) _ notes
 
-      by : ((next : Settings) → next.is_passed_over ≡ passed_after s.is_passed_over (words_of line.1) → ((has || is_rule s.is_passed_over (words_of line.1)) ≡ true → next.rules ≡ [] → ⊥) → list_all (rule_known types) next.rules ≡ true
-          → lines_notes types (passed_after s.is_passed_over (words_of line.1)) (has || is_rule s.is_passed_over (words_of line.1)) lines ≡ [] → AllSo (after_lines types.rows next lines))
-          → (r : Result Settings ConfigCause) → GoesOn line.0 (passed_after s.is_passed_over (words_of line.1)) (has || is_rule s.is_passed_over (words_of line.1)) r
-          → AllSo (and_then (at_line line.0 r) (λ next. after_lines types.rows next lines))
+      by : ((next : Settings) → next.is_passed_over ≡ passed_after s.is_passed_over (words_by line.said) → ((has || is_rule s.is_passed_over (words_by line.said)) ≡ true → next.rules ≡ [] → ⊥) → list_all (rule_known types) next.rules ≡ true
+          → lines_notes types (passed_after s.is_passed_over (words_by line.said)) (has || is_rule s.is_passed_over (words_by line.said)) lines ≡ [] → AllSo (after_lines types.rows next lines))
+          → (r : Result Settings ConfigCause) → GoesOn line.number (passed_after s.is_passed_over (words_by line.said)) (has || is_rule s.is_passed_over (words_by line.said)) r
+          → AllSo (and_then (at_line line.number r) (λ next. after_lines types.rows next lines))
       by more (Err c) g = tt
-      by more (Ok next) g = more next g.0 g.1.0 g.1.1 (ap (λ p. lines_notes types (passed_after p (words_of line.1)) (has || is_rule p (words_of line.1)) lines) same ∙ rest)
+      by more (Ok next) g = more next g.0 g.1.0 g.1.1 (ap (λ p. lines_notes types (passed_after p (words_by line.said)) (has || is_rule p (words_by line.said)) lines) same ∙ rest)
 
 module _ (rows : List TypeRow) where
-  pub understood : (text : List ℕ) (config : Configuration) → config_of rows text ≡ Ok config → notes_of rows text ≡ [] → AreUnderstood (noted_types rows text) config
-  understood text config e notes = by (nat_lt 16777216 (length text)) (after_lines rows no_settings (logical_lines text)) (all_lines (noted_types rows text) (logical_lines text) no_settings false false refl (λ no. absurd (cc)) refl notes) e
+  understood_lines : (lines : List ConfigLine) (config : Configuration) → config_of_lines rows lines ≡ Ok config → notes_of_lines rows lines ≡ [] → AreUnderstood (noted_types rows lines) config
+  understood_lines lines config e notes = by (after_lines rows no_settings lines) (all_lines (noted_types rows lines) lines no_settings false false refl (λ no. absurd (cc)) refl notes) e
     where
-      named : (s : Settings) (name : Option DnKeys) → (s.rules ≡ [] → ⊥) × (list_all (rule_known (noted_types rows text)) s.rules ≡ true) → of_suffix s name ≡ Ok config → AreUnderstood (noted_types rows text) config
+      named : (s : Settings) (name : Option DnKeys) → (s.rules ≡ [] → ⊥) × (list_all (rule_known (noted_types rows lines)) s.rules ≡ true) → of_suffix s name ≡ Ok config → AreUnderstood (noted_types rows lines) config
       named s None so e = absurd (cc)
       named s (Some name) so e =
           let same : record { suffix = name; root = s.root; rules = s.rules } ≡ config = cc in
-          subst (AreUnderstood (noted_types rows text)) same so
+          subst (AreUnderstood (noted_types rows lines)) same so
 
-      by : (b : Bool) (r : Result Settings ConfigFault) → AllSo (noted_types rows text) r → cond b (Err (record { line = 0; cause = ConfigTooLong })) (and_then r (λ s. of_suffix s s.suffix)) ≡ Ok config → AreUnderstood (noted_types rows text) config
-      by true r so e = absurd (cc)
-      by false (Err fault) so e = absurd (cc)
-      by false (Ok s) so e = named s s.suffix so e
+      by : (r : Result Settings ConfigFault) → AllSo (noted_types rows lines) r → and_then r (λ s. of_suffix s s.suffix) ≡ Ok config → AreUnderstood (noted_types rows lines) config
+      by (Err fault) so e = absurd (cc)
+      by (Ok s) so e = named s s.suffix so e
+
+  pub understood : (text : List ℕ) (config : Configuration) → config_of rows text ≡ Ok config → notes_of rows text ≡ [] → AreUnderstood (noted_types rows (config_lines text)) config
+  understood text config e notes = by (nat_lt 16777216 (length text)) e
+    where
+      by : (b : Bool) → and_then (cond b (Err (record { line = 0; cause = ConfigTooLong })) (Ok (config_lines text))) (config_of_lines rows) ≡ Ok config → AreUnderstood (noted_types rows (config_lines text)) config
+      by true e = absurd (cc)
+      by false e = understood_lines (config_lines text) config e notes

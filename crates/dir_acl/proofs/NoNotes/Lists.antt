@@ -5,7 +5,7 @@ use Rattle.std.specs.List.{list_all}
 use Rattle.std.specs.Str.{str_to_ascii_lowercase}
 use Rattle.dir_names.specs.Orders.{bytes_eq, bytes_eq_decides}
 use Rattle.dir_acl.specs.declared.note.Note.{Note}
-use Rattle.dir_acl.specs.Config.Names.{is_word}
+use Rattle.dir_conf_text.specs.Keywords.{is_word}
 use Rattle.dir_acl.proofs.Grammar.Sound.{first_true, second_true}
 
 pub left_empty : (xs ys : List Note) → xs ++ ys ≡ [] → xs ≡ []

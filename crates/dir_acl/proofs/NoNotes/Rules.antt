@@ -12,7 +12,8 @@ use Rattle.dir_acl.specs.declared.fault.ConfigCause.{ConfigCause}
 use Rattle.dir_acl.specs.declared.fault.ConfigCause.TheVariants.{BadDirective, Unsupported}
 use Rattle.dir_acl.specs.declared.note.NoteCause.TheVariants.{HalfOfWrite}
 use Rattle.dir_acl.specs.Config.AccessRules.{Place, before_to, before_what, in_what, before_who, in_who, after_access, after_control, access_rule_of, after_what, after_whos, after_word, at_end, by_control, by_or_control, first_who, is_by, next_who, rule_from, with_clause}
-use Rattle.dir_acl.specs.Config.Names.{form_of, is_word}
+use Rattle.dir_conf_text.specs.Keywords.{is_word}
+use Rattle.dir_acl.specs.Config.Names.{form_of}
 use Rattle.dir_acl.specs.Config.Permissions.{control_of, edit_of, no_edit}
 use Rattle.dir_acl.specs.Config.Whats.{with_what}
 use Rattle.dir_acl.specs.Config.Whos.{who_of}

@@ -52,7 +52,7 @@ module _ (rows : List TypeRow) where
       ∙ ap (λ b. attr_read (cond (b && true) (cond (is_reserved name) (Err ReservedName) (Ok (record { spelling = name; key = attr_of_type name }))) (Err BadDescription))) is
       ∙ ap (λ b. attr_read (cond b (Err ReservedName) (Ok (record { spelling = name; key = attr_of_type name })))) free
 
-  type_is_named : (text : List ℕ) (d : Described) → description_of rows text ≡ Ok d → type_named rows d.spelling ≡ Some (without_options d.key)
+  pub type_is_named : (text : List ℕ) (d : Described) → description_of rows text ≡ Ok d → type_named rows d.spelling ≡ Some (without_options d.key)
   type_is_named text d e = by (nat_le (length text) 512) (parts_at 59 text) (parts-cut 59 text) e
     where
       first : List ℕ

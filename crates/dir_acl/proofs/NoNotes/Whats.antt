@@ -16,7 +16,8 @@ use Rattle.dir_acl.specs.declared.config.whats.Form.TheVariants as form
 use Rattle.dir_acl.specs.declared.fault.ConfigCause.{ConfigCause}
 use Rattle.dir_acl.specs.declared.fault.ConfigCause.TheVariants as cause
 use Rattle.dir_acl.specs.declared.fault.FilterFault.{FilterFault}
-use Rattle.dir_acl.specs.Config.Names.{attr_by, form_of, is_word, name_at, style_of}
+use Rattle.dir_conf_text.specs.Keywords.{is_word}
+use Rattle.dir_acl.specs.Config.Names.{attr_by, form_of, name_at, style_of}
 use Rattle.dir_acl.specs.Config.Permissions.{edit_of}
 use Rattle.dir_acl.specs.Config.Whats.{filter_by, is_of_form, item_at, items_after, items_at, with_attrs, with_filter, with_form, with_style, with_value, with_what}
 use Rattle.dir_acl.specs.Filters.{Tree, in_parentheses}

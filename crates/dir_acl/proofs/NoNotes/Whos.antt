@@ -17,7 +17,8 @@ use Rattle.dir_acl.specs.declared.access.Style.{Style}
 use Rattle.dir_acl.specs.declared.access.Who.{Who}
 use Rattle.dir_acl.specs.declared.access.Who.TheVariants as who
 use Rattle.dir_acl.specs.declared.fault.ConfigCause.{ConfigCause}
-use Rattle.dir_acl.specs.Config.Names.{attr_at, attr_by, by_rule, class_key_at, form_of, if_of_names, is_word, name_at, names_attr_at, style_of}
+use Rattle.dir_conf_text.specs.Keywords.{is_word}
+use Rattle.dir_acl.specs.Config.Names.{attr_at, attr_by, by_rule, class_key_at, form_of, if_of_names, name_at, names_attr_at, style_of}
 use Rattle.dir_acl.specs.Config.Permissions.{edit_of}
 use Rattle.dir_acl.specs.Config.Whos.{group_at, group_of, group_of_parts, group_with, slash, who_of, who_of_style, who_with_value, without_exact}
 use Rattle.dir_acl.specs.Notes.{dnattr_notes, edit_notes, filter_notes, form_notes, items_notes, named_notes, word_notes}

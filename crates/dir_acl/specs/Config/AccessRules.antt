@@ -9,7 +9,7 @@ use Rattle.dir_acl.specs.declared.access.Edit.{Edit}
 use Rattle.dir_acl.specs.declared.access.Who.{Who}
 use Rattle.dir_acl.specs.declared.fault.ConfigCause.{ConfigCause}
 use Rattle.dir_acl.specs.declared.fault.ConfigCause.TheVariants.{BadDirective, Unsupported}
-use Rattle.dir_acl.specs.Config.Names.{is_word}
+use Rattle.dir_conf_text.specs.Keywords.{is_word}
 use Rattle.dir_acl.specs.Config.Permissions.{control_of, edit_of, no_edit}
 use Rattle.dir_acl.specs.Config.Whats.{with_what}
 use Rattle.dir_acl.specs.Config.Whos.{who_of}

@@ -1,7 +1,6 @@
--- Keywords, names and descriptions in a slapd.conf.
+-- Names and descriptions in a slapd.conf.
 use Rattle.std.specs.Prelude.{ℕ, Bool, true, false, cond, ◌||◌, ◌==◌, List, codes, ok_or, Option, Some, None, Result, Ok, Err}
 use Rattle.std.specs.List.{before_first, list_any}
-use Rattle.std.specs.Str.{str_eq_ignore_ascii_case}
 use Rattle.dir_names.specs.Ascii.{equals_sign, semicolon}
 use Rattle.dir_names.specs.Attr.{Attr}
 use Rattle.dir_names.specs.Described.{Described}
@@ -16,14 +15,11 @@ use Rattle.dir_names.specs.declared.schema.Rule.{Rule}
 use Rattle.dir_names.specs.declared.schema.Rule.TheVariants as rule
 use Rattle.dir_names.specs.declared.schema.TypeRow.{TypeRow}
 use Rattle.dir_names.specs.declared.value.ValueKey.{ValueKey}
+use Rattle.dir_conf_text.specs.Keywords.{is_word}
 use Rattle.dir_acl.specs.declared.access.Style.{Style}
 use Rattle.dir_acl.specs.declared.access.Style.TheVariants as style
 use Rattle.dir_acl.specs.declared.fault.ConfigCause.{ConfigCause}
 use Rattle.dir_acl.specs.declared.fault.ConfigCause.TheVariants.{Name, Unsupported}
-
--- a keyword, in any ASCII case
-abbrev pub is_word : List ℕ → List ℕ → Bool
-is_word text word = str_eq_ignore_ascii_case text word
 
 -- the form of a word: what is before its first `=`
 abbrev pub form_of : List ℕ → List ℕ

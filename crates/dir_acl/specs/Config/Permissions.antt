@@ -9,7 +9,7 @@ use Rattle.dir_acl.specs.declared.access.Edit.{Edit}
 use Rattle.dir_acl.specs.declared.access.Edit.TheVariants as edit
 use Rattle.dir_acl.specs.declared.privileges.Level.{Level}
 use Rattle.dir_acl.specs.declared.privileges.Privileges.{Privileges}
-use Rattle.dir_acl.specs.Config.Names.{is_word}
+use Rattle.dir_conf_text.specs.Keywords.{is_word}
 use Rattle.dir_acl.specs.Inside.RunningSet.{joined}
 use Rattle.dir_acl.specs.Privileges.{level_of, level_set, no_privileges, privileges_text}
 

@@ -14,7 +14,8 @@ use Rattle.dir_acl.specs.declared.fault.ConfigCause.{ConfigCause}
 use Rattle.dir_acl.specs.declared.fault.ConfigCause.TheVariants as cause
 use Rattle.dir_acl.specs.declared.fault.FilterFault.{FilterFault}
 use Rattle.dir_acl.specs.declared.fault.FilterFault.TheVariants as fault
-use Rattle.dir_acl.specs.Config.Names.{attr_at, form_of, is_word, name_at, style_of}
+use Rattle.dir_conf_text.specs.Keywords.{is_word}
+use Rattle.dir_acl.specs.Config.Names.{attr_at, form_of, name_at, style_of}
 use Rattle.dir_acl.specs.Filters.{Tree}
 use Rattle.dir_acl.specs.Filters.Reading.{filter_of}
 use Rattle.dir_acl.specs.Rules.{Restriction, to_names, to_filter, to_attrs}

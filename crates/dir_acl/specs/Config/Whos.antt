@@ -8,7 +8,8 @@ use Rattle.dir_acl.specs.declared.access.Style.{Style}
 use Rattle.dir_acl.specs.declared.access.Who.{Who}
 use Rattle.dir_acl.specs.declared.access.Who.TheVariants as who
 use Rattle.dir_acl.specs.declared.fault.ConfigCause.{ConfigCause}
-use Rattle.dir_acl.specs.Config.Names.{attr_at, class_key_at, form_of, is_word, name_at, names_attr_at, style_of}
+use Rattle.dir_conf_text.specs.Keywords.{is_word}
+use Rattle.dir_acl.specs.Config.Names.{attr_at, class_key_at, form_of, name_at, names_attr_at, style_of}
 
 abbrev pub slash : ℕ
 slash = 47

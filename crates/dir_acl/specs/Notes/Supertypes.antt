@@ -11,8 +11,9 @@ use Rattle.dir_names.specs.Orders.{attr_eq}
 use Rattle.dir_names.specs.Table.{is_known}
 use Rattle.dir_names.specs.declared.fault.NameFault.{NameFault}
 use Rattle.dir_names.specs.declared.schema.TypeRow.{TypeRow}
-use Rattle.dir_acl.specs.Config.Lines.{logical_lines}
-use Rattle.dir_acl.specs.Config.Types.{definition_in}
+use Rattle.dir_conf_text.specs.Text.{definition_by}
+use Rattle.dir_conf_text.specs.declared.text.ConfigLine.{ConfigLine}
+use Rattle.dir_conf_text.specs.declared.text.Said.{Said}
 
 -- the types that rules may name: those that are known, and those of them from which others are derived
 pub record NotedTypes : Type 0 where
@@ -34,8 +35,8 @@ type_named rows spelling = attr_read (description_of rows (before_first (λ b. b
 -- ---- which types others are derived from
 
 -- the type after SUP in the definition that a line has
-abbrev pub sup_in : List ℕ → Option (List ℕ)
-sup_in line = option_and_then (λ d. d.sup) (option_and_then definition_of (definition_in line))
+abbrev pub sup_in : Said → Option (List ℕ)
+sup_in said = option_and_then (λ d. d.sup) (option_and_then definition_of (definition_by said))
 
 -- it is the type that was named, and that is known
 abbrev pub is_named : List TypeRow → Attr → Option Attr → Bool
@@ -43,15 +44,15 @@ is_named rows attr None = false
 is_named rows attr (Some named) = is_known rows named && attr_eq named attr
 
 -- a line derives a type from this one
-abbrev pub derives_from : List TypeRow → Attr → List ℕ → Bool
-derives_from rows attr line = is_named rows attr (option_and_then (type_named rows) (sup_in line))
+abbrev pub derives_from : List TypeRow → Attr → Said → Bool
+derives_from rows attr said = is_named rows attr (option_and_then (type_named rows) (sup_in said))
 
 -- those of the standards, from which built-in types are derived (RFC 4519, sections 2.18 and 2.7)
 abbrev pub is_standard : List TypeRow → Attr → Bool
 is_standard rows attr = is_named rows attr (type_named rows (codes "name")) || is_named rows attr (type_named rows (codes "distinguishedName"))
 
-abbrev pub noted_types : List TypeRow → List ℕ → NotedTypes
-noted_types rows text = record { rows = rows; has_subtypes = λ attr. is_standard rows attr || list_any (λ line. derives_from rows attr line.1) (logical_lines text) }
+abbrev pub noted_types : List TypeRow → List ConfigLine → NotedTypes
+noted_types rows lines = record { rows = rows; has_subtypes = λ attr. is_standard rows attr || list_any (λ line. derives_from rows attr line.said) lines }
 
 -- ---- a description
 

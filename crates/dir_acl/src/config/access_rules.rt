@@ -3,7 +3,7 @@
 ghost use Rattle.std.specs.Prelude.{◌≡◌, ◌++◌, [], ◌∷◌, Ok, Err, codes, cond, map};
 ghost use Rattle.dir_names.specs.Results.{and_then};
 ghost use Rattle.dir_acl.specs.Config.AccessRules.{access_rule_of, after_argument, after_what, after_whos, after_word, at_end, before_what, before_who, by_or_control, by_or_what, first_who, in_who, is_by, next_who, with_clause};
-ghost use Rattle.dir_acl.specs.Config.Names.{is_word};
+ghost use Rattle.dir_conf_text.specs.Keywords.{is_word};
 ghost use Rattle.dir_acl.specs.Config.Permissions.{edit_of};
 ghost use Rattle.dir_acl.specs.Config.Whos.{who_of};
 ghost use Rattle.dir_acl.specs.Inside.ReadingConfig.{place_of};
@@ -84,7 +84,7 @@ fn after_word(
     }
 }
 
-fn is_by(word: &[u8]) -> bool
+pub(crate) fn is_by(word: &[u8]) -> bool
     ensures { result ≡ is_by word.now }
 {
     word.eq_ignore_ascii_case(b"by")

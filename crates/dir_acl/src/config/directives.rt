@@ -2,15 +2,16 @@
 
 ghost use Rattle.std.specs.List.{list_all};
 ghost use Rattle.std.specs.Prelude.{◌≡◌, Ok, is_some};
-ghost use Rattle.dir_acl.specs.Config.{access, after_arguments, after_line, database, directive, first_argument, if_complete, if_last, new_root, new_suffix, no_settings, of_database, other_than_database, rootdn, suffix, suffix_at, with_rule};
+ghost use Rattle.dir_acl.specs.Config.{access, after_arguments, after_line, after_lines, at_line, database, directive, first_argument, if_complete, if_last, new_root, new_suffix, no_settings, of_database, other_than_database, rootdn, suffix, suffix_at, with_rule};
 ghost use Rattle.dir_acl.specs.Inside.ReadingConfig.{settings_of};
-ghost use Rattle.dir_acl.specs.Outcome.{GivesPart};
+ghost use Rattle.dir_acl.specs.Outcome.{GivesConfig, GivesPart};
 ghost use Rattle.dir_acl.specs.Rules.{rule_of};
 
 use crate::config::access_rules::read_rule;
-use crate::config::arguments::read_words;
 use crate::config::names::read_name;
-use crate::{ConfigCause, Rule};
+use crate::config::out_of_memory;
+use crate::{ConfigCause, ConfigFault, Rule};
+use dir_conf_text::ConfigLine;
 use dir_names::{Bytes, DnKey, Schema};
 use std::alloc::Global;
 
@@ -44,17 +45,38 @@ impl Settings {
     }
 }
 
-/// The settings after one logical line more.
+/// What all lines say.
+pub(crate) fn read_lines(
+    alloc: Global,
+    schema: &Schema,
+    lines: &[ConfigLine],
+) -> Result<Settings, ConfigFault>
+    ensures { GivesConfig settings_of result (after_lines schema.now no_settings lines.now) }
+{
+    let mut settings = Settings::new(alloc);
+    for line in lines {
+        settings = after_line(alloc, schema, settings, line)?;
+    }
+    Ok(settings)
+}
+
+/// The settings after one line more.
 pub(crate) fn after_line(
     alloc: Global,
     schema: &Schema,
     settings: Settings,
-    line: &[u8],
-) -> Result<Settings, ConfigCause>
-    ensures { GivesPart settings_of result (after_line schema.now (settings_of settings) line.now) }
+    line: &ConfigLine,
+) -> Result<Settings, ConfigFault>
+    ensures { GivesConfig settings_of result (at_line line.now.number (after_line schema.now (settings_of settings) line.now.said)) }
 {
-    let arguments = read_words(alloc, line)?;
-    after_arguments(alloc, schema, settings, arguments.as_slice())
+    match after_arguments(alloc, schema, settings, line.words()) {
+        Ok(settings) => Ok(settings),
+        Err(ConfigCause::Memory) => Err(out_of_memory()),
+        Err(cause) => Err(ConfigFault {
+            line: line.number,
+            cause,
+        }),
+    }
 }
 
 fn after_arguments(

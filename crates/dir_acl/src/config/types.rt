@@ -1,17 +1,14 @@
 //! The attribute types that a configuration defines (slapd.conf(5), `attributetype`; RFC 4512, section 4.1.2).
 
-ghost use Rattle.std.specs.Prelude.{◌≡◌, ◌≤◌, Ok, length, option_copied, position};
-ghost use Rattle.std.specs.List.{position_or_len};
-ghost use Rattle.dir_acl.specs.Config.{at_line, config_types, types_with};
-ghost use Rattle.dir_names.specs.Trimming.{is_blank};
-ghost use Rattle.dir_acl.specs.Config.Types.{definition_in, without_blanks};
+ghost use Rattle.std.specs.Prelude.{◌≡◌, Ok};
+ghost use Rattle.dir_acl.specs.Config.{at_line, config_types, types_after, types_with};
+ghost use Rattle.dir_conf_text.specs.Text.{definition_by};
 ghost use Rattle.dir_acl.specs.Outcome.{GivesConfig};
-ghost use Rattle.dir_acl.specs.declared.fault.ConfigCause.TheVariants as ConfigCause;
 
-use crate::config::lines::LogicalLines;
-use crate::config::{MAX_CONFIG, too_long};
+use crate::config::{out_of_memory, too_long};
 use crate::{ConfigCause, ConfigFault};
-use dir_names::{NameFault, Schema, is_blank};
+use dir_conf_text::{ConfigLine, ConfigText, MAX_CONFIG};
+use dir_names::{NameFault, Schema};
 use std::alloc::Global;
 
 /// A schema with the attribute types that a slapd.conf defines: each line of the directive `attributetype` in turn, wherever it
@@ -19,19 +16,37 @@ use std::alloc::Global;
 ///
 /// # Errors
 ///
-/// `ConfigTooLong` if the text has more than `MAX_CONFIG` bytes. Else `BadType` at the first line whose definition can't be
-/// added. `Memory` if memory runs out.
+/// `ConfigTooLong` if the text has more than `MAX_CONFIG` bytes. Else those of `types_of_text`.
+#[tactic(auto, using(crate::proofs::DefinedTypes::types_defined))]
 pub fn read_schema(alloc: Global, schema: &Schema, text: &[u8]) -> Result<Schema, ConfigFault>
     ensures { GivesConfig (λ types. types) result (config_types schema.now text.now) }
 {
     if text.len() > MAX_CONFIG {
         return Err(too_long());
     }
-    let mut types = copied(alloc, schema)?;
-    let mut lines = LogicalLines::new(alloc, text)?;
-    while let Some((number, line)) = lines.next(alloc)? {
-        types = with_line(types, number, line.as_slice())?;
+    match ConfigText::cut_definitions(alloc, text) {
+        Ok(definitions) => types_of_text(alloc, schema, &definitions),
+        Err(_) => Err(out_of_memory()),
     }
+}
+
+/// A schema with the attribute types that the lines of a slapd.conf define.
+///
+/// # Errors
+///
+/// `BadType` at the first line whose definition can't be added. `Memory` if memory runs out.
+pub fn types_of_text(
+    alloc: Global,
+    schema: &Schema,
+    text: &ConfigText,
+) -> Result<Schema, ConfigFault>
+    ensures { GivesConfig (λ types. types) result (types_after schema.now text.now) }
+{
+    let mut types = copied(alloc, schema)?;
+    for line in text.lines() {
+        types = with_line(types, line)?;
+    }
+    types.find_frequent();
     Ok(types)
 }
 
@@ -44,11 +59,11 @@ fn copied(alloc: Global, schema: &Schema) -> Result<Schema, ConfigFault>
     }
 }
 
-/// The types with what the line of this number defines.
-fn with_line(types: Schema, number: u64, line: &[u8]) -> Result<Schema, ConfigFault>
-    ensures { GivesConfig (λ now. now) result (at_line number (types_with types (definition_in line.now))) }
+/// The types with what a line defines.
+fn with_line(types: Schema, line: &ConfigLine) -> Result<Schema, ConfigFault>
+    ensures { GivesConfig (λ now. now) result (at_line line.now.number (types_with types (definition_by line.now.said))) }
 {
-    let Some(definition) = definition_in(line) else {
+    let Some(definition) = line.definition() else {
         return Ok(types);
     };
     let mut types = types;
@@ -56,58 +71,8 @@ fn with_line(types: Schema, number: u64, line: &[u8]) -> Result<Schema, ConfigFa
         Ok(()) => Ok(types),
         Err(NameFault::Memory) => Err(out_of_memory()),
         Err(_) => Err(ConfigFault {
-            line: number,
+            line: line.number,
             cause: ConfigCause::BadType,
         }),
     }
-}
-
-fn out_of_memory() -> ConfigFault
-    ensures { result ≡ record { line = 0; cause = ConfigCause.Memory } }
-{
-    ConfigFault {
-        line: 0,
-        cause: ConfigCause::Memory,
-    }
-}
-
-/// The definition in a line: all that is after its first word, where that is `attributetype`. It is not cut into arguments.
-pub(crate) fn definition_in(line: &[u8]) -> Option<&[u8]>
-    ensures { option_copied result ≡ definition_in line.now }
-{
-    let text = without_blanks(line);
-    let (word, after) = text.split_at(word_length(text));
-    if word.eq_ignore_ascii_case(b"attributetype") {
-        Some(after)
-    } else {
-        None
-    }
-}
-
-/// A text without the white space that it begins with.
-fn without_blanks(text: &[u8]) -> &[u8]
-    ensures { result.now ≡ without_blanks text.now }
-{
-    let mut rest = text;
-    while let [b, more @ ..] = rest {
-        if !is_blank(*b) {
-            return rest;
-        }
-        rest = more;
-    }
-    rest
-}
-
-/// The number of bytes of a text before its first white space.
-fn word_length(text: &[u8]) -> usize
-    ensures place { result ≡ position_or_len is_blank text.now }
-    ensures bound { result ≤ length text.now }
-{
-    first_blank(text).unwrap_or(text.len())
-}
-
-fn first_blank(text: &[u8]) -> Option<usize>
-    ensures { result ≡ position is_blank text.now }
-{
-    text.iter().position(|b| is_blank(*b))
 }

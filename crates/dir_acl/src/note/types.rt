@@ -1,15 +1,14 @@
 //! The types that rules may name: those that are known, and those of them from which a configuration derives others (RFC 4512,
 //! section 2.5.1).
 
-ghost use Rattle.std.specs.Prelude.{◌≡◌, ◌≤◌, IfErr, IfOk, Ok, OnOk, Some, length};
+ghost use Rattle.std.specs.Prelude.{◌≡◌, IfErr, IfOk, Ok, OnOk, Some};
 ghost use Rattle.dir_acl.specs.Inside.NotedTypes.{AreStandard, IsWith, noted_by};
 ghost use Rattle.dir_acl.specs.Notes.Supertypes.{derives_from, is_named, is_supertype, sup_in, type_named};
 ghost use Rattle.dir_acl.specs.Outcome.{GivesPart};
 ghost use Rattle.dir_acl.specs.declared.fault.ConfigCause.TheVariants as ConfigCause;
 
 use crate::ConfigCause;
-use crate::config::lines::LogicalLines;
-use crate::config::types::definition_in;
+use dir_conf_text::ConfigLine;
 use dir_names::{AttrKey, Bytes, Description, NameFault, Schema, TypeDefinition, split_once};
 use std::alloc::Global;
 use std::collections::BTreeSet;
@@ -23,22 +22,22 @@ pub(crate) struct RuleTypes<'s> {
 }
 
 impl<'s> RuleTypes<'s> {
-    ghost use Rattle.dir_acl.specs.Notes.Supertypes.{noted_types};
+    ghost use Rattle.std.specs.Prelude.{false, true};
+    ghost use Rattle.dir_acl.specs.Notes.Known.{is_clear};
+    ghost use Rattle.dir_acl.specs.Notes.Supertypes.{noted_types, without_options};
 
-    /// Those of a configuration. The one fault is `Memory`.
-    pub(super) fn read(
+    /// Those of the lines of a configuration. The one fault is `Memory`.
+    pub(super) fn of_lines(
         alloc: Global,
         schema: &'s Schema,
-        text: &[u8],
+        lines: &[ConfigLine],
     ) -> Result<RuleTypes<'s>, ConfigCause>
-        requires { length text.now ≤ 16777216 }
-        ensures types { IfOk result (λ types. noted_by types ≡ noted_types schema.now text.now) }
+        ensures types { IfOk result (λ types. noted_by types ≡ noted_types schema.now lines.now) }
         ensures fault { IfErr result (λ cause. cause ≡ ConfigCause.Memory) }
     {
         let mut types = RuleTypes::of_standards(alloc, schema)?;
-        let mut lines = LogicalLines::new(alloc, text)?;
-        while let Some((_, line)) = lines.next(alloc)? {
-            types.add_line(alloc, line.as_slice())?;
+        for line in lines {
+            types.add_line(alloc, line)?;
         }
         Ok(types)
     }
@@ -58,8 +57,8 @@ impl<'s> RuleTypes<'s> {
     }
 
     /// Adds the type from which the one that a line defines is derived.
-    fn add_line(&mut self, alloc: Global, line: &[u8]) -> Result<(), ConfigCause>
-        ensures types { OnOk result (IsWith (λ attr. derives_from self.old.schema.now attr line.now) (noted_by self.old) (noted_by self.new)) }
+    fn add_line(&mut self, alloc: Global, line: &ConfigLine) -> Result<(), ConfigCause>
+        ensures types { OnOk result (IsWith (λ attr. derives_from self.old.schema.now attr line.now.said) (noted_by self.old) (noted_by self.new)) }
         ensures fault { IfErr result (λ cause. cause ≡ ConfigCause.Memory) }
     {
         match read_sup(alloc, line)? {
@@ -88,6 +87,19 @@ impl<'s> RuleTypes<'s> {
         self.schema
     }
 
+    /// Whether this is an attribute of a known type from which no other is derived. Not all that are so are found.
+    pub(super) fn is_clear(&self, attr: &AttrKey) -> bool
+        ensures { result ≡ true → is_clear (noted_by self.now) attr.now ≡ true }
+    {
+        self.schema.knows(attr) && self.has_no_subtypes(attr)
+    }
+
+    fn has_no_subtypes(&self, attr: &AttrKey) -> bool
+        ensures { result ≡ true → (noted_by self.now).has_subtypes (without_options attr.now) ≡ false }
+    {
+        self.supertypes.is_empty() || !attr.has_options() && !self.supertypes.contains(attr)
+    }
+
     /// Whether others are derived from the type of this description. The one fault is `Memory`.
     pub(super) fn is_supertype(&self, alloc: Global, spelling: &[u8]) -> Result<bool, ConfigCause>
         ensures { GivesPart (λ is. is) result (Ok (is_supertype (noted_by self.now) spelling.now)) }
@@ -103,10 +115,10 @@ impl<'s> RuleTypes<'s> {
 }
 
 /// What the definition that a line has names after `SUP`. The one fault is `Memory`.
-fn read_sup(alloc: Global, line: &[u8]) -> Result<Option<Bytes>, ConfigCause>
-    ensures { GivesPart (λ sup. sup) result (Ok (sup_in line.now)) }
+fn read_sup(alloc: Global, line: &ConfigLine) -> Result<Option<Bytes>, ConfigCause>
+    ensures { GivesPart (λ sup. sup) result (Ok (sup_in line.now.said)) }
 {
-    let Some(definition) = definition_in(line) else {
+    let Some(definition) = line.definition() else {
         return Ok(None);
     };
     match TypeDefinition::read(alloc, definition) {

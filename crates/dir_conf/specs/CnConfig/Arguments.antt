@@ -1,15 +1,12 @@
 -- The arguments of an access rule in cn=config (slapd-config(5), `olcAccess`). They are not cut as those of a slapd.conf: line feeds are white space too, and a
 -- backslash is a byte like any other.
 use Rattle.std.specs.Prelude.{ℕ, Bool, cond, ◌||◌, ◌&&◌, ◌==◌, nat_lt, List, [], ◌∷◌, ◌++◌, Option, None, Some, option_map}
-use Rattle.dir_names.specs.Ascii.{space, line_feed, double_quote}
+use Rattle.dir_names.specs.Ascii.{line_feed, double_quote}
+use Rattle.dir_conf_text.specs.Lines.{is_space}
 use Rattle.dir_conf.specs.declared.cn_config.arguments.Spot.{Spot}
 use Rattle.dir_conf.specs.declared.cn_config.arguments.Spot.TheVariants.{Between, Plain, Quoted, Closed}
 use Rattle.dir_conf.specs.declared.cn_config.arguments.Step.{Step}
 use Rattle.dir_conf.specs.declared.cn_config.arguments.Step.TheVariants.{Skip, Take, Close, Refuse}
-
--- tab, line feed, vertical tab, form feed, carriage return and space
-abbrev pub is_space : ℕ → Bool
-is_space b = b == space || (nat_lt 8 b && nat_lt b 14)
 
 -- a quote begins a stretch that ends the argument
 abbrev pub step_in_argument : ℕ → Step

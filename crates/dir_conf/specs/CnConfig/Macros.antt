@@ -8,7 +8,8 @@ use Rattle.dir_names.specs.Results.{and_then}
 use Rattle.dir_conf.specs.declared.cn_config.macros.Macro.{Macro}
 use Rattle.dir_conf.specs.declared.fault.ConfFault.{ConfFault}
 use Rattle.dir_conf.specs.declared.fault.ConfFault.TheVariants.{BadArguments}
-use Rattle.dir_conf.specs.CnConfig.Arguments.{arguments_of, is_space}
+use Rattle.dir_conf_text.specs.Lines.{is_space}
+use Rattle.dir_conf.specs.CnConfig.Arguments.{arguments_of}
 use Rattle.dir_conf.specs.CnConfig.Values.{Numbered}
 
 -- the object identifier of the first that has this name, to the letter

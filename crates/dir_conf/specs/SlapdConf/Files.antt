@@ -3,9 +3,10 @@ use Rattle.std.specs.Prelude.{ℕ, zero, suc, ◌+◌, cond, nat_lt, List, [], �
 use Rattle.std.specs.List.{flat_map}
 use Rattle.std.specs.Str.{bytes_eq}
 use Rattle.dir_names.specs.Results.{and_then}
-use Rattle.dir_acl.specs.Config.Arguments.{whole_words}
-use Rattle.dir_conf.specs.SlapdConf.Lines.{lines_in}
-use Rattle.dir_acl.specs.Config.Names.{is_word}
+use Rattle.dir_conf_text.specs.Arguments.{whole_words}
+use Rattle.dir_conf_text.specs.Lines.{logical_lines}
+use Rattle.dir_conf_text.specs.declared.joining.Joining.TheVariants.{AsSlapd}
+use Rattle.dir_conf_text.specs.Keywords.{is_word}
 use Rattle.dir_conf.specs.declared.fault.ConfFault.{ConfFault}
 use Rattle.dir_conf.specs.declared.fault.ConfFault.TheVariants.{TooLong}
 use Rattle.dir_conf.specs.declared.slapd_conf.files.ConfFile.{ConfFile}
@@ -28,6 +29,10 @@ pub record Placed : Type 0 where
 
 abbrev pub placed : PlacedLine → Placed
 placed line = record { file = line.file; line = line.line; text = line.text }
+
+-- the lines of a text, as slapd joins them
+abbrev pub lines_in : List ℕ → List (ℕ × List ℕ)
+lines_in text = logical_lines AsSlapd text
 
 -- ---- what a line includes
 

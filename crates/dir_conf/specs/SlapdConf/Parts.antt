@@ -4,7 +4,7 @@ use Rattle.dir_names.specs.Keys.{DnKeys}
 use Rattle.dir_names.specs.NameKeys.{name_value_key}
 use Rattle.dir_names.specs.Results.{and_then}
 use Rattle.dir_names.specs.declared.schema.TypeRow.{TypeRow}
-use Rattle.dir_acl.specs.Config.Names.{is_word}
+use Rattle.dir_conf_text.specs.Keywords.{is_word}
 use Rattle.dir_conf.specs.declared.cn_config.databases.Suffix.{Suffix}
 use Rattle.dir_conf.specs.declared.fault.ConfFault.{ConfFault}
 use Rattle.dir_conf.specs.declared.fault.ConfFault.TheVariants.{BadArguments, NoDatabase}

@@ -2,14 +2,14 @@
 use Rattle.std.specs.Prelude.{ℕ, ◌+◌, Bool, cond, not, ◌&&◌, List, [], ◌∷◌, ◌++◌, take, drop, codes, Option, None, Some, Result, Ok, Err}
 use Rattle.std.specs.List.{before_first, list_all, position_or_len}
 use Rattle.dir_names.specs.Results.{and_then}
-use Rattle.dir_acl.specs.Config.Arguments.{whole_words}
-use Rattle.dir_acl.specs.Config.Names.{is_word}
+use Rattle.dir_conf_text.specs.Arguments.{whole_words}
+use Rattle.dir_conf_text.specs.Keywords.{is_word}
 use Rattle.dir_conf.specs.declared.fault.ConfFault.{ConfFault}
 use Rattle.dir_conf.specs.declared.fault.ConfFault.TheVariants.{BadArguments, BadInclude}
 use Rattle.dir_conf.specs.declared.slapd_conf.statements.Said.{Said}
 use Rattle.dir_conf.specs.declared.slapd_conf.statements.Said.TheVariants.{Defines, Words}
 use Rattle.dir_conf.specs.declared.slapd_conf.statements.SaidLine.{SaidLine}
-use Rattle.dir_conf.specs.CnConfig.Arguments.{is_space}
+use Rattle.dir_conf_text.specs.Lines.{is_space}
 use Rattle.dir_conf.specs.CnConfig.Macros.{without_spaces}
 use Rattle.dir_conf.specs.Flat.{is_no_feed}
 use Rattle.dir_conf.specs.SlapdConf.Files.{Placed}

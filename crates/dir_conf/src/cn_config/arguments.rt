@@ -1,8 +1,9 @@
 //! The arguments of an access rule in cn=config (slapd-config(5), `olcAccess`).
 
 ghost use Rattle.std.specs.Prelude.{◌≡◌, ◌++◌, ◌∷◌, [], None, Some, Ok, IfErr, IfOk, option_map};
-ghost use Rattle.dir_conf.specs.CnConfig.Arguments.{arguments_from, arguments_of, is_space, last_argument, step_in_argument, step_of};
+ghost use Rattle.dir_conf.specs.CnConfig.Arguments.{arguments_from, arguments_of, last_argument, step_in_argument, step_of};
 
+use dir_conf_text::is_space;
 use dir_names::{Bytes, Memory, Texts};
 use std::alloc::Global;
 
@@ -90,13 +91,6 @@ fn step_at(spot: Spot, b: u8) -> Step
         Spot::Closed if is_space(b) => Step::Close,
         Spot::Closed => Step::Refuse,
     }
-}
-
-/// White space is space, and the control characters from tab to carriage return.
-pub(crate) fn is_space(b: u8) -> bool
-    ensures { result ≡ is_space b }
-{
-    matches!(b, b' ' | 9..=13)
 }
 
 /// A byte of an argument outside quotes, or its first one.

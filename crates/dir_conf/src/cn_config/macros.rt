@@ -2,14 +2,15 @@
 
 ghost use Rattle.std.specs.List.{before_first, position_or_len};
 ghost use Rattle.std.specs.Prelude.{◌≡◌, Ok, Some, drop, map, option_copied, position};
-ghost use Rattle.dir_conf.specs.CnConfig.Arguments.{is_space};
+ghost use Rattle.dir_conf_text.specs.Lines.{is_space};
 ghost use Rattle.dir_conf.specs.CnConfig.Macros.{by_first, definition, expanded, macro_by, oid_named, plain_byte, with_first_word, with_macro, with_macros, without_spaces};
 ghost use Rattle.dir_conf.specs.CnConfig.Values.{numbered};
 ghost use Rattle.dir_conf.specs.Outcome.{GivesConf};
 
-use crate::cn_config::arguments::{is_space, read_arguments};
+use crate::cn_config::arguments::read_arguments;
 use crate::cn_config::values::Value;
 use crate::fault::ConfFault;
+use dir_conf_text::is_space;
 use dir_names::{Bytes, split_once};
 use std::alloc::Global;
 

@@ -3,11 +3,10 @@
 ghost use Rattle.std.specs.Prelude.{◌≡◌, ◌≤◌, IfOk, Ok, Some, length, map, option_copied, option_map};
 ghost use Rattle.dir_conf.specs.Outcome.{GivesConf};
 ghost use Rattle.dir_conf.specs.SlapdConf.Files.{after_file, after_line, file_of, found_by, included, included_path, includes_in, lines_of_files, placed, text_at, text_of_first, with_line, with_place};
-ghost use Rattle.dir_conf.specs.SlapdConf.Lines.{line_by};
+ghost use Rattle.dir_conf_text.specs.Lines.{line_by};
 
 use crate::fault::ConfFault;
-use crate::slapd_conf::lines::{TextLine, lines_in};
-use dir_acl::{MAX_CONFIG, line_words};
+use dir_conf_text::{Joining, MAX_CONFIG, TextLine, line_words, text_lines};
 use dir_names::{Bytes, Memory};
 use std::alloc::Global;
 
@@ -50,7 +49,7 @@ pub fn includes_in(alloc: Global, text: &[u8]) -> Result<Vec<Bytes>, Memory>
     requires { length text.now ≤ 16777216 }
     ensures { IfOk result (λ paths. paths.items ≡ includes_in text.now) }
 {
-    let lines = lines_in(alloc, text)?;
+    let lines = text_lines(alloc, text, Joining::AsSlapd)?;
     let mut paths = Vec::new(alloc);
     for line in lines.as_slice() {
         if let Some(path) = included_path(alloc, line.text.as_slice())? {
@@ -110,7 +109,7 @@ fn after_file(
         Some(size) if size <= MAX_CONFIG => size,
         _ => return Err(ConfFault::TooLong),
     };
-    let lines = lines_in(alloc, text)?;
+    let lines = text_lines(alloc, text, Joining::AsSlapd)?;
     let mut found = Found {
         size,
         lines: found.lines,

@@ -1,7 +1,7 @@
 //! The parts of a slapd.conf (slapd.conf(5), `database`): what is said of each database, and of the frontend, whose rules hold in all.
 
 ghost use Rattle.std.specs.Prelude.{◌≡◌, IfOk, Ok, map, option_map};
-ghost use Rattle.dir_acl.specs.Config.Names.{is_word};
+ghost use Rattle.dir_conf_text.specs.Keywords.{is_word};
 ghost use Rattle.dir_conf.specs.Outcome.{GivesConf};
 ghost use Rattle.dir_conf.specs.SlapdConf.Parts.{after_database, after_one, after_statement, after_suffix, after_words, database_by, database_of, in_database, in_frontend, lines_of, no_database, no_parts, opened, part_named, parts_by, parts_of, with_own};
 ghost use Rattle.dir_conf.specs.SlapdConf.Statements.{statement_of};

@@ -6,14 +6,13 @@ ghost use Rattle.dir_conf.specs.Flat.{is_no_feed};
 ghost use Rattle.dir_conf.specs.Outcome.{GivesConf};
 ghost use Rattle.dir_conf.specs.SlapdConf.Files.{placed};
 ghost use Rattle.dir_conf.specs.SlapdConf.Statements.{by_words, defined_in, is_definition_word, some_statement, statement_in, statement_of, statements_from};
-ghost use Rattle.dir_acl.specs.Config.Arguments.{whole_words};
+ghost use Rattle.dir_conf_text.specs.Arguments.{whole_words};
 
 use crate::cn_config::is_one_line;
 use crate::cn_config::macros::{first_word, without_spaces};
 use crate::fault::ConfFault;
 use crate::slapd_conf::files::PlacedLine;
-use crate::slapd_conf::lines::begins_with;
-use dir_acl::line_words;
+use dir_conf_text::{begins_with, line_words};
 use dir_names::{Bytes, Texts};
 use std::alloc::Global;
 

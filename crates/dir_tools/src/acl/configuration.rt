@@ -2,11 +2,11 @@
 
 ghost use Rattle.std.specs.Io.KnownBytes.{Consumes, IsAtEnd};
 ghost use Rattle.std.specs.Prelude.{◌≡◌, ◌⊎◌, ◌<◌, ◌≤◌, ℕ, Err, IfErr, IfNone, IfOk, IfSome, List, None, Ok, OnOk, Some, length};
-ghost use Rattle.dir_acl.specs.Config.{config_types};
-ghost use Rattle.dir_acl.specs.Notes.{notes_of};
+ghost use Rattle.dir_acl.specs.Config.{bounded_lines, config_types};
+ghost use Rattle.dir_acl.specs.Notes.{notes_of, notes_of_lines};
 ghost use Rattle.dir_ldif.specs.Device.{HasFailed};
-ghost use Rattle.dir_acl.specs.Outcome.{GivesConfig};
-ghost use Rattle.dir_tools.specs.AccessReport.{configured};
+ghost use Rattle.dir_acl.specs.Outcome.{GivesConfig, IsConfigFaultOf};
+ghost use Rattle.dir_tools.specs.AccessReport.{configured, configured_by_lines};
 ghost use Rattle.dir_tools.specs.Inside.Asking.{IsReadFault, config_fault, configured_by, configured_of};
 ghost use Rattle.dir_tools.specs.AccessAnswers.{IsArgumentOf, IsConfigFault, IsTextOf, IsTypesFault, argument_under};
 ghost use Rattle.dir_tools.specs.declared.fault.Input.TheVariants as Input;
@@ -14,8 +14,10 @@ ghost use Rattle.dir_tools.specs.declared.fault.ToolFault.TheVariants as ToolFau
 
 use crate::{Input, ToolFault};
 use dir_acl::{
-    Config, ConfigCause, ConfigFault, FaultArgument, MAX_CONFIG, Note, fault_argument, read_schema,
+    Config, ConfigCause, ConfigFault, FaultArgument, Note, cut_config, fault_argument, read_schema,
+    types_of_text,
 };
+use dir_conf_text::{ConfigText, MAX_CONFIG};
 use dir_ldif::Source;
 use dir_names::{Memory, Schema};
 use std::alloc::Global;
@@ -81,8 +83,9 @@ pub fn read_config<R: Source>(
 fn configured(alloc: Global, schema: &Schema, text: &[u8]) -> Result<(Schema, Config), ConfigFault>
     ensures { GivesConfig configured_by result (configured schema.now text.now) }
 {
-    let types = read_schema(alloc, schema, text)?;
-    let config = Config::read(alloc, &types, text)?;
+    let lines = cut_config(alloc, text)?;
+    let types = types_of_text(alloc, schema, &lines)?;
+    let config = Config::of_text(alloc, &types, &lines)?;
     Ok((types, config))
 }
 
@@ -92,17 +95,17 @@ pub struct NotedConfig {
     /// The attribute types, with those that it defines. All else of it was read under them, and so is what is asked.
     pub types: Schema,
     pub config: Config,
-    /// The notes on it (`Config::read_with_notes`).
+    /// The notes on it (`Config::with_notes`).
     pub notes: Vec<Note>,
 }
 
-/// A configuration with the types that it defines, and the notes on it.
-fn noted(alloc: Global, schema: &Schema, text: &[u8]) -> Result<NotedConfig, ConfigFault>
-    ensures read { GivesConfig configured_of result (configured schema.now text.now) }
-    ensures notes { IfOk result (λ found. found.notes.items ≡ notes_of found.types text.now) }
+/// The configuration of these lines with the types that they define, and the notes on it.
+fn noted(alloc: Global, schema: &Schema, lines: ConfigText) -> Result<NotedConfig, ConfigFault>
+    ensures read { GivesConfig configured_of result (configured_by_lines schema.now lines) }
+    ensures notes { IfOk result (λ found. found.notes.items ≡ notes_of_lines found.types lines) }
 {
-    let types = read_schema(alloc, schema, text)?;
-    let (config, notes) = Config::read_with_notes(alloc, &types, text)?;
+    let types = types_of_text(alloc, schema, &lines)?;
+    let (config, notes) = Config::with_notes(alloc, &types, lines)?;
     Ok(NotedConfig {
         types,
         config,
@@ -149,11 +152,43 @@ pub fn read_config_with_argument<R: Source>(
             });
         }
     };
-    match noted(alloc, schema, text.as_slice()) {
+    match noted_text(alloc, schema, text.as_slice()) {
         Ok(found) => Ok(found),
-        Err(fault) => Err(FaultWithArgument {
-            fault: config_fault(fault),
-            argument: argument_of(alloc, schema, text.as_slice(), fault),
+        Err(why) => Err(FaultWithArgument {
+            fault: config_fault(why.fault),
+            argument: why.argument,
+        }),
+    }
+}
+
+/// The fault of a configuration with the argument that it is about.
+#[derive(Drop)]
+struct FaultAt {
+    fault: ConfigFault,
+    argument: Result<Option<FaultArgument>, Memory>,
+}
+
+/// The configuration of a text, which is cut once; one with a fault is cut again, for the argument.
+fn noted_text(alloc: Global, schema: &Schema, text: &[u8]) -> Result<NotedConfig, FaultAt>
+    ensures config { IfOk result (λ found. configured schema.now text.now ≡ Ok (configured_of found)) }
+    ensures notes { IfOk result (λ found. found.notes.items ≡ notes_of found.types text.now) }
+    ensures fault { IfErr result (λ why. IsConfigFaultOf why.fault (configured schema.now text.now)) }
+    ensures argument { IfErr result (λ why. IfOk why.argument (IsArgumentOf schema.now (Some text.now) (config_fault why.fault))) }
+{
+    let lines = match cut_config(alloc, text) {
+        Ok(lines) => lines,
+        Err(fault) => {
+            return Err(FaultAt {
+                fault,
+                argument: Ok(None),
+            });
+        }
+    };
+    match noted(alloc, schema, lines) {
+        Ok(found) => Ok(found),
+        Err(fault) => Err(FaultAt {
+            fault,
+            argument: argument_of(alloc, schema, text, fault),
         }),
     }
 }
@@ -169,11 +204,11 @@ fn argument_of(
 {
     match fault.cause {
         ConfigCause::Memory => Ok(None),
-        _ => argument_under(alloc, schema, text, fault),
+        _ => argument_in(alloc, schema, text, fault),
     }
 }
 
-fn argument_under(
+fn argument_in(
     alloc: Global,
     schema: &Schema,
     text: &[u8],
@@ -181,8 +216,30 @@ fn argument_under(
 ) -> Result<Option<FaultArgument>, Memory>
     ensures { IfOk result (λ found. found ≡ argument_under (config_types schema.now text.now) text.now fault) }
 {
-    match read_schema(alloc, schema, text) {
-        Ok(types) => fault_argument(alloc, &types, text, fault),
+    match cut_config(alloc, text) {
+        Ok(lines) => argument_under(alloc, schema, text, &lines, fault),
+        Err(
+            ConfigFault {
+                line: _,
+                cause: ConfigCause::Memory,
+            },
+        ) => Err(Memory),
+        Err(_) => Ok(None),
+    }
+}
+
+fn argument_under(
+    alloc: Global,
+    schema: &Schema,
+    text: &[u8],
+    lines: &ConfigText,
+    fault: ConfigFault,
+) -> Result<Option<FaultArgument>, Memory>
+    requires { bounded_lines text.now ≡ Ok lines.now }
+    ensures { IfOk result (λ found. found ≡ argument_under (config_types schema.now text.now) text.now fault) }
+{
+    match types_of_text(alloc, schema, lines) {
+        Ok(types) => fault_argument(alloc, &types, text, lines, fault),
         Err(
             ConfigFault {
                 line: _,

@@ -1,16 +1,25 @@
 //! Configurations: their notes, and the argument of a fault. The program looks at a configuration's length as it reads its types; `Config::read` looks at it too.
 
 use crate::acl::make::schema;
-use dir_acl::{Config, ConfigCause, FaultArgument, Note, NoteCause, fault_argument};
+use dir_acl::{
+    Config, ConfigCause, ConfigFault, FaultArgument, Note, NoteCause, cut_config, fault_argument,
+};
+use std::alloc::Global;
 use std::process::Abort;
 
 #[test]
 fn a_configuration_is_read_with_its_notes(rt: HostRuntime) {
     let text = b"database mdb\nsuffix dc=com\ninclude acl.conf\naccess to * by * read";
-    match Config::read_with_notes(rt.alloc(), &schema(&rt, rt.alloc()), text) {
-        Ok((_, notes)) => assert!(&rt; tells_the_file(notes.as_slice())),
+    match notes_on(&rt, rt.alloc(), text) {
+        Ok(notes) => assert!(&rt; tells_the_file(notes.as_slice())),
         Err(fault) => panic!(&rt; "{}", fault.cause),
     }
+}
+
+fn notes_on(rt: &impl Abort, alloc: Global, text: &[u8]) -> Result<Vec<Note>, ConfigFault> {
+    let lines = cut_config(alloc, text)?;
+    let (_, notes) = Config::with_notes(alloc, &schema(rt, alloc), lines)?;
+    Ok(notes)
 }
 
 fn tells_the_file(notes: &[Note]) -> bool {
@@ -33,7 +42,10 @@ fn a_fault_names_its_argument(rt: HostRuntime) {
         panic!(&rt; "it is read");
     };
     assert!(&rt; fault.line == 3 && fault.cause == ConfigCause::Unsupported);
-    match fault_argument(rt.alloc(), &schema, text, fault).expect(&rt, "memory") {
+    let Ok(lines) = cut_config(rt.alloc(), text) else {
+        panic!(&rt; "it is not cut");
+    };
+    match fault_argument(rt.alloc(), &schema, text, &lines, fault).expect(&rt, "memory") {
         Some(found) => assert!(&rt; is_on_line_5(&found)),
         None => panic!(&rt; "no argument"),
     }

@@ -1,6 +1,6 @@
 use Rattle.std.proofs.Common.{◌≡◌, ◌++◌, drop}
 use Rattle.std.specs.List.{flat_map}
-use Rattle.dir_acl.specs.Config.Quoting.{preceded}
+use Rattle.dir_conf_text.specs.Quoting.{preceded}
 use Rattle.dir_conf.proofs.flat.push_arguments.Given as goal
 
 abbrev pub invariant-loop-argument : goal.invariant-loop-argument

@@ -1,11 +1,12 @@
-use Rattle.std.proofs.Common.{◌≡◌, List, inl, subst}
+use Rattle.std.proofs.Common.{◌≡◌, IfOk, List, inl, subst}
 use Rattle.dir_names.specs.Table.Builtin.{builtin_rows}
 use Rattle.dir_names.specs.declared.schema.TypeRow.{TypeRow}
+use Rattle.dir_questions.specs.declared.report.Tally.{Tally}
 use Rattle.dir_tools.specs.declared.fault.ToolFault.TheVariants as tool
-use Rattle.dir_tools.specs.AccessAnswers.{IsConfigFault, IsTextOf}
+use Rattle.dir_tools.specs.AccessAnswers.{IsArgumentOf, IsConfigFault, IsTextOf}
 use Rattle.dir_tools.specs.Inside.Asking.{configured_of}
 use Rattle.dir_files.proofs.FailureLemmas.{by_config}
-use Rattle.dir_files.proofs.FaultArgumentLemmas.{none_told}
+use Rattle.dir_files.proofs.FaultArgumentLemmas.{found_told, none_told}
 use Rattle.dir_files.proofs.QuestionCalls.{unread}
 use Rattle.dir_files.proofs.questions.answered.Goals as goal
 
@@ -19,6 +20,15 @@ returns-in-Err-clause-answer g c =
     let rows : c.in-Ok.schema ≡ builtin_rows = cc c.in-Ok.ensures in
     let fault : IsConfigFault builtin_rows text c.in-Err.why.fault = subst (λ (rows : List TypeRow). IsConfigFault rows text c.in-Err.why.fault) rows c.in-Err.ensures.fault in
     unread c.args.words.now text (g.R2.Source.left c.args.questions.now) (g.R3.Source.left c.args.copy.now) c.in-Err.why.fault c.run_fault-in-Err.result _ _ fault c.run_fault-in-Err.ensures
+
+pub returns-in-Err-clause-argument : goal.returns-in-Err-clause-argument
+returns-in-Err-clause-argument g c =
+    let text = g.R.Source.left c.args.config.now in
+    let why = c.in-Err.why in
+    let rows : c.in-Ok.schema ≡ builtin_rows = cc c.in-Ok.ensures in
+    let fault : IsConfigFault builtin_rows text why.fault = subst (λ (rows : List TypeRow). IsConfigFault rows text why.fault) rows c.in-Err.ensures.fault in
+    let about : IfOk why.argument (IsArgumentOf builtin_rows text why.fault) = subst (λ (rows : List TypeRow). IfOk why.argument (IsArgumentOf rows text why.fault)) rows c.in-Err.ensures.argument in
+    found_told Tally c.args.words.now.verbose text why.fault c.run_fault-in-Err.result why.argument (g.T.NoteTeller.arguments c.args.teller.now) (g.T.NoteTeller.arguments c.hand_over.new.teller) fault about c.run_fault-in-Err.ensures c.hand_over.ensures.kept
 
 pub returns-in-Err-clause-failed : goal.returns-in-Err-clause-failed
 returns-in-Err-clause-failed g c tells =

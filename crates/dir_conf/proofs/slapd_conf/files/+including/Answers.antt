@@ -2,7 +2,7 @@ use Rattle.std.proofs.Common.{map, sym, subst, Result, rules}
 use Rattle.dir_conf.specs.declared.fault.ConfFault.{ConfFault}
 use Rattle.dir_conf.specs.Outcome.{GivesConf}
 use Rattle.dir_conf.specs.SlapdConf.Files.{Found, file_of, found_by}
-use Rattle.dir_conf.specs.SlapdConf.Lines.{line_by}
+use Rattle.dir_conf_text.specs.Lines.{line_by}
 use Rattle.dir_conf.proofs.Included.{followed, not_followed}
 use Rattle.dir_conf.proofs.slapd_conf.files.+including.Goals as goal
 

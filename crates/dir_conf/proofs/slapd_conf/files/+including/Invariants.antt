@@ -1,6 +1,6 @@
 use Rattle.std.proofs.Common.{◌≡◌, ◌+◌, ◌*◌, map}
 use Rattle.dir_conf.specs.SlapdConf.Files.{after_each, after_line, file_of, found_by}
-use Rattle.dir_conf.specs.SlapdConf.Lines.{line_by}
+use Rattle.dir_conf_text.specs.Lines.{line_by}
 use Rattle.dir_conf.proofs.slapd_conf.files.+including.Given as goal
 
 abbrev pub decreases-after_file : goal.decreases-after_file

@@ -1,7 +1,7 @@
 use Rattle.std.proofs.Common.{◌≡◌, ◌++◌, drop, map}
 use Rattle.std.specs.List.{flat_map}
 use Rattle.dir_conf.specs.SlapdConf.Files.{included_path, includes_in, one_or_none}
-use Rattle.dir_conf.specs.SlapdConf.Lines.{line_by}
+use Rattle.dir_conf_text.specs.Lines.{line_by}
 use Rattle.dir_conf.proofs.slapd_conf.files.includes_in.Given as goal
 
 abbrev pub invariant-loop-line : goal.invariant-loop-line

@@ -12,13 +12,13 @@ returns-clause-fault g c =
     let rows = c.args.schema.now in
     let known = g.R.Source.left c.args.source.now in
     let after = g.R.Source.left c.read_text.new.source in
-    let fault = c.in-Err-noted.fault in
-    subst (IsConfigFault rows known) (sym c.config_fault.ensures) (blamed known after c.in-Ok.text.items (configured rows) (config_limited rows) c.in-Ok.ensures.text c.in-Ok.ensures.whole fault.cause fault.line (subst (λ t. IsCauseAt fault.cause fault.line (configured rows t)) c.as_slice.ensures.value c.in-Err-noted.ensures.read))
+    let fault = c.in-Err-noted_text.why.fault in
+    subst (IsConfigFault rows known) (sym c.config_fault.ensures) (blamed known after c.in-Ok.text.items (configured rows) (config_limited rows) c.in-Ok.ensures.text c.in-Ok.ensures.whole fault.cause fault.line (subst (λ t. IsCauseAt fault.cause fault.line (configured rows t)) c.as_slice.ensures.value c.in-Err-noted_text.ensures.fault))
 
 pub returns-clause-argument : goal.returns-clause-argument
 returns-clause-argument g c =
     let rows = c.args.schema.now in
     let known = g.R.Source.left c.args.source.now in
     let after = g.R.Source.left c.read_text.new.source in
-    let fault = c.in-Err-noted.fault in
-    subst (λ f. IfOk c.argument_of.result (IsArgumentOf rows known f)) (sym c.config_fault.ensures) (about_it known after c.in-Ok.text.items rows c.in-Ok.ensures.text c.in-Ok.ensures.whole fault c.argument_of.result (subst (λ t. IfOk c.argument_of.result (IsArgumentOf rows (Some t) (config_fault fault))) c.as_slice-in-Err-noted.ensures.value c.argument_of.ensures))
+    let why = c.in-Err-noted_text.why in
+    subst (λ f. IfOk why.argument (IsArgumentOf rows known f)) (sym c.config_fault.ensures) (about_it known after c.in-Ok.text.items rows c.in-Ok.ensures.text c.in-Ok.ensures.whole why.fault why.argument (subst (λ t. IfOk why.argument (IsArgumentOf rows (Some t) (config_fault why.fault))) c.as_slice.ensures.value c.in-Err-noted_text.ensures.argument))

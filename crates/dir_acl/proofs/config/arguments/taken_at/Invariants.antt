@@ -1,6 +1,0 @@
-use Rattle.std.proofs.Common.{◌≡◌, ◌++◌, ℕ, List, drop, take}
-use Rattle.dir_acl.specs.Config.Arguments.{arguments_from}
-use Rattle.dir_acl.proofs.config.arguments.taken_at.Given as goal
-
-abbrev pub invariant-loop-at : goal.invariant-loop-at
-invariant-loop-at l = (item : List ℕ) → arguments_from l.spot item l.text ≡ arguments_from l.spot (item ++ take l.at l.text) (drop l.at l.text)

@@ -1,7 +1,0 @@
-use Rattle.std.proofs.Common.{◌≡◌, ◌++◌, drop}
-use Rattle.std.specs.List.{flat_map}
-use Rattle.dir_acl.specs.Config.Quoting.{escaped}
-use Rattle.dir_acl.proofs.config.quoting.push_escaped.Given as goal
-
-abbrev pub invariant-loop-b : goal.invariant-loop-b
-invariant-loop-b l = l.line.items ++ flat_map escaped (drop l.b-index l.argument) ≡ l.initial.line.items ++ flat_map escaped l.argument

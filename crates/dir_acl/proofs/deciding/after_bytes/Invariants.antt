@@ -1,6 +1,0 @@
-use Rattle.std.proofs.Common.{◌≡◌, drop}
-use Rattle.dir_acl.specs.Inside.Wanting.{after_bytes, wanting_of}
-use Rattle.dir_acl.proofs.deciding.after_bytes.Given as goal
-
-abbrev pub invariant-loop-b : goal.invariant-loop-b
-invariant-loop-b l = after_bytes (wanting_of l.initial.wanting) l.bytes ≡ after_bytes (wanting_of l.wanting) (drop l.b-index l.bytes)

@@ -1,0 +1,4 @@
+pub mod FirstPlaces
+pub mod SlapdConf
+pub mod Wanted
+pub mod WrittenArguments

@@ -1,0 +1,3 @@
+-- What only the private parts need.
+pub mod LinesToCome
+pub mod Wanting
