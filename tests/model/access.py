@@ -517,7 +517,7 @@ IN_STYLE = {
     "subtree": lambda key, name: key[: len(name)] == name,
     "children": lambda key, name: key[: len(name)] == name and key != name,
 }
-STYLES = {"": "base", ".base": "base", ".exact": "base", ".one": "one", ".onelevel": "one"}
+STYLES = {"": "base", ".base": "base", ".baseobject": "base", ".exact": "base", ".one": "one", ".onelevel": "one"}
 STYLES |= {".sub": "subtree", ".subtree": "subtree", ".children": "children"}
 
 

@@ -117,7 +117,7 @@ def any_name(rng):
 
 
 def named(rng):
-    style = rng.choice(["", ".base", ".exact", ".one", ".onelevel", ".sub", ".subtree", ".children"])
+    style = rng.choice(["", ".base", ".baseobject", ".exact", ".one", ".onelevel", ".sub", ".subtree", ".children"])
     return f'dn{style}="{any_name(rng)}"'
 
 

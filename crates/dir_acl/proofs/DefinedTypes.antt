@@ -1,5 +1,5 @@
 -- The lines that define no type don't matter to the types.
-use Rattle.std.proofs.Common.{◌≡◌, ℕ, List, [], ◌∷◌, Option, Some, None, Result, Ok, Err, refl, sym, ap, ◌∙◌}
+use Rattle.std.proofs.Common.{◌≡◌, ℕ, List, [], ◌∷◌, Option, Some, None, Result, Ok, Err, refl}
 use Rattle.std.specs.Prelude.{option_map}
 use Rattle.dir_names.specs.Results.{and_then}
 use Rattle.dir_names.specs.declared.schema.TypeRow.{TypeRow}
@@ -7,7 +7,7 @@ use Rattle.dir_conf_text.specs.Arguments.{words_of}
 use Rattle.dir_conf_text.specs.Definitions.{definition_in}
 use Rattle.dir_conf_text.specs.declared.joining.Joining.TheVariants.{Plain}
 use Rattle.dir_conf_text.specs.Lines.{logical_lines}
-use Rattle.dir_conf_text.specs.Text.{config_lines, defined_or, definition_lines, lines_defined, lines_said, with_said, worded}
+use Rattle.dir_conf_text.specs.Text.{config_lines, defined_or, definition_lines, lines_defined, lines_said, with_said}
 use Rattle.dir_conf_text.specs.declared.text.Said.TheVariants.{Definition}
 use Rattle.dir_acl.specs.declared.fault.ConfigFault.{ConfigFault}
 use Rattle.dir_acl.specs.Config.{at_line, types_after, types_with}

@@ -5,7 +5,7 @@ use Rattle.std.specs.List.{list_all}
 use Rattle.dir_names.specs.Keys.{DnKeys}
 use Rattle.dir_tree.specs.Content.{StoredAttributes}
 use Rattle.dir_acl.specs.Decision.{Question, fits, rule_fits}
-use Rattle.dir_acl.specs.Rules.{AccessRule, Restriction, to_names, to_filter, to_attrs}
+use Rattle.dir_acl.specs.Rules.{AccessRule, Restriction, to_names, to_filter, to_attrs, to_open}
 use Rattle.dir_acl.specs.TargetRules.{agrees, allows_asked, is_for, rule_allows_asked, rule_is_for}
 use Rattle.dir_acl.specs.declared.access.target.ForTarget.TheVariants as known
 
@@ -25,6 +25,7 @@ apart : (q : Question) (r : Restriction) → fits q r ≡ (is_for q.target q.att
 apart q (to_names style name) = and_true (fits q (to_names style name))
 apart q (to_filter filter) = and_true (fits q (to_filter filter))
 apart q (to_attrs items) = refl
+apart q (to_open what) = refl
 
 all_apart : (q : Question) (rs : List Restriction) → list_all (fits q) rs ≡ (list_all (is_for q.target q.attributes) rs && list_all (allows_asked q.asked) rs)
 all_apart q [] = refl

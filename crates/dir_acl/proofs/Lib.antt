@@ -10,6 +10,7 @@ pub mod KnownRules
 pub mod NoAttributes
 pub mod NoNotes
 pub mod NotedLines
+pub mod OpenRuns
 pub mod Packing
 pub mod PrivilegeTexts
 pub mod RunningSets

@@ -73,7 +73,7 @@ held_by_last_word es p = after_says no_privileges es p ∙ ap (unwrap_or (last_w
 
 -- ---- decisions
 
-has_all : (p : Privilege) → has all_privileges p ≡ true
+pub has_all : (p : Privilege) → has all_privileges p ≡ true
 has_all Manage = refl
 has_all Add = refl
 has_all Delete = refl

@@ -3,6 +3,8 @@
 -- defines are `config_types`.
 pub mod AccessRules
 pub mod Names
+pub mod OpenForms
+pub mod Opening
 pub mod Permissions
 pub mod Whats
 pub mod Whos

@@ -26,7 +26,7 @@ use Rattle.dir_acl.specs.declared.access.Who.TheVariants as who
 use Rattle.dir_acl.specs.declared.privileges.Level.TheVariants as level
 use Rattle.dir_acl.specs.declared.privileges.Privilege.{Privilege}
 use Rattle.dir_acl.specs.Privileges.{has, level_set, no_privileges}
-use Rattle.dir_acl.specs.Rules.{AccessClause, AccessRule, Restriction, to_names, to_filter, to_attrs}
+use Rattle.dir_acl.specs.Rules.{AccessClause, AccessRule, Restriction, to_names, to_filter, to_attrs, to_open}
 use Rattle.dir_acl.specs.Truth.{is_true, tree_truth}
 
 -- who asks, for what: the requester's name, the target with its attributes (none for an entry that is made up), and what of it is asked for
@@ -62,11 +62,12 @@ is_asked (asked.Attribute item) asked.Entry = false
 is_asked (asked.Attribute item) asked.Children = false
 is_asked (asked.Attribute item) (asked.Attribute attr) = covers item attr
 
--- a filter fits if it is True
+-- a filter fits if it is True. What isn't decided (`Bounds`) no decision is made by: it doesn't fit
 abbrev pub fits : Question → Restriction → Bool
 fits q (to_names style name) = is_of_style style name q.target
 fits q (to_filter filter) = is_true (tree_truth q.attributes filter)
 fits q (to_attrs items) = list_any (λ item. is_asked item q.asked) items
+fits q (to_open what) = false
 
 -- a rule fits if each part of its <what> does
 abbrev pub rule_fits : Question → AccessRule → Bool
@@ -88,6 +89,7 @@ is_member_in k who.Users (Some entry) = false
 is_member_in k who.Myself (Some entry) = false
 is_member_in k (who.Dn style name) (Some entry) = false
 is_member_in k (who.DnAttr attr) (Some entry) = false
+is_member_in k (who.Open w) (Some entry) = false
 
 -- a requester with a name
 abbrev pub holds_of : Dir → Question → Who → DnKeys → Bool
@@ -97,6 +99,7 @@ holds_of d q who.Users k = true
 holds_of d q who.Myself k = dn_key_eq k q.target
 holds_of d q (who.Dn style name) k = is_of_style style name k
 holds_of d q (who.DnAttr attr) k = has_name attr k q.attributes
+holds_of d q (who.Open w) k = false
 holds_of d q (who.Group name class_attr class member) k = is_member_in k (who.Group name class_attr class member) (entry_at d name)
 
 -- a requester without a name meets `*` and `anonymous` alone
@@ -108,6 +111,7 @@ holds_of_nobody who.Myself = false
 holds_of_nobody (who.Dn style name) = false
 holds_of_nobody (who.DnAttr attr) = false
 holds_of_nobody (who.Group name class_attr class member) = false
+holds_of_nobody (who.Open w) = false
 
 abbrev pub holds_for : Dir → Question → Option DnKeys → Who → Bool
 holds_for d q None w = holds_of_nobody w

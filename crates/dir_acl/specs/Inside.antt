@@ -6,6 +6,7 @@ pub mod Fakes
 pub mod FirstPiece
 pub mod NotedTypes
 pub mod Noting
+pub mod OpenRules
 pub mod ReadingConfig
 pub mod Requests
 pub mod RunningSet

@@ -65,6 +65,24 @@ pub enum What {
     Filter(Filter),
     /// `attrs=LIST`
     Attrs(Vec<Asked>),
+    /// A form that isn't decided. A decision takes it as one that doesn't fit; `OpenConfig` alone has such parts.
+    Open(OpenWhat),
+}
+
+/// A part of the `<what>` of a rule in a form that isn't decided: it may fit or not.
+#[derive(Debug, Drop)]
+pub enum OpenWhat {
+    /// `dn.STYLE=PATTERN`, as `dn.regex` is.
+    Name,
+    /// `filter=FILTER`, of a filter with a test that isn't decided.
+    Filter,
+    /// `val[/RULE][.STYLE]=VALUE`
+    Value,
+    /// `attrs=LIST` of these items: the type of one isn't known, or others are derived from it. So an attribute that none of them covers
+    /// may be one of the list.
+    Types(Vec<Asked>),
+    /// `attrs=LIST` of these items and of object classes: all else that may be asked for may be one of the list.
+    Classes(Vec<Asked>),
 }
 
 /// A part of the `<who>` of a clause.
@@ -85,6 +103,20 @@ pub enum Who {
     /// `group[/CLASS[/ATTR]]=NAME`: the entry of this name has this value of this attribute as its class, and the
     /// requester as a value of the last attribute.
     Group(DnKey, AttrKey, ValueKey, AttrKey),
+    /// A form that isn't decided. A decision takes it as one that doesn't hold; `OpenConfig` alone has such parts.
+    Open(OpenWho),
+}
+
+/// A part of the `<who>` of a clause in a form that isn't decided: it may hold or not.
+#[derive(Debug, Drop)]
+pub enum OpenWho {
+    /// Of any requester, as `ssf=128` is.
+    Anybody,
+    /// Of a requester with a name, as a group is.
+    Somebody,
+    /// `dnattr=DESCRIPTION`, of a type from which others are derived: a requester that no value of its own names may be named by one of
+    /// theirs.
+    DnAttr(AttrKey),
 }
 
 /// What a clause does to the privileges that were given before it.

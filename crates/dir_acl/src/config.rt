@@ -17,6 +17,8 @@ ghost use Rattle.dir_acl.specs.declared.privileges.Privilege.{Privilege};
 pub(crate) mod access_rules;
 pub(crate) mod directives;
 mod names;
+mod open_forms;
+pub(crate) mod opening;
 pub(crate) mod permissions;
 pub(crate) mod types;
 mod whats;

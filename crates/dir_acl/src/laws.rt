@@ -1,11 +1,12 @@
 //! Laws of the definitions, as contracts of calls that do nothing.
 
-ghost use Rattle.std.specs.Prelude.{◌≡◌, ◌||◌, [], ℕ, List, Option, Err, Ok, Some, map, true};
+ghost use Rattle.std.specs.List.{list_all};
+ghost use Rattle.std.specs.Prelude.{◌≡◌, ◌||◌, [], ℕ, Bool, List, Option, Err, Ok, Some, map, true};
 ghost use Rattle.dir_names.specs.declared.schema.TypeRow.{TypeRow};
 ghost use Rattle.dir_conf_text.specs.Text.{config_lines};
 ghost use Rattle.dir_names.specs.Keys.{DnKeys};
 ghost use Rattle.dir_tree.specs.Dir.{Dir};
-ghost use Rattle.dir_acl.specs.Bounds.{granted_by, judged};
+ghost use Rattle.dir_acl.specs.Bounds.{granted_by, granted_under, judged, rule_is_decided};
 ghost use Rattle.dir_acl.specs.Config.{config_of};
 ghost use Rattle.dir_acl.specs.Decision.{Question, is_granted, is_root_for, named};
 ghost use Rattle.dir_acl.specs.Inside.Bounding.{BoundsAreExact};
@@ -39,8 +40,7 @@ pub fn rules_without_notes_are_understood()
     ensures { (rows : List TypeRow) (text : List ℕ) (config : Configuration) → config_of rows text ≡ Ok config → notes_of rows text ≡ [] → AreUnderstood (noted_types rows (config_lines text)) config }
 {}
 
-/// One pass over rules with open parts finds exactly what is held however these are closed, and what may be held (slapd.access(5)), where
-/// no number of a part comes twice.
+/// One pass over rules with open parts finds exactly what is held however these are closed, and what may be held (slapd.access(5)).
 pub fn bounds_are_exact()
     ensures { BoundsAreExact }
 {}
@@ -48,6 +48,11 @@ pub fn bounds_are_exact()
 /// Rules without open parts grant what a decision grants: what a rule's clauses give once it is known which apply is one definition.
 pub fn known_rules_are_granted()
     ensures { (d : Dir) (root : Option DnKeys) (rules : List AccessRule) (q : Question) (p : Privilege) → is_granted d root rules q p ≡ (is_root_for root (named q.requester) || granted_by (map (judged d q) rules) p) }
+{}
+
+/// However numbers are closed, rules without an open part grant what a decision grants.
+pub fn decided_rules_are_granted()
+    ensures { (closed : ℕ → Bool) (d : Dir) (root : Option DnKeys) (rules : List AccessRule) (q : Question) (p : Privilege) → list_all rule_is_decided rules ≡ true → granted_under closed d root rules q p ≡ is_granted d root rules q p }
 {}
 
 /// The test of a substring assertion tells whether some cut of the text has the pieces.

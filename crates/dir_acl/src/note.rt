@@ -8,10 +8,10 @@ ghost use Rattle.dir_acl.specs.Notes.{note_at, type_notes};
 ghost use Rattle.dir_acl.specs.Inside.NotedTypes.{noted_by};
 ghost use Rattle.dir_acl.specs.Outcome.{GivesPart};
 
-mod filters;
+pub(crate) mod filters;
 pub(crate) mod lines;
-mod types;
-mod words;
+pub(crate) mod types;
+pub(crate) mod words;
 
 use crate::ConfigCause;
 use crate::note::types::RuleTypes;

@@ -2,11 +2,34 @@
 use Rattle.std.proofs.Common.{◌≡◌, ℕ, Bool, true, false, not, cond, ◌==◌, List, [], ◌∷◌, ◌++◌, map, refl, sym, ap, ◌∙◌, true≢false, arith}
 use Rattle.std.specs.Prelude.{⊤, ◌&&◌}
 use Rattle.std.proofs.lemmas.Bool.Decides.{nat_tests}
-use Rattle.std.specs.List.{list_all}
+use Rattle.std.specs.List.{flat_map, list_all}
 use Rattle.dir_names.proofs.Both.{left, right}
 use Rattle.dir_tree.specs.Dir.{Dir}
-use Rattle.dir_acl.specs.Bounds.{AreOnce, OpenClause, OpenRule, Part, all_numbers, clause_under, clauses_numbers, holds_under, known, numbers_of, rule_numbers, rule_under, undecided}
-use Rattle.dir_acl.specs.Decision.{Question, fits, holds_for, named}
+use Rattle.dir_acl.specs.declared.open_rules.Verdict.{Verdict}
+use Rattle.dir_acl.specs.Bounds.{Numbered, NumberedClause, NumberedRule, clause_under, edit_under, holds_under, rule_under, settled, what_says, who_says}
+use Rattle.dir_acl.specs.Decision.{Question}
+
+-- ---- the numbers of parts and edits
+
+abbrev pub numbers_of : {A : Type 0} → List (Numbered A) → List ℕ
+numbers_of parts = map (λ part. part.number) parts
+
+abbrev pub clause_numbers : NumberedClause → List ℕ
+clause_numbers clause = clause.number ∷ numbers_of clause.who
+
+abbrev pub clauses_numbers : List NumberedClause → List ℕ
+clauses_numbers clauses = flat_map clause_numbers clauses
+
+abbrev pub rule_numbers : NumberedRule → List ℕ
+rule_numbers rule = numbers_of rule.what ++ clauses_numbers rule.clauses
+
+abbrev pub all_numbers : List NumberedRule → List ℕ
+all_numbers rules = flat_map rule_numbers rules
+
+-- no number comes twice, so what is chosen for one part says nothing of another
+abbrev pub AreOnce : List ℕ → Type 0
+AreOnce [] = ⊤
+AreOnce (n ∷ ns) = (list_all (λ m. not (m == n)) ns ≡ true) × AreOnce ns
 
 -- both give the same for each of these numbers
 abbrev pub Agree : (ℕ → Bool) → (ℕ → Bool) → List ℕ → Type 0
@@ -20,11 +43,11 @@ Apart (n ∷ ns) ms = (list_all (λ m. not (m == n)) ms ≡ true) × Apart ns ms
 
 -- ---- parts of lists
 
-all_left : (test : ℕ → Bool) (xs ys : List ℕ) → list_all test (xs ++ ys) ≡ true → list_all test xs ≡ true
+pub all_left : (test : ℕ → Bool) (xs ys : List ℕ) → list_all test (xs ++ ys) ≡ true → list_all test xs ≡ true
 all_left test [] ys e = refl
 all_left test (x ∷ xs) ys e = ap (λ b. b && list_all test xs) (left (test x) _ e) ∙ all_left test xs ys (right (test x) _ e)
 
-all_right : (test : ℕ → Bool) (xs ys : List ℕ) → list_all test (xs ++ ys) ≡ true → list_all test ys ≡ true
+pub all_right : (test : ℕ → Bool) (xs ys : List ℕ) → list_all test (xs ++ ys) ≡ true → list_all test ys ≡ true
 all_right test [] ys e = e
 all_right test (x ∷ xs) ys e = all_right test xs ys (right (test x) _ e)
 
@@ -48,30 +71,37 @@ agree_right : (f g : ℕ → Bool) (xs ys : List ℕ) → Agree f g (xs ++ ys) �
 agree_right f g [] ys a = a
 agree_right f g (x ∷ xs) ys a = agree_right f g xs ys a.1
 
+pub agree_on : (f g h : ℕ → Bool) (ns : List ℕ) → Agree f g ns → Agree g h ns → Agree f h ns
+agree_on f g h [] a b = tt
+agree_on f g h (n ∷ ns) a b = (a.0 ∙ b.0, agree_on f g h ns a.1 b.1)
+
 -- ---- what is judged hangs on the numbers that are there
 
-pub same_parts : {A : Type 0} (test : A → Bool) (f g : ℕ → Bool) (parts : List (Part A)) → Agree f g (numbers_of parts) → list_all (holds_under f test) parts ≡ list_all (holds_under g test) parts
-same_parts test f g [] a = refl
-same_parts test f g (known x ∷ parts) a = ap (λ b. test x && b) (same_parts test f g parts a)
-same_parts test f g (undecided n ∷ parts) a = ap (λ b. b && list_all (holds_under f test) parts) a.0 ∙ ap (λ b. g n && b) (same_parts test f g parts a.1)
+pub same_parts : {A : Type 0} (says : A → Verdict) (f g : ℕ → Bool) (parts : List (Numbered A)) → Agree f g (numbers_of parts) → list_all (holds_under f says) parts ≡ list_all (holds_under g says) parts
+same_parts says f g [] a = refl
+same_parts says f g (part ∷ parts) a = λ i. settled (a.0 i) (says part.part) && same_parts says f g parts a.1 i
 
 module _ (d : Dir) (q : Question) where
-  pub same_clauses : (f g : ℕ → Bool) (clauses : List OpenClause) → Agree f g (clauses_numbers clauses) → map (clause_under f d q) clauses ≡ map (clause_under g d q) clauses
+  pub same_clauses : (f g : ℕ → Bool) (clauses : List NumberedClause) → Agree f g (clauses_numbers clauses) → map (clause_under f d q) clauses ≡ map (clause_under g d q) clauses
   same_clauses f g [] a = refl
-  same_clauses f g (clause ∷ clauses) a =
-      ap (λ b. record { applies = b; edit = clause.edit; control = clause.control } ∷ map (clause_under f d q) clauses) (same_parts (holds_for d q (named q.requester)) f g clause.who (agree_left f g (numbers_of clause.who) (clauses_numbers clauses) a))
-      ∙ ap (λ rest. clause_under g d q clause ∷ rest) (same_clauses f g clauses (agree_right f g (numbers_of clause.who) (clauses_numbers clauses) a))
+  same_clauses f g (clause ∷ clauses) a = λ i.
+      record {
+        applies = same_parts (who_says d q) f g clause.who (agree_left f g (numbers_of clause.who) (clauses_numbers clauses) a.1) i;
+        edit = edit_under (a.0 i) clause.edit;
+        control = clause.control;
+      }
+      ∷ same_clauses f g clauses (agree_right f g (numbers_of clause.who) (clauses_numbers clauses) a.1) i
 
-  same_rule : (f g : ℕ → Bool) (rule : OpenRule) → Agree f g (rule_numbers rule) → rule_under f d q rule ≡ rule_under g d q rule
-  same_rule f g rule a =
-      ap (λ b. record { fits = b; clauses = map (clause_under f d q) rule.clauses }) (same_parts (fits q) f g rule.what (agree_left f g (numbers_of rule.what) (clauses_numbers rule.clauses) a))
-      ∙ ap (λ cs. record { fits = list_all (holds_under g (fits q)) rule.what; clauses = cs }) (same_clauses f g rule.clauses (agree_right f g (numbers_of rule.what) (clauses_numbers rule.clauses) a))
+  same_rule : (f g : ℕ → Bool) (rule : NumberedRule) → Agree f g (rule_numbers rule) → rule_under f d q rule ≡ rule_under g d q rule
+  same_rule f g rule a = λ i.
+      record {
+        fits = same_parts (what_says q) f g rule.what (agree_left f g (numbers_of rule.what) (clauses_numbers rule.clauses) a) i;
+        clauses = same_clauses f g rule.clauses (agree_right f g (numbers_of rule.what) (clauses_numbers rule.clauses) a) i;
+      }
 
-  pub same_rules : (f g : ℕ → Bool) (rules : List OpenRule) → Agree f g (all_numbers rules) → map (rule_under f d q) rules ≡ map (rule_under g d q) rules
+  pub same_rules : (f g : ℕ → Bool) (rules : List NumberedRule) → Agree f g (all_numbers rules) → map (rule_under f d q) rules ≡ map (rule_under g d q) rules
   same_rules f g [] a = refl
-  same_rules f g (rule ∷ rules) a =
-      ap (λ r. r ∷ map (rule_under f d q) rules) (same_rule f g rule (agree_left f g (rule_numbers rule) (all_numbers rules) a))
-      ∙ ap (λ rest. rule_under g d q rule ∷ rest) (same_rules f g rules (agree_right f g (rule_numbers rule) (all_numbers rules) a))
+  same_rules f g (rule ∷ rules) a = λ i. same_rule f g rule (agree_left f g (rule_numbers rule) (all_numbers rules) a) i ∷ same_rules f g rules (agree_right f g (rule_numbers rule) (all_numbers rules) a) i
 
 -- ---- one for these numbers, another for the rest
 

@@ -9,7 +9,6 @@ use Rattle.dir_acl.specs.declared.access.Edit.{Edit}
 use Rattle.dir_acl.specs.declared.privileges.Privilege.{Privilege}
 use Rattle.dir_acl.specs.Bounds.{JudgedClause, JudgedRule, all_judged_edits, applying, clause_by, granted_by, judged, judged_clause, judged_edits}
 use Rattle.dir_acl.specs.Decision.{Question, all_edits, applies, clauses_for, edits_of, edits_of_rules, ends_in_break, goes_on, is_break, is_granted, is_root_for, last_word, named, rule_fits, says}
-use Rattle.dir_acl.specs.Privileges.{has}
 use Rattle.dir_acl.specs.Rules.{AccessClause, AccessRule}
 use Rattle.dir_acl.proofs.RunningSets.{has_none, said_before}
 

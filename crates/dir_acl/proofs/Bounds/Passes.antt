@@ -1,17 +1,20 @@
 -- The pass over the clauses of a rule: it has each run, and no other.
 use Rattle.std.proofs.Common.{◌≡◌, ℕ, Bool, true, false, cond, List, [], ◌∷◌, map, Option, Some, None, refl, sym, ap, ◌∙◌, true≢false}
-use Rattle.std.specs.Prelude.{◌&&◌, ◌||◌, unwrap_or}
+use Rattle.std.specs.Prelude.{◌&&◌, ◌||◌, ◌==◌, not, unwrap_or}
 use Rattle.std.specs.List.{list_all}
 use Rattle.dir_names.proofs.Both.{left, right}
 use Rattle.dir_tree.specs.Dir.{Dir}
 use Rattle.dir_acl.specs.declared.access.Control.{Control}
 use Rattle.dir_acl.specs.declared.access.Control.TheVariants.{Stop, Continue, Break}
-use Rattle.dir_acl.specs.declared.access.Who.{Who}
+use Rattle.dir_acl.specs.declared.access.Edit.{Edit}
+use Rattle.dir_acl.specs.declared.open_rules.Verdict.{Verdict}
+use Rattle.dir_acl.specs.declared.open_rules.Verdict.TheVariants.{Holds, Fails, Open}
 use Rattle.dir_acl.specs.declared.privileges.Privilege.{Privilege}
-use Rattle.dir_acl.specs.Bounds.{AreOnce, OpenClause, Part, clause_under, clauses_numbers, holds_under, known, numbers_of, undecided}
-use Rattle.dir_acl.specs.Decision.{Question, holds_for, named, says}
-use Rattle.dir_acl.specs.Inside.Bounding.{Parted, Runs, after_clauses, both_parted, both_runs, by_control, may_hold, must_hold, no_runs, passing, taking, told_runs, without_it}
-use Rattle.dir_acl.proofs.Bounds.Choices.{as_first, as_second, chosen, once_apart, once_right, same_clauses, same_parts}
+use Rattle.dir_acl.specs.Bounds.{Numbered, NumberedClause, NumberedRule, clause_under, edit_under, holds_under, settled, what_says, who_says, with_write}
+use Rattle.dir_acl.specs.Decision.{Question, says}
+use Rattle.dir_acl.specs.Inside.Bounding.{Parted, Runs, WeighedClause, WeighedRule, after_clauses, both_parted, both_runs, by_control, edited_runs, no_runs, passing, taking, told_runs, without_it}
+use Rattle.dir_acl.specs.Notes.Halves.{takes_half}
+use Rattle.dir_acl.proofs.Bounds.Choices.{Agree, AreOnce, agree_on, all_left, all_right, as_first, as_second, chosen, clause_numbers, clauses_numbers, numbers_of, once_apart, once_right, same_clauses, same_parts}
 use Rattle.dir_acl.proofs.Bounds.Judged.{Stand, stand_after, through_clauses}
 
 -- some run comes here with the privilege, or without it
@@ -98,72 +101,122 @@ told_by (Some true) runs true e = by (or_either runs.held runs.lacking e)
     by (second h) = record { held = false; there = h; comes = refl }
 told_by (Some false) runs held e = lost_by runs held e
 
+-- ---- edits
+
+-- an edit that may take the other one of `a` and `z` too says either, and `half` tells whether it is one
+module _ (p : Privilege) (e : Edit) (runs : Runs) where
+  abbrev edited_if : Bool → Runs
+  edited_if half = cond half (both_runs (told_runs (says e p) runs) (told_runs (says (with_write e) p) runs)) (told_runs (says e p) runs)
+
+  abbrev told_if : Bool → Bool → Bool → Bool
+  told_if half b held = unwrap_or (says (cond (half && b) (with_write e) e) p) held
+
+  record IsEditedFrom (half after : Bool) : Type 0 where
+    b : Bool
+    held : Bool
+    there : has_run runs held ≡ true
+    comes : told_if half b held ≡ after
+
+  edited_comes : (half b held : Bool) → has_run runs held ≡ true → has_run (edited_if half) (told_if half b held) ≡ true
+  edited_comes false b held r = told_comes (says e p) runs held r
+  edited_comes true false held r = in_first (told_runs (says e p) runs) (told_runs (says (with_write e) p) runs) (unwrap_or (says e p) held) (told_comes (says e p) runs held r)
+  edited_comes true true held r = in_second (told_runs (says e p) runs) (told_runs (says (with_write e) p) runs) (unwrap_or (says (with_write e) p) held) (told_comes (says (with_write e) p) runs held r)
+
+  edited_by : (half after : Bool) → has_run (edited_if half) after ≡ true → IsEditedFrom half after
+  edited_by false after r = by (told_by (says e p) runs after r)
+    where
+      by : IsFrom runs (λ before. unwrap_or (says e p) before ≡ after) → IsEditedFrom false after
+      by from = record { b = false; held = from.held; there = from.there; comes = from.comes }
+  edited_by true after r = choose (in_either (told_runs (says e p) runs) (told_runs (says (with_write e) p) runs) after r)
+    where
+      as_said : IsFrom runs (λ before. unwrap_or (says e p) before ≡ after) → IsEditedFrom true after
+      as_said from = record { b = false; held = from.held; there = from.there; comes = from.comes }
+
+      with_both : IsFrom runs (λ before. unwrap_or (says (with_write e) p) before ≡ after) → IsEditedFrom true after
+      with_both from = record { b = true; held = from.held; there = from.there; comes = from.comes }
+
+      choose : Either (has_run (told_runs (says e p) runs) after ≡ true) (has_run (told_runs (says (with_write e) p) runs) after ≡ true) → IsEditedFrom true after
+      choose (first h) = as_said (told_by (says e p) runs after h)
+      choose (second h) = with_both (told_by (says (with_write e) p) runs after h)
+
 -- ---- parts
 
-module _ {A : Type 0} (test : A → Bool) where
-  under_all_true : (parts : List (Part A)) → list_all (holds_under (λ n. true) test) parts ≡ list_all (may_hold test) parts
-  under_all_true [] = refl
-  under_all_true (known a ∷ parts) = ap (λ b. test a && b) (under_all_true parts)
-  under_all_true (undecided n ∷ parts) = under_all_true parts
+if_open : (b : Bool) (v : Verdict) → settled b v ≡ true → settled true v ≡ true
+if_open b Holds e = refl
+if_open b Fails e = e
+if_open b Open e = refl
 
-  under_all_false : (parts : List (Part A)) → list_all (holds_under (λ n. false) test) parts ≡ list_all (must_hold test) parts
-  under_all_false [] = refl
-  under_all_false (known a ∷ parts) = ap (λ b. test a && b) (under_all_false parts)
-  under_all_false (undecided n ∷ parts) = refl
+if_not : (b : Bool) (v : Verdict) → settled false v ≡ true → settled b v ≡ true
+if_not b Holds e = refl
+if_not b Fails e = e
+if_not b Open e = absurd (true≢false (sym e))
 
-  may_if_some : (closed : ℕ → Bool) (parts : List (Part A)) → list_all (holds_under closed test) parts ≡ true → list_all (may_hold test) parts ≡ true
+module _ {A : Type 0} (says : A → Verdict) where
+  -- all of them under one truth value for each number
+  abbrev pub all_if : Bool → List (Numbered A) → Bool
+  all_if b parts = list_all (λ part. settled b (says part.part)) parts
+
+  may_if_some : (closed : ℕ → Bool) (parts : List (Numbered A)) → list_all (holds_under closed says) parts ≡ true → all_if true parts ≡ true
   may_if_some closed [] e = refl
-  may_if_some closed (known a ∷ parts) e = ap (λ b. b && list_all (may_hold test) parts) (left (test a) _ e) ∙ may_if_some closed parts (right (test a) _ e)
-  may_if_some closed (undecided n ∷ parts) e = may_if_some closed parts (right (closed n) _ e)
+  may_if_some closed (part ∷ parts) e = λ i.
+      if_open (closed part.number) (says part.part) (left (holds_under closed says part) (list_all (holds_under closed says) parts) e) i
+      && may_if_some closed parts (right (holds_under closed says part) (list_all (holds_under closed says) parts) e) i
 
-  some_if_must : (closed : ℕ → Bool) (parts : List (Part A)) → list_all (must_hold test) parts ≡ true → list_all (holds_under closed test) parts ≡ true
+  some_if_must : (closed : ℕ → Bool) (parts : List (Numbered A)) → all_if false parts ≡ true → list_all (holds_under closed says) parts ≡ true
   some_if_must closed [] e = refl
-  some_if_must closed (known a ∷ parts) e = ap (λ b. b && list_all (holds_under closed test) parts) (left (test a) _ e) ∙ some_if_must closed parts (right (test a) _ e)
-  some_if_must closed (undecided n ∷ parts) e = absurd (true≢false (sym e))
+  some_if_must closed (part ∷ parts) e = λ i.
+      if_not (closed part.number) (says part.part) (left (settled false (says part.part)) (all_if false parts) e) i
+      && some_if_must closed parts (right (settled false (says part.part)) (all_if false parts) e) i
 
-  module _ (parts : List (Part A)) (runs : Runs) (held : Bool) where
-    pub takes : (closed : ℕ → Bool) → list_all (holds_under closed test) parts ≡ true → has_run runs held ≡ true → has_run (taking test parts runs) held ≡ true
+  module _ (parts : List (Numbered A)) (runs : Runs) (held : Bool) where
+    pub takes : (closed : ℕ → Bool) → list_all (holds_under closed says) parts ≡ true → has_run runs held ≡ true → has_run (taking (all_if true parts) runs) held ≡ true
     takes closed fit e = ap (λ b. has_run (cond b runs no_runs) held) (may_if_some closed parts fit) ∙ e
 
-    pub passes : (closed : ℕ → Bool) → list_all (holds_under closed test) parts ≡ false → has_run runs held ≡ true → has_run (passing test parts runs) held ≡ true
-    passes closed unfit e = by (list_all (must_hold test) parts) refl
+    pub passes : (closed : ℕ → Bool) → list_all (holds_under closed says) parts ≡ false → has_run runs held ≡ true → has_run (passing (all_if false parts) runs) held ≡ true
+    passes closed unfit e = by (all_if false parts) refl
       where
-        by : (b : Bool) → list_all (must_hold test) parts ≡ b → has_run (cond b no_runs runs) held ≡ true
+        by : (b : Bool) → all_if false parts ≡ b → has_run (cond b no_runs runs) held ≡ true
         by true w = absurd (true≢false (sym (some_if_must closed parts w) ∙ unfit))
         by false w = e
 
-    pub taken : has_run (taking test parts runs) held ≡ true → (list_all (holds_under (λ n. true) test) parts ≡ true) × (has_run runs held ≡ true)
-    taken e = by (list_all (may_hold test) parts) refl e
+    pub taken : has_run (taking (all_if true parts) runs) held ≡ true → (all_if true parts ≡ true) × (has_run runs held ≡ true)
+    taken e = by (all_if true parts) refl e
       where
-        by : (b : Bool) → list_all (may_hold test) parts ≡ b → has_run (cond b runs no_runs) held ≡ true → (list_all (holds_under (λ n. true) test) parts ≡ true) × (has_run runs held ≡ true)
-        by true w h = (under_all_true parts ∙ w, h)
+        by : (b : Bool) → all_if true parts ≡ b → has_run (cond b runs no_runs) held ≡ true → (all_if true parts ≡ true) × (has_run runs held ≡ true)
+        by true w h = (w, h)
         by false w h = none_there held h
 
-    pub passed : has_run (passing test parts runs) held ≡ true → (list_all (holds_under (λ n. false) test) parts ≡ false) × (has_run runs held ≡ true)
-    passed e = by (list_all (must_hold test) parts) refl e
+    pub passed : has_run (passing (all_if false parts) runs) held ≡ true → (all_if false parts ≡ false) × (has_run runs held ≡ true)
+    passed e = by (all_if false parts) refl e
       where
-        by : (b : Bool) → list_all (must_hold test) parts ≡ b → has_run (cond b no_runs runs) held ≡ true → (list_all (holds_under (λ n. false) test) parts ≡ false) × (has_run runs held ≡ true)
+        by : (b : Bool) → all_if false parts ≡ b → has_run (cond b no_runs runs) held ≡ true → (all_if false parts ≡ false) × (has_run runs held ≡ true)
         by true w h = none_there held h
-        by false w h = (under_all_false parts ∙ w, h)
+        by false w h = (w, h)
 
 -- ---- clauses
 
 module _ (d : Dir) (q : Question) (p : Privilege) where
-  abbrev holds : Who → Bool
-  holds = holds_for d q (named q.requester)
+  abbrev pub clause_weight : NumberedClause → WeighedClause
+  clause_weight clause = record { may = all_if (who_says d q) true clause.who; must = all_if (who_says d q) false clause.who; edit = clause.edit; control = clause.control }
 
-  abbrev pub clauses_run : (ℕ → Bool) → List OpenClause → Bool → Stand
+  abbrev pub rule_weight : NumberedRule → WeighedRule
+  rule_weight rule = record { may = all_if (what_says q) true rule.what; must = all_if (what_says q) false rule.what; clauses = map clause_weight rule.clauses }
+
+  abbrev pub clauses_run : (ℕ → Bool) → List NumberedClause → Bool → Stand
   clauses_run closed clauses held = through_clauses p (map (clause_under closed d q) clauses) held
+
+  abbrev pub clauses_pass : List NumberedClause → Runs → Parted
+  clauses_pass clauses runs = after_clauses p (map clause_weight clauses) runs
 
   abbrev pub Comes : Parted → Stand → Type 0
   Comes parted stand = has_run (parted_at parted stand.0) stand.1 ≡ true
 
   -- the runs that take a clause, with what it says, and those that pass it over
-  abbrev pub took : OpenClause → Runs → Runs
-  took clause runs = told_runs (says clause.edit p) (taking (holds_for d q (named q.requester)) clause.who runs)
+  abbrev pub took : NumberedClause → Runs → Runs
+  took clause runs = edited_runs clause.edit p (taking (all_if (who_says d q) true clause.who) runs)
 
-  abbrev pub gone : OpenClause → Runs → Runs
-  gone clause runs = passing (holds_for d q (named q.requester)) clause.who runs
+  abbrev pub gone : NumberedClause → Runs → Runs
+  gone clause runs = passing (all_if (who_says d q) false clause.who) runs
 
   abbrev pub stopped : Runs → Parted
   stopped runs = record { on = no_runs; ended = runs }
@@ -177,65 +230,84 @@ module _ (d : Dir) (q : Question) (p : Privilege) where
   to_second : (a b : Parted) (stand : Stand) → Comes b stand → Comes (both_parted a b) stand
   to_second a b stand h = ap (λ r. has_run r stand.1) (parted_both a b stand.0) ∙ in_second (parted_at a stand.0) (parted_at b stand.0) stand.1 h
 
-  abbrev pub told : OpenClause → Bool → Bool
-  told clause held = unwrap_or (says clause.edit p) held
+  abbrev pub told : Bool → NumberedClause → Bool → Bool
+  told b clause held = unwrap_or (says (edit_under b clause.edit) p) held
 
   -- each run is in the pass
-  pub clauses_come : (closed : ℕ → Bool) (clauses : List OpenClause) (runs : Runs) (held : Bool) → has_run runs held ≡ true → Comes (after_clauses d q p clauses runs) (clauses_run closed clauses held)
+  pub clauses_come : (closed : ℕ → Bool) (clauses : List NumberedClause) (runs : Runs) (held : Bool) → has_run runs held ≡ true → Comes (clauses_pass clauses runs) (clauses_run closed clauses held)
   clauses_come closed [] runs held e = loses_it runs held e
-  clauses_come closed (clause ∷ clauses) runs held e = by (clauses_come closed clauses) clause.control (list_all (holds_under closed holds) clause.who) refl
+  clauses_come closed (clause ∷ clauses) runs held e = by (clauses_come closed clauses) clause.control (list_all (holds_under closed (who_says d q)) clause.who) refl
     where
-      comes : list_all (holds_under closed holds) clause.who ≡ true → has_run (took clause runs) (told clause held) ≡ true
-      comes fit = told_comes (says clause.edit p) (taking holds clause.who runs) held (takes holds clause.who runs held closed fit e)
+      comes : list_all (holds_under closed (who_says d q)) clause.who ≡ true → has_run (took clause runs) (told (closed clause.number) clause held) ≡ true
+      comes fit = edited_comes p clause.edit (taking (all_if (who_says d q) true clause.who) runs) (takes_half clause.edit) (closed clause.number) held (takes (who_says d q) clause.who runs held closed fit e)
 
-      goes : list_all (holds_under closed holds) clause.who ≡ false → has_run (gone clause runs) held ≡ true
-      goes unfit = passes holds clause.who runs held closed unfit e
+      goes : list_all (holds_under closed (who_says d q)) clause.who ≡ false → has_run (gone clause runs) held ≡ true
+      goes unfit = passes (who_says d q) clause.who runs held closed unfit e
 
-      by : ((runs : Runs) (held : Bool) → has_run runs held ≡ true → Comes (after_clauses d q p clauses runs) (clauses_run closed clauses held)) → (c : Control) (b : Bool) → list_all (holds_under closed holds) clause.who ≡ b
-          → Comes (by_control c (took clause runs) (gone clause runs) (after_clauses d q p clauses)) (cond b (stand_after c (told clause held) (clauses_run closed clauses)) (clauses_run closed clauses held))
-      by later Stop true w = to_first (stopped (took clause runs)) (after_clauses d q p clauses (gone clause runs)) (false, told clause held) (comes w)
-      by later Break true w = to_first (broken (took clause runs)) (after_clauses d q p clauses (gone clause runs)) (true, told clause held) (comes w)
-      by later Continue true w = later (both_runs (took clause runs) (gone clause runs)) (told clause held) (in_first (took clause runs) (gone clause runs) (told clause held) (comes w))
-      by later Stop false w = to_second (stopped (took clause runs)) (after_clauses d q p clauses (gone clause runs)) (clauses_run closed clauses held) (later (gone clause runs) held (goes w))
-      by later Break false w = to_second (broken (took clause runs)) (after_clauses d q p clauses (gone clause runs)) (clauses_run closed clauses held) (later (gone clause runs) held (goes w))
+      by : ((runs : Runs) (held : Bool) → has_run runs held ≡ true → Comes (clauses_pass clauses runs) (clauses_run closed clauses held)) → (c : Control) (b : Bool) → list_all (holds_under closed (who_says d q)) clause.who ≡ b
+          → Comes (by_control c (took clause runs) (gone clause runs) (clauses_pass clauses)) (cond b (stand_after c (told (closed clause.number) clause held) (clauses_run closed clauses)) (clauses_run closed clauses held))
+      by later Stop true w = to_first (stopped (took clause runs)) (clauses_pass clauses (gone clause runs)) (false, told (closed clause.number) clause held) (comes w)
+      by later Break true w = to_first (broken (took clause runs)) (clauses_pass clauses (gone clause runs)) (true, told (closed clause.number) clause held) (comes w)
+      by later Continue true w = later (both_runs (took clause runs) (gone clause runs)) (told (closed clause.number) clause held) (in_first (took clause runs) (gone clause runs) (told (closed clause.number) clause held) (comes w))
+      by later Stop false w = to_second (stopped (took clause runs)) (clauses_pass clauses (gone clause runs)) (clauses_run closed clauses held) (later (gone clause runs) held (goes w))
+      by later Break false w = to_second (broken (took clause runs)) (clauses_pass clauses (gone clause runs)) (clauses_run closed clauses held) (later (gone clause runs) held (goes w))
       by later Continue false w = later (both_runs (took clause runs) (gone clause runs)) held (in_second (took clause runs) (gone clause runs) held (goes w))
 
   -- ---- each of the pass is a run
 
   -- an assignment with a run over these clauses that ends so
-  pub record HasRun (clauses : List OpenClause) (runs : Runs) (stand : Stand) : Type 0 where
+  pub record HasRun (clauses : List NumberedClause) (runs : Runs) (stand : Stand) : Type 0 where
     pub closed : ℕ → Bool
     pub held : Bool
     pub there : has_run runs held ≡ true
     pub ends : clauses_run closed clauses held ≡ stand
 
-  -- for the numbers of the first clause this, and for the others as before
-  abbrev first_so : Bool → OpenClause → (ℕ → Bool) → ℕ → Bool
-  first_so b clause closed = chosen (numbers_of clause.who) (λ n. b) closed
+  -- for the number of the first clause's edit one, for those of its <who> another, and for the others as before
+  abbrev first_so : Bool → Bool → NumberedClause → (ℕ → Bool) → ℕ → Bool
+  first_so e b clause closed = chosen (clause.number ∷ []) (λ n. e) (chosen (numbers_of clause.who) (λ n. b) closed)
 
-  module _ (clause : OpenClause) (clauses : List OpenClause) (once : AreOnce (clauses_numbers (clause ∷ clauses))) where
-    runs_so : (b : Bool) (closed : ℕ → Bool) (held : Bool)
-        → clauses_run (first_so b clause closed) (clause ∷ clauses) held ≡ cond (list_all (holds_under (λ n. b) holds) clause.who) (stand_after clause.control (told clause held) (clauses_run closed clauses)) (clauses_run closed clauses held)
-    runs_so b closed held =
-        ap (λ a. through_clauses p (record { applies = a; edit = clause.edit; control = clause.control } ∷ map (clause_under (first_so b clause closed) d q) clauses) held)
-        (same_parts holds (first_so b clause closed) (λ n. b) clause.who (as_first (numbers_of clause.who) (λ n. b) closed))
-        ∙ ap (λ rest. through_clauses p (record { applies = list_all (holds_under (λ n. b) holds) clause.who; edit = clause.edit; control = clause.control } ∷ rest) held)
-        (same_clauses d q (first_so b clause closed) closed clauses (as_second (numbers_of clause.who) (clauses_numbers clauses) (λ n. b) closed (once_apart (numbers_of clause.who) (clauses_numbers clauses) once)))
+  module _ (clause : NumberedClause) (clauses : List NumberedClause) (once : AreOnce (clauses_numbers (clause ∷ clauses))) where
+    abbrev rest : List ℕ
+    rest = clauses_numbers clauses
+
+    same_first : (e b : Bool) (closed : ℕ → Bool) → Agree (first_so e b clause closed) (λ n. b) (numbers_of clause.who)
+    same_first e b closed =
+        agree_on (first_so e b clause closed) (chosen (numbers_of clause.who) (λ n. b) closed) (λ n. b) (numbers_of clause.who)
+        (as_second (clause.number ∷ []) (numbers_of clause.who) (λ n. e) (chosen (numbers_of clause.who) (λ n. b) closed) (all_left (λ m. not (m == clause.number)) (numbers_of clause.who) rest once.0, tt))
+        (as_first (numbers_of clause.who) (λ n. b) closed)
+
+    same_rest : (e b : Bool) (closed : ℕ → Bool) → Agree (first_so e b clause closed) closed rest
+    same_rest e b closed =
+        agree_on (first_so e b clause closed) (chosen (numbers_of clause.who) (λ n. b) closed) closed rest
+        (as_second (clause.number ∷ []) rest (λ n. e) (chosen (numbers_of clause.who) (λ n. b) closed) (all_right (λ m. not (m == clause.number)) (numbers_of clause.who) rest once.0, tt))
+        (as_second (numbers_of clause.who) rest (λ n. b) closed (once_apart (numbers_of clause.who) rest once.1))
+
+    runs_so : (e b : Bool) (closed : ℕ → Bool) (held : Bool)
+        → clauses_run (first_so e b clause closed) (clause ∷ clauses) held ≡ cond (all_if (who_says d q) b clause.who) (stand_after clause.control (told e clause held) (clauses_run closed clauses)) (clauses_run closed clauses held)
+    runs_so e b closed held = λ i.
+        through_clauses p
+        (record {
+          applies = same_parts (who_says d q) (first_so e b clause closed) (λ n. b) clause.who (same_first e b closed) i;
+          edit = edit_under ((as_first (clause.number ∷ []) (λ n. e) (chosen (numbers_of clause.who) (λ n. b) closed)).0 i) clause.edit;
+          control = clause.control;
+        }
+        ∷ same_clauses d q (first_so e b clause closed) closed clauses (same_rest e b closed) i)
+        held
 
     -- the clause is taken, and then a run of the later ones begins with what it says
     took_first : (runs : Runs) (stand : Stand) (closed : ℕ → Bool) (after : Bool) → has_run (took clause runs) after ≡ true → stand_after clause.control after (clauses_run closed clauses) ≡ stand → HasRun (clause ∷ clauses) runs stand
-    took_first runs stand closed after e ends = by (told_by (says clause.edit p) (taking holds clause.who runs) after e)
+    took_first runs stand closed after e ends = by (edited_by p clause.edit (taking (all_if (who_says d q) true clause.who) runs) (takes_half clause.edit) after e)
       where
-        by : IsFrom (taking holds clause.who runs) (λ held. told clause held ≡ after) → HasRun (clause ∷ clauses) runs stand
+        by : IsEditedFrom p clause.edit (taking (all_if (who_says d q) true clause.who) runs) (takes_half clause.edit) after → HasRun (clause ∷ clauses) runs stand
         by from =
-            let so : (list_all (holds_under (λ n. true) holds) clause.who ≡ true) × (has_run runs from.held ≡ true) = taken holds clause.who runs from.held from.there in
+            let so : (all_if (who_says d q) true clause.who ≡ true) × (has_run runs from.held ≡ true) = taken (who_says d q) clause.who runs from.held from.there in
             record {
-              closed = first_so true clause closed;
+              closed = first_so from.b true clause closed;
               held = from.held;
               there = so.1;
               ends =
-                  runs_so true closed from.held
-                  ∙ ap (λ b. cond b (stand_after clause.control (told clause from.held) (clauses_run closed clauses)) (clauses_run closed clauses from.held)) so.0
+                  runs_so from.b true closed from.held
+                  ∙ ap (λ b. cond b (stand_after clause.control (told from.b clause from.held) (clauses_run closed clauses)) (clauses_run closed clauses from.held)) so.0
                   ∙ ap (λ h. stand_after clause.control h (clauses_run closed clauses)) from.comes
                   ∙ ends;
             }
@@ -243,14 +315,14 @@ module _ (d : Dir) (q : Question) (p : Privilege) where
     -- the clause is passed over
     passed_first : (runs : Runs) (stand : Stand) (closed : ℕ → Bool) (held : Bool) → has_run (gone clause runs) held ≡ true → clauses_run closed clauses held ≡ stand → HasRun (clause ∷ clauses) runs stand
     passed_first runs stand closed held e ends =
-        let so : (list_all (holds_under (λ n. false) holds) clause.who ≡ false) × (has_run runs held ≡ true) = passed holds clause.who runs held e in
+        let so : (all_if (who_says d q) false clause.who ≡ false) × (has_run runs held ≡ true) = passed (who_says d q) clause.who runs held e in
         record {
-          closed = first_so false clause closed;
+          closed = first_so false false clause closed;
           held = held;
           there = so.1;
           ends =
-              runs_so false closed held
-              ∙ ap (λ b. cond b (stand_after clause.control (told clause held) (clauses_run closed clauses)) (clauses_run closed clauses held)) so.0
+              runs_so false false closed held
+              ∙ ap (λ b. cond b (stand_after clause.control (told false clause held) (clauses_run closed clauses)) (clauses_run closed clauses held)) so.0
               ∙ ends;
         }
 
@@ -272,9 +344,9 @@ module _ (d : Dir) (q : Question) (p : Privilege) where
       by : IsFrom runs (λ _. false ≡ held) → HasRun [] runs (false, held)
       by from = record { closed = λ n. true; held = from.held; there = from.there; ends = ap (λ h. (false, h)) from.comes }
 
-  pub clauses_have : (clauses : List OpenClause) → AreOnce (clauses_numbers clauses) → (runs : Runs) (stand : Stand) → Comes (after_clauses d q p clauses runs) stand → HasRun clauses runs stand
+  pub clauses_have : (clauses : List NumberedClause) → AreOnce (clauses_numbers clauses) → (runs : Runs) (stand : Stand) → Comes (clauses_pass clauses runs) stand → HasRun clauses runs stand
   clauses_have [] once runs stand h = from_end runs stand h
-  clauses_have (clause ∷ clauses) once runs stand h = by (clauses_have clauses (once_right (numbers_of clause.who) (clauses_numbers clauses) once)) clause.control refl h
+  clauses_have (clause ∷ clauses) once runs stand h = by (clauses_have clauses (once_right (clause_numbers clause) (clauses_numbers clauses) once)) clause.control refl h
     where
       later_passed : HasRun clauses (gone clause runs) stand → HasRun (clause ∷ clauses) runs stand
       later_passed run = passed_first clause clauses once runs stand run.closed run.held run.there run.ends
@@ -286,16 +358,16 @@ module _ (d : Dir) (q : Question) (p : Privilege) where
           choose (first t) = took_first clause clauses once runs stand run.closed run.held t (ap (λ c. stand_after c run.held (clauses_run run.closed clauses)) (sym is) ∙ run.ends)
           choose (second g) = passed_first clause clauses once runs stand run.closed run.held g run.ends
 
-      by : ((runs : Runs) (stand : Stand) → Comes (after_clauses d q p clauses runs) stand → HasRun clauses runs stand) → (c : Control) → c ≡ clause.control
-          → Comes (by_control c (took clause runs) (gone clause runs) (after_clauses d q p clauses)) stand → HasRun (clause ∷ clauses) runs stand
-      by later Stop is h = choose (from_either (stopped (took clause runs)) (after_clauses d q p clauses (gone clause runs)) stand h)
+      by : ((runs : Runs) (stand : Stand) → Comes (clauses_pass clauses runs) stand → HasRun clauses runs stand) → (c : Control) → c ≡ clause.control
+          → Comes (by_control c (took clause runs) (gone clause runs) (clauses_pass clauses)) stand → HasRun (clause ∷ clauses) runs stand
+      by later Stop is h = choose (from_either (stopped (took clause runs)) (clauses_pass clauses (gone clause runs)) stand h)
         where
-          choose : Either (Comes (stopped (took clause runs)) stand) (Comes (after_clauses d q p clauses (gone clause runs)) stand) → HasRun (clause ∷ clauses) runs stand
+          choose : Either (Comes (stopped (took clause runs)) stand) (Comes (clauses_pass clauses (gone clause runs)) stand) → HasRun (clause ∷ clauses) runs stand
           choose (first t) = from_stopped (took clause runs) stand t (λ held e same. took_first clause clauses once runs stand (λ n. true) held e (ap (λ c. stand_after c held (clauses_run (λ n. true) clauses)) (sym is) ∙ same))
           choose (second g) = later_passed (later (gone clause runs) stand g)
-      by later Break is h = choose (from_either (broken (took clause runs)) (after_clauses d q p clauses (gone clause runs)) stand h)
+      by later Break is h = choose (from_either (broken (took clause runs)) (clauses_pass clauses (gone clause runs)) stand h)
         where
-          choose : Either (Comes (broken (took clause runs)) stand) (Comes (after_clauses d q p clauses (gone clause runs)) stand) → HasRun (clause ∷ clauses) runs stand
+          choose : Either (Comes (broken (took clause runs)) stand) (Comes (clauses_pass clauses (gone clause runs)) stand) → HasRun (clause ∷ clauses) runs stand
           choose (first t) = from_broken (took clause runs) stand t (λ held e same. took_first clause clauses once runs stand (λ n. true) held e (ap (λ c. stand_after c held (clauses_run (λ n. true) clauses)) (sym is) ∙ same))
           choose (second g) = later_passed (later (gone clause runs) stand g)
       by later Continue is h = later_both is (later (both_runs (took clause runs) (gone clause runs)) stand h)

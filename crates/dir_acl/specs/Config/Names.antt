@@ -30,7 +30,7 @@ form_of word = before_first (λ b. b == equals_sign) word
 -- the style of a form `dn[.STYLE]`. Without one it is `base`
 abbrev pub style_of : List ℕ → Option Style
 style_of form =
-    cond (is_word form (codes "dn") || (is_word form (codes "dn.base") || is_word form (codes "dn.exact"))) (Some style.Base)
+    cond (is_word form (codes "dn") || (is_word form (codes "dn.base") || (is_word form (codes "dn.baseobject") || is_word form (codes "dn.exact")))) (Some style.Base)
     (cond (is_word form (codes "dn.one") || is_word form (codes "dn.onelevel")) (Some style.One)
     (cond (is_word form (codes "dn.sub") || is_word form (codes "dn.subtree")) (Some style.Subtree)
     (cond (is_word form (codes "dn.children")) (Some style.Children) None)))

@@ -18,7 +18,7 @@ use Rattle.dir_conf_text.specs.Keywords.{is_word}
 use Rattle.dir_acl.specs.Config.Names.{attr_at, form_of, name_at, style_of}
 use Rattle.dir_acl.specs.Filters.{Tree}
 use Rattle.dir_acl.specs.Filters.Reading.{filter_of}
-use Rattle.dir_acl.specs.Rules.{Restriction, to_names, to_filter, to_attrs}
+use Rattle.dir_acl.specs.Rules.{OpenRestriction, Restriction, open_classes, open_filter, open_name, open_types, open_value, to_names, to_filter, to_attrs, to_open}
 
 -- ---- `attrs=LIST`
 
@@ -52,6 +52,23 @@ filter_at rows text = filter_by (filter_of rows text)
 
 -- ---- the parts of a <what>
 
+abbrev pub is_open_form : Form → OpenRestriction → Bool
+is_open_form form.Dn open_name = true
+is_open_form form.Dn open_filter = false
+is_open_form form.Dn open_value = false
+is_open_form form.Dn (open_types items) = false
+is_open_form form.Dn (open_classes items) = false
+is_open_form form.Filter open_name = false
+is_open_form form.Filter open_filter = true
+is_open_form form.Filter open_value = false
+is_open_form form.Filter (open_types items) = false
+is_open_form form.Filter (open_classes items) = false
+is_open_form form.Attrs open_name = false
+is_open_form form.Attrs open_filter = false
+is_open_form form.Attrs open_value = false
+is_open_form form.Attrs (open_types items) = true
+is_open_form form.Attrs (open_classes items) = true
+
 abbrev pub is_of_form : Form → Restriction → Bool
 is_of_form form.Dn (to_names style name) = true
 is_of_form form.Dn (to_filter filter) = false
@@ -62,6 +79,9 @@ is_of_form form.Filter (to_attrs items) = false
 is_of_form form.Attrs (to_names style name) = false
 is_of_form form.Attrs (to_filter filter) = false
 is_of_form form.Attrs (to_attrs items) = true
+is_of_form form.Dn (to_open what) = is_open_form form.Dn what
+is_of_form form.Filter (to_open what) = is_open_form form.Filter what
+is_of_form form.Attrs (to_open what) = is_open_form form.Attrs what
 
 -- each form may be there once
 abbrev pub if_new : Form → List Restriction → Result (List Restriction) ConfigCause → Result (List Restriction) ConfigCause

@@ -11,7 +11,7 @@ use Rattle.dir_acl.specs.Config.Names.{form_of}
 use Rattle.dir_acl.specs.Notes.{items_notes}
 use Rattle.dir_acl.specs.Notes.Known.{asked_known}
 use Rattle.dir_acl.specs.Notes.Supertypes.{NotedTypes}
-use Rattle.dir_acl.specs.Rules.{Restriction, rule_of, to_attrs, to_filter, to_names}
+use Rattle.dir_acl.specs.Rules.{Restriction, rule_of, to_attrs, to_filter, to_names, to_open}
 
 -- ---- in a rule that was read
 
@@ -20,6 +20,7 @@ abbrev pub is_clear_list : NotedTypes → Restriction → Bool
 is_clear_list types (to_names style name) = true
 is_clear_list types (to_filter filter) = true
 is_clear_list types (to_attrs items) = list_all (asked_known types) items
+is_clear_list types (to_open what) = false
 
 abbrev pub HasClearLists : NotedTypes → Option Rule → Type 0
 HasClearLists types None = ⊥

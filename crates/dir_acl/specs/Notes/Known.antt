@@ -1,6 +1,6 @@
 -- What a configuration without a note is: it has a rule, and its rules name known types alone; in `attrs=`, in the tests of filters and in `dnattr=` none from which
 -- another is derived. No clause takes one of `a` and `z` away alone.
-use Rattle.std.specs.Prelude.{◌≡◌, Bool, true, not, ◌&&◌, []}
+use Rattle.std.specs.Prelude.{◌≡◌, Bool, true, false, not, ◌&&◌, []}
 use Rattle.std.specs.List.{list_all}
 use Rattle.dir_names.specs.Attr.{Attr}
 use Rattle.dir_names.specs.Table.{is_known}
@@ -11,7 +11,7 @@ use Rattle.dir_acl.specs.declared.access.Who.TheVariants as who
 use Rattle.dir_acl.specs.Filters.{Tree, Trees, conjunction, disjunction, negation, test, none, first}
 use Rattle.dir_acl.specs.Notes.Halves.{takes_half}
 use Rattle.dir_acl.specs.Notes.Supertypes.{NotedTypes, without_options}
-use Rattle.dir_acl.specs.Rules.{AccessClause, AccessRule, Configuration, Restriction, to_names, to_filter, to_attrs}
+use Rattle.dir_acl.specs.Rules.{AccessClause, AccessRule, Configuration, Restriction, to_names, to_filter, to_attrs, to_open}
 
 module _ (types : NotedTypes) where
   -- a known type from which no other is derived
@@ -40,6 +40,7 @@ module _ (types : NotedTypes) where
   what_known (to_names style name) = true
   what_known (to_filter filter) = tests_known filter
   what_known (to_attrs items) = list_all asked_known items
+  what_known (to_open what) = false
 
   abbrev pub who_known : Who → Bool
   who_known who.Anyone = true
@@ -49,6 +50,7 @@ module _ (types : NotedTypes) where
   who_known (who.Dn style name) = true
   who_known (who.DnAttr attr) = is_clear attr
   who_known (who.Group name class_attr class_key attr) = is_known types.rows attr
+  who_known (who.Open w) = false
 
   abbrev pub clause_known : AccessClause → Bool
   clause_known clause = list_all who_known clause.who && not (takes_half clause.edit)

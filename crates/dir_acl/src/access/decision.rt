@@ -110,7 +110,7 @@ impl Privileges {
         }
     }
 
-    fn without(self, less: Privileges) -> Privileges
+    pub(crate) fn without(self, less: Privileges) -> Privileges
         ensures { result ≡ without self less }
     {
         Privileges {

@@ -43,7 +43,7 @@ impl Clause {
 }
 
 impl Who {
-    fn holds<D: Directory>(&self, directory: &D, request: &Request<'_>) -> bool
+    pub(crate) fn holds<D: Directory>(&self, directory: &D, request: &Request<'_>) -> bool
         ensures { result ≡ holds_for (D.state directory.now) (question_of request.now) (named request.now.requester) self.now }
     {
         match request.named() {
@@ -57,7 +57,7 @@ impl Who {
     {
         match self {
             Who::Anyone | Who::Users => true,
-            Who::Anonymous => false,
+            Who::Anonymous | Who::Open(_) => false,
             Who::Myself => name == &request.target,
             Who::Dn(style, other) => style.has(other, name),
             Who::DnAttr(attr) => has_name(attr, name, request.entry),
@@ -70,7 +70,7 @@ impl Who {
 }
 
 /// Whether an attribute that the description covers has the name as a value.
-fn has_name(attr: &AttrKey, name: &DnKey, entry: Option<&Entry>) -> bool
+pub(crate) fn has_name(attr: &AttrKey, name: &DnKey, entry: Option<&Entry>) -> bool
     ensures { result ≡ has_name attr.now name.now (attributes_of (option_copied entry.entry)) }
 {
     match entry {

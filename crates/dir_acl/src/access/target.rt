@@ -84,6 +84,7 @@ impl What {
             What::Dn(style, name) => style.has(name, target),
             What::Filter(filter) => is_true(filter.truth_on(entry)),
             What::Attrs(_) => true,
+            What::Open(_) => false,
         }
     }
 
@@ -93,16 +94,18 @@ impl What {
         match self {
             What::Dn(..) | What::Filter(_) => true,
             What::Attrs(items) => is_any_asked(items, asked),
+            What::Open(_) => false,
         }
     }
 
-    fn fits(&self, request: &Request<'_>) -> bool
+    pub(crate) fn fits(&self, request: &Request<'_>) -> bool
         ensures { result ≡ fits (question_of request.now) (restriction_of self.now) }
     {
         match self {
             What::Dn(style, name) => style.has(name, &request.target),
             What::Filter(filter) => is_true(filter.truth_on(request.entry)),
             What::Attrs(items) => is_any_asked(items, &request.asked),
+            What::Open(_) => false,
         }
     }
 }
@@ -113,7 +116,7 @@ fn is_true(truth: Truth) -> bool
     matches!(truth, Truth::True)
 }
 
-fn is_any_asked(items: &[Asked], asked: &Asked) -> bool
+pub(crate) fn is_any_asked(items: &[Asked], asked: &Asked) -> bool
     ensures { result ≡ list_any (λ item. is_asked item asked.now) items.now }
 {
     for item in items {

@@ -65,7 +65,7 @@ pub(crate) fn after_argument(
     }
 }
 
-fn after_word(
+pub(crate) fn after_word(
     alloc: Global,
     schema: &Schema,
     place: Place,
@@ -152,7 +152,7 @@ fn next_who(
     }
 }
 
-fn in_who(rule: Rule, whos: Vec<Who>, who: Who) -> Result<Place, ConfigCause>
+pub(crate) fn in_who(rule: Rule, whos: Vec<Who>, who: Who) -> Result<Place, ConfigCause>
     ensures { GivesPart place_of result (Ok (in_who (rule_of rule) (whos.items ++ who ∷ []))) }
 {
     let mut whos = whos;
@@ -161,7 +161,7 @@ fn in_who(rule: Rule, whos: Vec<Who>, who: Who) -> Result<Place, ConfigCause>
 }
 
 /// After a word that is not of a `<who>`.
-fn after_whos(rule: Rule, whos: Vec<Who>, word: &[u8]) -> Result<Place, ConfigCause>
+pub(crate) fn after_whos(rule: Rule, whos: Vec<Who>, word: &[u8]) -> Result<Place, ConfigCause>
     ensures { GivesPart place_of result (after_whos (rule_of rule) whos.items (edit_of word.now) word.now) }
 {
     match edit_of(word) {
@@ -204,7 +204,7 @@ fn with_clause(rule: Rule, who: Vec<Who>, edit: Edit, control: Control) -> Resul
 }
 
 /// The rule, where the line ends.
-fn at_end(place: Place) -> Result<Rule, ConfigCause>
+pub(crate) fn at_end(place: Place) -> Result<Rule, ConfigCause>
     ensures { GivesPart rule_of result (at_end (place_of place)) }
 {
     match place {

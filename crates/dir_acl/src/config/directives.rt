@@ -79,7 +79,7 @@ pub(crate) fn after_line(
     }
 }
 
-fn after_arguments(
+pub(crate) fn after_arguments(
     alloc: Global,
     schema: &Schema,
     settings: Settings,
@@ -299,7 +299,7 @@ fn access(
     with_rule(settings, rule)
 }
 
-fn with_rule(settings: Settings, rule: Rule) -> Result<Settings, ConfigCause>
+pub(crate) fn with_rule(settings: Settings, rule: Rule) -> Result<Settings, ConfigCause>
     ensures { GivesPart settings_of result (Ok (with_rule (settings_of settings) (rule_of rule))) }
 {
     let mut settings = settings;

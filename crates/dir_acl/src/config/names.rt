@@ -16,6 +16,7 @@ pub(crate) fn style_of(form: &[u8]) -> Option<Style>
 {
     if form.eq_ignore_ascii_case(b"dn")
         || form.eq_ignore_ascii_case(b"dn.base")
+        || form.eq_ignore_ascii_case(b"dn.baseobject")
         || form.eq_ignore_ascii_case(b"dn.exact")
     {
         Some(Style::Base)
@@ -111,7 +112,7 @@ pub(crate) fn read_class(
     }
 }
 
-fn is_class(alloc: Global, schema: &Schema, text: &[u8]) -> Result<bool, ConfigCause>
+pub(crate) fn is_class(alloc: Global, schema: &Schema, text: &[u8]) -> Result<bool, ConfigCause>
     ensures { GivesPart (λ is. is) result (Ok (is_class schema.now text.now)) }
 {
     if has_semicolon(text) {

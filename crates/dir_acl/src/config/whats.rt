@@ -8,7 +8,7 @@ ghost use Rattle.dir_acl.specs.Outcome.{GivesPart};
 ghost use Rattle.dir_acl.specs.Rules.{restriction_of};
 
 use crate::config::names::{read_attr, read_name, style_of};
-use crate::{Asked, ConfigCause, Filter, FilterFault, Style, What};
+use crate::{Asked, ConfigCause, Filter, FilterFault, OpenWhat, Style, What};
 use dir_names::{Schema, split_once};
 use std::alloc::Global;
 
@@ -60,7 +60,7 @@ fn with_form(
     }
 }
 
-fn with_name(
+pub(crate) fn with_name(
     alloc: Global,
     schema: &Schema,
     whats: Vec<What>,
@@ -106,7 +106,7 @@ fn with_attrs(
     with_last(whats, What::Attrs(items))
 }
 
-fn with_last(whats: Vec<What>, what: What) -> Result<Vec<What>, ConfigCause>
+pub(crate) fn with_last(whats: Vec<What>, what: What) -> Result<Vec<What>, ConfigCause>
     ensures { GivesPart (λ whats. map restriction_of whats.items) result (Ok (map restriction_of whats.items ++ restriction_of what ∷ [])) }
 {
     let mut whats = whats;
@@ -114,7 +114,7 @@ fn with_last(whats: Vec<What>, what: What) -> Result<Vec<What>, ConfigCause>
     Ok(whats)
 }
 
-fn has_form(whats: &[What], form: Form) -> bool
+pub(crate) fn has_form(whats: &[What], form: Form) -> bool
     ensures { result ≡ list_any (is_of_form form) (map restriction_of whats.now) }
 {
     for what in whats {
@@ -130,11 +130,20 @@ fn is_of_form(form: Form, what: &What) -> bool
 {
     matches!(
         (form, what),
-        (Form::Dn, What::Dn(_, _)) | (Form::Filter, What::Filter(_)) | (Form::Attrs, What::Attrs(_))
+        (Form::Dn, What::Dn(_, _) | What::Open(OpenWhat::Name))
+            | (Form::Filter, What::Filter(_) | What::Open(OpenWhat::Filter))
+            | (
+                Form::Attrs,
+                What::Attrs(_) | What::Open(OpenWhat::Types(_) | OpenWhat::Classes(_))
+            )
     )
 }
 
-fn read_filter(alloc: Global, schema: &Schema, text: &[u8]) -> Result<Filter, ConfigCause>
+pub(crate) fn read_filter(
+    alloc: Global,
+    schema: &Schema,
+    text: &[u8],
+) -> Result<Filter, ConfigCause>
     ensures { GivesPart tree_of result (filter_at schema.now text.now) }
 {
     match Filter::read(alloc, schema, text) {
@@ -160,7 +169,7 @@ fn read_items(alloc: Global, schema: &Schema, text: &[u8]) -> Result<Vec<Asked>,
 }
 
 /// A pseudo attribute or a description.
-fn read_item(alloc: Global, schema: &Schema, text: &[u8]) -> Result<Asked, ConfigCause>
+pub(crate) fn read_item(alloc: Global, schema: &Schema, text: &[u8]) -> Result<Asked, ConfigCause>
     ensures { GivesPart (λ item. item) result (item_at schema.now text.now) }
 {
     if text.eq_ignore_ascii_case(b"entry") {

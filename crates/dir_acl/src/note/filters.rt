@@ -67,7 +67,7 @@ fn with_opened(
     Ok(notes)
 }
 
-fn begins_test(text: &[u8]) -> bool
+pub(crate) fn begins_test(text: &[u8]) -> bool
     ensures { result ≡ begins_test text.now }
 {
     !matches!(text, [b'&' | b'|' | b'!', ..])
@@ -134,7 +134,7 @@ fn is_object_class(spelling: &[u8]) -> bool
 }
 
 /// Whether a test asks no more than that the attribute is there.
-fn asks_presence(value: Option<&[u8]>) -> bool
+pub(crate) fn asks_presence(value: Option<&[u8]>) -> bool
     ensures { result ≡ asks_presence (option_copied value.entry) }
 {
     match value {

@@ -27,7 +27,7 @@ impl<'s> RuleTypes<'s> {
     ghost use Rattle.dir_acl.specs.Notes.Supertypes.{noted_types, without_options};
 
     /// Those of the lines of a configuration. The one fault is `Memory`.
-    pub(super) fn of_lines(
+    pub(crate) fn of_lines(
         alloc: Global,
         schema: &'s Schema,
         lines: &[ConfigLine],
@@ -81,14 +81,14 @@ impl<'s> RuleTypes<'s> {
         }
     }
 
-    pub(super) fn schema(&self) -> &Schema
+    pub(crate) fn schema(&self) -> &Schema
         ensures { result.now ≡ self.now.schema.now }
     {
         self.schema
     }
 
     /// Whether this is an attribute of a known type from which no other is derived. Not all that are so are found.
-    pub(super) fn is_clear(&self, attr: &AttrKey) -> bool
+    pub(crate) fn is_clear(&self, attr: &AttrKey) -> bool
         ensures { result ≡ true → is_clear (noted_by self.now) attr.now ≡ true }
     {
         self.schema.knows(attr) && self.has_no_subtypes(attr)
@@ -101,7 +101,7 @@ impl<'s> RuleTypes<'s> {
     }
 
     /// Whether others are derived from the type of this description. The one fault is `Memory`.
-    pub(super) fn is_supertype(&self, alloc: Global, spelling: &[u8]) -> Result<bool, ConfigCause>
+    pub(crate) fn is_supertype(&self, alloc: Global, spelling: &[u8]) -> Result<bool, ConfigCause>
         ensures { GivesPart (λ is. is) result (Ok (is_supertype (noted_by self.now) spelling.now)) }
     {
         if self.supertypes.is_empty() {

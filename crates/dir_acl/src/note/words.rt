@@ -103,6 +103,7 @@ fn is_clear_list(types: &RuleTypes<'_>, what: &What) -> bool
     match what {
         What::Attrs(items) => are_clear(types, items.as_slice()),
         What::Dn(_, _) | What::Filter(_) => true,
+        What::Open(_) => false,
     }
 }
 
@@ -169,7 +170,7 @@ fn with_removal(notes: Vec<Note>, line: u64, edit: Option<Edit>) -> Result<Vec<N
 }
 
 /// Whether `a` or `z` is taken away, and not both.
-fn takes_half(edit: Edit) -> bool
+pub(crate) fn takes_half(edit: Edit) -> bool
     ensures { result ≡ takes_half edit }
 {
     match edit {
@@ -234,7 +235,7 @@ fn with_dnattr(
 }
 
 /// The items of `attrs=LIST`.
-fn with_items(
+pub(crate) fn with_items(
     alloc: Global,
     types: &RuleTypes<'_>,
     notes: Vec<Note>,
@@ -269,7 +270,7 @@ fn with_item(
     with_named(alloc, types, notes, line, text)
 }
 
-fn with_named(
+pub(crate) fn with_named(
     alloc: Global,
     types: &RuleTypes<'_>,
     notes: Vec<Note>,
