@@ -19,7 +19,7 @@ const EACH_WHAT: &str = "database mdb\nsuffix dc=com\n\
     access to dn=dc=com attrs=entry filter=(&) by * +d continue by self =m by dn.one=dc=com +x\n";
 
 /// Configurations, and what `cn=u,dc=com` may do by each with the entry of the suffix, which is made up.
-static GRANTS: [(&str, &str); 5] = [
+pub(crate) static GRANTS: [(&str, &str); 5] = [
     (CONTINUE, "=rsc"),
     (EACH_WHAT, "=rscxd"),
     (
@@ -64,6 +64,10 @@ fn granted(rt: &impl Abort, alloc: Global, config: &Config) -> Privileges {
 }
 
 pub(crate) fn assert_text(rt: &impl Abort, alloc: Global, privileges: Privileges, want: &str) {
+    assert!(rt; has_text(rt, alloc, privileges, want), "{want}");
+}
+
+pub(crate) fn has_text(rt: &impl Abort, alloc: Global, privileges: Privileges, want: &str) -> bool {
     let text = privileges.text(alloc).expect(rt, "memory");
-    assert!(rt; text.as_slice() == want.as_bytes(), "{want}");
+    text.as_slice() == want.as_bytes()
 }

@@ -9,6 +9,10 @@ pub(crate) fn schema(rt: &impl Abort, alloc: Global) -> Schema {
 }
 
 pub(crate) fn key(rt: &impl Abort, alloc: Global, name: &str) -> DnKey {
+    key_under(rt, alloc, &schema(rt, alloc), name)
+}
+
+pub(crate) fn key_under(rt: &impl Abort, alloc: Global, schema: &Schema, name: &str) -> DnKey {
     let name = Dn::read(alloc, name.as_bytes()).expect(rt, "a name");
-    name.key(alloc, &schema(rt, alloc)).expect(rt, "a key")
+    name.key(alloc, schema).expect(rt, "a key")
 }
